@@ -3,13 +3,13 @@ use std::alloc::{AllocError, Global};
 use std::slice::Iter;
 use textarea_calls::Call;
 use textarea_calls::commands::Command;
-use textarea_cases::words::{Lent, call_of, character, lines_in, titled};
+use textarea_cases::words::{Borrows, call_of, character, lines_in, titled};
 use tui_textarea::{Borders, Color, Style};
 
 /// Returns the values that calls borrow: a titled block, a placeholder of one line, and a key.
-pub fn lent(alloc: Global) -> Result<Lent, AllocError> {
+pub fn lent(alloc: Global) -> Result<Borrows, AllocError> {
     let red = Style::new().fg(Color::Red);
-    Ok(Lent {
+    Ok(Borrows {
         block: titled(alloc, Borders::TOP, "a\u{301}犬 title")?,
         placeholder: lines_in(alloc, red, &["e\u{301}犬"])?,
         letter: character('犬'),
@@ -17,7 +17,11 @@ pub fn lent(alloc: Global) -> Result<Lent, AllocError> {
 }
 
 /// Returns the lines that are no test commands. They must be script commands.
-pub fn script_of<'a>(alloc: Global, lines: &'a str, lent: &'a Lent) -> Result<String, AllocError> {
+pub fn script_of<'a>(
+    alloc: Global,
+    lines: &'a str,
+    lent: &'a Borrows,
+) -> Result<String, AllocError> {
     let mut script = String::new(alloc);
     for line in lines.lines() {
         if call_of(line, lent).is_none() {
@@ -32,7 +36,7 @@ pub fn calls_of<'a>(
     alloc: Global,
     lines: &'a str,
     commands: &'a [Command],
-    lent: &'a Lent,
+    lent: &'a Borrows,
 ) -> Result<Vec<Call<'a>>, AllocError> {
     let mut calls = Vec::new(alloc);
     let mut commands = commands.iter();
@@ -48,7 +52,7 @@ pub fn calls_of<'a>(
 fn next_call<'a>(
     line: &'a str,
     commands: &mut Iter<'a, Command>,
-    lent: &'a Lent,
+    lent: &'a Borrows,
 ) -> Option<Call<'a>> {
     match call_of(line, lent) {
         Some(call) => Some(call),

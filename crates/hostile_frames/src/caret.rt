@@ -1,5 +1,5 @@
 //! Where the caret of a frame must be, computed from scratch from the text area's public state.
-use textarea_wrap::wrap::columns::display_column_behind;
+use textarea_wrap::wrap::columns::display_column_after;
 use tui_textarea::layout::LayoutMetrics;
 use tui_textarea::wrap::{WrapCount, line_ranges};
 use tui_textarea::{Alignment, Rect, TextArea, WrapMode};
@@ -85,5 +85,5 @@ fn row_of<'a>(area: &TextArea<'_>, line: &'a String, column: usize, inner_width:
 
 // Whether each character has a display width above 0.
 fn is_wide(text: &str, tab_length: u8) -> bool {
-    text.chars().all(|character| 0 < display_column_behind(character, 0, tab_length))
+    text.chars().all(|character| 0 < display_column_after(character, 0, tab_length))
 }

@@ -1,8 +1,8 @@
 //! Draws frames and checks their carets.
-ghost use Rattle.textarea_calls.specs.Made.{CanBeMade};
+ghost use Rattle.textarea_calls.specs.Possible.{CanBeMade};
 
 use crate::caret::{is_caret_promised, is_wide_row};
-use crate::tally::{Tally, count};
+use crate::tally::{FrameTally, count};
 use std::alloc::{AllocError, Global};
 use textarea_calls::Call;
 use textarea_run::perform::perform;
@@ -16,24 +16,24 @@ const ROWS: u16 = 8;
 
 /// Draws and checks the frames of one text.
 #[derive(Drop)]
-pub struct Judge {
+pub struct FrameJudge {
     buffer: Buffer,
     // The width of the text's widest cluster except tabs.
     widest: usize,
-    tally: Tally,
+    tally: FrameTally,
 }
 
-impl Judge {
+impl FrameJudge {
     /// Returns a judge without counts. `widest` is the width of the widest cluster except tabs.
-    pub fn new(alloc: Global, widest: usize) -> Result<Judge, AllocError> {
-        Ok(Judge {
+    pub fn new(alloc: Global, widest: usize) -> Result<FrameJudge, AllocError> {
+        Ok(FrameJudge {
             buffer: Buffer::empty(alloc, Rect::new(0, 0, COLUMNS, ROWS))?,
             widest,
-            tally: Tally::default(),
+            tally: FrameTally::default(),
         })
     }
 
-    pub fn tally(&self) -> Tally {
+    pub fn tally(&self) -> FrameTally {
         self.tally
     }
 

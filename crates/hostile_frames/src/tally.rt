@@ -6,7 +6,7 @@ const WRONG: u8 = 4;
 
 /// The counts of frames, calls, carets and failures.
 #[derive(Clone, Copy, Default)]
-pub struct Tally {
+pub struct FrameTally {
     pub frames: usize,
     pub calls: usize,
     /// Visible carets.
@@ -23,7 +23,7 @@ pub struct Tally {
     pub astray: usize,
 }
 
-impl Tally {
+impl FrameTally {
     pub fn status(&self) -> u8 {
         if self.is_right() { 0 } else { WRONG }
     }
@@ -33,7 +33,7 @@ impl Tally {
     }
 }
 
-impl fmt::Display for Tally {
+impl fmt::Display for FrameTally {
     fn fmt<W: fmt::Write>(&self, f: &mut fmt::Formatter<W>) -> fmt::Result {
         write!(f, "{} frames, {} calls, ", self.frames, self.calls)?;
         write!(f, "carets: {} shown, ", self.shown)?;

@@ -1,21 +1,21 @@
 //! A text in all settings and areas, after all calls, and at all tab lengths.
 use crate::asked::{calls_of, lent, script_of};
 use crate::caret::has_tab;
-use crate::judge::Judge;
+use crate::judge::FrameJudge;
 use crate::setting::Setting;
-use crate::tally::Tally;
+use crate::tally::FrameTally;
 use std::alloc::{AllocError, Global};
 use textarea_calls::Call;
 use textarea_calls::commands::{Command, read};
-use textarea_cases::end::Stop;
-use textarea_cases::words::Lent;
+use textarea_cases::end::EndReason;
+use textarea_cases::words::Borrows;
 use tui_textarea::{CursorMove, Rect, TextArea};
 
 /// The number of frames in each area, each with the cursor at another position.
 const FRAMES: usize = 4;
 
 /// The area of the frames after calls.
-const BEHIND_CALLS: Rect = Rect {
+const AFTER_CALLS: Rect = Rect {
     x: 1,
     y: 1,
     width: 11,
@@ -24,8 +24,13 @@ const BEHIND_CALLS: Rect = Rect {
 
 /// Judges the text of a script, also after the calls of other lines, which are script commands or
 /// test commands. `widest` is the width of the text's widest cluster except tabs.
-pub fn tour(alloc: Global, lines: &str, widest: usize, asked: &str) -> Result<Tally, Stop> {
-    let mut judge = Judge::new(alloc, widest)?;
+pub fn tour(
+    alloc: Global,
+    lines: &str,
+    widest: usize,
+    asked: &str,
+) -> Result<FrameTally, EndReason> {
+    let mut judge = FrameJudge::new(alloc, widest)?;
     let judged = judge_lines(alloc, lines, asked, &mut judge);
     let tally = judge.tally();
     drop(judge);
@@ -34,20 +39,25 @@ pub fn tour(alloc: Global, lines: &str, widest: usize, asked: &str) -> Result<Ta
 }
 
 // Judges a text in all settings, also after the calls of lines.
-fn judge_lines(alloc: Global, lines: &str, asked: &str, judge: &mut Judge) -> Result<(), Stop> {
+fn judge_lines(
+    alloc: Global,
+    lines: &str,
+    asked: &str,
+    judge: &mut FrameJudge,
+) -> Result<(), EndReason> {
     let lent = lent(alloc)?;
-    let judged = judge_lent(alloc, lines, (asked, &lent), judge);
+    let judged = judge_borrowed(alloc, lines, (asked, &lent), judge);
     drop(lent);
     judged
 }
 
 // The same, with the values that the calls borrow.
-fn judge_lent(
+fn judge_borrowed(
     alloc: Global,
     lines: &str,
-    (asked, lent): (&str, &Lent),
-    judge: &mut Judge,
-) -> Result<(), Stop> {
+    (asked, lent): (&str, &Borrows),
+    judge: &mut FrameJudge,
+) -> Result<(), EndReason> {
     let script = script_of(alloc, asked, lent)?;
     let commands = read(alloc, script.as_bytes())?;
     judge_commands(alloc, lines, (asked, commands.as_slice(), lent), judge)
@@ -57,9 +67,9 @@ fn judge_lent(
 fn judge_commands(
     alloc: Global,
     lines: &str,
-    (asked, commands, lent): (&str, &[Command], &Lent),
-    judge: &mut Judge,
-) -> Result<(), Stop> {
+    (asked, commands, lent): (&str, &[Command], &Borrows),
+    judge: &mut FrameJudge,
+) -> Result<(), EndReason> {
     let asked = calls_of(alloc, asked, commands, lent)?;
     let judged = judge_settings(alloc, lines, asked.as_slice(), judge);
     drop(asked);
@@ -71,8 +81,8 @@ fn judge_settings(
     alloc: Global,
     lines: &str,
     asked: &[Call<'_>],
-    judge: &mut Judge,
-) -> Result<(), Stop> {
+    judge: &mut FrameJudge,
+) -> Result<(), EndReason> {
     for number in 0..Setting::COUNT {
         judge_text(alloc, lines, Setting::numbered(number), asked, judge)?;
     }
@@ -85,8 +95,8 @@ fn judge_text(
     lines: &str,
     setting: Setting,
     asked: &[Call<'_>],
-    judge: &mut Judge,
-) -> Result<(), Stop> {
+    judge: &mut FrameJudge,
+) -> Result<(), EndReason> {
     let mut area = TextArea::try_default(alloc)?;
     let judged = judge_area(&mut area, lines, setting, asked, judge);
     drop(area);
@@ -99,8 +109,8 @@ fn judge_area(
     lines: &str,
     setting: Setting,
     asked: &[Call<'_>],
-    judge: &mut Judge,
-) -> Result<(), Stop> {
+    judge: &mut FrameJudge,
+) -> Result<(), EndReason> {
     write(judge, area, lines)?;
     setting.put(area)?;
     draw_areas(judge, area);
@@ -110,7 +120,7 @@ fn judge_area(
 }
 
 // Makes the calls of a script on a text area.
-fn write(judge: &mut Judge, area: &mut TextArea<'_>, script: &str) -> Result<(), Stop> {
+fn write(judge: &mut FrameJudge, area: &mut TextArea<'_>, script: &str) -> Result<(), EndReason> {
     let alloc = *area.lines()[0].allocator();
     let commands = read(alloc, script.as_bytes())?;
     let written = write_commands(judge, area, commands.as_slice());
@@ -119,7 +129,7 @@ fn write(judge: &mut Judge, area: &mut TextArea<'_>, script: &str) -> Result<(),
 }
 
 fn write_commands(
-    judge: &mut Judge,
+    judge: &mut FrameJudge,
     area: &mut TextArea<'_>,
     commands: &[Command],
 ) -> Result<(), AllocError> {
@@ -130,7 +140,7 @@ fn write_commands(
 }
 
 // Draws frames of each width and height, with the cursor at one position after another.
-fn draw_areas(judge: &mut Judge, area: &mut TextArea<'_>) {
+fn draw_areas(judge: &mut FrameJudge, area: &mut TextArea<'_>) {
     for width in 0..=12 {
         for height in 0..=4 {
             for _ in 0..FRAMES {
@@ -152,7 +162,7 @@ fn go_on(area: &mut TextArea<'_>) {
 }
 
 // If the text has tabs, draws at each tab length a frame that a tab fits and a narrow one.
-fn draw_tabs(judge: &mut Judge, area: &mut TextArea<'_>) -> Result<(), AllocError> {
+fn draw_tabs(judge: &mut FrameJudge, area: &mut TextArea<'_>) -> Result<(), AllocError> {
     if !has_tab(area) {
         return Ok(());
     }
@@ -167,9 +177,9 @@ fn draw_tabs(judge: &mut Judge, area: &mut TextArea<'_>) -> Result<(), AllocErro
 }
 
 // Makes each of the calls, and draws a frame after it.
-fn make_calls(judge: &mut Judge, area: &mut TextArea<'_>, calls: &[Call<'_>]) {
+fn make_calls(judge: &mut FrameJudge, area: &mut TextArea<'_>, calls: &[Call<'_>]) {
     for call in calls {
         judge.make_call(area, *call);
-        judge.draw_frame(area, BEHIND_CALLS);
+        judge.draw_frame(area, AFTER_CALLS);
     }
 }

@@ -4,17 +4,17 @@ use Rattle.std.specs.Option.{IfSome}
 use Rattle.std.proofs.lemmas.Bool.Decides.{nat_tests}
 use Rattle.std.proofs.lemmas.List.{length-map}
 use Rattle.textarea_text.specs.Text.{Symbol, Character, characters, characters_of, joined, lines_of, text_of}
-use Rattle.textarea_text.specs.Place.{Place, IsPlace, IsPlaceOf, IsSymbolBefore, StandsAt, end, index_of}
+use Rattle.textarea_text.specs.Place.{Place, IsPlace, IsPlaceOf, IsSymbolBefore, OccursAt, end, index_of}
 use Rattle.textarea_text.specs.Splice.{Fits, Splice, applied, inverse}
 use Rattle.textarea_text.proofs.TextPlaces.{index_within, takes_back}
 use Rattle.textarea_text.proofs.Splices.{lines-joined}
 use Rattle.textarea_history.specs.Change.{FitsLines}
-use Rattle.textarea_history.specs.Edit.{IsCopyOfKind, Stored, IsWellFormed, end_of_kind, inserts_of, pieces_of, splice_of, symbols_of}
+use Rattle.textarea_history.specs.Edit.{IsCopyOfKind, Stored, IsWellFormed, end_of_kind, inserts_of, line_count_of, splice_of, symbols_of}
 use Rattle.textarea_history.specs.declared.edit.EditKind.{EditKind}
 use Rattle.textarea_history.specs.declared.edit.EditKind.TheVariants.{InsertChar, DeleteChar, InsertNewline, DeleteNewline, InsertStr, DeleteStr, InsertChunk, DeleteChunk}
-use Rattle.textarea_text.specs.Part.{part}
+use Rattle.textarea_text.specs.Between.{symbols_between}
 use Rattle.textarea_document.proofs.Parts.{part_ends, part_stands}
-use Rattle.memory_cases.specs.Ready.{IsReady}
+use Rattle.memory_cases.specs.Ready.{IsEditReady}
 
 -- a list of symbols that ends at another position than it begins at is not empty
 pub some_symbols : (place : Place) (symbols : List Symbol) → end place symbols ≢ place → 0 < length symbols
@@ -26,7 +26,7 @@ some_symbols place (symbol ∷ symbols) apart = omega arith
 pub record IsAlike (kind copy : EditKind) : Type 0 where
   pub symbols : symbols_of copy ≡ symbols_of kind
   pub inserts : inserts_of copy ≡ inserts_of kind
-  pub pieces : pieces_of copy ≡ pieces_of kind
+  pub pieces : line_count_of copy ≡ line_count_of kind
 
 alike : (kind copy : EditKind) → IsCopyOfKind kind copy → IsAlike kind copy
 alike (InsertChar c) (InsertChar d) e = record { symbols = ap (λ x. Character x ∷ []) e; inserts = refl; pieces = refl }
@@ -50,7 +50,7 @@ pub copy_end : (kind copy : EditKind) (before after : Place) → IsCopyOfKind ki
 copy_end kind copy before after h = ap (λ (b : Bool). cond b after before) (alike kind copy h).inserts
 
 -- an edit with a copy of the kind is well formed if the kind meets the conditions
-pub copy_well_formed : (kind copy : EditKind) (before after : Place) (edit : Stored) → IsCopyOfKind kind copy → 0 < length (symbols_of kind) → IfSome (pieces_of kind) (λ n. 2 ≤ n) → end_of_kind kind before after ≡ end (splice_of kind before after).place (symbols_of kind) → edit.splice ≡ splice_of copy before after → edit.end ≡ end_of_kind copy before after → edit.pieces ≡ pieces_of copy → IsWellFormed edit
+pub copy_well_formed : (kind copy : EditKind) (before after : Place) (edit : Stored) → IsCopyOfKind kind copy → 0 < length (symbols_of kind) → IfSome (line_count_of kind) (λ n. 2 ≤ n) → end_of_kind kind before after ≡ end (splice_of kind before after).place (symbols_of kind) → edit.splice ≡ splice_of copy before after → edit.end ≡ end_of_kind copy before after → edit.pieces ≡ line_count_of copy → IsWellFormed edit
 copy_well_formed kind copy before after edit h some pieces ends splice_is end_is pieces_is =
     let is = splice_is ∙ copy_splice kind copy before after h in
     record {
@@ -65,35 +65,35 @@ record Holds (text symbols : List Symbol) (before after : Place) (inserts : Bool
   ends : cond inserts after before ≡ end (cond inserts before after) symbols
   fits : Fits text (record { place = cond inserts before after; symbols = symbols; inserts = inserts })
 
-ready : (text : List Symbol) (kind : EditKind) (before after : Place) (inserts : Bool) → inserts_of kind ≡ inserts → IfSome (pieces_of kind) (λ n. 2 ≤ n) → Holds text (symbols_of kind) before after inserts → IsReady text kind before after
+ready : (text : List Symbol) (kind : EditKind) (before after : Place) (inserts : Bool) → inserts_of kind ≡ inserts → IfSome (line_count_of kind) (λ n. 2 ≤ n) → Holds text (symbols_of kind) before after inserts → IsEditReady text kind before after
 ready text kind before after inserts is pieces holds =
     let held = subst (Holds text (symbols_of kind) before after) (sym is) holds in
     record { pieces = pieces; ends = held.ends; fits = held.fits }
 
-pub ready_inserted : (text : List Symbol) (kind : EditKind) (before after : Place) → inserts_of kind ≡ true → IfSome (pieces_of kind) (λ n. 2 ≤ n) → IsPlace text before → after ≡ end before (symbols_of kind) → 0 < length (symbols_of kind) → IsReady text kind before after
+pub ready_inserted : (text : List Symbol) (kind : EditKind) (before after : Place) → inserts_of kind ≡ true → IfSome (line_count_of kind) (λ n. 2 ≤ n) → IsPlace text before → after ≡ end before (symbols_of kind) → 0 < length (symbols_of kind) → IsEditReady text kind before after
 ready_inserted text kind before after is pieces there ends some =
     ready text kind before after true is pieces (record { ends = ends; fits = record { some = some; is_place = there; allowed = tt } })
 
-pub ready_removed : (text : List Symbol) (kind : EditKind) (before after : Place) → inserts_of kind ≡ false → IfSome (pieces_of kind) (λ n. 2 ≤ n) → IsPlace text after → before ≡ end after (symbols_of kind) → 0 < length (symbols_of kind) → StandsAt text after (symbols_of kind) → IsReady text kind before after
+pub ready_removed : (text : List Symbol) (kind : EditKind) (before after : Place) → inserts_of kind ≡ false → IfSome (line_count_of kind) (λ n. 2 ≤ n) → IsPlace text after → before ≡ end after (symbols_of kind) → 0 < length (symbols_of kind) → OccursAt text after (symbols_of kind) → IsEditReady text kind before after
 ready_removed text kind before after is pieces there ends some stands =
     ready text kind before after false is pieces (record { ends = ends; fits = record { some = some; is_place = there; allowed = stands } })
 
 -- a removal of the symbol before a position
-pub ready_before : (text : List Symbol) (kind : EditKind) (before start : Place) (symbol : Symbol) → inserts_of kind ≡ false → symbols_of kind ≡ symbol ∷ [] → IfSome (pieces_of kind) (λ n. 2 ≤ n) → IsSymbolBefore text before start symbol → IsReady text kind before start
+pub ready_before : (text : List Symbol) (kind : EditKind) (before start : Place) (symbol : Symbol) → inserts_of kind ≡ false → symbols_of kind ≡ symbol ∷ [] → IfSome (line_count_of kind) (λ n. 2 ≤ n) → IsSymbolBefore text before start symbol → IsEditReady text kind before start
 ready_before text kind before start symbol is symbols_are pieces known =
     ready_removed text kind before start is pieces known.is_place
     (known.ends ∙ ap (end start) (sym symbols_are))
     (subst (λ (s : List Symbol). 0 < length s) (sym symbols_are) (omega arith))
-    (subst (StandsAt text start) (sym symbols_are) known.stands)
+    (subst (OccursAt text start) (sym symbols_are) known.stands)
 
 -- a removal of the text between two positions
-pub ready_between : (text : List Symbol) (kind : EditKind) (before after : Place) → inserts_of kind ≡ false → symbols_of kind ≡ part text after before → IfSome (pieces_of kind) (λ n. 2 ≤ n) → IsPlace text after → IsPlace text before → index_of text after ≤ index_of text before → before ≢ after → IsReady text kind before after
+pub ready_between : (text : List Symbol) (kind : EditKind) (before after : Place) → inserts_of kind ≡ false → symbols_of kind ≡ symbols_between text after before → IfSome (line_count_of kind) (λ n. 2 ≤ n) → IsPlace text after → IsPlace text before → index_of text after ≤ index_of text before → before ≢ after → IsEditReady text kind before after
 ready_between text kind before after is symbols_are pieces from to ordered apart =
     let ends = part_ends text after before from to ordered in
     ready_removed text kind before after is pieces from
     (ends ∙ ap (end after) (sym symbols_are))
-    (subst (λ (s : List Symbol). 0 < length s) (sym symbols_are) (some_symbols after (part text after before) (λ e. apart (ends ∙ e))))
-    (subst (StandsAt text after) (sym symbols_are) (part_stands text after before to ordered))
+    (subst (λ (s : List Symbol). 0 < length s) (sym symbols_are) (some_symbols after (symbols_between text after before) (λ e. apart (ends ∙ e))))
+    (subst (OccursAt text after) (sym symbols_are) (part_stands text after before to ordered))
 
 -- a position ahead is not earlier
 pub ordered_ahead : (text : List Symbol) (from to : Place) (count : ℕ) → IsPlace text from → index_of text to ≡ min (index_of text from + count) (length text) → index_of text from ≤ index_of text to

@@ -5,10 +5,10 @@ mod plans;
 mod recorded;
 
 use crate::history::calls::{Call, Place, call_of};
-use crate::history::kinds::pieces_in;
+use crate::history::kinds::line_count_in;
 use crate::history::recorded::{BothWays, Recorded};
 use std::alloc::{AllocError, Global};
-use textarea_cases::end::{Difference, End, Stop, same};
+use textarea_cases::end::{Difference, End, EndReason, same};
 use textarea_cases::expand::timed;
 
 /// The number of remembered edits of a new history.
@@ -32,8 +32,13 @@ pub fn make_row(alloc: Global, row: &str, is_judged: bool) -> End {
     End { made, stop }
 }
 
-fn make_lines(alloc: Global, row: &str, is_judged: bool, made: &mut usize) -> Result<(), Stop> {
-    let mut recorded = Recorded::new(pieces_in(alloc, "")?, MAXIMUM);
+fn make_lines(
+    alloc: Global,
+    row: &str,
+    is_judged: bool,
+    made: &mut usize,
+) -> Result<(), EndReason> {
+    let mut recorded = Recorded::new(line_count_in(alloc, "")?, MAXIMUM);
     for line in row.lines() {
         make_line(alloc, &mut recorded, line, is_judged, made)?;
     }
@@ -47,7 +52,7 @@ fn make_line(
     line: &str,
     is_judged: bool,
     made: &mut usize,
-) -> Result<(), Stop> {
+) -> Result<(), EndReason> {
     let (times, calls) = timed(line);
     for _ in 0..times {
         for call in calls.split("; ") {
@@ -64,13 +69,13 @@ fn make_written(
     recorded: &mut Recorded,
     line: &str,
     is_judged: bool,
-) -> Result<(), Stop> {
+) -> Result<(), EndReason> {
     let (words, wanted) = match line.split_once(" => ") {
         Some((words, wanted)) => (words, Some(wanted)),
         None => (line, None),
     };
     let Some(call) = call_of(words) else {
-        return Err(Stop::Wrong(Difference::Script));
+        return Err(EndReason::Wrong(Difference::Script));
     };
     let answer = if is_judged {
         judge_call(alloc, recorded, call)?
@@ -87,21 +92,25 @@ fn make_written(
 }
 
 // Makes a call that must not run out of memory.
-fn make_granted(alloc: Global, recorded: &mut Recorded, call: Call<'_>) -> Result<Answer, Stop> {
+fn make_granted(
+    alloc: Global,
+    recorded: &mut Recorded,
+    call: Call<'_>,
+) -> Result<Answer, EndReason> {
     match make(alloc, recorded, call) {
         Ok(answer) => Ok(answer),
-        Err(_) => Err(Stop::Wrong(Difference::Memory)),
+        Err(_) => Err(EndReason::Wrong(Difference::Memory)),
     }
 }
 
 // Makes a call. If it runs out of memory, all must be as in the copy.
-fn judge_call(alloc: Global, recorded: &mut Recorded, call: Call<'_>) -> Result<Answer, Stop> {
+fn judge_call(alloc: Global, recorded: &mut Recorded, call: Call<'_>) -> Result<Answer, EndReason> {
     let mut copy = recorded.copy()?;
     match make(alloc, recorded, call) {
         Ok(answer) => Ok(answer),
         Err(_) => {
             compare(recorded, &mut copy)?;
-            Err(Stop::Refused)
+            Err(EndReason::Refused)
         }
     }
 }
@@ -109,7 +118,7 @@ fn judge_call(alloc: Global, recorded: &mut Recorded, call: Call<'_>) -> Result<
 fn make(alloc: Global, recorded: &mut Recorded, call: Call<'_>) -> Result<Answer, AllocError> {
     match call {
         Call::Lines(text) => {
-            *recorded = Recorded::new(pieces_in(alloc, text)?, MAXIMUM);
+            *recorded = Recorded::new(line_count_in(alloc, text)?, MAXIMUM);
             Ok(Answer::Lines)
         }
         Call::Maximum(maximum) => {
@@ -158,7 +167,7 @@ fn joined(alloc: Global, lines: &[String]) -> Result<String, AllocError> {
 }
 
 // Compares the lines, also after each further undo and then after each redo.
-fn compare(recorded: &mut Recorded, copy: &mut Recorded) -> Result<(), Stop> {
+fn compare(recorded: &mut Recorded, copy: &mut Recorded) -> Result<(), EndReason> {
     same(recorded.lines() == copy.lines(), Difference::Lines)?;
     compare_edits(recorded, copy, Difference::Undo)?;
     compare_edits(recorded, copy, Difference::Redo)
@@ -168,7 +177,7 @@ fn compare_edits(
     recorded: &mut Recorded,
     copy: &mut Recorded,
     way: Difference,
-) -> Result<(), Stop> {
+) -> Result<(), EndReason> {
     for _ in 0..MOST {
         let cursor = go(recorded, way)?;
         same(cursor == go(copy, way)?, way)?;

@@ -1,18 +1,18 @@
 //! Makes the calls of a case one after another, and judges them.
 ghost use Rattle.std.specs.Prelude.{All};
-ghost use Rattle.textarea_calls.specs.Made.{CanBeMade};
+ghost use Rattle.textarea_calls.specs.Possible.{CanBeMade};
 
-use crate::keys::{Made, judge_keys};
-use crate::script::run_unseen;
+use crate::keys::{CallCounts, judge_keys};
+use crate::script::run_silently;
 use crate::step::{Step, make};
 use crate::words::{script_of, step_of};
 use std::alloc::{AllocError, Global};
 use textarea_calls::commands::{Command, calls, read};
 use textarea_calls::{Answer, Call};
 use textarea_cases::compare::{are_alike_outside, compare, compare_shown};
-use textarea_cases::end::{Difference, End, Stop, same};
+use textarea_cases::end::{Difference, End, EndReason, same};
 use textarea_cases::expand::expanded;
-use textarea_cases::words::Lent;
+use textarea_cases::words::Borrows;
 use textarea_run::RunEnd;
 use textarea_run::run::run;
 use tui_textarea::{Buffer, Rect, TextArea};
@@ -27,15 +27,15 @@ const WHOLE: Rect = Rect {
 
 // The buffers that the calls and the same calls on clones draw into, and the number of calls made.
 #[derive(Drop)]
-struct Judge {
+struct MemoryJudge {
     buffer: Buffer,
     other: Buffer,
     made: usize,
 }
 
-impl Judge {
-    fn new(alloc: Global) -> Result<Judge, AllocError> {
-        Ok(Judge {
+impl MemoryJudge {
+    fn new(alloc: Global) -> Result<MemoryJudge, AllocError> {
+        Ok(MemoryJudge {
             buffer: Buffer::empty(alloc, WHOLE)?,
             other: Buffer::empty(alloc, WHOLE)?,
             made: 0,
@@ -47,7 +47,7 @@ impl Judge {
     }
 
     // Compares the cells of the two buffers outside an area.
-    fn compare_cells(&self, area: Rect) -> Result<(), Stop> {
+    fn compare_cells(&self, area: Rect) -> Result<(), EndReason> {
         let are_alike = are_alike_outside(&self.buffer, &self.other, area);
         same(are_alike, Difference::Cells)
     }
@@ -55,7 +55,7 @@ impl Judge {
 
 /// Makes the calls of a case, until one runs out of memory.
 pub fn judge_row(alloc: Global, row: &str) -> End {
-    match Judge::new(alloc) {
+    match MemoryJudge::new(alloc) {
         Ok(mut judge) => {
             let stop = judge_lines(alloc, row, &mut judge).err();
             let made = judge.made;
@@ -64,24 +64,34 @@ pub fn judge_row(alloc: Global, row: &str) -> End {
         }
         Err(_) => End {
             made: 0,
-            stop: Some(Stop::Memory),
+            stop: Some(EndReason::Memory),
         },
     }
 }
 
-fn judge_lines(alloc: Global, row: &str, judge: &mut Judge) -> Result<(), Stop> {
-    let lent = Lent::new(alloc)?;
+fn judge_lines(alloc: Global, row: &str, judge: &mut MemoryJudge) -> Result<(), EndReason> {
+    let lent = Borrows::new(alloc)?;
     let judged = judge_expanded(alloc, row, &lent, judge);
     drop(lent);
     judged
 }
 
-fn judge_expanded(alloc: Global, row: &str, lent: &Lent, judge: &mut Judge) -> Result<(), Stop> {
+fn judge_expanded(
+    alloc: Global,
+    row: &str,
+    lent: &Borrows,
+    judge: &mut MemoryJudge,
+) -> Result<(), EndReason> {
     let row = expanded(alloc, row)?;
     judge_text(alloc, row.as_str(), lent, judge)
 }
 
-fn judge_text(alloc: Global, row: &str, lent: &Lent, judge: &mut Judge) -> Result<(), Stop> {
+fn judge_text(
+    alloc: Global,
+    row: &str,
+    lent: &Borrows,
+    judge: &mut MemoryJudge,
+) -> Result<(), EndReason> {
     let mut area = TextArea::try_default(alloc)?;
     let judged = judge_all(&mut area, row, lent, judge);
     drop(area);
@@ -91,9 +101,9 @@ fn judge_text(alloc: Global, row: &str, lent: &Lent, judge: &mut Judge) -> Resul
 fn judge_all(
     area: &mut TextArea<'_>,
     row: &str,
-    lent: &Lent,
-    judge: &mut Judge,
-) -> Result<(), Stop> {
+    lent: &Borrows,
+    judge: &mut MemoryJudge,
+) -> Result<(), EndReason> {
     // The calls of a run are after the line `run`, up to the end of the case.
     let (lines, run) = row.split_once("run\n").unwrap_or((row, ""));
     for line in lines.lines() {
@@ -108,9 +118,9 @@ fn judge_all(
 fn judge_line(
     area: &mut TextArea<'_>,
     line: &str,
-    lent: &Lent,
-    judge: &mut Judge,
-) -> Result<(), Stop> {
+    lent: &Borrows,
+    judge: &mut MemoryJudge,
+) -> Result<(), EndReason> {
     if let Some(script) = script_of(line) {
         return make_script(area, script, judge);
     }
@@ -123,24 +133,32 @@ fn judge_line(
     }
 }
 
-fn judge_all_keys(alloc: Global, words: &str, judge: &mut Judge) -> Result<(), Stop> {
-    let mut made = Made::default();
+fn judge_all_keys(alloc: Global, words: &str, judge: &mut MemoryJudge) -> Result<(), EndReason> {
+    let mut made = CallCounts::default();
     let judged = judge_keys(alloc, words, &mut made);
     judge.count(made.calls);
     judged
 }
 
 // Makes the calls of a script, and draws nowhere.
-fn make_script(area: &mut TextArea<'_>, script: &str, judge: &mut Judge) -> Result<(), Stop> {
-    let end = run_unseen(area, script)?;
+fn make_script(
+    area: &mut TextArea<'_>,
+    script: &str,
+    judge: &mut MemoryJudge,
+) -> Result<(), EndReason> {
+    let end = run_silently(area, script)?;
     judge.count(end.answers.len());
     match end.refused {
-        Some(_) => Err(Stop::Memory),
+        Some(_) => Err(EndReason::Memory),
         None => Ok(()),
     }
 }
 
-fn judge_script(area: &mut TextArea<'_>, script: &str, judge: &mut Judge) -> Result<(), Stop> {
+fn judge_script(
+    area: &mut TextArea<'_>,
+    script: &str,
+    judge: &mut MemoryJudge,
+) -> Result<(), EndReason> {
     let alloc = *area.lines()[0].allocator();
     let commands = read(alloc, script.as_bytes())?;
     judge_commands(area, commands.as_slice(), judge)
@@ -150,8 +168,8 @@ fn judge_script(area: &mut TextArea<'_>, script: &str, judge: &mut Judge) -> Res
 fn judge_commands(
     area: &mut TextArea<'_>,
     commands: &[Command],
-    judge: &mut Judge,
-) -> Result<(), Stop> {
+    judge: &mut MemoryJudge,
+) -> Result<(), EndReason> {
     for command in commands {
         judge_step(area, Step::Call(command.call()), judge)?;
     }
@@ -159,7 +177,11 @@ fn judge_commands(
 }
 
 // Clones the text area, and makes a step.
-fn judge_step(area: &mut TextArea<'_>, step: Step<'_>, judge: &mut Judge) -> Result<(), Stop> {
+fn judge_step(
+    area: &mut TextArea<'_>,
+    step: Step<'_>,
+    judge: &mut MemoryJudge,
+) -> Result<(), EndReason> {
     let mut other = area.clone()?;
     let judged = judge_beside(area, &mut other, step, judge);
     drop(other);
@@ -171,10 +193,10 @@ fn judge_beside(
     area: &mut TextArea<'_>,
     other: &mut TextArea<'_>,
     step: Step<'_>,
-    judge: &mut Judge,
-) -> Result<(), Stop> {
+    judge: &mut MemoryJudge,
+) -> Result<(), EndReason> {
     match make(area, step, &mut judge.buffer) {
-        Err(_) => judge_refused(area, other, step, judge),
+        Err(_) => judge_out_of_memory(area, other, step, judge),
         Ok(Answer::PatternRefused) => judge_pattern(area, other, step, judge),
         Ok(answer) => {
             let judged = judge_answer(&answer, other, step, judge);
@@ -191,20 +213,20 @@ fn judge_pattern(
     area: &mut TextArea<'_>,
     other: &mut TextArea<'_>,
     step: Step<'_>,
-    judge: &mut Judge,
-) -> Result<(), Stop> {
+    judge: &mut MemoryJudge,
+) -> Result<(), EndReason> {
     if is_rejected(other, step, judge)? {
         judge.count(1);
         return compare_shown(area, other);
     }
-    judge_refused(area, other, step, judge)
+    judge_out_of_memory(area, other, step, judge)
 }
 
 // Whether a clone rejects the pattern too.
 fn is_rejected(
     other: &TextArea<'_>,
     step: Step<'_>,
-    judge: &mut Judge,
+    judge: &mut MemoryJudge,
 ) -> Result<bool, AllocError> {
     let mut clone = other.clone()?;
     let answer = make(&mut clone, step, &mut judge.other);
@@ -213,7 +235,7 @@ fn is_rejected(
 }
 
 // Makes a step. A rejected pattern counts as out of memory: `regex` may lack memory itself.
-fn make_or_refuse(
+fn make_or_run_out(
     area: &mut TextArea<'_>,
     step: Step<'_>,
     buffer: &mut Buffer,
@@ -229,9 +251,9 @@ fn judge_answer(
     answer: &Answer,
     other: &mut TextArea<'_>,
     step: Step<'_>,
-    judge: &mut Judge,
-) -> Result<(), Stop> {
-    let wanted = make_or_refuse(other, step, &mut judge.other)?;
+    judge: &mut MemoryJudge,
+) -> Result<(), EndReason> {
+    let wanted = make_or_run_out(other, step, &mut judge.other)?;
     let is_answered_so = *answer == wanted;
     drop(wanted);
     same(is_answered_so, Difference::Answer)?;
@@ -241,18 +263,18 @@ fn judge_answer(
 
 // A step ran out of memory. The text area must be like the clone, or for an insertion like the
 // clone without the selected text. The cells outside of the step's area must be unchanged.
-fn judge_refused(
+fn judge_out_of_memory(
     area: &mut TextArea<'_>,
     other: &mut TextArea<'_>,
     step: Step<'_>,
-    judge: &Judge,
-) -> Result<(), Stop> {
+    judge: &MemoryJudge,
+) -> Result<(), EndReason> {
     if step.inserts() && holds_selected(other) && !area.is_selecting() {
         other.delete_char()?;
     }
     compare(area, other)?;
     judge.compare_cells(drawn_area(step))?;
-    Err(Stop::Refused)
+    Err(EndReason::Refused)
 }
 
 fn holds_selected(area: &TextArea<'_>) -> bool {
@@ -273,7 +295,11 @@ fn drawn_area(step: Step<'_>) -> Rect {
 // before it, and the text area as the failed call leaves a clone that made these. A failed
 // reservation for results counts for the first call. A pattern that `regex` rejects for lack of
 // memory changes nothing.
-fn judge_run(area: &mut TextArea<'_>, script: &str, judge: &mut Judge) -> Result<(), Stop> {
+fn judge_run(
+    area: &mut TextArea<'_>,
+    script: &str,
+    judge: &mut MemoryJudge,
+) -> Result<(), EndReason> {
     let alloc = *area.lines()[0].allocator();
     let commands = read(alloc, script.as_bytes())?;
     judge_run_commands(area, commands.as_slice(), judge)
@@ -283,14 +309,18 @@ fn judge_run(area: &mut TextArea<'_>, script: &str, judge: &mut Judge) -> Result
 fn judge_run_commands(
     area: &mut TextArea<'_>,
     commands: &[Command],
-    judge: &mut Judge,
-) -> Result<(), Stop> {
+    judge: &mut MemoryJudge,
+) -> Result<(), EndReason> {
     let alloc = *area.lines()[0].allocator();
     let calls = calls(alloc, commands)?;
     judge_calls(area, calls.as_slice(), judge)
 }
 
-fn judge_calls(area: &mut TextArea<'_>, calls: &[Call<'_>], judge: &mut Judge) -> Result<(), Stop>
+fn judge_calls(
+    area: &mut TextArea<'_>,
+    calls: &[Call<'_>],
+    judge: &mut MemoryJudge,
+) -> Result<(), EndReason>
     requires { All CanBeMade calls.now }
 {
     let mut other = area.clone()?;
@@ -303,8 +333,8 @@ fn judge_run_beside(
     area: &mut TextArea<'_>,
     other: &mut TextArea<'_>,
     calls: &[Call<'_>],
-    judge: &mut Judge,
-) -> Result<(), Stop>
+    judge: &mut MemoryJudge,
+) -> Result<(), EndReason>
     requires { All CanBeMade calls.now }
 {
     let end = run(area, calls, &mut judge.buffer);
@@ -318,8 +348,8 @@ fn judge_end(
     other: &mut TextArea<'_>,
     calls: &[Call<'_>],
     end: &RunEnd,
-    judge: &mut Judge,
-) -> Result<(), Stop> {
+    judge: &mut MemoryJudge,
+) -> Result<(), EndReason> {
     let answered = end.answers.as_slice();
     let is_counted = answered.len() == end.refused.unwrap_or(calls.len());
     same(is_counted, Difference::Index)?;
@@ -331,7 +361,7 @@ fn judge_end(
         }
     }
     match calls.get(answered.len()) {
-        Some(call) => judge_refused(area, other, Step::Call(*call), judge),
+        Some(call) => judge_out_of_memory(area, other, Step::Call(*call), judge),
         None => compare_shown(area, other),
     }
 }

@@ -5,7 +5,7 @@ use crate::step::{Step, make};
 use std::alloc::{AllocError, Global};
 use textarea_calls::{Answer, Call};
 use textarea_cases::compare::compare;
-use textarea_cases::end::{Difference, Stop, same};
+use textarea_cases::end::{Difference, EndReason, same};
 use tui_textarea::{Buffer, Input, Key, Rect, TextArea};
 
 /// The lines of each text area.
@@ -36,14 +36,14 @@ const NAMED: [Key; 19] = [
 
 /// The number of calls made, and the number of those that returned that they did something.
 #[derive(Default, Clone, Copy)]
-pub struct Made {
+pub struct CallCounts {
     pub calls: usize,
     agreed: usize,
 }
 
 /// Makes the calls of each key. The text has the modifiers, as scripts write them, and the number
 /// of calls that must return that they did something.
-pub fn judge_keys(alloc: Global, words: &str, made: &mut Made) -> Result<(), Stop> {
+pub fn judge_keys(alloc: Global, words: &str, made: &mut CallCounts) -> Result<(), EndReason> {
     let mut buffer = Buffer::empty(alloc, Rect::default())?;
     let judged = judge_each(alloc, words, &mut buffer, made);
     drop(buffer);
@@ -54,8 +54,8 @@ fn judge_each(
     alloc: Global,
     words: &str,
     buffer: &mut Buffer,
-    made: &mut Made,
-) -> Result<(), Stop> {
+    made: &mut CallCounts,
+) -> Result<(), EndReason> {
     let (held, wanted) = words.split_once(' ').unwrap_or((words, ""));
     for character in " !\"#$%&'()*+,-./0123456789:;<=>?@ABCDEFGHIJKLMNOPQRSTUVWXYZ[\\]^_`abcdefghijklmnopqrstuvwxyz{|}~あ🐶".chars()
     {
@@ -77,8 +77,8 @@ fn judge_key(
     key: Key,
     held: &str,
     buffer: &mut Buffer,
-    made: &mut Made,
-) -> Result<(), Stop> {
+    made: &mut CallCounts,
+) -> Result<(), EndReason> {
     let input = Input {
         key,
         ctrl: held.contains('c'),
@@ -107,20 +107,20 @@ fn judge_calls(
     area: &mut TextArea<'_>,
     calls: &[Call<'_>],
     buffer: &mut Buffer,
-    made: &mut Made,
-) -> Result<(), Stop> {
+    made: &mut CallCounts,
+) -> Result<(), EndReason> {
     let mut before = 0usize;
     for call in calls {
         match make(area, Step::Call(*call), buffer) {
             Ok(answer) => made.take(&answer),
-            Err(_) => return judge_refused(alloc, area, calls, before, buffer),
+            Err(_) => return judge_out_of_memory(alloc, area, calls, before, buffer),
         }
         before = before.saturating_add(1);
     }
     Ok(())
 }
 
-impl Made {
+impl CallCounts {
     // Counts a call and its result.
     fn take(&mut self, answer: &Answer) {
         self.calls = self.calls.saturating_add(1);
@@ -131,13 +131,13 @@ impl Made {
 }
 
 // A call ran out of memory: the text area must be like one that made the calls before it.
-fn judge_refused(
+fn judge_out_of_memory(
     alloc: Global,
     area: &mut TextArea<'_>,
     calls: &[Call<'_>],
     before: usize,
     buffer: &mut Buffer,
-) -> Result<(), Stop> {
+) -> Result<(), EndReason> {
     let mut other = TextArea::from_strs(alloc, LINES.into_iter())?;
     let judged = judge_beside(area, &mut other, calls, before, buffer);
     drop(other);
@@ -150,12 +150,12 @@ fn judge_beside(
     calls: &[Call<'_>],
     before: usize,
     buffer: &mut Buffer,
-) -> Result<(), Stop> {
+) -> Result<(), EndReason> {
     for call in calls.iter().take(before) {
         remake(other, *call, buffer)?;
     }
     compare(area, other)?;
-    Err(Stop::Refused)
+    Err(EndReason::Refused)
 }
 
 fn remake(other: &mut TextArea<'_>, call: Call<'_>, buffer: &mut Buffer) -> Result<(), AllocError> {

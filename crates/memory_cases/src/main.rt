@@ -25,17 +25,17 @@
 //! memory ran out outside of the calls or there is no case, and 4 if a case failed.
 #![tactic(auto)]
 
-mod ample;
+mod borrowed;
+mod enough_memory;
 mod history;
 mod judge;
 mod keys;
-mod lent;
 mod parts;
 mod script;
 mod step;
 mod words;
 
-use crate::ample::{Told, make_row};
+use crate::enough_memory::{Results, make_row};
 use crate::judge::judge_row;
 use std::io::Read;
 use std::process::ExitCode;
@@ -60,13 +60,13 @@ fn tell(rt: &(impl Print + AllocGlobal), rows: &str) -> u8 {
     }
     let mut status = 0;
     for row in rows.split("\n\n") {
-        status = status.max(tell_row(rt, rows, row));
+        status = status.max(set_row_at(rt, rows, row));
     }
     status
 }
 
 // Makes a case of its kind, and prints its end.
-fn tell_row(rt: &(impl Print + AllocGlobal), rows: &str, row: &str) -> u8 {
+fn set_row_at(rt: &(impl Print + AllocGlobal), rows: &str, row: &str) -> u8 {
     let (name, lines) = row.split_once('\n').unwrap_or((row, ""));
     let is_ample = name.starts_with("ample ");
     if name.starts_with("list ") {
@@ -81,7 +81,7 @@ fn tell_row(rt: &(impl Print + AllocGlobal), rows: &str, row: &str) -> u8 {
 }
 
 fn tell_made(rt: &(impl Print + AllocGlobal), rows: &str, name: &str, lines: &str) -> u8 {
-    let Ok(mut told) = Told::new(rt.alloc()) else {
+    let Ok(mut told) = Results::new(rt.alloc()) else {
         return NOT_JUDGED;
     };
     let end = make_row(rt.alloc(), rows, lines, &mut told);

@@ -1,6 +1,6 @@
 //! Makes the calls of a script in one run.
 use textarea_calls::commands::{Command, calls, read};
-use textarea_cases::end::Stop;
+use textarea_cases::end::EndReason;
 use textarea_run::RunEnd;
 use textarea_run::run::run;
 use tui_textarea::{Buffer, Rect, TextArea};
@@ -10,14 +10,14 @@ pub fn run_script(
     area: &mut TextArea<'_>,
     script: &str,
     buffer: &mut Buffer,
-) -> Result<RunEnd, Stop> {
+) -> Result<RunEnd, EndReason> {
     let alloc = *area.lines()[0].allocator();
     let commands = read(alloc, script.as_bytes())?;
     run_commands(area, commands.as_slice(), buffer)
 }
 
 /// Makes the calls of a script in one run, which draws nowhere.
-pub fn run_unseen(area: &mut TextArea<'_>, script: &str) -> Result<RunEnd, Stop> {
+pub fn run_silently(area: &mut TextArea<'_>, script: &str) -> Result<RunEnd, EndReason> {
     let alloc = *area.lines()[0].allocator();
     let mut nowhere = Buffer::empty(alloc, Rect::default())?;
     let end = run_script(area, script, &mut nowhere);
@@ -30,7 +30,7 @@ fn run_commands(
     area: &mut TextArea<'_>,
     commands: &[Command],
     buffer: &mut Buffer,
-) -> Result<RunEnd, Stop> {
+) -> Result<RunEnd, EndReason> {
     let alloc = *area.lines()[0].allocator();
     let calls = calls(alloc, commands)?;
     Ok(run(area, calls.as_slice(), buffer))

@@ -3,7 +3,7 @@ use crate::parts::{matches_of, spans_of};
 use std::alloc::AllocError;
 use textarea_calls::{Answer, Call};
 use textarea_run::perform::perform;
-use textarea_text::given::copy_pieces;
+use textarea_text::fragment::copy_fragment;
 use tui_textarea::{Buffer, Input, Key, TextArea};
 
 /// One step.
@@ -107,9 +107,12 @@ fn another<'a>(area: &TextArea<'a>, step: Step<'_>) -> Result<TextArea<'a>, Allo
     let alloc = *lines[0].allocator();
     match step {
         Step::Clone => area.clone(),
-        Step::New => TextArea::new(copy_pieces(alloc, lines)?),
+        Step::New => TextArea::new(copy_fragment(alloc, lines)?),
         Step::FromStrs => TextArea::from_strs(alloc, lines.iter().map(|line| line.as_str())),
-        Step::FromStrings => TextArea::from_strings(alloc, copy_pieces(alloc, lines)?.into_iter()),
+        Step::FromStrings => TextArea::from_strings(
+            alloc,
+            copy_fragment(alloc, lines)?.into_iter(),
+        ),
         _ => TextArea::try_default(alloc),
     }
 }

@@ -1,6 +1,6 @@
 //! Lines of cases that aren't script commands: test commands, named scripts, and other steps.
 use crate::step::Step;
-use textarea_cases::words::{Lent, call_of};
+use textarea_cases::words::{Borrows, call_of};
 
 /// A script that writes a text with edits of all kinds, and undoes two of them, in one run.
 const EDITED: &str = r"insert_str one two\nthree four\n\nfive
@@ -37,7 +37,7 @@ pub fn script_of(word: &str) -> Option<&'static str> {
 }
 
 /// Returns the step of a line.
-pub fn step_of<'a>(words: &'a str, lent: &'a Lent) -> Option<Step<'a>> {
+pub fn step_of<'a>(words: &'a str, lent: &'a Borrows) -> Option<Step<'a>> {
     Some(match words {
         "set_atomic_ranges" => Step::SetAtomicRanges,
         "clone" => Step::Clone,

@@ -5,24 +5,24 @@
 use std::env::Env;
 use std::process::ExitCode;
 use std::{env, io};
-use textarea_script::words::{serve_no_words, serve_words};
+use textarea_script::program_arguments::{serve_arguments, serve_bad_arguments};
 
 fn main(rt: HostRuntime) -> ExitCode {
-    let status = match words_behind_name(&rt) {
-        Ok(words) => serve_words(
+    let status = match arguments_of(&rt) {
+        Ok(words) => serve_arguments(
             rt.alloc(),
             words.as_slice(),
             &mut rt.stdin(),
             &mut rt.stdout(),
             &mut rt.stderr(),
         ),
-        Err(error) => serve_no_words(&error, &mut rt.stderr()),
+        Err(error) => serve_bad_arguments(&error, &mut rt.stderr()),
     };
     ExitCode::from(status)
 }
 
 // The arguments of the program.
-fn words_behind_name(rt: &(impl Env + AllocGlobal)) -> io::Result<Vec<String>> {
+fn arguments_of(rt: &(impl Env + AllocGlobal)) -> io::Result<Vec<String>> {
     let words = env::args(rt)?.skip(1).collect(rt.alloc())?;
     Ok(words)
 }

@@ -50,14 +50,14 @@ fn main(rt: HostRuntime) -> ExitCode {
     if rt.stdout().write_all(served.printed()).is_err() {
         return ExitCode::from(STREAM_FAILED);
     }
-    if tell_refused(&rt, served.refused()).is_err() {
+    if tell_out_of_memory(&rt, served.refused()).is_err() {
         return ExitCode::from(STREAM_FAILED);
     }
     ExitCode::from(if served.is_right() { 0 } else { WRONG })
 }
 
 // Tells to how many calls memory was refused, if to any.
-fn tell_refused(rt: &impl Eprint, refused: usize) -> io::Result<()> {
+fn tell_out_of_memory(rt: &impl Eprint, refused: usize) -> io::Result<()> {
     if refused > 0 {
         eprintln!(rt; "{refused} refused")?;
     }

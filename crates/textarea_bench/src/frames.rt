@@ -28,7 +28,7 @@ const PATTERN: &str = "[a-z]{6,}";
 
 /// The content of a frame, and the work before it.
 #[derive(Clone, Copy, Debug)]
-enum Kind {
+enum FrameKind {
     /// A key is typed before each frame, with this wrap mode.
     Keys(WrapMode),
     /// Only frames, of lines that are wrapped at words.
@@ -39,22 +39,22 @@ enum Kind {
 
 /// The kind of frame, the number of lines, and the number of frames after the first one.
 #[derive(Clone, Copy, Debug)]
-pub struct Job {
-    kind: Kind,
+pub struct FrameJob {
+    kind: FrameKind,
     lines: usize,
     frames: usize,
 }
 
-impl Job {
-    pub fn parse(line: &str) -> Option<Job> {
+impl FrameJob {
+    pub fn parse(line: &str) -> Option<FrameJob> {
         let (kind, numbers) = line.split_once(' ')?;
         let (lines, frames) = numbers.split_once(' ')?;
-        Some(Job {
+        Some(FrameJob {
             kind: match kind {
-                "Word" => Kind::Keys(WrapMode::Word),
-                "None" => Kind::Keys(WrapMode::None),
-                "plain" => Kind::Plain,
-                "full" => Kind::Full,
+                "Word" => FrameKind::Keys(WrapMode::Word),
+                "None" => FrameKind::Keys(WrapMode::None),
+                "plain" => FrameKind::Plain,
+                "full" => FrameKind::Full,
                 _ => return None,
             },
             lines: lines.parse().ok()?,
@@ -101,18 +101,18 @@ impl Job {
     // Sets the layout of the text area, and what the frames show.
     fn prepare(&self, text_area: &mut TextArea<'_>) -> Result<()> {
         let mode = match self.kind {
-            Kind::Keys(mode) => mode,
-            Kind::Plain | Kind::Full => WrapMode::Word,
+            FrameKind::Keys(mode) => mode,
+            FrameKind::Plain | FrameKind::Full => WrapMode::Word,
         };
         text_area.set_wrap_mode(mode)?;
         match self.kind {
-            Kind::Keys(_) => Ok(()),
-            Kind::Plain => {
+            FrameKind::Keys(_) => Ok(()),
+            FrameKind::Plain => {
                 text_area.select_all();
                 text_area.cancel_selection();
                 Ok(())
             }
-            Kind::Full => {
+            FrameKind::Full => {
                 text_area.set_line_number_style(Style::new())?;
                 text_area.set_search_pattern(PATTERN)?;
                 text_area.select_all();
@@ -124,14 +124,14 @@ impl Job {
     // Types the key before this frame, if any: in turns a hundred characters and Backspaces.
     fn type_key(&self, text_area: &mut TextArea<'_>, frame: usize) -> Result<(), AllocError> {
         match self.kind {
-            Kind::Keys(_) if frame / 100 % 2 == 0 => {
+            FrameKind::Keys(_) if frame / 100 % 2 == 0 => {
                 text_area.insert_char(if frame % 6 == 5 { ' ' } else { 'x' })
             }
-            Kind::Keys(_) => {
+            FrameKind::Keys(_) => {
                 text_area.delete_char()?;
                 Ok(())
             }
-            Kind::Plain | Kind::Full => Ok(()),
+            FrameKind::Plain | FrameKind::Full => Ok(()),
         }
     }
 }

@@ -16,11 +16,11 @@ use std::alloc::Global;
 /// A job of one of the topics.
 #[derive(Drop)]
 enum Job<'a> {
-    Paint(paint::Job<'a>),
-    Wrap(wrap::Job<'a>),
-    Typing(typing::Job),
-    Frames(frames::Job),
-    Terminal(terminal::Job),
+    Paint(paint::PaintJob<'a>),
+    Wrap(wrap::WrapJob<'a>),
+    Typing(typing::TypingJob),
+    Frames(frames::FrameJob),
+    Terminal(terminal::TerminalJob),
 }
 
 impl<'a> Job<'a> {
@@ -28,11 +28,11 @@ impl<'a> Job<'a> {
     fn parse(line: &'a str) -> Option<Job<'a>> {
         let (topic, job) = line.split_once(' ')?;
         match topic {
-            "paint" => Some(Job::Paint(paint::Job::parse(job)?)),
-            "wrap" => Some(Job::Wrap(wrap::Job::parse(job)?)),
-            "typing" => Some(Job::Typing(typing::Job::parse(job)?)),
-            "frames" => Some(Job::Frames(frames::Job::parse(job)?)),
-            "terminal" => Some(Job::Terminal(terminal::Job::parse(job)?)),
+            "paint" => Some(Job::Paint(paint::PaintJob::parse(job)?)),
+            "wrap" => Some(Job::Wrap(wrap::WrapJob::parse(job)?)),
+            "typing" => Some(Job::Typing(typing::TypingJob::parse(job)?)),
+            "frames" => Some(Job::Frames(frames::FrameJob::parse(job)?)),
+            "terminal" => Some(Job::Terminal(terminal::TerminalJob::parse(job)?)),
             _ => None,
         }
     }

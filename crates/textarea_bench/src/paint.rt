@@ -9,21 +9,21 @@ use textarea_screen::screen::{Alignment, Buffer, Line, Rect, Span, Style};
 
 /// The number of frames, their size, and the text of each row.
 #[derive(Drop)]
-pub struct Job<'a> {
+pub struct PaintJob<'a> {
     frames: usize,
     width: u16,
     height: u16,
     text: &'a str,
 }
 
-impl<'a> Job<'a> {
-    pub fn parse(line: &'a str) -> Option<Job<'a>> {
+impl<'a> PaintJob<'a> {
+    pub fn parse(line: &'a str) -> Option<PaintJob<'a>> {
         let mut parts = line.splitn(4, ' ');
         let frames = parts.next()?.parse().ok()?;
         let width = parts.next()?.parse().ok()?;
         let height = parts.next()?.parse().ok()?;
         let text = parts.next()?;
-        Some(Job {
+        Some(PaintJob {
             frames,
             width,
             height,

@@ -36,7 +36,7 @@ pub enum Frames {
 
 /// The work, on how many bytes or cells, and how often.
 #[derive(Clone, Copy, Debug)]
-pub enum Job {
+pub enum TerminalJob {
     Decode {
         sent: Sent,
         bytes: usize,
@@ -51,21 +51,21 @@ pub enum Job {
     },
 }
 
-impl Job {
-    pub fn parse(line: &str) -> Option<Job> {
+impl TerminalJob {
+    pub fn parse(line: &str) -> Option<TerminalJob> {
         let (topic, parts) = line.split_once(' ')?;
         let (word, parts) = parts.split_once(' ')?;
         let (first, parts) = parts.split_once(' ')?;
         let (second, times) = parts.split_once(' ')?;
         let times = times.parse().ok()?;
         match topic {
-            "decode" => Some(Job::Decode {
+            "decode" => Some(TerminalJob::Decode {
                 sent: sent_of(word)?,
                 bytes: first.parse().ok()?,
                 piece: second.parse().ok()?,
                 times,
             }),
-            "paint" => Some(Job::Paint {
+            "paint" => Some(TerminalJob::Paint {
                 frames: frames_of(word)?,
                 columns: first.parse().ok()?,
                 rows: second.parse().ok()?,
@@ -78,7 +78,7 @@ impl Job {
     /// Does the job, and returns the number of events or bytes.
     pub fn run(&self, alloc: Global) -> Result<usize, AllocError> {
         match *self {
-            Job::Decode {
+            TerminalJob::Decode {
                 sent,
                 bytes,
                 piece,
@@ -89,7 +89,7 @@ impl Job {
                 piece,
                 times,
             ),
-            Job::Paint {
+            TerminalJob::Paint {
                 frames,
                 columns,
                 rows,

@@ -82,17 +82,17 @@ impl Line {
 
 /// The work, the size of the text in lines or characters, and the number of times.
 #[derive(Clone, Copy, Debug)]
-pub struct Job {
+pub struct TypingJob {
     work: Work,
     size: usize,
     times: usize,
 }
 
-impl Job {
-    pub fn parse(line: &str) -> Option<Job> {
+impl TypingJob {
+    pub fn parse(line: &str) -> Option<TypingJob> {
         let (work, numbers) = line.split_once(' ')?;
         let (size, times) = numbers.split_once(' ')?;
-        Some(Job {
+        Some(TypingJob {
             work: match work {
                 "text" => Work::Text,
                 "rows" => Work::Rows,

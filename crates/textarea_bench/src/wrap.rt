@@ -3,7 +3,7 @@
 //! A job has five fields with one space between them: a mode's name, a number of kilobytes, how
 //! often to wrap, a width, and a text, which is repeated to that size. The tab length is 4.
 ghost use Rattle.std.specs.Prelude.{◌≡◌, ℕ, max, List, length, IfOk};
-ghost use Rattle.textarea_wrap.specs.Wrapped.{IsWrapped};
+ghost use Rattle.textarea_wrap.specs.WrapResult.{IsWrapped};
 
 use std::alloc::{AllocError, Global};
 use textarea_wrap::wrap::{WrapCount, WrapMode, line_ranges};
@@ -12,7 +12,7 @@ const TAB_LEN: u8 = 4;
 
 /// A line to wrap: a text, repeated to a number of bytes, at a width, `times` times.
 #[derive(Drop)]
-pub struct Job<'a> {
+pub struct WrapJob<'a> {
     mode: WrapMode,
     kilobytes: usize,
     times: usize,
@@ -20,15 +20,15 @@ pub struct Job<'a> {
     text: &'a str,
 }
 
-impl<'a> Job<'a> {
-    pub fn parse(line: &'a str) -> Option<Job<'a>> {
+impl<'a> WrapJob<'a> {
+    pub fn parse(line: &'a str) -> Option<WrapJob<'a>> {
         let mut parts = line.splitn(5, ' ');
         let mode = mode_named(parts.next()?)?;
         let kilobytes = parts.next()?.parse().ok()?;
         let times = parts.next()?.parse().ok()?;
         let width = parts.next()?.parse().ok()?;
         let text = parts.next()?;
-        Some(Job {
+        Some(WrapJob {
             mode,
             kilobytes,
             times,

@@ -3,4 +3,4 @@ pub mod InBlocks
 pub mod LineSums
 pub mod Numbers
 mod Totals
-mod Turning
+mod Shifting

@@ -91,13 +91,13 @@ take_above blocks new from count k above within =
 pub take_between : (blocks new : List (List RowsView)) (from count k : ℕ) → k ≤ length new → from ≤ length blocks → take (from + k) (replaced blocks from count new) ≡ take from blocks ++ take k new
 take_between blocks new from count k inside within = grind (arith, common_steps, length-take-le from blocks within, take-append-add, take-append-le)
 
-take_behind : (blocks new : List (List RowsView)) (from count k : ℕ) → from ≤ length blocks → take (from + (length new + k)) (replaced blocks from count new) ≡ take from blocks ++ (new ++ take k (drop (from + count) blocks))
-take_behind blocks new from count k within = grind (arith, common_steps, length-take-le from blocks within, take-append-add)
+split_block_off : (blocks new : List (List RowsView)) (from count k : ℕ) → from ≤ length blocks → take (from + (length new + k)) (replaced blocks from count new) ≡ take from blocks ++ (new ++ take k (drop (from + count) blocks))
+split_block_off blocks new from count k within = grind (arith, common_steps, length-take-le from blocks within, take-append-add)
 
 -- the total before a block after the new ones
 pub total_behind : (total : Sum) → IsSum total → (blocks new : List (List RowsView)) (from to k : ℕ) → from ≤ to → to ≤ length blocks → total_before total (replaced blocks from (to - from) new) (from + (length new + k)) + total_before total blocks to ≡ total_before total blocks (to + k) + total_before total blocks from + total (all_rows new)
 total_behind total sum blocks new from to k ordered within =
-    grind (arith, common_steps, take_behind, all_rows-append, before_further total sum blocks to k)
+    grind (arith, common_steps, split_block_off, all_rows-append, before_further total sum blocks to k)
 
 -- and the total of all blocks
 pub all_exchanged : (total : Sum) → IsSum total → (blocks new : List (List RowsView)) (from to : ℕ) → from ≤ to → to ≤ length blocks → total (all_rows (replaced blocks from (to - from) new)) + total_before total blocks to ≡ total (all_rows blocks) + total_before total blocks from + total (all_rows new)

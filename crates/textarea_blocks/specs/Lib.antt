@@ -1,4 +1,4 @@
 pub mod Blocks
 pub mod Numbered
 pub mod Sums
-pub mod Turned
+pub mod Shifted

@@ -6,25 +6,25 @@ use Rattle.textarea_data.specs.declared.input.Input.{Input}
 use Rattle.textarea_data.specs.declared.input.Key.{Key}
 use Rattle.textarea_data.specs.declared.input.Key.TheVariants as key
 use Rattle.textarea_calls.specs.Answer.{changed, answer_of}
-use Rattle.textarea_calls.specs.Table.{Row, HasAnswersOfActions, characters_but, has, fits, row_of, action_in, answer_in, action_by, inserted}
+use Rattle.textarea_calls.specs.Table.{ActionRow, HasAnswersOfActions, characters_but, has_key, fits_row, row_of, action_in, answer_in, action_by, inserts_key_char}
 
 -- the result of each input of a case is that of the input's action
-abbrev pub AnswersAsActions : Row → Type 0
-AnswersAsActions row = (input : Input) → fits input row ≡ true → row.answer ≡ answer_of (row.action input)
+abbrev pub AnswersAsActions : ActionRow → Type 0
+AnswersAsActions row = (input : Input) → fits_row input row ≡ true → row.answer ≡ answer_of (row.action input)
 
-first_row : (b : Bool) (row : Row) (later : Option Row) (input : Input) → (b ≡ true → row.answer ≡ answer_of (row.action input)) → answer_in later ≡ answer_of (action_in later input) → answer_in (cond b (Some row) later) ≡ answer_of (action_in (cond b (Some row) later) input)
+first_row : (b : Bool) (row : ActionRow) (later : Option ActionRow) (input : Input) → (b ≡ true → row.answer ≡ answer_of (row.action input)) → answer_in later ≡ answer_of (action_in later input) → answer_in (cond b (Some row) later) ≡ answer_of (action_in (cond b (Some row) later) input)
 first_row true row later input here there = here refl
 first_row false row later input here there = there
 
 -- what holds for each case holds for the table
-pub answers_of_rows : (rows : List Row) → AllByRecursion AnswersAsActions rows → HasAnswersOfActions rows
+pub answers_of_rows : (rows : List ActionRow) → AllByRecursion AnswersAsActions rows → HasAnswersOfActions rows
 unfolding action_by
 answers_of_rows [] each input = refl
 answers_of_rows (row ∷ rows) each input =
-    first_row (fits input row) row (row_of rows input) input (each.0 input) (answers_of_rows rows each.1 input)
+    first_row (fits_row input row) row (row_of rows input) input (each.0 input) (answers_of_rows rows each.1 input)
 
 -- all characters except some: only characters are in the set, and they are inserted
-pub characters_inserted : (asked : Key) (b : Bool) (left_out : List ℕ) → ((b && has (characters_but left_out) asked) || false) ≡ true → changed ≡ answer_of (inserted asked)
+pub characters_inserted : (asked : Key) (b : Bool) (left_out : List ℕ) → ((b && has_key (characters_but left_out) asked) || false) ≡ true → changed ≡ answer_of (inserts_key_char asked)
 characters_inserted (key.Char c) b left_out h = refl
 characters_inserted other true left_out h = absurd (false≢true h)
 characters_inserted other false left_out h = absurd (false≢true h)

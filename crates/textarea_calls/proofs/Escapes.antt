@@ -9,7 +9,7 @@ use Rattle.std.specs.Result.{result_ok}
 use Rattle.std.proofs.Math.Nat.{pow-le-pow_right}
 use Rattle.std.proofs.lemmas.Bool.Decides.{nat_tests}
 use Rattle.std.proofs.lemmas.Int.Digits.{digits_value-lt}
-use Rattle.textarea_calls.specs.Escapes.{character_numbered, control, escape, first_character, is_closing, numbered, plain_character}
+use Rattle.textarea_calls.specs.Escapes.{character_numbered, control, escape, first_character, is_closing, numbered_escape, plain_character}
 
 is_false : (test : Bool) → (test ≡ true → ⊥) → test ≡ false
 is_false true other = absurd (other refl)
@@ -53,25 +53,25 @@ hex_parsed ds (Err error) parsed none all short = hex_unparsed ds error parsed a
 pub is_other : (a b : ℕ) → a ≢ b → (a == b) ≡ false
 is_other a b other = is_false (a == b) (λ same. other (eqb-true a b same))
 
-pub numbered_bare : (text : List ℕ) → ((rest : List ℕ) → text ≢ 123 ∷ rest) → numbered text ≡ None
-unfolding numbered
+pub numbered_bare : (text : List ℕ) → ((rest : List ℕ) → text ≢ 123 ∷ rest) → numbered_escape text ≡ None
+unfolding numbered_escape
 numbered_bare [] bare = refl
 numbered_bare (opening ∷ text) bare =
     ap (λ (test : Bool). if test && nat_lt (position_or_len is_closing text) (length text) then option_map (λ c. (c, after_first is_closing text)) (character_numbered (before_first is_closing text)) else None)
     (is_other opening 123 (λ same. bare text (ap (λ (b : ℕ). b ∷ text) same)))
 
-pub numbered_open : (text rest : List ℕ) → text ≡ 123 ∷ rest → position_or_len is_closing rest ≡ length rest → numbered text ≡ None
-unfolding numbered
+pub numbered_open : (text rest : List ℕ) → text ≡ 123 ∷ rest → position_or_len is_closing rest ≡ length rest → numbered_escape text ≡ None
+unfolding numbered_escape
 numbered_open text rest is none =
-    ap numbered is
+    ap numbered_escape is
     ∙ ap (λ (test : Bool). if test then option_map (λ c. (c, after_first is_closing rest)) (character_numbered (before_first is_closing rest)) else None)
     (is_false (nat_lt (position_or_len is_closing rest) (length rest)) (λ less. grind (arith, nat_tests)))
 
-pub numbered_closed : (text rest digits behind : List ℕ) → text ≡ 123 ∷ rest → position_or_len is_closing rest < length rest → digits ≡ before_first is_closing rest → behind ≡ after_first is_closing rest → numbered text ≡ option_map (λ c. (c, behind)) (character_numbered digits)
-unfolding numbered
+pub numbered_closed : (text rest digits behind : List ℕ) → text ≡ 123 ∷ rest → position_or_len is_closing rest < length rest → digits ≡ before_first is_closing rest → behind ≡ after_first is_closing rest → numbered_escape text ≡ option_map (λ c. (c, behind)) (character_numbered digits)
+unfolding numbered_escape
 numbered_closed text rest digits behind is some before after =
     let test : nat_lt (position_or_len is_closing rest) (length rest) ≡ true = grind (arith, nat_tests) in
-    ap numbered is
+    ap numbered_escape is
     ∙ ap (λ (test : Bool). if test then option_map (λ c. (c, after_first is_closing rest)) (character_numbered (before_first is_closing rest)) else None) test
     ∙ ap (λ (b : List ℕ). option_map (λ c. (c, b)) (character_numbered (before_first is_closing rest))) (sym after)
     ∙ ap (λ (d : List ℕ). option_map (λ c. (c, behind)) (character_numbered d)) (sym before)
@@ -93,7 +93,7 @@ at_letter letter text rest small is = is ∙ ap (λ (b : List ℕ). b ++ rest) (
 pub escape_letter : (letter : ℕ) (text rest : List ℕ) → letter < 128 → text ≡ encode_utf8 letter ++ rest → escape text ≡ escape (letter ∷ rest)
 escape_letter letter text rest small is = ap escape (at_letter letter text rest small is)
 
-pub escape_number : (text rest : List ℕ) → text ≡ encode_utf8 117 ++ rest → escape text ≡ numbered rest
+pub escape_number : (text rest : List ℕ) → text ≡ encode_utf8 117 ++ rest → escape text ≡ numbered_escape rest
 unfolding escape
 escape_number text rest is = ap escape (at_letter 117 text rest (lit< tt) is)
 
@@ -114,7 +114,7 @@ pub escape_other : (text rest : List ℕ) (c : ℕ) → text ≡ encode_utf8 c +
 unfolding escape
 escape_other [] rest c is n r t b u = refl
 escape_other (letter ∷ text) rest c is n r t b u =
-    ap (λ (test : Bool). if test then numbered text else option_map (λ d. (d, text)) (control letter)) (is_other letter 117 (first_byte letter c 117 text rest is (lit< tt) u))
+    ap (λ (test : Bool). if test then numbered_escape text else option_map (λ d. (d, text)) (control letter)) (is_other letter 117 (first_byte letter c 117 text rest is (lit< tt) u))
     ∙ ap (option_map (λ d. (d, text))) (no_control letter (first_byte letter c 110 text rest is (lit< tt) n) (first_byte letter c 114 text rest is (lit< tt) r) (first_byte letter c 116 text rest is (lit< tt) t) (first_byte letter c 92 text rest is (lit< tt) b))
 
 -- ---- the first character

@@ -67,8 +67,8 @@ line_front (c ∷ cs) text rest utf8 is none =
     ∙ ap (option_map (λ lines. in_front (encode_utf8 c) lines)) (line_front cs behind rest (IsUtf8-past_char text behind c utf8 first) refl (without_behind (encode_utf8 c) (encode_utf8_all cs) none))
     ∙ line_grown (encode_utf8 c) (encode_utf8_all cs) (unescaped_lines rest)
 
-text_behind : (front text rest : List ℕ) → IsUtf8 text → IsUtf8 front → text ≡ front ++ rest → Without front → unescaped text ≡ option_map (λ more. front ++ more) (unescaped rest)
-text_behind front text rest utf8 whole is none =
+text_from : (front text rest : List ℕ) → IsUtf8 text → IsUtf8 front → text ≡ front ++ rest → Without front → unescaped text ≡ option_map (λ more. front ++ more) (unescaped rest)
+text_from front text rest utf8 whole is none =
     subst (λ (bytes : List ℕ). text ≡ bytes ++ rest → Without bytes → unescaped text ≡ option_map (λ more. bytes ++ more) (unescaped rest)) whole.1.1 (text_front whole.0 text rest utf8) is none
 
 line_behind : (front text rest : List ℕ) → IsUtf8 text → IsUtf8 front → text ≡ front ++ rest → Without front → unescaped_lines text ≡ option_map (λ lines. in_front front lines) (unescaped_lines rest)
@@ -91,18 +91,18 @@ backslash escaped = refl
 -- a text without a backslash
 pub text_plain : (text : List ℕ) → IsUtf8 text → Without text → unescaped text ≡ Some text
 text_plain text utf8 none =
-    text_behind text text [] utf8 utf8 (sym (append-nil text)) none
+    text_from text text [] utf8 utf8 (sym (append-nil text)) none
     ∙ ap (option_map (λ more. text ++ more)) (unescaped_nothing [] refl)
     ∙ ap Some (append-nil text)
 
 pub text_unread : (text front escaped : List ℕ) → IsUtf8 text → text ≡ front ++ (92 ∷ escaped) → Without front → escape escaped ≡ None → unescaped text ≡ None
 text_unread text front escaped utf8 is none unread =
-    text_behind front text (92 ∷ escaped) utf8 (front_whole text front escaped utf8 is) is none
+    text_from front text (92 ∷ escaped) utf8 (front_whole text front escaped utf8 is) is none
     ∙ ap (option_map (λ more. front ++ more)) (unescaped_none (92 ∷ escaped) (omega arith) (backslash escaped ∙ unread))
 
 pub text_escaped : (text front escaped behind : List ℕ) (c : ℕ) → IsUtf8 text → text ≡ front ++ (92 ∷ escaped) → Without front → escape escaped ≡ Some (c, behind) → unescaped text ≡ option_map (λ more. (front ++ encode_utf8 c) ++ more) (unescaped behind)
 text_escaped text front escaped behind c utf8 is none read =
-    text_behind front text (92 ∷ escaped) utf8 (front_whole text front escaped utf8 is) is none
+    text_from front text (92 ∷ escaped) utf8 (front_whole text front escaped utf8 is) is none
     ∙ ap (option_map (λ more. front ++ more)) (unescaped_first (92 ∷ escaped) c behind (backslash escaped ∙ read))
     ∙ text_grown front (encode_utf8 c) (unescaped behind)
 

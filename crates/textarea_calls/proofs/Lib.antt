@@ -7,5 +7,5 @@ pub mod Ranges
 pub mod Scripts
 pub mod Tables
 pub mod Tokens
-pub mod Overlap
+pub mod TableOverlap
 pub mod Answers

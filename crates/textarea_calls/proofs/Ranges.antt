@@ -5,23 +5,23 @@ use Rattle.std.specs.Option.{option_zip}
 use Rattle.std.proofs.lemmas.List.Splits.{slice_split_first}
 use Rattle.std.proofs.lemmas.Bool.Decides.{nat_tests}
 use Rattle.textarea_data.specs.declared.range.AtomicRange.{AtomicRange}
-use Rattle.textarea_calls.specs.Arguments.{has_space, is_space, parts}
+use Rattle.textarea_calls.specs.Arguments.{has_space, is_separator, parts}
 use Rattle.textarea_calls.specs.Ranges.{range, ranges, ranges_of}
 
 abbrev words : List ℕ → List (List ℕ)
-words text = slice_split (λ byte. is_space byte) text
+words text = slice_split (λ byte. is_separator byte) text
 
-one_word : (text : List ℕ) → (position_or_len (λ byte. is_space byte) text < length text → ⊥) → words text ≡ text ∷ []
+one_word : (text : List ℕ) → (position_or_len (λ byte. is_separator byte) text < length text → ⊥) → words text ≡ text ∷ []
 one_word [] none = refl
 one_word (byte ∷ text) none =
-    let at : Bool → ℕ = λ test. if not test then 1 + position_or_len (λ b. is_space b) text else 0 in
-    elim (is_space byte) as (λ test. (at test < length (byte ∷ text) → ⊥) → (if test then [] ∷ words text else onto_first byte (words text)) ≡ (byte ∷ text) ∷ []) [
+    let at : Bool → ℕ = λ test. if not test then 1 + position_or_len (λ b. is_separator b) text else 0 in
+    elim (is_separator byte) as (λ test. (at test < length (byte ∷ text) → ⊥) → (if test then [] ∷ words text else onto_first byte (words text)) ≡ (byte ∷ text) ∷ []) [
       | true ↦ λ never. absurd (never (omega arith))
       | false ↦ λ never. ap (onto_first byte) (one_word text (λ less. never (omega arith)))
     ] none
 
 abbrev cut : List ℕ → Bool → Option (List ℕ × List ℕ)
-cut text test = if test then Some (before_first is_space text, after_first is_space text) else None
+cut text test = if test then Some (before_first is_separator text, after_first is_separator text) else None
 
 -- the words of a text with no space
 words_none : (text : List ℕ) → parts text ≡ None → words text ≡ text ∷ []
@@ -34,9 +34,9 @@ words_some : (text first rest : List ℕ) → parts text ≡ Some (first, rest) 
 words_some text first rest is =
     elim (has_space text) as (λ test. has_space text ≡ test → cut text test ≡ Some (first, rest) → words text ≡ first ∷ words rest) [
       | true ↦ λ test same.
-          let less : position_or_len (λ byte. is_space byte) text < length text = grind (arith, nat_tests) in
-          let pair : (before_first is_space text, after_first is_space text) ≡ (first, rest) = cc in
-          slice_split_first (λ byte. is_space byte) text 0 less ∙ ap (λ (p : List ℕ × List ℕ). p.0 ∷ words p.1) pair
+          let less : position_or_len (λ byte. is_separator byte) text < length text = grind (arith, nat_tests) in
+          let pair : (before_first is_separator text, after_first is_separator text) ≡ (first, rest) = cc in
+          slice_split_first (λ byte. is_separator byte) text 0 less ∙ ap (λ (p : List ℕ × List ℕ). p.0 ∷ words p.1) pair
       | false ↦ λ test same. let none : cut text false ≡ Some (first, rest) = same in cc
     ] refl is
 

@@ -5,10 +5,10 @@ use Rattle.std.specs.List.{enumerate_from, list_all}
 use Rattle.std.proofs.lemmas.List.FromFn.{length-enumerate_from, get_or-enumerate_from}
 use Rattle.std.proofs.lemmas.List.Sums.{count_by_more_no, count_by_more_yes}
 use Rattle.std.proofs.lemmas.Bool.Decides.{nat_tests}
-use Rattle.textarea_calls.specs.Script.{AreCallsOf, IsCallOf, filled_lines, IsAtLine, IsFilledLine, IsFirstUnread, IsUnreadLine, NamesLine, lines_of, meant_line, meant_lines}
+use Rattle.textarea_calls.specs.Script.{AreCallsOf, IsCallOf, filled_lines, IsAtLine, IsFilledLine, IsFirstUnparsed, IsUnparsedLine, NamesLine, lines_of_script, meaning_of_line, meanings_of_lines}
 use Rattle.textarea_calls.specs.declared.call.Call.{Call}
 use Rattle.textarea_calls.specs.declared.commands.Command.{Command}
-use Rattle.textarea_calls.specs.declared.commands.Content.{Content}
+use Rattle.textarea_calls.specs.declared.commands.CommandContent.{CommandContent}
 use Rattle.textarea_calls.specs.declared.commands.ReadError.{ReadError}
 use Rattle.textarea_calls.specs.declared.commands.ReadError.TheVariants.{Line, Memory}
 
@@ -37,18 +37,18 @@ filled_lines-filled lines count index line turn some =
 
 -- an error at a line names the first unread line, if that line is the first unread one
 pub names_line : (script : List ℕ) (number : ℕ) (error : ReadError) → IsFilledLine script number
-    → list_all (λ meant. is_some meant) (meant_lines (take (number - 1) (lines_of script))) ≡ true
-    → IsAtLine number error → IsUnreadLine (meant_line (slice_index_or (lines_of script) (number - 1) [])) error → NamesLine script error
+    → list_all (λ meant. is_some meant) (meanings_of_lines (take (number - 1) (lines_of_script script))) ≡ true
+    → IsAtLine number error → IsUnparsedLine (meaning_of_line (slice_index_or (lines_of_script script) (number - 1) [])) error → NamesLine script error
 names_line script number (Line named) filled first is_there unread =
-    subst (λ (n : ℕ). IsFilledLine script n × IsFirstUnread script n) (sym is_there) (filled, record { unread = unread; first = first })
+    subst (λ (n : ℕ). IsFilledLine script n × IsFirstUnparsed script n) (sym is_there) (filled, record { unread = unread; first = first })
 names_line script number Memory filled first is_there unread = tt
 
 -- ---- the calls of commands
 
-abbrev contents : List Command → List Content
+abbrev contents : List Command → List CommandContent
 contents commands = map (λ (command : Command). command.content) commands
 
-AreCallsOf-append : (first : List Content) (calls : List Call) (content : Content) (made : Call)
+AreCallsOf-append : (first : List CommandContent) (calls : List Call) (content : CommandContent) (made : Call)
     → AreCallsOf first calls → IsCallOf content made → AreCallsOf (first ++ content ∷ []) (calls ++ made ∷ [])
 AreCallsOf-append [] [] content made all is = (is, tt)
 AreCallsOf-append [] (call ∷ calls) content made all is = absurd all
@@ -60,7 +60,7 @@ pub calls_more : (commands : List Command) (calls : List Call) (index : ℕ) (co
     → command ≡ get_or commands index command → AreCallsOf (contents (take index commands)) calls → IsCallOf command.content made
     → AreCallsOf (contents (take (index + 1) commands)) (calls ++ made ∷ [])
 calls_more commands calls index command made within at all is =
-    subst (λ (c : List Content). AreCallsOf c (calls ++ made ∷ []))
+    subst (λ (c : List CommandContent). AreCallsOf c (calls ++ made ∷ []))
     (sym (map-append (λ (command : Command). command.content) (take index commands) (command ∷ []))
     ∙ ap contents (ap (λ (this : Command). take index commands ++ this ∷ []) at ∙ sym (take_more commands index command within)))
     (AreCallsOf-append (contents (take index commands)) calls command.content made all is)

@@ -4,14 +4,14 @@ use Rattle.std.proofs.lemmas.Slice.Eq.{bytes_eq-Decides}
 use Rattle.std.specs.Prelude.{bytes_eq, option_and_then, option_map, IfOk, IfSome, IsSomeAnd, MatchOption}
 use Rattle.std.specs.Option.{ok_or}
 use Rattle.textarea_calls.specs.Arguments.{IsReadAs, named}
-use Rattle.textarea_calls.specs.Made.{CanBeMade}
+use Rattle.textarea_calls.specs.Possible.{CanBeMade}
 use Rattle.textarea_calls.specs.declared.call.Call.{Call}
-use Rattle.textarea_calls.specs.Script.{meaning_of, IsReady}
-use Rattle.textarea_calls.specs.declared.arguments.Unread.{Unread}
-use Rattle.textarea_calls.specs.declared.arguments.Unread.TheVariants.{NoCommand, Memory}
-use Rattle.textarea_calls.specs.declared.commands.Content.{Content}
-use Rattle.textarea_calls.specs.declared.commands.Content.TheVariants.{Plain}
-use Rattle.textarea_calls.specs.Commands.{Meaning, borrowing_commands, given, plain_commands, meant, meant_by, plain_meant}
+use Rattle.textarea_calls.specs.Script.{meaning_of, IsCallReady}
+use Rattle.textarea_calls.specs.declared.arguments.Unparsed.{Unparsed}
+use Rattle.textarea_calls.specs.declared.arguments.Unparsed.TheVariants.{NoCommand, Memory}
+use Rattle.textarea_calls.specs.declared.commands.CommandContent.{CommandContent}
+use Rattle.textarea_calls.specs.declared.commands.CommandContent.TheVariants.{Plain}
+use Rattle.textarea_calls.specs.Commands.{Meaning, borrowing_commands, with_arguments, plain_commands, command_meaning, meaning_by, plain_meaning}
 
 -- each case has another name, or no meaning for these arguments
 abbrev pub MeansNothing : List ℕ → Option (List ℕ) → List (List ℕ × (Option (List ℕ) → Option Meaning)) → Type 0
@@ -19,10 +19,10 @@ MeansNothing name arguments [] = Unit {0}
 MeansNothing name arguments (row ∷ rows) =
     ((name ≢ row.0) ⊎ (row.1 arguments ≡ None)) × MeansNothing name arguments rows
 
-pub meant_by-none : (name : List ℕ) (arguments : Option (List ℕ)) (table : List (List ℕ × (Option (List ℕ) → Option Meaning))) → MeansNothing name arguments table → meant_by table name arguments ≡ None
-meant_by-none name arguments [] all = refl
-meant_by-none name arguments (row ∷ rows) all =
-    let rest = meant_by-none name arguments rows all.1 in
+pub meaning_by-none : (name : List ℕ) (arguments : Option (List ℕ)) (table : List (List ℕ × (Option (List ℕ) → Option Meaning))) → MeansNothing name arguments table → meaning_by table name arguments ≡ None
+meaning_by-none name arguments [] all = refl
+meaning_by-none name arguments (row ∷ rows) all =
+    let rest = meaning_by-none name arguments rows all.1 in
     let chosen : Bool → Option Meaning = λ test. option_and_then (λ means. means arguments) (if test then Some row.1 else named rows name) in
     let same : bytes_eq name row.0 ≡ true → name ≡ row.0 = (bytes_eq-Decides name row.0).0 in
     elim all.0 [
@@ -31,8 +31,8 @@ meant_by-none name arguments (row ∷ rows) all =
     ]
 
 -- a case of another name is skipped
-meant_by-other : (name : List ℕ) (arguments : Option (List ℕ)) (row : List ℕ × (Option (List ℕ) → Option Meaning)) (rows : List (List ℕ × (Option (List ℕ) → Option Meaning))) → name ≢ row.0 → meant_by (row ∷ rows) name arguments ≡ meant_by rows name arguments
-meant_by-other name arguments row rows other =
+meaning_by-other : (name : List ℕ) (arguments : Option (List ℕ)) (row : List ℕ × (Option (List ℕ) → Option Meaning)) (rows : List (List ℕ × (Option (List ℕ) → Option Meaning))) → name ≢ row.0 → meaning_by (row ∷ rows) name arguments ≡ meaning_by rows name arguments
+meaning_by-other name arguments row rows other =
     let chosen : Bool → Option Meaning = λ test. option_and_then (λ means. means arguments) (if test then Some row.1 else named rows name) in
     let same : bytes_eq name row.0 ≡ true → name ≡ row.0 = (bytes_eq-Decides name row.0).0 in
     elim (bytes_eq name row.0) as (λ test. (test ≡ true → name ≡ row.0) → chosen test ≡ chosen false) [ true ↦ λ so. absurd (other (so refl)) | false ↦ λ so. refl ] same
@@ -51,32 +51,32 @@ named-none {A} name (row ∷ rows) others =
     let same : bytes_eq name row.0 ≡ true → name ≡ row.0 = (bytes_eq-Decides name row.0).0 in
     elim (bytes_eq name row.0) as (λ test. (test ≡ true → name ≡ row.0) → chosen test ≡ None) [ true ↦ λ so. absurd (others.0 (so refl)) | false ↦ λ so. rest ] same
 
-pub meant_by-behind : (name : List ℕ) (arguments : Option (List ℕ)) (rows more : List (List ℕ × (Option (List ℕ) → Option Meaning))) → IsOther name rows → meant_by (rows ++ more) name arguments ≡ meant_by more name arguments
-meant_by-behind name arguments [] more others = refl
-meant_by-behind name arguments (row ∷ rows) more others =
-    meant_by-other name arguments row (rows ++ more) others.0 ∙ meant_by-behind name arguments rows more others.1
+pub meaning_by-behind : (name : List ℕ) (arguments : Option (List ℕ)) (rows more : List (List ℕ × (Option (List ℕ) → Option Meaning))) → IsOther name rows → meaning_by (rows ++ more) name arguments ≡ meaning_by more name arguments
+meaning_by-behind name arguments [] more others = refl
+meaning_by-behind name arguments (row ∷ rows) more others =
+    meaning_by-other name arguments row (rows ++ more) others.0 ∙ meaning_by-behind name arguments rows more others.1
 
 -- a call that borrows nothing is found after the other cases
-pub meant-plain : (name : List ℕ) (arguments : Option (List ℕ)) → IsOther name borrowing_commands → meant name arguments ≡ plain_meant name arguments
-unfolding meant plain_meant
-meant-plain name arguments others = meant_by-behind name arguments borrowing_commands plain_commands others
+pub meant-plain : (name : List ℕ) (arguments : Option (List ℕ)) → IsOther name borrowing_commands → command_meaning name arguments ≡ plain_meaning name arguments
+unfolding command_meaning plain_meaning
+meant-plain name arguments others = meaning_by-behind name arguments borrowing_commands plain_commands others
 
 -- the meaning of a name with arguments that are read as a value
-pub meant-read : (meant : List ℕ → Option (List ℕ) → Option Meaning) {A : Type 0} (means : A → Meaning) (name row : List ℕ) (arguments : List ℕ) (reading read : Option A) (value : A) (meaning : Meaning) → name ≡ row → meant row (Some arguments) ≡ option_map means reading → read ≡ reading → read ≡ Some value → meaning ≡ means value → Some meaning ≡ meant name (Some arguments)
-meant-read meant means name row arguments reading read value meaning named by_row so found told =
+pub meant-read : (command_meaning : List ℕ → Option (List ℕ) → Option Meaning) {A : Type 0} (means : A → Meaning) (name row : List ℕ) (arguments : List ℕ) (reading read : Option A) (value : A) (meaning : Meaning) → name ≡ row → command_meaning row (Some arguments) ≡ option_map means reading → read ≡ reading → read ≡ Some value → meaning ≡ means value → Some meaning ≡ command_meaning name (Some arguments)
+meant-read command_meaning means name row arguments reading read value meaning named by_row so found told =
     let valued : reading ≡ Some value = sym so ∙ found in
     ap Some told
     ∙ sym (ap (option_map means) valued)
     ∙ sym by_row
-    ∙ sym (ap (λ given. meant given (Some arguments)) named)
+    ∙ sym (ap (λ with_arguments. command_meaning with_arguments (Some arguments)) named)
 
 -- a name has no meaning with arguments that are unread
-pub meant-unread : (meant : List ℕ → Option (List ℕ) → Option Meaning) {A : Type 0} (means : A → Meaning) (name row : List ℕ) (arguments : List ℕ) (reading : Option A) (made : Option Call) → made ≡ None → name ≡ row → meant row (Some arguments) ≡ option_map means reading → None ≡ reading → option_map (λ call. meaning_of (Plain call)) made ≡ meant name (Some arguments)
-meant-unread meant means name row arguments reading made none named by_row unread =
+pub meant-unread : (command_meaning : List ℕ → Option (List ℕ) → Option Meaning) {A : Type 0} (means : A → Meaning) (name row : List ℕ) (arguments : List ℕ) (reading : Option A) (made : Option Call) → made ≡ None → name ≡ row → command_meaning row (Some arguments) ≡ option_map means reading → None ≡ reading → option_map (λ call. meaning_of (Plain call)) made ≡ command_meaning name (Some arguments)
+meant-unread command_meaning means name row arguments reading made none named by_row unread =
     ap (λ (made : Option Call). option_map (λ call. meaning_of (Plain call)) made) none
     ∙ ap (option_map means) unread
     ∙ sym by_row
-    ∙ sym (ap (λ given. meant given (Some arguments)) named)
+    ∙ sym (ap (λ with_arguments. command_meaning with_arguments (Some arguments)) named)
 
 -- two steps of reading are one
 pub option_map-twice : {A B C : Type 0} (second : B → C) (first : A → B) (read : Option A) → option_map second (option_map first read) ≡ option_map (λ x. second (first x)) read
@@ -88,40 +88,40 @@ pub ready-none : (made : Option Call) → made ≡ None → IfSome made CanBeMad
 ready-none made none = subst (λ (made : Option Call). IfSome made CanBeMade) (sym none) tt
 
 -- a value that is read becomes a command's content with the value's meaning
-pub read-made : {A V : Type 0} → (view : A → V) (content : A → Content) (means : V → Meaning) (given : Option V) (read : Result A Unread) (made : Result Content Unread) → ((x : A) → meaning_of (content x) ≡ means (view x)) → IsReadAs view given read → MatchResult read (λ x. IsOkAnd made (λ one. one ≡ content x)) (λ unread. made ≡ Err unread) → IsReadAs meaning_of (option_map means given) made
-read-made view content means given (Ok x) (Ok one) told so cases =
-    ap (option_map means) so ∙ ap Some (sym (told x)) ∙ ap (λ (one : Content). Some (meaning_of one)) (sym cases)
-read-made view content means given (Ok x) (Err unread) told so cases = absurd cases
-read-made view content means given (Err NoCommand) made told so cases =
-    subst (λ (made : Result Content Unread). IsReadAs meaning_of (option_map means given) made) (sym cases) (ap (option_map means) so)
-read-made view content means given (Err Memory) made told so cases =
-    subst (λ (made : Result Content Unread). IsReadAs meaning_of (option_map means given) made) (sym cases) tt
+pub read-made : {A V : Type 0} → (view : A → V) (content : A → CommandContent) (means : V → Meaning) (with_arguments : Option V) (read : Result A Unparsed) (made : Result CommandContent Unparsed) → ((x : A) → meaning_of (content x) ≡ means (view x)) → IsReadAs view with_arguments read → MatchResult read (λ x. IsOkAnd made (λ one. one ≡ content x)) (λ unread. made ≡ Err unread) → IsReadAs meaning_of (option_map means with_arguments) made
+read-made view content means with_arguments (Ok x) (Ok one) told so cases =
+    ap (option_map means) so ∙ ap Some (sym (told x)) ∙ ap (λ (one : CommandContent). Some (meaning_of one)) (sym cases)
+read-made view content means with_arguments (Ok x) (Err unread) told so cases = absurd cases
+read-made view content means with_arguments (Err NoCommand) made told so cases =
+    subst (λ (made : Result CommandContent Unparsed). IsReadAs meaning_of (option_map means with_arguments) made) (sym cases) (ap (option_map means) so)
+read-made view content means with_arguments (Err Memory) made told so cases =
+    subst (λ (made : Result CommandContent Unparsed). IsReadAs meaning_of (option_map means with_arguments) made) (sym cases) tt
 
 -- the content of a value that is read is ready
-pub ready-read : {A : Type 0} (content : A → Content) (read : Result A Unread) (made : Result Content Unread) → ((x : A) → IsReady (content x)) → MatchResult read (λ x. IsOkAnd made (λ one. one ≡ content x)) (λ unread. made ≡ Err unread) → IfOk made IsReady
-ready-read content (Ok x) (Ok one) ready cases = subst IsReady (sym cases) (ready x)
+pub ready-read : {A : Type 0} (content : A → CommandContent) (read : Result A Unparsed) (made : Result CommandContent Unparsed) → ((x : A) → IsCallReady (content x)) → MatchResult read (λ x. IsOkAnd made (λ one. one ≡ content x)) (λ unread. made ≡ Err unread) → IfOk made IsCallReady
+ready-read content (Ok x) (Ok one) ready cases = subst IsCallReady (sym cases) (ready x)
 ready-read content (Ok x) (Err unread) ready cases = absurd cases
-ready-read content (Err unread) made ready cases = subst (λ (made : Result Content Unread). IfOk made IsReady) (sym cases) tt
+ready-read content (Err unread) made ready cases = subst (λ (made : Result CommandContent Unparsed). IfOk made IsCallReady) (sym cases) tt
 
 -- the content of an optional value is ready
-pub ready-given : {A : Type 0} (content : A → Content) (given : Option A) (mapped : Option Content) (made : Result Content Unread) → ((x : A) → given ≡ Some x → IsReady (content x)) → MatchOption given (mapped ≡ None) (λ x. IsSomeAnd mapped (λ one. one ≡ content x)) → made ≡ ok_or mapped NoCommand → IfOk made IsReady
+pub ready-given : {A : Type 0} (content : A → CommandContent) (with_arguments : Option A) (mapped : Option CommandContent) (made : Result CommandContent Unparsed) → ((x : A) → with_arguments ≡ Some x → IsCallReady (content x)) → MatchOption with_arguments (mapped ≡ None) (λ x. IsSomeAnd mapped (λ one. one ≡ content x)) → made ≡ ok_or mapped NoCommand → IfOk made IsCallReady
 ready-given content None mapped made ready cases value =
-    subst (λ (made : Result Content Unread). IfOk made IsReady) (sym (value ∙ ap (λ (mapped : Option Content). ok_or mapped NoCommand) cases)) tt
+    subst (λ (made : Result CommandContent Unparsed). IfOk made IsCallReady) (sym (value ∙ ap (λ (mapped : Option CommandContent). ok_or mapped NoCommand) cases)) tt
 ready-given content (Some x) None made ready cases value = absurd cases
 ready-given content (Some x) (Some one) made ready cases value =
-    subst (λ (made : Result Content Unread). IfOk made IsReady) (sym value) (subst IsReady (sym cases) (ready x refl))
+    subst (λ (made : Result CommandContent Unparsed). IfOk made IsCallReady) (sym value) (subst IsCallReady (sym cases) (ready x refl))
 
 -- the content of an optional value has the value's meaning
-pub given-made : {A : Type 0} (content : A → Content) (means : A → Meaning) (reading given : Option A) (mapped : Option Content) (made : Result Content Unread) → ((x : A) → meaning_of (content x) ≡ means x) → given ≡ reading → MatchOption given (mapped ≡ None) (λ x. IsSomeAnd mapped (λ one. one ≡ content x)) → made ≡ ok_or mapped NoCommand → IsReadAs meaning_of (option_map means reading) made
+pub given-made : {A : Type 0} (content : A → CommandContent) (means : A → Meaning) (reading with_arguments : Option A) (mapped : Option CommandContent) (made : Result CommandContent Unparsed) → ((x : A) → meaning_of (content x) ≡ means x) → with_arguments ≡ reading → MatchOption with_arguments (mapped ≡ None) (λ x. IsSomeAnd mapped (λ one. one ≡ content x)) → made ≡ ok_or mapped NoCommand → IsReadAs meaning_of (option_map means reading) made
 given-made content means reading None mapped made told so cases value =
-    subst (λ (made : Result Content Unread). IsReadAs meaning_of (option_map means reading) made)
-    (sym (value ∙ ap (λ (mapped : Option Content). ok_or mapped NoCommand) cases)) (ap (option_map means) (sym so))
+    subst (λ (made : Result CommandContent Unparsed). IsReadAs meaning_of (option_map means reading) made)
+    (sym (value ∙ ap (λ (mapped : Option CommandContent). ok_or mapped NoCommand) cases)) (ap (option_map means) (sym so))
 given-made content means reading (Some x) None made told so cases value = absurd cases
 given-made content means reading (Some x) (Some one) made told so cases value =
-    subst (λ (made : Result Content Unread). IsReadAs meaning_of (option_map means reading) made) (sym value)
-    (ap (option_map means) (sym so) ∙ ap Some (sym (told x)) ∙ ap (λ (one : Content). Some (meaning_of one)) (sym cases))
+    subst (λ (made : Result CommandContent Unparsed). IsReadAs meaning_of (option_map means reading) made) (sym value)
+    (ap (option_map means) (sym so) ∙ ap Some (sym (told x)) ∙ ap (λ (one : CommandContent). Some (meaning_of one)) (sym cases))
 
 -- the argument after a name, if there is one, is read
-pub given-then : {A : Type 0} (reading : List ℕ → Option A) (means : A → Meaning) (arguments : Option (List ℕ)) → given reading means arguments ≡ option_map means (option_and_then reading arguments)
+pub given-then : {A : Type 0} (reading : List ℕ → Option A) (means : A → Meaning) (arguments : Option (List ℕ)) → with_arguments reading means arguments ≡ option_map means (option_and_then reading arguments)
 given-then reading means None = refl
 given-then reading means (Some arguments) = refl

@@ -5,7 +5,7 @@ use Rattle.std.specs.Char.{len_utf8}
 use Rattle.std.specs.List.{after_first, before_first, position_or_len}
 use Rattle.std.proofs.lemmas.Str.{encode_ascii}
 use Rattle.std.proofs.lemmas.Bool.Decides.{nat_tests}
-use Rattle.textarea_calls.specs.Escapes.{Token, Character, Break, character_numbered, control, escape, first_character, in_front, is_break, is_closing, lines_of, numbered, plain_character, text_of, token, tokens, tokens_within, unescaped, unescaped_lines}
+use Rattle.textarea_calls.specs.Escapes.{Token, Character, Break, character_numbered, control, escape, first_character, in_front, is_break, is_closing, lines_of_tokens, numbered_escape, plain_character, text_of_tokens, token, tokens, tokens_within, unescaped, unescaped_lines}
 
 -- ---- ---- each character takes at least one byte
 
@@ -16,8 +16,8 @@ behind (Some p) = p.1
 abbrev number_at : List ℕ → Option ℕ → Option (ℕ × List ℕ)
 number_at text found = option_map (λ c. (c, after_first is_closing text)) found
 
-numbered_short : (text : List ℕ) → length (behind (numbered text)) ≤ length text
-unfolding numbered
+numbered_short : (text : List ℕ) → length (behind (numbered_escape text)) ≤ length text
+unfolding numbered_escape
 numbered_short [] = omega arith
 numbered_short (opening ∷ text) =
     let left : length (after_first is_closing text) ≤ length text = omega (arith, length-drop (position_or_len is_closing text + 1) text) in
@@ -31,8 +31,8 @@ escape_short : (text : List ℕ) → length (behind (escape text)) ≤ length te
 unfolding escape
 escape_short [] = omega arith
 escape_short (letter ∷ text) =
-    let left : length (behind (numbered text)) ≤ length text = numbered_short text in
-    elim (letter == 117) as (λ test. length (behind (if test then numbered text else option_map (λ c. (c, text)) (control letter))) ≤ length (letter ∷ text)) [
+    let left : length (behind (numbered_escape text)) ≤ length text = numbered_short text in
+    elim (letter == 117) as (λ test. length (behind (if test then numbered_escape text else option_map (λ c. (c, text)) (control letter))) ≤ length (letter ∷ text)) [
       | true ↦ omega arith
       | false ↦ elim (control letter) as (λ found. length (behind (option_map (λ c. (c, text)) found)) ≤ length (letter ∷ text)) [ None ↦ omega arith | Some c ↦ omega arith ]
     ]
@@ -115,16 +115,16 @@ feed text c rest is first =
     let pair : (c, rest) ≡ (10, drop 2 text) = cc in
     ap (λ (p : ℕ × List ℕ). p.0) pair
 
-token_text : (text : List ℕ) (c : ℕ) (rest : List ℕ) (more : List Token) → first_character text ≡ Some (c, rest) → text_of (token text c ∷ more) ≡ encode_utf8 c ++ text_of more
+token_text : (text : List ℕ) (c : ℕ) (rest : List ℕ) (more : List Token) → first_character text ≡ Some (c, rest) → text_of_tokens (token text c ∷ more) ≡ encode_utf8 c ++ text_of_tokens more
 token_text text c rest more first =
-    elim (is_break text) as (λ test. is_break text ≡ test → text_of ((if test then Break else Character c) ∷ more) ≡ encode_utf8 c ++ text_of more) [
-      | true ↦ λ is. ap (λ (b : List ℕ). b ++ text_of more) (sym (ap encode_utf8 (feed text c rest is first) ∙ encode_ascii 10 (lit< tt)))
+    elim (is_break text) as (λ test. is_break text ≡ test → text_of_tokens ((if test then Break else Character c) ∷ more) ≡ encode_utf8 c ++ text_of_tokens more) [
+      | true ↦ λ is. ap (λ (b : List ℕ). b ++ text_of_tokens more) (sym (ap encode_utf8 (feed text c rest is first) ∙ encode_ascii 10 (lit< tt)))
       | false ↦ λ is. refl
     ] refl
 
 pub unescaped_none : (text : List ℕ) → 0 < length text → first_character text ≡ None → unescaped text ≡ None
 unfolding unescaped
-unescaped_none text some none = ap (option_map text_of) (tokens_none text some none)
+unescaped_none text some none = ap (option_map text_of_tokens) (tokens_none text some none)
 
 nothing : (text : List ℕ) → length text ≡ 0 → text ≡ []
 nothing [] none = refl
@@ -141,8 +141,8 @@ lines_nothing text none = ap unescaped_lines (nothing text none)
 pub unescaped_first : (text : List ℕ) (c : ℕ) (rest : List ℕ) → first_character text ≡ Some (c, rest) → unescaped text ≡ option_map (λ more. encode_utf8 c ++ more) (unescaped rest)
 unfolding unescaped
 unescaped_first text c rest first =
-    ap (option_map text_of) (tokens_first text c rest first)
-    ∙ elim (tokens rest) as (λ found. option_map text_of (option_map (λ more. token text c ∷ more) found) ≡ option_map (λ more. encode_utf8 c ++ more) (option_map text_of found)) [
+    ap (option_map text_of_tokens) (tokens_first text c rest first)
+    ∙ elim (tokens rest) as (λ found. option_map text_of_tokens (option_map (λ more. token text c ∷ more) found) ≡ option_map (λ more. encode_utf8 c ++ more) (option_map text_of_tokens found)) [
       | None ↦ refl
       | Some more ↦ ap Some (token_text text c rest more first)
     ]
@@ -151,23 +151,23 @@ unescaped_first text c rest first =
 
 pub lines_none : (text : List ℕ) → 0 < length text → first_character text ≡ None → unescaped_lines text ≡ None
 unfolding unescaped_lines
-lines_none text some none = ap (option_map lines_of) (tokens_none text some none)
+lines_none text some none = ap (option_map lines_of_tokens) (tokens_none text some none)
 
 pub lines_first : (text : List ℕ) (c : ℕ) (rest : List ℕ) → is_break text ≡ false → first_character text ≡ Some (c, rest) → unescaped_lines text ≡ option_map (λ lines. in_front (encode_utf8 c) lines) (unescaped_lines rest)
 unfolding unescaped_lines
 lines_first text c rest other first =
-    ap (option_map lines_of) (tokens_first text c rest first)
-    ∙ elim (tokens rest) as (λ found. option_map lines_of (option_map (λ more. token text c ∷ more) found) ≡ option_map (λ lines. in_front (encode_utf8 c) lines) (option_map lines_of found)) [
+    ap (option_map lines_of_tokens) (tokens_first text c rest first)
+    ∙ elim (tokens rest) as (λ found. option_map lines_of_tokens (option_map (λ more. token text c ∷ more) found) ≡ option_map (λ lines. in_front (encode_utf8 c) lines) (option_map lines_of_tokens found)) [
       | None ↦ refl
-      | Some more ↦ ap (λ (test : Bool). Some (lines_of ((if test then Break else Character c) ∷ more))) other
+      | Some more ↦ ap (λ (test : Bool). Some (lines_of_tokens ((if test then Break else Character c) ∷ more))) other
     ]
 
 pub lines_break : (text rest : List ℕ) → text ≡ 92 ∷ 110 ∷ rest → unescaped_lines text ≡ option_map (λ lines. [] ∷ lines) (unescaped_lines rest)
 unfolding unescaped_lines
 lines_break text rest is =
-    ap (λ (t : List ℕ). option_map lines_of (tokens t)) is
-    ∙ ap (option_map lines_of) (tokens_first (92 ∷ 110 ∷ rest) 10 rest (break_first rest))
-    ∙ elim (tokens rest) as (λ found. option_map lines_of (option_map (λ more. Break ∷ more) found) ≡ option_map (λ lines. [] ∷ lines) (option_map lines_of found)) [ None ↦ refl | Some more ↦ refl ]
+    ap (λ (t : List ℕ). option_map lines_of_tokens (tokens t)) is
+    ∙ ap (option_map lines_of_tokens) (tokens_first (92 ∷ 110 ∷ rest) 10 rest (break_first rest))
+    ∙ elim (tokens rest) as (λ found. option_map lines_of_tokens (option_map (λ more. Break ∷ more) found) ≡ option_map (λ lines. [] ∷ lines) (option_map lines_of_tokens found)) [ None ↦ refl | Some more ↦ refl ]
 
 -- ---- ---- the text before the tokens
 

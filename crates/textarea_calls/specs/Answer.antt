@@ -11,10 +11,10 @@ pub data Answer : Type 0 where
   as_called : Answer
 
 -- the result as a truth value; `called` is the result of the call
-abbrev pub told : Answer → Bool → Bool
-told changed called = true
-told unchanged called = false
-told as_called called = called
+abbrev pub result_flag : Answer → Bool → Bool
+result_flag changed called = true
+result_flag unchanged called = false
+result_flag as_called called = called
 
 -- The result of an input that asks for an action. Insertions always change the text; copying,
 -- moving, scrolling and no call never do. Each other call returns whether it changed the text.

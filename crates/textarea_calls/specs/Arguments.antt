@@ -10,8 +10,8 @@ use Rattle.textarea_data.specs.declared.cursor.CursorMove.TheVariants as move
 use Rattle.textarea_data.specs.declared.scroll.Scrolling.{Scrolling}
 use Rattle.textarea_data.specs.declared.scroll.Scrolling.TheVariants as scrolling
 use Rattle.textarea_screen.specs.declared.screen.rect.Rect.{Rect}
-use Rattle.textarea_calls.specs.declared.arguments.Unread.{Unread}
-use Rattle.textarea_calls.specs.declared.arguments.Unread.TheVariants.{NoCommand, Memory}
+use Rattle.textarea_calls.specs.declared.arguments.Unparsed.{Unparsed}
+use Rattle.textarea_calls.specs.declared.arguments.Unparsed.TheVariants.{NoCommand, Memory}
 use Rattle.textarea_wrap.specs.declared.wrap.WrapMode.{WrapMode}
 use Rattle.textarea_wrap.specs.declared.wrap.WrapMode.TheVariants as mode
 
@@ -20,16 +20,16 @@ abbrev pub named : {A : Type 0} → List (List ℕ × A) → List ℕ → Option
 named [] name = None
 named (row ∷ rows) name = if bytes_eq name row.0 then Some row.1 else named rows name
 
-abbrev pub is_space : ℕ → Bool
-is_space byte = byte == 32
+abbrev pub is_separator : ℕ → Bool
+is_separator byte = byte == 32
 
 -- whether there is a space in the text
 abbrev pub has_space : List ℕ → Bool
-has_space text = nat_lt (position_or_len is_space text) (length text)
+has_space text = nat_lt (position_or_len is_separator text) (length text)
 
 -- the text before the first space and the text after it; none where there is no space
 abbrev pub parts : List ℕ → Option (List ℕ × List ℕ)
-parts text = if has_space text then Some (before_first is_space text, after_first is_space text) else None
+parts text = if has_space text then Some (before_first is_separator text, after_first is_separator text) else None
 
 -- two arguments, separated by one space, each read in its own way
 abbrev pub both : {A B : Type 0} → (List ℕ → Option A) → (List ℕ → Option B) → List ℕ → Option (A × B)
@@ -84,8 +84,8 @@ abbrev pub sides_of_area : Rect → Sides
 sides_of_area area = (area.x, area.y, area.width, area.height)
 
 -- the amounts of a scroll: rows, then columns
-abbrev pub scroll_by : List ℕ → Option Scrolling
-scroll_by text = option_map (λ p. scrolling.Delta p.0 p.1) (both signed_number signed_number text)
+abbrev pub scroll_amounts : List ℕ → Option Scrolling
+scroll_amounts text = option_map (λ p. scrolling.Delta p.0 p.1) (both signed_number signed_number text)
 
 abbrev pub pages : List (List ℕ × Scrolling)
 pages =
@@ -132,11 +132,11 @@ abbrev pub mode_named : List ℕ → Option WrapMode
 mode_named = named modes
 
 -- why a value is unread: the text writes no value, or memory ran out
-abbrev pub IsUnreadAs : {B : Type 0} → Option B → Unread → Type 0
-IsUnreadAs meant NoCommand = meant ≡ None
-IsUnreadAs meant Memory = Unit {0}
+abbrev pub IsUnparsedAs : {B : Type 0} → Option B → Unparsed → Type 0
+IsUnparsedAs meant NoCommand = meant ≡ None
+IsUnparsedAs meant Memory = Unit {0}
 
 -- a value that is read is the one that the text writes
-abbrev pub IsReadAs : {A B : Type 0} → (A → B) → Option B → Result A Unread → Type 0
+abbrev pub IsReadAs : {A B : Type 0} → (A → B) → Option B → Result A Unparsed → Type 0
 IsReadAs view meant (Ok read) = meant ≡ Some (view read)
-IsReadAs view meant (Err unread) = IsUnreadAs meant unread
+IsReadAs view meant (Err unread) = IsUnparsedAs meant unread

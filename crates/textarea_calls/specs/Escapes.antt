@@ -16,9 +16,9 @@ abbrev pub is_closing : ℕ → Bool
 is_closing byte = byte == 125
 
 -- the character of a number in braces, and the text after the first closing brace
-unfoldable pub numbered : List ℕ → Option (ℕ × List ℕ)
-numbered [] = None
-numbered (opening ∷ text) =
+unfoldable pub numbered_escape : List ℕ → Option (ℕ × List ℕ)
+numbered_escape [] = None
+numbered_escape (opening ∷ text) =
     if (opening == 123) && nat_lt (position_or_len is_closing text) (length text)
     then option_map (λ c. (c, after_first is_closing text)) (character_numbered (before_first is_closing text))
     else None
@@ -31,7 +31,7 @@ control letter =
 -- the character of a letter after a backslash, or of `u` and a number in braces; and the rest
 unfoldable pub escape : List ℕ → Option (ℕ × List ℕ)
 escape [] = None
-escape (letter ∷ text) = if letter == 117 then numbered text else option_map (λ c. (c, text)) (control letter)
+escape (letter ∷ text) = if letter == 117 then numbered_escape text else option_map (λ c. (c, text)) (control letter)
 
 -- the first character of a text, and the text after it
 abbrev pub plain_character : List ℕ → Option (ℕ × List ℕ)
@@ -43,11 +43,11 @@ first_character [] = None
 first_character (byte ∷ text) = if byte == 92 then escape text else plain_character (byte ∷ text)
 
 -- the only character of a text with escapes
-abbrev pub with_nothing_behind : ℕ × List ℕ → Option ℕ
-with_nothing_behind p = if length p.1 == 0 then Some p.0 else None
+abbrev pub with_nothing_after : ℕ × List ℕ → Option ℕ
+with_nothing_after p = if length p.1 == 0 then Some p.0 else None
 
 unfoldable pub character : List ℕ → Option ℕ
-character text = option_and_then with_nothing_behind (first_character text)
+character text = option_and_then with_nothing_after (first_character text)
 
 -- the tokens of a text with escapes: characters, and the escape `\n`, which ends a line
 pub data Token : Type 0 where
@@ -72,10 +72,10 @@ unfoldable pub tokens : List ℕ → Option (List Token)
 tokens text = tokens_within (length text) text
 
 -- the text of the tokens, with a line feed for each `\n`
-abbrev pub text_of : List Token → List ℕ
-text_of [] = []
-text_of (Character c ∷ tokens) = encode_utf8 c ++ text_of tokens
-text_of (Break ∷ tokens) = 10 ∷ text_of tokens
+abbrev pub text_of_tokens : List Token → List ℕ
+text_of_tokens [] = []
+text_of_tokens (Character c ∷ tokens) = encode_utf8 c ++ text_of_tokens tokens
+text_of_tokens (Break ∷ tokens) = 10 ∷ text_of_tokens tokens
 
 -- the lines with a text before the first of them
 abbrev pub in_front : List ℕ → List (List ℕ) → List (List ℕ)
@@ -83,20 +83,20 @@ in_front text [] = []
 in_front text (line ∷ lines) = (text ++ line) ∷ lines
 
 -- the lines of the tokens, split at each `\n`
-abbrev pub lines_of : List Token → List (List ℕ)
-lines_of [] = [] ∷ []
-lines_of (Character c ∷ tokens) = in_front (encode_utf8 c) (lines_of tokens)
-lines_of (Break ∷ tokens) = [] ∷ lines_of tokens
+abbrev pub lines_of_tokens : List Token → List (List ℕ)
+lines_of_tokens [] = [] ∷ []
+lines_of_tokens (Character c ∷ tokens) = in_front (encode_utf8 c) (lines_of_tokens tokens)
+lines_of_tokens (Break ∷ tokens) = [] ∷ lines_of_tokens tokens
 
 -- the text that a text with escapes writes
 unfoldable pub unescaped : List ℕ → Option (List ℕ)
-unescaped text = option_map text_of (tokens text)
+unescaped text = option_map text_of_tokens (tokens text)
 
 -- the lines that a text with escapes writes
 unfoldable pub unescaped_lines : List ℕ → Option (List (List ℕ))
-unescaped_lines text = option_map lines_of (tokens text)
+unescaped_lines text = option_map lines_of_tokens (tokens text)
 
 -- the lines of the text after an escape `\n`; there are none where there is no such escape
-abbrev pub lines_behind : Option (List ℕ) → Option (List (List ℕ))
-lines_behind None = Some []
-lines_behind (Some text) = unescaped_lines text
+abbrev pub lines_after_escape : Option (List ℕ) → Option (List (List ℕ))
+lines_after_escape None = Some []
+lines_after_escape (Some text) = unescaped_lines text

@@ -19,12 +19,12 @@ modifiers =
     ∷ (codes "cas", (true, true, true))
     ∷ []
 
-abbrev pub held : List ℕ → Option (Bool × Bool × Bool)
-held = named modifiers
+abbrev pub modifiers_named : List ℕ → Option (Bool × Bool × Bool)
+modifiers_named = named modifiers
 
 -- the keys without an argument, by their names
-abbrev pub keys : List (List ℕ × Key)
-keys =
+abbrev pub named_keys : List (List ℕ × Key)
+named_keys =
     (codes "Backspace", key.Backspace)
     ∷ (codes "Enter", key.Enter)
     ∷ (codes "Left", key.Left)
@@ -46,8 +46,8 @@ keys =
     ∷ (codes "Null", key.Null)
     ∷ []
 
-abbrev pub key_alone : List ℕ → Option Key
-key_alone = named keys
+abbrev pub key_without_arguments : List ℕ → Option Key
+key_without_arguments = named named_keys
 
 -- the key of a character, or a function key by its number
 abbrev pub key_with : List ℕ → List ℕ → Option Key
@@ -55,7 +55,7 @@ key_with name argument =
     if bytes_eq name (codes "Char") then option_map key.Char (character argument) else if bytes_eq name (codes "F") then option_map key.F (byte_number argument) else None
 
 abbrev pub key_of : List ℕ → Option (List ℕ × List ℕ) → Option Key
-key_of text None = key_alone text
+key_of text None = key_without_arguments text
 key_of text (Some p) = key_with p.0 p.1
 
 -- the key that the text names; one space separates a key's name from its argument, if it has one
@@ -67,4 +67,4 @@ input_of p = record { key = p.1; ctrl = p.0.0; alt = p.0.1; shift = p.0.2 }
 
 -- the input of modifier keys and a key, separated by one space
 abbrev pub input_named : List ℕ → Option Input
-input_named text = option_map input_of (both held key_named text)
+input_named text = option_map input_of (both modifiers_named key_named text)

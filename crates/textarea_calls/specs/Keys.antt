@@ -11,7 +11,7 @@ use Rattle.textarea_calls.specs.declared.action.Action.TheVariants as action
 use Rattle.textarea_calls.specs.declared.kind.Edit.TheVariants as edit
 use Rattle.textarea_calls.specs.declared.kind.Write.TheVariants as write
 use Rattle.textarea_calls.specs.Answer.{changed, unchanged, as_called}
-use Rattle.textarea_calls.specs.Table.{Row, plain, ctrl, alt, both, any, chars, chars_but, one, row, always, insert_its_char, move_by, scroll_by}
+use Rattle.textarea_calls.specs.Table.{ActionRow, plain, ctrl, alt, both, any, chars, chars_but, one, row, always, insert_its_char, move_by, scroll_action}
 
 -- a scroll by one row down, and by one row up
 abbrev pub one_down : Scrolling
@@ -21,8 +21,8 @@ abbrev pub one_up : Scrolling
 one_up = scrolling.Delta (negsuc 0) (pos 0)
 
 -- the key table with shortcuts
-unfoldable pub keys : List Row
-keys =
+unfoldable pub keys_with_shortcuts : List ActionRow
+keys_with_shortcuts =
     row (chars ctrl (codes "m") ∷ chars plain (codes "\n\r") ∷ one any key.Enter ∷ []) (always (action.Write write.InsertNewline)) changed
     ∷ row (chars_but plain (codes "\n\r") ∷ []) insert_its_char changed
     ∷ row (one plain key.Tab ∷ []) (always (action.Edit edit.InsertTab)) as_called
@@ -49,14 +49,14 @@ keys =
     ∷ row (chars ctrl (codes "y") ∷ one any key.Paste ∷ []) (always (action.Edit edit.Paste)) as_called
     ∷ row (chars ctrl (codes "x") ∷ one any key.Cut ∷ []) (always (action.Edit edit.Cut)) as_called
     ∷ row (chars ctrl (codes "c") ∷ one any key.Copy ∷ []) (always (action.Write write.Copy)) unchanged
-    ∷ row (chars ctrl (codes "v") ∷ one any key.PageDown ∷ []) (scroll_by scrolling.PageDown) unchanged
-    ∷ row (chars alt (codes "v") ∷ one any key.PageUp ∷ []) (scroll_by scrolling.PageUp) unchanged
-    ∷ row (one any key.MouseScrollDown ∷ []) (scroll_by one_down) unchanged
-    ∷ row (one any key.MouseScrollUp ∷ []) (scroll_by one_up) unchanged
+    ∷ row (chars ctrl (codes "v") ∷ one any key.PageDown ∷ []) (scroll_action scrolling.PageDown) unchanged
+    ∷ row (chars alt (codes "v") ∷ one any key.PageUp ∷ []) (scroll_action scrolling.PageUp) unchanged
+    ∷ row (one any key.MouseScrollDown ∷ []) (scroll_action one_down) unchanged
+    ∷ row (one any key.MouseScrollUp ∷ []) (scroll_action one_up) unchanged
     ∷ []
 
 -- the key table without shortcuts
-unfoldable pub keys_without_shortcuts : List Row
+unfoldable pub keys_without_shortcuts : List ActionRow
 keys_without_shortcuts =
     row (chars_but plain [] ∷ []) insert_its_char changed
     ∷ row (one plain key.Tab ∷ []) (always (action.Edit edit.InsertTab)) as_called

@@ -1,11 +1,11 @@
-pub mod Kinds
-pub mod Made
+pub mod CallGroups
+pub mod Possible
 pub mod Arguments
 pub mod Commands
 pub mod Escapes
 pub mod FirstLine
 pub mod Inputs
-pub mod Lent
+pub mod Borrows
 pub mod Ranges
 pub mod Script
 pub mod Answer

@@ -3,7 +3,7 @@ use Rattle.std.specs.Prelude.{ℕ, List, [], ◌∷◌, Option, Some, None, opti
 use Rattle.std.specs.List.{slice_split}
 use Rattle.std.specs.Option.{option_zip}
 use Rattle.textarea_data.specs.declared.range.AtomicRange.{AtomicRange}
-use Rattle.textarea_calls.specs.Arguments.{is_space, number}
+use Rattle.textarea_calls.specs.Arguments.{is_separator, number}
 
 -- the range of a row, a first column, and the column after the last one
 abbrev pub range : List ℕ → List ℕ → List ℕ → Option AtomicRange
@@ -19,9 +19,9 @@ ranges_of words = None
 
 -- the ranges that a text names; its words are separated by single spaces
 unfoldable pub ranges : List ℕ → Option (List AtomicRange)
-ranges text = ranges_of (slice_split is_space text)
+ranges text = ranges_of (slice_split is_separator text)
 
 -- the ranges of the text after a space; there are none where there is no space
-abbrev pub ranges_behind : Option (List ℕ) → Option (List AtomicRange)
-ranges_behind None = Some []
-ranges_behind (Some text) = ranges text
+abbrev pub ranges_after_space : Option (List ℕ) → Option (List AtomicRange)
+ranges_after_space None = Some []
+ranges_after_space (Some text) = ranges text

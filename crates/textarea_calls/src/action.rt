@@ -1,7 +1,7 @@
 //! What an input asks for.
 
 ghost use Rattle.std.specs.Prelude.{◌≡◌};
-ghost use Rattle.textarea_calls.specs.Answer.{answer_of, told};
+ghost use Rattle.textarea_calls.specs.Answer.{answer_of, result_flag};
 
 use crate::kind::{Edit, Write};
 use textarea_data::cursor::CursorMove;
@@ -28,7 +28,7 @@ impl Action {
     /// Returns whether an input that asks for this action changes the text. `called` is the result
     /// of the call; it is ignored where the call has none.
     pub fn answer(self, called: bool) -> bool
-        ensures { result ≡ told (answer_of self) called }
+        ensures { result ≡ result_flag (answer_of self) called }
     {
         match self {
             Action::Edit(_) => called,

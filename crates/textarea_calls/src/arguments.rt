@@ -2,11 +2,11 @@
 ghost use Rattle.std.specs.Char.{is_ascii_digit, is_ascii_hexdigit};
 ghost use Rattle.std.specs.List.{list_all};
 ghost use Rattle.std.specs.Prelude.{◌≡◌, ◌<◌, ◌≤◌, ◌∷◌, length, map, option_copied, option_map, string_bytes, vec_len, IfOk, IfSome, MatchOption};
-ghost use Rattle.textarea_calls.specs.Arguments.{IsReadAs, byte_number, mode_named, move_named, number, page, parts, scroll_by, short_number, sides, sides_of_area, signed_number, truth, two_short_numbers};
+ghost use Rattle.textarea_calls.specs.Arguments.{IsReadAs, byte_number, mode_named, move_named, number, page, parts, scroll_amounts, short_number, sides, sides_of_area, signed_number, truth, two_short_numbers};
 ghost use Rattle.textarea_calls.specs.FirstLine.{IsFirstLineOf};
-ghost use Rattle.textarea_calls.specs.Escapes.{character, character_numbered, escape, first_character, numbered, unescaped, unescaped_lines};
-ghost use Rattle.textarea_calls.specs.Inputs.{held, input_named, key_alone, key_named, key_with};
-ghost use Rattle.textarea_calls.specs.Ranges.{range, ranges, ranges_behind};
+ghost use Rattle.textarea_calls.specs.Escapes.{character, character_numbered, escape, first_character, numbered_escape, unescaped, unescaped_lines};
+ghost use Rattle.textarea_calls.specs.Inputs.{modifiers_named, input_named, key_without_arguments, key_named, key_with};
+ghost use Rattle.textarea_calls.specs.Ranges.{range, ranges, ranges_after_space};
 
 use std::alloc::{AllocError, AllocFailed, Global};
 use textarea_data::cursor::CursorMove;
@@ -18,32 +18,32 @@ use textarea_wrap::wrap::WrapMode;
 
 // Why a command could not be read.
 #[derive(Clone, Copy)]
-pub enum Unread {
+pub enum Unparsed {
     // The text is no command.
     NoCommand,
     // Out of memory.
     Memory,
 }
 
-impl From<AllocError> for Unread {
+impl From<AllocError> for Unparsed {
     ghost use Rattle.std.specs.Prelude.{◌≡◌};
-    ghost use Rattle.textarea_calls.specs.declared.arguments.Unread.TheVariants.{Memory};
+    ghost use Rattle.textarea_calls.specs.declared.arguments.Unparsed.TheVariants.{Memory};
 
     ghost from_gives = { λ _ error. error ≡ Memory };
 
-    fn from(_refused: AllocError) -> Unread {
-        Unread::Memory
+    fn from(_refused: AllocError) -> Unparsed {
+        Unparsed::Memory
     }
 }
 
-impl<T: Drop> From<AllocFailed<T>> for Unread {
+impl<T: Drop> From<AllocFailed<T>> for Unparsed {
     ghost use Rattle.std.specs.Prelude.{◌≡◌};
-    ghost use Rattle.textarea_calls.specs.declared.arguments.Unread.TheVariants.{Memory};
+    ghost use Rattle.textarea_calls.specs.declared.arguments.Unparsed.TheVariants.{Memory};
 
     ghost from_gives = { λ _ error. error ≡ Memory };
 
-    fn from(_refused: AllocFailed<T>) -> Unread {
-        Unread::Memory
+    fn from(_refused: AllocFailed<T>) -> Unparsed {
+        Unparsed::Memory
     }
 }
 
@@ -121,8 +121,8 @@ fn signed_number(text: &str) -> Option<i16>
 }
 
 // The scroll by the rows and the columns that the text names, separated by one space.
-pub fn scroll_by(text: &str) -> Option<Scrolling>
-    ensures { result ≡ scroll_by text.now }
+pub fn scroll_amounts(text: &str) -> Option<Scrolling>
+    ensures { result ≡ scroll_amounts text.now }
 {
     let (rows, cols) = parts(text)?;
     Some(Scrolling::Delta {
@@ -146,14 +146,14 @@ pub fn page_named(name: &str) -> Option<Scrolling>
 
 // The atomic ranges that the text names, each by its row, its first column and the column after its
 // last one. All numbers are separated by single spaces.
-pub fn ranges(alloc: Global, text: &str) -> Result<Vec<AtomicRange>, Unread>
+pub fn ranges(alloc: Global, text: &str) -> Result<Vec<AtomicRange>, Unparsed>
     ensures { IsReadAs (λ read. read.items) (ranges text.now) result }
 {
     let mut ranges = Vec::new(alloc);
     let mut rest = Some(text);
     while let Some(text) = rest {
         let Some((range, behind)) = first_range(text) else {
-            return Err(Unread::NoCommand);
+            return Err(Unparsed::NoCommand);
         };
         ranges.push(range)?;
         rest = behind;
@@ -164,7 +164,7 @@ pub fn ranges(alloc: Global, text: &str) -> Result<Vec<AtomicRange>, Unread>
 // The first range that the text names, and the text after the space that ends it, if there is one.
 fn first_range(text: &str) -> Option<(AtomicRange, Option<&str>)>
     ensures value { MatchOption result (ranges text.now ≡ None) (λ x. ranges text.now
-        ≡ option_map (λ more. x.0 ∷ more) (ranges_behind (option_copied x.1))) }
+        ≡ option_map (λ more. x.0 ∷ more) (ranges_after_space (option_copied x.1))) }
     ensures shorter { IfSome result (λ x. IfSome x.1 (λ rest. length rest.now < length text.now)) }
 {
     let (row, rest) = parts(text)?;
@@ -238,7 +238,7 @@ pub fn input_named(text: &str) -> Option<Input>
     ensures { result ≡ input_named text.now }
 {
     let (modifiers, key) = parts(text)?;
-    let (ctrl, alt, shift) = held(modifiers)?;
+    let (ctrl, alt, shift) = modifiers_named(modifiers)?;
     Some(Input {
         key: key_named(key)?,
         ctrl,
@@ -248,8 +248,8 @@ pub fn input_named(text: &str) -> Option<Input>
 }
 
 // Whether Ctrl, Alt and Shift are held, by the letters `c`, `a` and `s`.
-fn held(modifiers: &str) -> Option<(bool, bool, bool)>
-    ensures { result ≡ held modifiers.now }
+fn modifiers_named(modifiers: &str) -> Option<(bool, bool, bool)>
+    ensures { result ≡ modifiers_named modifiers.now }
 {
     match modifiers {
         "-" => Some((false, false, false)),
@@ -271,7 +271,7 @@ fn key_named(text: &str) -> Option<Key>
 {
     match parts(text) {
         Some((name, argument)) => key_with(name, argument),
-        None => key_alone(text),
+        None => key_without_arguments(text),
     }
 }
 
@@ -287,8 +287,8 @@ fn key_with(name: &str, argument: &str) -> Option<Key>
 }
 
 // The key of this name. It has no argument.
-fn key_alone(name: &str) -> Option<Key>
-    ensures { result ≡ key_alone name.now }
+fn key_without_arguments(name: &str) -> Option<Key>
+    ensures { result ≡ key_without_arguments name.now }
 {
     Some(match name {
         "Backspace" => Key::Backspace,
@@ -324,14 +324,14 @@ pub fn one_character(text: &str) -> Option<char>
 }
 
 // Returns the text with its escapes replaced by their characters.
-pub fn unescape(alloc: Global, text: &str) -> Result<String, Unread>
+pub fn unescape(alloc: Global, text: &str) -> Result<String, Unparsed>
     ensures { IsReadAs string_bytes (unescaped text.now) result }
 {
     let mut plain = String::new(alloc);
     let mut rest = text;
     while let Some((front, escaped)) = rest.split_once('\\') {
         let Some((c, behind)) = escaped_character(escaped) else {
-            return Err(Unread::NoCommand);
+            return Err(Unparsed::NoCommand);
         };
         plain.push_str(front)?;
         plain.push(c)?;
@@ -343,7 +343,7 @@ pub fn unescape(alloc: Global, text: &str) -> Result<String, Unread>
 
 // Returns the lines of a text with escapes. The text is split at each escape `\n`. An escape of a
 // line feed by its number is a character of its line.
-pub fn unescaped_lines(alloc: Global, text: &str) -> Result<Vec<String>, Unread>
+pub fn unescaped_lines(alloc: Global, text: &str) -> Result<Vec<String>, Unparsed>
     ensures some { IfOk result (λ lines. 0 < vec_len lines) }
     ensures value { IsReadAs (λ lines. map string_bytes lines.items)
         (unescaped_lines text.now) result }
@@ -359,7 +359,7 @@ pub fn unescaped_lines(alloc: Global, text: &str) -> Result<Vec<String>, Unread>
 }
 
 // The first line of a text with escapes, and the text after the `\n` that ends it, if there is one.
-fn first_line(alloc: Global, text: &str) -> Result<(String, Option<&str>), Unread>
+fn first_line(alloc: Global, text: &str) -> Result<(String, Option<&str>), Unparsed>
     ensures value { IsFirstLineOf text.now result }
     ensures shorter { IfOk result (λ x. IfSome x.1 (λ rest. length rest.now < length text.now)) }
 {
@@ -371,7 +371,7 @@ fn first_line(alloc: Global, text: &str) -> Result<(String, Option<&str>), Unrea
             return Ok((line, Some(behind)));
         }
         let Some((c, behind)) = escaped_character(escaped) else {
-            return Err(Unread::NoCommand);
+            return Err(Unparsed::NoCommand);
         };
         line.push(c)?;
         rest = behind;
@@ -414,8 +414,8 @@ fn escaped_character(text: &str) -> Option<(char, &str)>
 
 // The character of a number in braces, of 1 to 6 hexadecimal digits, and the text after it.
 fn numbered_character(text: &str) -> Option<(char, &str)>
-    ensures value { MatchOption result (numbered text.now ≡ None)
-        (λ x. numbered text.now ≡ Some (x.0, x.1.now)) }
+    ensures value { MatchOption result (numbered_escape text.now ≡ None)
+        (λ x. numbered_escape text.now ≡ Some (x.0, x.1.now)) }
     ensures shorter { IfSome result (λ x. length x.1.now < length text.now) }
 {
     let (digits, rest) = text.strip_prefix('{')?.split_once('}')?;

@@ -1,6 +1,6 @@
 //! The calls of a text area, as data.
 ghost use Rattle.std.specs.Prelude.{◌↔◌, IsTrue};
-ghost use Rattle.textarea_calls.specs.Made.{CanBeMade};
+ghost use Rattle.textarea_calls.specs.Possible.{CanBeMade};
 
 use std::time::Duration;
 use textarea_data::cursor::CursorMove;

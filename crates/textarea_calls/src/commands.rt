@@ -2,18 +2,18 @@
 ghost use Rattle.std.specs.Prelude.{◌≡◌, ◌+◌, All, IfOk, IfErr, IfSome, map, option_and_then, option_copied, option_map, string_bytes, true, vec_len};
 ghost use Rattle.textarea_data.specs.declared.cursor.CursorMove.TheVariants as move;
 ghost use Rattle.textarea_calls.specs.Arguments.{IsReadAs, two_short_numbers};
-ghost use Rattle.textarea_calls.specs.Made.{CanBeMade};
-ghost use Rattle.textarea_calls.specs.Commands.{given_text, line_meant, line_numbers, meant, plain_meant, set_lines_meant, setting_meant};
+ghost use Rattle.textarea_calls.specs.Possible.{CanBeMade};
+ghost use Rattle.textarea_calls.specs.Commands.{argument_text, line_meaning, line_numbers, command_meaning, plain_meaning, set_lines_meaning, setting_meaning};
 ghost use Rattle.textarea_calls.specs.Inputs.{input_named};
-ghost use Rattle.textarea_calls.specs.Lent.{lends_list, lends_text};
-ghost use Rattle.textarea_calls.specs.Ranges.{ranges_behind};
-ghost use Rattle.textarea_calls.specs.Script.{lines_of, filled_lines, meaning_of, meant_line, meant_lines, AreCallsOf, IsAtLine, IsCallOf, IsCommandOf, IsReady, IsReady-prop, NamesLine};
-ghost use Rattle.textarea_calls.specs.declared.commands.Content.TheVariants.{Plain};
+ghost use Rattle.textarea_calls.specs.Borrows.{borrows_list, borrows_text};
+ghost use Rattle.textarea_calls.specs.Ranges.{ranges_after_space};
+ghost use Rattle.textarea_calls.specs.Script.{lines_of_script, filled_lines, meaning_of, meaning_of_line, meanings_of_lines, AreCallsOf, IsAtLine, IsCallOf, IsCommandOf, IsCallReady, IsReady-prop, NamesLine};
+ghost use Rattle.textarea_calls.specs.declared.commands.CommandContent.TheVariants.{Plain};
 
 use crate::Call;
 use crate::arguments::{
-    Unread, area, byte_number, input_named, mode_named, move_named, number, one_character,
-    page_named, parts, ranges, scroll_by, short_number, truth, two_short_numbers, unescape,
+    Unparsed, area, byte_number, input_named, mode_named, move_named, number, one_character,
+    page_named, parts, ranges, scroll_amounts, short_number, truth, two_short_numbers, unescape,
     unescaped_lines,
 };
 use std::alloc::{AllocError, AllocFailed, Global};
@@ -47,12 +47,12 @@ impl<T: Drop> From<AllocFailed<T>> for ReadError {
 /// A command that was read. It owns its texts, and its call can be made.
 #[derive(Drop)]
 pub struct Command {
-    content: Content,
-    ghost ready: { IsReady content } by { IsReady-prop content },
+    content: CommandContent,
+    ghost ready: { IsCallReady content } by { IsReady-prop content },
 }
 
 #[derive(Drop)]
-enum Content {
+enum CommandContent {
     // The call itself, which borrows no text.
     Plain(Call<'static>),
     InsertStr(String),
@@ -73,25 +73,29 @@ impl Command {
         ensures is { IsCallOf self.now.content result }
     {
         match &self.content {
-            Content::Plain(call) => *call,
-            Content::Input(input) => Call::Input(input),
-            Content::TrySetAtomicRanges(_) | Content::SetLines { .. } => self.content.list_call(),
+            CommandContent::Plain(call) => *call,
+            CommandContent::Input(input) => Call::Input(input),
+            CommandContent::TrySetAtomicRanges(_) | CommandContent::SetLines { .. } => self
+                .content
+                .list_call(),
             _ => self.content.text_call(),
         }
     }
 }
 
-impl Content {
+impl CommandContent {
     // The call that borrows ranges or lines.
     fn list_call(&self) -> Call<'_>
-        requires lends { lends_list self.now ≡ true }
-        requires ready { IsReady self.now }
+        requires lends { borrows_list self.now ≡ true }
+        requires ready { IsCallReady self.now }
         ensures ready { CanBeMade result }
         ensures is { IsCallOf self.now result }
     {
         match self {
-            Content::TrySetAtomicRanges(ranges) => Call::TrySetAtomicRanges(ranges.as_slice()),
-            Content::SetLines { lines, cursor } => Call::SetLines {
+            CommandContent::TrySetAtomicRanges(ranges) => Call::TrySetAtomicRanges(
+                ranges.as_slice(),
+            ),
+            CommandContent::SetLines { lines, cursor } => Call::SetLines {
                 lines: lines.as_slice(),
                 cursor: *cursor,
             },
@@ -101,14 +105,14 @@ impl Content {
 
     // The call that borrows a text.
     fn text_call(&self) -> Call<'_>
-        requires { lends_text self.now ≡ true }
+        requires { borrows_text self.now ≡ true }
         ensures ready { CanBeMade result }
         ensures is { IsCallOf self.now result }
     {
         match self {
-            Content::InsertStr(text) => Call::InsertStr(text.as_str()),
-            Content::SetYankText(text) => Call::SetYankText(text.as_str()),
-            Content::SetSearchPattern(text) => Call::SetSearchPattern(text.as_str()),
+            CommandContent::InsertStr(text) => Call::InsertStr(text.as_str()),
+            CommandContent::SetYankText(text) => Call::SetYankText(text.as_str()),
+            CommandContent::SetSearchPattern(text) => Call::SetSearchPattern(text.as_str()),
             _ => unreachable!(),
         }
     }
@@ -117,10 +121,11 @@ impl Content {
 /// Reads a script, one command per line. Each line but the last ends in a line feed. Empty lines
 /// are skipped. The error names the first line that is no command or isn't UTF-8.
 pub fn read(alloc: Global, script: &[u8]) -> Result<Vec<Command>, ReadError>
-    ensures ok { IfOk result (λ commands. vec_len commands ≡ filled_lines (lines_of script.now)) }
+    ensures ok { IfOk result
+        (λ commands. vec_len commands ≡ filled_lines (lines_of_script script.now)) }
     ensures means { IfOk result (λ commands.
         map (λ command. Some (meaning_of command.content)) commands.items
-        ≡ meant_lines (lines_of script.now)) }
+        ≡ meanings_of_lines (lines_of_script script.now)) }
     ensures err { IfErr result (NamesLine script.now) }
 {
     let mut commands = Vec::new(alloc);
@@ -149,22 +154,22 @@ pub fn calls(alloc: Global, commands: &[Command]) -> Result<Vec<Call<'_>>, Alloc
 // Reads the line of this number.
 fn read_line(alloc: Global, line: &[u8], number: usize) -> Result<Command, ReadError>
     ensures line { IfErr result (IsAtLine number) }
-    ensures means { IsCommandOf (λ command. command.content) (meant_line line.now) result }
+    ensures means { IsCommandOf (λ command. command.content) (meaning_of_line line.now) result }
 {
     let Ok(text) = from_utf8(line) else {
         return Err(ReadError::Line(number));
     };
     match content_of(alloc, text) {
         Ok(content) => Ok(Command { content }),
-        Err(Unread::NoCommand) => Err(ReadError::Line(number)),
-        Err(Unread::Memory) => Err(ReadError::Memory),
+        Err(Unparsed::NoCommand) => Err(ReadError::Line(number)),
+        Err(Unparsed::Memory) => Err(ReadError::Memory),
     }
 }
 
 // Reads the content of a line: a call's name and, after one space, its arguments.
-fn content_of(alloc: Global, line: &str) -> Result<Content, Unread>
-    ensures ready { IfOk result IsReady }
-    ensures means { IsReadAs meaning_of (line_meant line.now) result }
+fn content_of(alloc: Global, line: &str) -> Result<CommandContent, Unparsed>
+    ensures ready { IfOk result IsCallReady }
+    ensures means { IsReadAs meaning_of (line_meaning line.now) result }
 {
     match parts(line) {
         Some((name, arguments)) => content_named(alloc, name, Some(arguments)),
@@ -173,36 +178,42 @@ fn content_of(alloc: Global, line: &str) -> Result<Content, Unread>
 }
 
 // Reads the content of a command from a call's name and its arguments, if there are any.
-#[tactic(auto, unfolding(crate::specs::Commands::meant))]
-fn content_named(alloc: Global, name: &str, arguments: Option<&str>) -> Result<Content, Unread>
-    ensures ready { IfOk result IsReady }
-    ensures means { IsReadAs meaning_of (meant name.now (option_copied arguments.entry)) result }
+#[tactic(auto, unfolding(crate::specs::Commands::command_meaning))]
+fn content_named(
+    alloc: Global,
+    name: &str,
+    arguments: Option<&str>,
+) -> Result<CommandContent, Unparsed>
+    ensures ready { IfOk result IsCallReady }
+    ensures means { IsReadAs meaning_of (command_meaning name.now (option_copied arguments.entry))
+        result }
 {
     match name {
-        "insert_str" => text(alloc, arguments).map(Content::InsertStr),
-        "set_yank_text" => text(alloc, arguments).map(Content::SetYankText),
-        "set_search_pattern" => text(alloc, arguments).map(Content::SetSearchPattern),
-        "ranges" => some_ranges(alloc, arguments).map(Content::TrySetAtomicRanges),
+        "insert_str" => text(alloc, arguments).map(CommandContent::InsertStr),
+        "set_yank_text" => text(alloc, arguments).map(CommandContent::SetYankText),
+        "set_search_pattern" => text(alloc, arguments).map(CommandContent::SetSearchPattern),
+        "ranges" => some_ranges(alloc, arguments).map(CommandContent::TrySetAtomicRanges),
         "set_lines" => set_lines(alloc, arguments),
         "input" => input(arguments)
-            .map(Content::Input)
-            .ok_or(Unread::NoCommand),
+            .map(CommandContent::Input)
+            .ok_or(Unparsed::NoCommand),
         _ => plain(name, arguments)
-            .map(Content::Plain)
-            .ok_or(Unread::NoCommand),
+            .map(CommandContent::Plain)
+            .ok_or(Unparsed::NoCommand),
     }
 }
 
 // The text that the arguments write with escapes. It is empty where there are no arguments.
-fn text(alloc: Global, arguments: Option<&str>) -> Result<String, Unread>
-    ensures { IsReadAs string_bytes (given_text (option_copied arguments.entry)) result }
+fn text(alloc: Global, arguments: Option<&str>) -> Result<String, Unparsed>
+    ensures { IsReadAs string_bytes (argument_text (option_copied arguments.entry)) result }
 {
     unescape(alloc, arguments.unwrap_or(""))
 }
 
 // The ranges that the arguments name. There are none where there are no arguments.
-fn some_ranges(alloc: Global, arguments: Option<&str>) -> Result<Vec<AtomicRange>, Unread>
-    ensures { IsReadAs (λ read. read.items) (ranges_behind (option_copied arguments.entry)) result }
+fn some_ranges(alloc: Global, arguments: Option<&str>) -> Result<Vec<AtomicRange>, Unparsed>
+    ensures { IsReadAs (λ read. read.items) (ranges_after_space (option_copied arguments.entry))
+        result }
 {
     match arguments {
         Some(arguments) => ranges(alloc, arguments),
@@ -218,15 +229,15 @@ fn input(arguments: Option<&str>) -> Option<Input>
 }
 
 // A `set_lines` with these arguments: a row, a column, and a text, which may be missing.
-fn set_lines(alloc: Global, arguments: Option<&str>) -> Result<Content, Unread>
-    ensures ready { IfOk result IsReady }
-    ensures means { IsReadAs meaning_of (set_lines_meant (option_copied arguments.entry)) result }
+fn set_lines(alloc: Global, arguments: Option<&str>) -> Result<CommandContent, Unparsed>
+    ensures ready { IfOk result IsCallReady }
+    ensures means { IsReadAs meaning_of (set_lines_meaning (option_copied arguments.entry)) result }
 {
-    let (row, rest) = parts(arguments.unwrap_or("")).ok_or(Unread::NoCommand)?;
+    let (row, rest) = parts(arguments.unwrap_or("")).ok_or(Unparsed::NoCommand)?;
     let (column, text) = parts(rest).unwrap_or((rest, ""));
-    let row = number(row).ok_or(Unread::NoCommand)?;
-    let column = number(column).ok_or(Unread::NoCommand)?;
-    Ok(Content::SetLines {
+    let row = number(row).ok_or(Unparsed::NoCommand)?;
+    let column = number(column).ok_or(Unparsed::NoCommand)?;
+    Ok(CommandContent::SetLines {
         lines: unescaped_lines(alloc, text)?,
         cursor: (row as usize, column as usize),
     })
@@ -236,20 +247,20 @@ fn set_lines(alloc: Global, arguments: Option<&str>) -> Result<Content, Unread>
 fn plain(name: &str, arguments: Option<&str>) -> Option<Call<'static>>
     ensures ready { IfSome result CanBeMade }
     ensures means { option_map (λ call. meaning_of (Plain call)) result
-        ≡ plain_meant name.now (option_copied arguments.entry) }
+        ≡ plain_meaning name.now (option_copied arguments.entry) }
 {
     match arguments {
         Some(arguments) => call_with(name, arguments),
-        None => call_alone(name),
+        None => call_without_arguments(name),
     }
 }
 
 // The call of this name without arguments.
-#[tactic(auto, unfolding(crate::specs::Commands::plain_meant))]
-fn call_alone(name: &str) -> Option<Call<'static>>
+#[tactic(auto, unfolding(crate::specs::Commands::plain_meaning))]
+fn call_without_arguments(name: &str) -> Option<Call<'static>>
     ensures ready { IfSome result CanBeMade }
     ensures means { option_map (λ call. meaning_of (Plain call)) result
-        ≡ plain_meant name.now None }
+        ≡ plain_meaning name.now None }
 {
     Some(match name {
         "insert_tab" => Call::InsertTab,
@@ -277,11 +288,11 @@ fn call_alone(name: &str) -> Option<Call<'static>>
 }
 
 // The call of this name and these arguments. None of the arguments is a text.
-#[tactic(auto, unfolding(crate::specs::Commands::plain_meant))]
+#[tactic(auto, unfolding(crate::specs::Commands::plain_meaning))]
 fn call_with(name: &str, arguments: &str) -> Option<Call<'static>>
     ensures ready { IfSome result CanBeMade }
     ensures means { option_map (λ call. meaning_of (Plain call)) result
-        ≡ plain_meant name.now (Some arguments.now) }
+        ≡ plain_meaning name.now (Some arguments.now) }
 {
     Some(match name {
         "insert_char" => Call::InsertChar(one_character(arguments)?),
@@ -293,18 +304,18 @@ fn call_with(name: &str, arguments: &str) -> Option<Call<'static>>
         "hit" => Call::CursorAtPosition(position(arguments)?),
         "move" => Call::Move(move_named(arguments)?),
         "jump" => Call::Move(jump(arguments)?),
-        "scroll" => Call::Scroll(scroll_by(arguments)?),
+        "scroll" => Call::Scroll(scroll_amounts(arguments)?),
         "page" => Call::Scroll(page_named(arguments)?),
         _ => return setting_with(name, arguments),
     })
 }
 
 // The call of this name and these arguments, for the calls that set something.
-#[tactic(auto, unfolding(crate::specs::Commands::setting_meant))]
+#[tactic(auto, unfolding(crate::specs::Commands::setting_meaning))]
 fn setting_with(name: &str, arguments: &str) -> Option<Call<'static>>
     ensures ready { IfSome result CanBeMade }
     ensures means { option_map (λ call. meaning_of (Plain call)) result
-        ≡ setting_meant name.now (Some arguments.now) }
+        ≡ setting_meaning name.now (Some arguments.now) }
 {
     Some(match name {
         "set_tab_length" => Call::SetTabLength(byte_number(arguments)?),

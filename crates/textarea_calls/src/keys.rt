@@ -1,7 +1,7 @@
 //! The two key tables of a text area.
 
 ghost use Rattle.std.specs.Prelude.{◌≡◌};
-ghost use Rattle.textarea_calls.specs.Keys.{keys, keys_without_shortcuts};
+ghost use Rattle.textarea_calls.specs.Keys.{keys_with_shortcuts, keys_without_shortcuts};
 ghost use Rattle.textarea_calls.specs.Table.{action_by};
 
 use crate::action::Action;
@@ -18,7 +18,7 @@ const ONE_UP: Scrolling = Scrolling::Delta { rows: -1, cols: 0 };
 
 /// Returns what an input asks for by the key table with shortcuts.
 pub fn action_of(input: &Input) -> Action
-    ensures { result ≡ action_by keys input.now }
+    ensures { result ≡ action_by keys_with_shortcuts input.now }
 {
     match (input.ctrl, input.alt) {
         (false, false) => groups::plain(input.key, input.shift),

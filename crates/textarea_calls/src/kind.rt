@@ -1,6 +1,6 @@
 //! Groups of calls. The calls of a group have results of one form, and one function makes them all.
 ghost use Rattle.std.specs.Prelude.{◌≡◌};
-ghost use Rattle.textarea_calls.specs.Kinds.{call_of, draws, is_drawing};
+ghost use Rattle.textarea_calls.specs.CallGroups.{call_of, draws, is_drawing};
 
 use crate::call::Call;
 use std::time::Duration;
@@ -215,7 +215,7 @@ pub fn kind_of(call: Call<'_>) -> Kind<'_>
         Call::SetHardTabIndent(hard) => Kind::Setting(Setting::SetHardTabIndent(hard)),
         Call::SetMaxHistories(maximum) => Kind::Setting(Setting::SetMaxHistories(maximum)),
         Call::SetUndoCoalescing(joins) => Kind::Setting(Setting::SetUndoCoalescing(joins)),
-        Call::SetNow(moment) => Kind::Setting(Setting::SetNow(moment)),
+        Call::SetNow(time) => Kind::Setting(Setting::SetNow(time)),
         Call::ClearAtomicRanges => Kind::Setting(Setting::ClearAtomicRanges),
         Call::RemoveBlock => Kind::Appearance(Appearance::RemoveBlock),
         Call::SetPlaceholderStyle(style) => Kind::Appearance(Appearance::SetPlaceholderStyle(

@@ -1,7 +1,7 @@
 //! Compares two text areas by all that can be observed of them.
-use crate::end::{Difference, Stop, same};
+use crate::end::{Difference, EndReason, same};
 use std::alloc::AllocError;
-use textarea_text::given::copy_pieces;
+use textarea_text::fragment::copy_fragment;
 use tui_textarea::{Buffer, Cell, Position, Rect, TextArea};
 
 /// The width of the area in which text areas are drawn for a comparison, in columns.
@@ -15,7 +15,7 @@ const MOST_EDITS: usize = 1000;
 
 /// Compares two text areas: their state, a drawing, a character that is typed into clones of them,
 /// all further undos and redos with the state after each, and a drawing after these.
-pub fn compare(area: &mut TextArea<'_>, other: &mut TextArea<'_>) -> Result<(), Stop> {
+pub fn compare(area: &mut TextArea<'_>, other: &mut TextArea<'_>) -> Result<(), EndReason> {
     compare_shown(area, other)?;
     compare_yanks(area, other)?;
     compare_drawn(area, other)?;
@@ -27,7 +27,7 @@ pub fn compare(area: &mut TextArea<'_>, other: &mut TextArea<'_>) -> Result<(), 
 }
 
 /// Compares the state of two text areas, as far as that allocates nothing.
-pub fn compare_shown(area: &TextArea<'_>, other: &TextArea<'_>) -> Result<(), Stop> {
+pub fn compare_shown(area: &TextArea<'_>, other: &TextArea<'_>) -> Result<(), EndReason> {
     same(area.lines() == other.lines(), Difference::Lines)?;
     same(area.cursor() == other.cursor(), Difference::Cursor)?;
     let is_selected_alike = area.selection_range() == other.selection_range();
@@ -42,14 +42,14 @@ pub fn compare_shown(area: &TextArea<'_>, other: &TextArea<'_>) -> Result<(), St
     same(have_same_pattern, Difference::Pattern)
 }
 
-fn compare_yanks(area: &TextArea<'_>, other: &TextArea<'_>) -> Result<(), Stop> {
+fn compare_yanks(area: &TextArea<'_>, other: &TextArea<'_>) -> Result<(), EndReason> {
     let yank = area.yank_text()?;
     let other_yank = other.yank_text()?;
     same(yank.as_str() == other_yank.as_str(), Difference::Yank)
 }
 
 // Measures and draws both, at a width at which no case draws.
-fn compare_drawn(area: &mut TextArea<'_>, other: &mut TextArea<'_>) -> Result<(), Stop> {
+fn compare_drawn(area: &mut TextArea<'_>, other: &mut TextArea<'_>) -> Result<(), EndReason> {
     let is_measured_alike = area.measure(COLUMNS)? == other.measure(COLUMNS)?;
     same(is_measured_alike, Difference::Measure)?;
     let buffer = drawn(area)?;
@@ -98,7 +98,7 @@ fn is_cell_alike(cell: Option<&Cell>, other: Option<&Cell>) -> bool {
 }
 
 // Compares the lines after a typed character is undone; it may have joined the last edit.
-fn compare_typed(area: &TextArea<'_>, other: &TextArea<'_>) -> Result<(), Stop> {
+fn compare_typed(area: &TextArea<'_>, other: &TextArea<'_>) -> Result<(), EndReason> {
     let lines = typed_lines(area)?;
     let other_lines = typed_lines(other)?;
     same(lines == other_lines, Difference::Typing)
@@ -116,7 +116,7 @@ fn type_and_undo(area: &mut TextArea<'_>) -> Result<Vec<String>, AllocError> {
     area.insert_char('x')?;
     area.undo()?;
     let lines = area.lines();
-    copy_pieces(*lines[0].allocator(), lines)
+    copy_fragment(*lines[0].allocator(), lines)
 }
 
 // Undoes or redoes all edits of both, and compares the state after each.
@@ -124,7 +124,7 @@ fn compare_edits(
     area: &mut TextArea<'_>,
     other: &mut TextArea<'_>,
     way: Difference,
-) -> Result<(), Stop> {
+) -> Result<(), EndReason> {
     for _ in 0..MOST_EDITS {
         let has_gone = go(area, way)?;
         same(has_gone == go(other, way)?, way)?;

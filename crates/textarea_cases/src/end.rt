@@ -13,12 +13,12 @@ const WRONG: u8 = 4;
 #[derive(Clone, Copy)]
 pub struct End {
     pub made: usize,
-    pub stop: Option<Stop>,
+    pub stop: Option<EndReason>,
 }
 
 /// Why a case stops early.
 #[derive(Clone, Copy)]
-pub enum Stop {
+pub enum EndReason {
     /// Memory ran out outside of a call.
     Memory,
     /// A call ran out of memory, and left the correct state.
@@ -54,9 +54,9 @@ pub enum Difference {
 impl End {
     pub fn status(&self) -> u8 {
         match self.stop {
-            None | Some(Stop::Refused) => 0,
-            Some(Stop::Memory) => NOT_JUDGED,
-            Some(Stop::Wrong(_)) => WRONG,
+            None | Some(EndReason::Refused) => 0,
+            Some(EndReason::Memory) => NOT_JUDGED,
+            Some(EndReason::Wrong(_)) => WRONG,
         }
     }
 }
@@ -67,39 +67,39 @@ impl fmt::Display for End {
         let call = made.saturating_add(1);
         match self.stop {
             None => write!(f, "{made} calls made"),
-            Some(Stop::Memory) => write!(f, "refused beside the calls, behind {made}"),
-            Some(Stop::Refused) => write!(f, "call {call} refused, as it has to be"),
-            Some(Stop::Wrong(difference)) => write!(f, "call {call} WRONG: {difference:?}"),
+            Some(EndReason::Memory) => write!(f, "refused beside the calls, behind {made}"),
+            Some(EndReason::Refused) => write!(f, "call {call} refused, as it has to be"),
+            Some(EndReason::Wrong(difference)) => write!(f, "call {call} WRONG: {difference:?}"),
         }
     }
 }
 
-impl From<AllocError> for Stop {
-    fn from(_refused: AllocError) -> Stop {
-        Stop::Memory
+impl From<AllocError> for EndReason {
+    fn from(_refused: AllocError) -> EndReason {
+        EndReason::Memory
     }
 }
 
-impl<T: Drop> From<AllocFailed<T>> for Stop {
-    fn from(_refused: AllocFailed<T>) -> Stop {
-        Stop::Memory
+impl<T: Drop> From<AllocFailed<T>> for EndReason {
+    fn from(_refused: AllocFailed<T>) -> EndReason {
+        EndReason::Memory
     }
 }
 
-impl From<ReadError> for Stop {
-    fn from(error: ReadError) -> Stop {
+impl From<ReadError> for EndReason {
+    fn from(error: ReadError) -> EndReason {
         match error {
-            ReadError::Memory => Stop::Memory,
-            ReadError::Line(_) => Stop::Wrong(Difference::Script),
+            ReadError::Memory => EndReason::Memory,
+            ReadError::Line(_) => EndReason::Wrong(Difference::Script),
         }
     }
 }
 
 /// Returns an error with this difference unless the two compared values are the same.
-pub fn same(is_same: bool, difference: Difference) -> Result<(), Stop> {
+pub fn same(is_same: bool, difference: Difference) -> Result<(), EndReason> {
     if is_same {
         Ok(())
     } else {
-        Err(Stop::Wrong(difference))
+        Err(EndReason::Wrong(difference))
     }
 }

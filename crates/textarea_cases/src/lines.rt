@@ -20,7 +20,7 @@ pub fn plain(alloc: Global, case: &str) -> Result<String, AllocError> {
 pub fn keys_and_rest(alloc: Global, case: &str) -> Result<(String, &str), Stop> {
     let (first, rest) = case.split_once('\n').unwrap_or((case, ""));
     let Some(keys) = first.strip_prefix("> ") else {
-        return Err(Stop::Unread);
+        return Err(Stop::Unparsed);
     };
     Ok((unescaped(alloc, keys)?, rest))
 }
@@ -37,8 +37,8 @@ fn text_of(alloc: Global, commands: &[Command]) -> Result<String, Stop> {
     match commands.first() {
         Some(command) => match command.call() {
             Call::InsertStr(text) => Ok(String::from_str(alloc, text)?),
-            _ => Err(Stop::Unread),
+            _ => Err(Stop::Unparsed),
         },
-        None => Err(Stop::Unread),
+        None => Err(Stop::Unparsed),
     }
 }

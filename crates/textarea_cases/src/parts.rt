@@ -39,7 +39,7 @@ impl fmt::Display for Ranges<'_> {
 }
 
 /// Returns a result as scripts print it, but a style by its name.
-pub fn told_answer(alloc: Global, answer: &Answer) -> Result<String, AllocError> {
+pub fn answer_text(alloc: Global, answer: &Answer) -> Result<String, AllocError> {
     match answer {
         Answer::Style(style) | Answer::StyleIfShown(Some(style)) => {
             format!(in alloc; "{}", Named(*style))
@@ -50,7 +50,7 @@ pub fn told_answer(alloc: Global, answer: &Answer) -> Result<String, AllocError>
 }
 
 /// Returns the printed ranges, with a blank between them, or `none`.
-pub fn told_ranges(alloc: Global, ranges: &[AtomicRange]) -> Result<String, AllocError> {
+pub fn ranges_text(alloc: Global, ranges: &[AtomicRange]) -> Result<String, AllocError> {
     if ranges.is_empty() {
         return String::from_str(alloc, "none");
     }
@@ -59,25 +59,25 @@ pub fn told_ranges(alloc: Global, ranges: &[AtomicRange]) -> Result<String, Allo
 
 /// Returns the styles of the cells in an area of a buffer, row by row, with the length of each run
 /// of equal styles. The area is written as left column, top row, width and height.
-pub fn told_styles(alloc: Global, buffer: &Buffer, place: &str) -> Result<String, Stop> {
+pub fn styles_text(alloc: Global, buffer: &Buffer, place: &str) -> Result<String, Stop> {
     let Some(place) = area_of(place) else {
-        return Err(Stop::Unread);
+        return Err(Stop::Unparsed);
     };
-    let mut told = String::new(alloc);
+    let mut report = String::new(alloc);
     let (mut count, mut last) = (0usize, Style::new());
     for y in place.y..place.y + place.height {
         for x in place.x..place.x + place.width {
             let style = style_of(buffer, x, y);
             if style != last && count != 0 {
-                write!(told, "{count} {}, ", Named(last))?;
+                write!(report, "{count} {}, ", Named(last))?;
                 count = 0;
             }
             count = count.saturating_add(1);
             last = style;
         }
     }
-    write!(told, "{count} {}", Named(last))?;
-    Ok(told)
+    write!(report, "{count} {}", Named(last))?;
+    Ok(report)
 }
 
 // The style of a cell, without the terminal's default colours.
@@ -116,20 +116,20 @@ fn number(text: Option<&str>) -> Option<u16> {
 /// The printed differences from a new text area, each by its name.
 #[derive(Drop)]
 pub struct Parts {
-    told: String,
+    report: String,
 }
 
 impl Parts {
     /// Returns an empty list of differences.
     pub fn new(alloc: Global) -> Parts {
         Parts {
-            told: String::new(alloc),
+            report: String::new(alloc),
         }
     }
 
     /// Returns the printed differences, or `nothing`.
-    pub fn told(&self, alloc: Global) -> Result<String, AllocError> {
-        match self.told.strip_prefix(", ") {
+    pub fn report(&self, alloc: Global) -> Result<String, AllocError> {
+        match self.report.strip_prefix(", ") {
             Some(parts) => String::from_str(alloc, parts),
             None => String::from_str(alloc, "nothing"),
         }
@@ -138,7 +138,7 @@ impl Parts {
     /// Adds a flag that is set.
     pub fn flag(&mut self, is_set: bool, name: &str) -> Result<(), AllocError> {
         if is_set {
-            write!(self.told, ", {name}")?;
+            write!(self.report, ", {name}")?;
         }
         Ok(())
     }
@@ -146,7 +146,7 @@ impl Parts {
     /// Adds a number that differs from that of a new text area.
     pub fn number(&mut self, number: usize, at_first: usize, name: &str) -> Result<(), AllocError> {
         if number != at_first {
-            write!(self.told, ", {name} {number}")?;
+            write!(self.report, ", {name} {number}")?;
         }
         Ok(())
     }
@@ -154,7 +154,7 @@ impl Parts {
     /// Adds a style that is set.
     pub fn style(&mut self, style: Option<Style>, name: &str) -> Result<(), AllocError> {
         match style {
-            Some(style) => write!(self.told, ", {name} {}", Named(style)),
+            Some(style) => write!(self.report, ", {name} {}", Named(style)),
             None => Ok(()),
         }
     }
@@ -162,7 +162,7 @@ impl Parts {
     /// Adds an indent other than four blanks.
     pub fn indent(&mut self, indent: &str) -> Result<(), AllocError> {
         if indent != "    " {
-            write!(self.told, ", indent \"{}\"", Escaped(indent))?;
+            write!(self.report, ", indent \"{}\"", Escaped(indent))?;
         }
         Ok(())
     }
@@ -170,7 +170,7 @@ impl Parts {
     /// Adds the wrap mode, if lines are wrapped.
     pub fn mode(&mut self, mode: WrapMode) -> Result<(), AllocError> {
         if mode != WrapMode::None {
-            write!(self.told, ", wrap_mode {mode:?}")?;
+            write!(self.report, ", wrap_mode {mode:?}")?;
         }
         Ok(())
     }
@@ -178,7 +178,7 @@ impl Parts {
     /// Adds the search pattern, if there is one.
     pub fn pattern(&mut self, pattern: Option<&str>) -> Result<(), AllocError> {
         match pattern {
-            Some(pattern) => write!(self.told, ", search_pattern {pattern}"),
+            Some(pattern) => write!(self.report, ", search_pattern {pattern}"),
             None => Ok(()),
         }
     }
@@ -186,7 +186,7 @@ impl Parts {
     /// Adds the atomic ranges, if there are any.
     pub fn ranges(&mut self, ranges: &[AtomicRange]) -> Result<(), AllocError> {
         if !ranges.is_empty() {
-            write!(self.told, ", atomic_ranges {}", Ranges(ranges))?;
+            write!(self.report, ", atomic_ranges {}", Ranges(ranges))?;
         }
         Ok(())
     }
@@ -194,7 +194,7 @@ impl Parts {
     /// Adds the placeholder, if it has lines.
     pub fn placeholder(&mut self, lines: usize, text: &str) -> Result<(), AllocError> {
         if lines != 0 {
-            write!(self.told, ", placeholder {lines} {}", Escaped(text))?;
+            write!(self.report, ", placeholder {lines} {}", Escaped(text))?;
         }
         Ok(())
     }

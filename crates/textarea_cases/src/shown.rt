@@ -91,7 +91,7 @@ impl Shown {
             self.is_screen = true;
             self.screen.clear();
         } else if !line.starts_with('|') {
-            return Err(Stop::Unread);
+            return Err(Stop::Unparsed);
         }
         if self.is_screen {
             writeln!(self.screen, "{}", Escaped(line))?;

@@ -15,7 +15,7 @@ pub enum Stop {
     /// Memory ran out.
     Memory,
     /// The case can't be read.
-    Unread,
+    Unparsed,
     /// The result differs from the expected one.
     Differs { found: String, wanted: String },
 }
@@ -24,7 +24,7 @@ impl Stop {
     pub fn status(&self) -> u8 {
         match self {
             Stop::Memory => NO_MEMORY,
-            Stop::Unread | Stop::Differs { .. } => WRONG,
+            Stop::Unparsed | Stop::Differs { .. } => WRONG,
         }
     }
 }
@@ -33,7 +33,7 @@ impl fmt::Display for Stop {
     fn fmt<W: fmt::Write>(&self, f: &mut fmt::Formatter<W>) -> fmt::Result {
         match self {
             Stop::Memory => write!(f, "no memory"),
-            Stop::Unread => write!(f, "not read"),
+            Stop::Unparsed => write!(f, "not read"),
             Stop::Differs { found, wanted } => write!(f, "found:\n{found}\nwanted:\n{wanted}"),
         }
     }
@@ -55,7 +55,7 @@ impl From<ReadError> for Stop {
     fn from(error: ReadError) -> Stop {
         match error {
             ReadError::Memory => Stop::Memory,
-            ReadError::Line(_) => Stop::Unread,
+            ReadError::Line(_) => Stop::Unparsed,
         }
     }
 }

@@ -1,5 +1,5 @@
 //! A summary of the results of a case with enough memory.
-use crate::end::{Difference, Stop};
+use crate::end::{Difference, EndReason};
 use std::fmt;
 use textarea_calls::Answer;
 
@@ -17,13 +17,13 @@ pub struct Tally {
 
 impl Tally {
     /// Adds a result. A rejected pattern is a failure.
-    pub fn take(&mut self, answer: &Answer) -> Result<(), Stop> {
+    pub fn take(&mut self, answer: &Answer) -> Result<(), EndReason> {
         match answer {
             Answer::Text(text) => self.yanked = self.yanked.saturating_add(text.len()),
             Answer::Measured(measure) => {
                 self.rows = self.rows.saturating_add(usize::from(measure.content_rows));
             }
-            Answer::PatternRefused => return Err(Stop::Wrong(Difference::Pattern)),
+            Answer::PatternRefused => return Err(EndReason::Wrong(Difference::Pattern)),
             _ => {}
         }
         self.calls = self.calls.saturating_add(1);

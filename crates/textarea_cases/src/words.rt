@@ -1,6 +1,6 @@
 //! Test commands: a text form for calls that scripts have no command for.
 ghost use Rattle.std.specs.Prelude.{IfSome};
-ghost use Rattle.textarea_calls.specs.Made.{CanBeMade};
+ghost use Rattle.textarea_calls.specs.Possible.{CanBeMade};
 
 use crate::styles::style_named;
 use std::alloc::{AllocError, Global};
@@ -12,7 +12,7 @@ use textarea_view::look::CursorRenderMode;
 
 /// The values that these calls borrow.
 #[derive(Drop)]
-pub struct Lent {
+pub struct Borrows {
     /// The block that `set_block` sets.
     pub block: Block<'static>,
     /// The placeholder that `set_styled_placeholder` sets.
@@ -21,10 +21,10 @@ pub struct Lent {
     pub letter: Input,
 }
 
-impl Lent {
+impl Borrows {
     /// Returns a titled block with all borders, a placeholder of two lines, and the key of `z`.
-    pub fn new(alloc: Global) -> Result<Lent, AllocError> {
-        Ok(Lent {
+    pub fn new(alloc: Global) -> Result<Borrows, AllocError> {
+        Ok(Borrows {
             block: titled(alloc, Borders::ALL, "a title")?,
             placeholder: lines_in(alloc, Style::new(), &["type", "here"])?,
             letter: character('z'),
@@ -63,17 +63,17 @@ pub fn character(character: char) -> Input {
 
 /// Returns the call of a line: the name of a call of the text area that scripts have no command for
 /// and, after a blank, its arguments. `letter` types the letter of `lent`, without shortcuts.
-pub fn call_of<'a>(line: &'a str, lent: &'a Lent) -> Option<Call<'a>>
+pub fn call_of<'a>(line: &'a str, lent: &'a Borrows) -> Option<Call<'a>>
     ensures { IfSome result CanBeMade }
 {
     match line.split_once(' ') {
         Some((name, arguments)) => call_with(name, arguments),
-        None => call_alone(line, lent),
+        None => call_without_arguments(line, lent),
     }
 }
 
 // The call of this name without arguments.
-fn call_alone<'a>(name: &str, lent: &'a Lent) -> Option<Call<'a>>
+fn call_without_arguments<'a>(name: &str, lent: &'a Borrows) -> Option<Call<'a>>
     ensures { IfSome result CanBeMade }
 {
     Some(match name {

@@ -7,5 +7,5 @@ abbrev pub cursor_of : ℕ × ℕ → DataCursor
 cursor_of place = record { 0 = place.0; 1 = place.1 }
 
 -- the row and the column of a cursor
-abbrev pub place_of : DataCursor → ℕ × ℕ
-place_of cursor = (cursor.0, cursor.1)
+abbrev pub place_of_cursor : DataCursor → ℕ × ℕ
+place_of_cursor cursor = (cursor.0, cursor.1)

@@ -1,7 +1,7 @@
 //! Cursor moves and positions.
 
 ghost use Rattle.std.specs.Prelude.{◌≡◌};
-ghost use Rattle.textarea_data.specs.Cursor.{cursor_of, place_of};
+ghost use Rattle.textarea_data.specs.Cursor.{cursor_of, place_of_cursor};
 
 use serde::{Deserialize, Serialize};
 
@@ -46,7 +46,7 @@ pub struct DataCursor(pub usize, pub usize);
 
 /// Converts from (row, column).
 impl From<(usize, usize)> for DataCursor {
-    ghost from_gives = { λ place cursor. (cursor ≡ cursor_of place) × (place_of cursor ≡ place) };
+    ghost from_gives = { λ place cursor. (cursor ≡ cursor_of place) × (place_of_cursor cursor ≡ place) };
 
     fn from(place: (usize, usize)) -> DataCursor {
         DataCursor(place.0, place.1)
@@ -55,7 +55,7 @@ impl From<(usize, usize)> for DataCursor {
 
 /// Converts to (row, column).
 impl From<DataCursor> for (usize, usize) {
-    ghost from_gives = { λ cursor place. (place ≡ place_of cursor) × (cursor_of place ≡ cursor) };
+    ghost from_gives = { λ cursor place. (place ≡ place_of_cursor cursor) × (cursor_of place ≡ cursor) };
 
     fn from(cursor: DataCursor) -> (usize, usize) {
         (cursor.0, cursor.1)

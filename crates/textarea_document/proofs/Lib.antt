@@ -1,5 +1,5 @@
 pub mod Area
-pub mod Behinds
+pub mod SymbolAfters
 pub mod Inserts
 pub mod UndoLaw
 pub mod Orders
@@ -7,9 +7,9 @@ pub mod Parts
 pub mod Ranges
 pub mod Sounds
 pub mod StepLaw
-pub mod Cuts
+pub mod DocumentWraps
 pub mod Moves
-pub mod Going
+pub mod RangesOverSplices
 pub mod Steps
-pub mod Rows
+pub mod RowLemmas
 pub mod Cases

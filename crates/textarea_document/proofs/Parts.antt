@@ -2,21 +2,21 @@
 use Rattle.std.proofs.Common.{◌≡◌, ◌+◌, ◌-◌, ◌≤◌, ◌<◌, List, [], ◌∷◌, length, take, drop, sym, ap, ◌∙◌, subst, arith, String}
 use Rattle.std.proofs.lemmas.List.{length-drop, length-take-le}
 use Rattle.std.proofs.Math.Seq.{take-add}
-use Rattle.textarea_document.specs.Prelude.{IfSome, Symbol, text_of, Place, IsPlace, StandsAt, end, index_of, Splice, Fits, Stored, IsWellFormed, part, removal}
+use Rattle.textarea_document.specs.Prelude.{IfSome, Symbol, text_of, Place, IsPlace, OccursAt, end, index_of, Splice, Fits, Stored, IsWellFormed, symbols_between, removal}
 use Rattle.textarea_text.proofs.TextPlaces.{index_within, place_of-index}
 use Rattle.textarea_text.proofs.Splices.{end-append}
 
-length-part : (text : List Symbol) (from to : Place) → IsPlace text to → index_of text from ≤ index_of text to → length (part text from to) ≡ index_of text to - index_of text from
+length-part : (text : List Symbol) (from to : Place) → IsPlace text to → index_of text from ≤ index_of text to → length (symbols_between text from to) ≡ index_of text to - index_of text from
 length-part text from to h ordered =
     let i = index_of text from in
     let j = index_of text to in
     length-take-le (j - i) (drop i text) (omega (arith, length-drop i text, index_within text to h))
 
 -- the text between two positions is at the first, and ends at the second
-pub part_stands : (text : List Symbol) (from to : Place) → IsPlace text to → index_of text from ≤ index_of text to → StandsAt text from (part text from to)
+pub part_stands : (text : List Symbol) (from to : Place) → IsPlace text to → index_of text from ≤ index_of text to → OccursAt text from (symbols_between text from to)
 part_stands text from to h ordered = ap (λ n. take n (drop (index_of text from) text)) (length-part text from to h ordered)
 
-pub part_ends : (text : List Symbol) (from to : Place) → IsPlace text from → IsPlace text to → index_of text from ≤ index_of text to → to ≡ end from (part text from to)
+pub part_ends : (text : List Symbol) (from to : Place) → IsPlace text from → IsPlace text to → index_of text from ≤ index_of text to → to ≡ end from (symbols_between text from to)
 part_ends text from to h h' ordered =
     let i = index_of text from in
     let j = index_of text to in
@@ -25,9 +25,9 @@ part_ends text from to h h' ordered =
     ∙ ap (λ n. end (0, 0) (take n text)) size
     ∙ ap (end (0, 0)) (take-add i (j - i) text)
     ∙ end-append (0, 0) (take i text) (take (j - i) (drop i text))
-    ∙ ap (λ (p : Place). end p (part text from to)) (place_of-index text from h)
+    ∙ ap (λ (p : Place). end p (symbols_between text from to)) (place_of-index text from h)
 
-pub part_some : (text : List Symbol) (from to : Place) → IsPlace text to → index_of text from < index_of text to → 0 < length (part text from to)
+pub part_some : (text : List Symbol) (from to : Place) → IsPlace text to → index_of text from < index_of text to → 0 < length (symbols_between text from to)
 part_some text from to h ordered = omega (arith, length-part text from to h (omega arith))
 
 -- its removal fits the text

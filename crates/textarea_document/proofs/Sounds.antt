@@ -1,8 +1,8 @@
 -- Each step preserves the invariant of documents.
 use Rattle.std.proofs.Common.{◌≡◌, ℕ, Bool, true, false, cond, List, [], length, Option, Some, None, Result, Ok, Err, sym, ap, refl, ◌∙◌, subst, arith}
-use Rattle.textarea_document.specs.Prelude.{OnErr, OnOk, Symbol, lines, Place, IsPlace, Splice, Fits, applied, inverse, place_after, Log, empty_log, made_again, newest, next, recorded, taken_back, AtomicRange, moved_ranges, LayoutSettings, LaidOut, Layout, all_cut, applied_to, laid_out_anew, laid_out_with, wrapping_of, is_same, wrapping_for, DocumentState, document_of, fresh_document, logged, after_change, edited, redone_by, undone_by, laid_out_of, with_layout_settings, IsSound}
+use Rattle.textarea_document.specs.Prelude.{OnErr, OnOk, Symbol, lines, Place, IsPlace, Splice, Fits, applied, inverse, place_after, Log, empty_log, redone_log, newest, next, recorded, undone_log, AtomicRange, moved_ranges, LayoutSettings, TextAndLayout, Layout, all_wrapped, applied_to, layout_from_scratch, with_settings, wrapping_of, is_same_wrapping, wrapping_for, DocumentState, document_of, fresh_document, logged, after_change, after_edit, after_redo_by, after_undo_by, text_and_layout, with_layout_settings, IsSound}
 use Rattle.textarea_text.proofs.TextPlaces.{IsPlace-end, takes_back}
-use Rattle.textarea_history.specs.Law.{IsSound as LogIsSound}
+use Rattle.textarea_history.specs.HistoryLaw.{IsSoundLog as LogIsSound}
 use Rattle.textarea_history.proofs.LogLaws.{each_fits, newest_back, sound_redone_by, sound_undone_by, sound_edited as log_edited}
 use Rattle.textarea_ranges.proofs.Moving.{in_order_moved, valid_moved}
 use Rattle.textarea_document.proofs.Ranges.{valid_none}
@@ -22,17 +22,17 @@ sound_after document splice log sound fits h = record {
   bounded = h.bounded;
 }
 
-pub sound_edited : (document : DocumentState) (splice : Splice) (typed : Bool) (now : ℕ) → IsSound document → Fits document.text splice → IsSound (edited document splice typed now)
+pub sound_edited : (document : DocumentState) (splice : Splice) (typed : Bool) (now : ℕ) → IsSound document → Fits document.text splice → IsSound (after_edit document splice typed now)
 sound_edited document splice typed now h fits =
     sound_after document splice (recorded document.log splice typed now) h fits (log_edited (logged document) splice typed now (logged_sound document h) fits)
 
 -- a document's parts after a change, with this log, make the document after it
-pub changed_is : (laid new : LaidOut) (cursor ahead : Place) (anchor : Option Place) (ranges held : List AtomicRange) (log after left : Log) (splice : Splice) → new ≡ applied_to laid splice → ahead ≡ place_after splice → held ≡ moved_ranges ranges splice → after ≡ left → document_of new ahead None held after ≡ after_change (document_of laid cursor anchor ranges log) splice left
-changed_is laid new cursor ahead anchor ranges held log after left splice laid_is cursor_is held_is log_is =
-    ap (λ (l : LaidOut). document_of l ahead None held after) laid_is
-    ∙ ap (λ (p : Place). document_of (applied_to laid splice) p None held after) cursor_is
-    ∙ ap (λ (r : List AtomicRange). document_of (applied_to laid splice) (place_after splice) None r after) held_is
-    ∙ ap (λ (l : Log). document_of (applied_to laid splice) (place_after splice) None (moved_ranges ranges splice) l) log_is
+pub changed_is : (text_layout new : TextAndLayout) (cursor ahead : Place) (anchor : Option Place) (ranges held : List AtomicRange) (log after left : Log) (splice : Splice) → new ≡ applied_to text_layout splice → ahead ≡ place_after splice → held ≡ moved_ranges ranges splice → after ≡ left → document_of new ahead None held after ≡ after_change (document_of text_layout cursor anchor ranges log) splice left
+changed_is text_layout new cursor ahead anchor ranges held log after left splice laid_is cursor_is held_is log_is =
+    ap (λ (l : TextAndLayout). document_of l ahead None held after) laid_is
+    ∙ ap (λ (p : Place). document_of (applied_to text_layout splice) p None held after) cursor_is
+    ∙ ap (λ (r : List AtomicRange). document_of (applied_to text_layout splice) (place_after splice) None r after) held_is
+    ∙ ap (λ (l : Log). document_of (applied_to text_layout splice) (place_after splice) None (moved_ranges ranges splice) l) log_is
 
 -- the layout has no influence on the invariant
 pub resound : (document : DocumentState) (layout : Layout) → IsSound document → IsSound (record document { layout = layout })
@@ -47,67 +47,67 @@ newest_fits document splice h e = (newest_back (logged document) splice (logged_
 pub next_fits : (document : DocumentState) (splice : Splice) → IsSound document → next document.log ≡ Some splice → Fits document.text splice
 next_fits document splice h e = (each_fits (logged document) (logged_sound document h)).undone 0 splice e
 
-pub sound_undone : (document : DocumentState) (splice : Splice) → IsSound document → newest document.log ≡ Some splice → IsSound (undone_by (Some splice) document)
+pub sound_undone : (document : DocumentState) (splice : Splice) → IsSound document → newest document.log ≡ Some splice → IsSound (after_undo_by (Some splice) document)
 sound_undone document splice h e =
-    sound_after document (inverse splice) (taken_back document.log splice) h (newest_fits document splice h e) (sound_undone_by (logged document) splice (logged_sound document h) e)
+    sound_after document (inverse splice) (undone_log document.log splice) h (newest_fits document splice h e) (sound_undone_by (logged document) splice (logged_sound document h) e)
 
-pub sound_redone : (document : DocumentState) (splice : Splice) → IsSound document → next document.log ≡ Some splice → IsSound (redone_by (Some splice) document)
+pub sound_redone : (document : DocumentState) (splice : Splice) → IsSound document → next document.log ≡ Some splice → IsSound (after_redo_by (Some splice) document)
 sound_redone document splice h e =
-    sound_after document splice (made_again document.log splice) h (next_fits document splice h e) (sound_redone_by (logged document) splice (logged_sound document h) e)
+    sound_after document splice (redone_log document.log splice) h (next_fits document splice h e) (sound_redone_by (logged document) splice (logged_sound document h) e)
 
 -- a document without a history
 pub sound_fresh : (text : List Symbol) (settings : LayoutSettings) (count : ℕ) (cursor : Place) (maximum : ℕ) → IsPlace text cursor → IsSound (fresh_document text settings count cursor maximum)
 sound_fresh text settings count cursor maximum h = record { cursor = h; anchor = tt; ranges = valid_none (lines text); in_order = refl; undo = tt; redo = tt; bounded = omega arith }
 
-pub fresh_is : (text : List Symbol) (settings : LayoutSettings) (count : ℕ) (cursor : Place) (maximum : ℕ) (laid : LaidOut) (held : List AtomicRange) (log : Log) → laid ≡ laid_out_anew settings count text → held ≡ [] → log ≡ empty_log maximum → record { text = laid.text; layout = laid.layout; cursor = cursor; anchor = None; ranges = held; log = log } ≡ fresh_document text settings count cursor maximum
-fresh_is text settings count cursor maximum laid held log laid_is held_is log_is =
-    ap (λ (l : LaidOut). record { text = l.text; layout = l.layout; cursor = cursor; anchor = None; ranges = held; log = log }) laid_is
-    ∙ ap (λ (r : List AtomicRange). record { text = text; layout = all_cut settings count (length (lines text)); cursor = cursor; anchor = None; ranges = r; log = log }) held_is
-    ∙ ap (λ (l : Log). record { text = text; layout = all_cut settings count (length (lines text)); cursor = cursor; anchor = None; ranges = []; log = l }) log_is
+pub fresh_is : (text : List Symbol) (settings : LayoutSettings) (count : ℕ) (cursor : Place) (maximum : ℕ) (text_layout : TextAndLayout) (held : List AtomicRange) (log : Log) → text_layout ≡ layout_from_scratch settings count text → held ≡ [] → log ≡ empty_log maximum → record { text = text_layout.text; layout = text_layout.layout; cursor = cursor; anchor = None; ranges = held; log = log } ≡ fresh_document text settings count cursor maximum
+fresh_is text settings count cursor maximum text_layout held log laid_is held_is log_is =
+    ap (λ (l : TextAndLayout). record { text = l.text; layout = l.layout; cursor = cursor; anchor = None; ranges = held; log = log }) laid_is
+    ∙ ap (λ (r : List AtomicRange). record { text = text; layout = all_wrapped settings count (length (lines text)); cursor = cursor; anchor = None; ranges = r; log = log }) held_is
+    ∙ ap (λ (l : Log). record { text = text; layout = all_wrapped settings count (length (lines text)); cursor = cursor; anchor = None; ranges = []; log = l }) log_is
 
-pub sound_laid : (text : List Symbol) (settings : LayoutSettings) (count : ℕ) (cursor : Place) (maximum : ℕ) (laid : LaidOut) (held : List AtomicRange) (log : Log) → laid ≡ laid_out_anew settings count text → held ≡ [] → log ≡ empty_log maximum → IsPlace text cursor → IsSound (record { text = laid.text; layout = laid.layout; cursor = cursor; anchor = None; ranges = held; log = log })
-sound_laid text settings count cursor maximum laid held log laid_is held_is log_is h =
-    subst IsSound (sym (fresh_is text settings count cursor maximum laid held log laid_is held_is log_is)) (sound_fresh text settings count cursor maximum h)
+pub sound_laid : (text : List Symbol) (settings : LayoutSettings) (count : ℕ) (cursor : Place) (maximum : ℕ) (text_layout : TextAndLayout) (held : List AtomicRange) (log : Log) → text_layout ≡ layout_from_scratch settings count text → held ≡ [] → log ≡ empty_log maximum → IsPlace text cursor → IsSound (record { text = text_layout.text; layout = text_layout.layout; cursor = cursor; anchor = None; ranges = held; log = log })
+sound_laid text settings count cursor maximum text_layout held log laid_is held_is log_is h =
+    subst IsSound (sym (fresh_is text settings count cursor maximum text_layout held log laid_is held_is log_is)) (sound_fresh text settings count cursor maximum h)
 
 pub start_is_place : (text : List Symbol) → IsPlace text (0, 0)
 start_is_place text = IsPlace-end [] text
 
 -- a document with equal parts
-pub same_document : (laid other : LaidOut) (cursor : Place) (anchor : Option Place) (ranges copies : List AtomicRange) (log copy : Log) → other ≡ laid → copies ≡ ranges → copy ≡ log → document_of other cursor anchor copies copy ≡ document_of laid cursor anchor ranges log
-same_document laid other cursor anchor ranges copies log copy laid_is ranges_are log_is =
-    ap (λ (l : LaidOut). document_of l cursor anchor copies copy) laid_is
-    ∙ ap (λ (r : List AtomicRange). document_of laid cursor anchor r copy) ranges_are
-    ∙ ap (λ (l : Log). document_of laid cursor anchor ranges l) log_is
+pub same_document : (text_layout other : TextAndLayout) (cursor : Place) (anchor : Option Place) (ranges copies : List AtomicRange) (log copy : Log) → other ≡ text_layout → copies ≡ ranges → copy ≡ log → document_of other cursor anchor copies copy ≡ document_of text_layout cursor anchor ranges log
+same_document text_layout other cursor anchor ranges copies log copy laid_is ranges_are log_is =
+    ap (λ (l : TextAndLayout). document_of l cursor anchor copies copy) laid_is
+    ∙ ap (λ (r : List AtomicRange). document_of text_layout cursor anchor r copy) ranges_are
+    ∙ ap (λ (l : Log). document_of text_layout cursor anchor ranges l) log_is
 
 -- ---- other settings
 
 -- other settings leave the text
-text_seen : (laid : LaidOut) (settings : LayoutSettings) → (laid_out_with laid settings).text ≡ laid.text
-text_seen laid settings = by (is_same (wrapping_for settings (length (lines laid.text))) (wrapping_of laid))
+text_seen : (text_layout : TextAndLayout) (settings : LayoutSettings) → (with_settings text_layout settings).text ≡ text_layout.text
+text_seen text_layout settings = by (is_same_wrapping (wrapping_for settings (length (lines text_layout.text))) (wrapping_of text_layout))
   where
-    as_it_was : LaidOut
-    as_it_was = record { text = laid.text; layout = record { settings = settings; count = laid.layout.count; ticks = laid.layout.ticks } }
+    as_it_was : TextAndLayout
+    as_it_was = record { text = text_layout.text; layout = record { settings = settings; count = text_layout.layout.count; ticks = text_layout.layout.ticks } }
 
-    by : (b : Bool) → (cond b as_it_was (laid_out_anew settings laid.layout.count laid.text)).text ≡ laid.text
+    by : (b : Bool) → (cond b as_it_was (layout_from_scratch settings text_layout.layout.count text_layout.text)).text ≡ text_layout.text
     by true = refl
     by false = refl
 
-text_viewed : {T E : Type 0} (r : Result T E) (laid new : LaidOut) (settings : LayoutSettings) → OnOk r (new ≡ laid_out_with laid settings) → OnErr r (new ≡ laid) → new.text ≡ laid.text
-text_viewed (Ok x) laid new settings ok err = ap (λ (l : LaidOut). l.text) ok ∙ text_seen laid settings
-text_viewed (Err e) laid new settings ok err = ap (λ (l : LaidOut). l.text) err
+text_viewed : {T E : Type 0} (r : Result T E) (text_layout new : TextAndLayout) (settings : LayoutSettings) → OnOk r (new ≡ with_settings text_layout settings) → OnErr r (new ≡ text_layout) → new.text ≡ text_layout.text
+text_viewed (Ok x) text_layout new settings ok err = ap (λ (l : TextAndLayout). l.text) ok ∙ text_seen text_layout settings
+text_viewed (Err e) text_layout new settings ok err = ap (λ (l : TextAndLayout). l.text) err
 
-pub sound_viewed : {T E : Type 0} (r : Result T E) (laid new : LaidOut) (settings : LayoutSettings) (cursor : Place) (anchor : Option Place) (ranges : List AtomicRange) (log : Log) → OnOk r (new ≡ laid_out_with laid settings) → OnErr r (new ≡ laid) → IsSound (document_of laid cursor anchor ranges log) → IsSound (document_of new cursor anchor ranges log)
-sound_viewed r laid new settings cursor anchor ranges log ok err h =
-    subst (λ (t : List Symbol). IsSound (record { text = t; layout = new.layout; cursor = cursor; anchor = anchor; ranges = ranges; log = log })) (sym (text_viewed r laid new settings ok err))
-    (resound (document_of laid cursor anchor ranges log) new.layout h)
+pub sound_viewed : {T E : Type 0} (r : Result T E) (text_layout new : TextAndLayout) (settings : LayoutSettings) (cursor : Place) (anchor : Option Place) (ranges : List AtomicRange) (log : Log) → OnOk r (new ≡ with_settings text_layout settings) → OnErr r (new ≡ text_layout) → IsSound (document_of text_layout cursor anchor ranges log) → IsSound (document_of new cursor anchor ranges log)
+sound_viewed r text_layout new settings cursor anchor ranges log ok err h =
+    subst (λ (t : List Symbol). IsSound (record { text = t; layout = new.layout; cursor = cursor; anchor = anchor; ranges = ranges; log = log })) (sym (text_viewed r text_layout new settings ok err))
+    (resound (document_of text_layout cursor anchor ranges log) new.layout h)
 
 -- the lines with other settings are those of the document with them
-pub laid_out_seen : (document : DocumentState) (settings : LayoutSettings) → laid_out_with (laid_out_of document) settings ≡ laid_out_of (with_layout_settings document settings)
+pub laid_out_seen : (document : DocumentState) (settings : LayoutSettings) → with_settings (text_and_layout document) settings ≡ text_and_layout (with_layout_settings document settings)
 laid_out_seen document settings =
-    let after = laid_out_with (laid_out_of document) settings in
-    ap (λ (t : List Symbol). record { text = t; layout = after.layout }) (text_seen (laid_out_of document) settings)
+    let after = with_settings (text_and_layout document) settings in
+    ap (λ (t : List Symbol). record { text = t; layout = after.layout }) (text_seen (text_and_layout document) settings)
 
 -- a document whose lines have other settings
-pub settings_put : (laid new : LaidOut) (settings : LayoutSettings) (cursor : Place) (anchor : Option Place) (ranges : List AtomicRange) (log : Log) → new ≡ laid_out_with laid settings → document_of new cursor anchor ranges log ≡ with_layout_settings (document_of laid cursor anchor ranges log) settings
-settings_put laid new settings cursor anchor ranges log is =
-    ap (λ (l : LaidOut). document_of l cursor anchor ranges log) (is ∙ laid_out_seen (document_of laid cursor anchor ranges log) settings)
+pub settings_put : (text_layout new : TextAndLayout) (settings : LayoutSettings) (cursor : Place) (anchor : Option Place) (ranges : List AtomicRange) (log : Log) → new ≡ with_settings text_layout settings → document_of new cursor anchor ranges log ≡ with_layout_settings (document_of text_layout cursor anchor ranges log) settings
+settings_put text_layout new settings cursor anchor ranges log is =
+    ap (λ (l : TextAndLayout). document_of l cursor anchor ranges log) (is ∙ laid_out_seen (document_of text_layout cursor anchor ranges log) settings)

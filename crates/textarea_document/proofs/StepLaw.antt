@@ -2,13 +2,13 @@
 use Rattle.std.proofs.Common.{◌≡◌, ◌+◌, ◌-◌, ◌<◌, ℕ, List, [], ◌∷◌, length, take, drop, get_or, None, sym, ap, subst, ◌∙◌, arith}
 use Rattle.std.proofs.lemmas.List.{drop_more, length-take-le, take-append-drop}
 use Rattle.std.proofs.Math.Seq.{take-add}
-use Rattle.textarea_document.specs.Prelude.{Symbol, Break, lines, IsPlace, StandsAt, end, index_of, line_end, place_of, Fits, TakesWhole, hit, widened, DocumentState, IsSound, IsMade, Insert, Remove, RemoveBefore, RemoveBehind, RemoveBreak, Step, cursor_index, splice_of, symbol_removal, CutsNone}
+use Rattle.textarea_document.specs.Prelude.{Symbol, Break, lines, IsPlace, OccursAt, end, index_of, line_end, place_of, Fits, TakesWhole, range_at_place, widened, DocumentState, IsSound, HasEffect, Insert, Remove, RemoveBefore, RemoveBehind, RemoveBreak, EditStep, cursor_index, splice_of_step, symbol_removal, SplitsNoRange}
 use Rattle.textarea_text.proofs.TextPlaces.{IsPlace-end, index_of-end, index_within, place_of-index}
 use Rattle.textarea_text.proofs.Splices.{end-append}
 use Rattle.textarea_data.specs.declared.range.AtomicCursorBias.TheVariants.{Backward, Forward}
 use Rattle.textarea_data.specs.declared.range.AtomicDeleteDirection.TheVariants.{Forward as DeleteForward}
-use Rattle.textarea_ranges.proofs.HeldLemmas.{IsPlaceOf-moved_out, IsWidened-widened, outside-moved_out}
-use Rattle.textarea_document.proofs.Behinds.{break_removal_fits}
+use Rattle.textarea_ranges.proofs.LookupLemmas.{IsPlaceOf-moved_out, IsWidened-widened, outside-moved_out}
+use Rattle.textarea_document.proofs.SymbolAfters.{break_removal_fits}
 use Rattle.textarea_document.proofs.Parts.{part_ends, removal_fits}
 use Rattle.textarea_document.proofs.Ranges.{before_by, up_to_from_index, whole_behind, whole_break, widened_ordered}
 
@@ -42,10 +42,10 @@ symbol_removal_fits text index at = record {
 
 -- ---- each step
 
-abbrev Keeps : DocumentState → Step → Type 0
-Keeps document step = Fits document.text (splice_of document step) × CutsNone document.ranges (splice_of document step)
+abbrev Keeps : DocumentState → EditStep → Type 0
+Keeps document step = Fits document.text (splice_of_step document step) × SplitsNoRange document.ranges (splice_of_step document step)
 
-pub step_kept : (document : DocumentState) (step : Step) → IsSound document → IsMade document step → Keeps document step
+pub step_kept : (document : DocumentState) (step : EditStep) → IsSound document → HasEffect document step → Keeps document step
 step_kept document (Insert symbols) h made = (
   record { some = made; is_place = IsPlaceOf-moved_out (lines document.text) document.ranges document.cursor Forward h.ranges h.cursor; allowed = tt },
   outside-moved_out (lines document.text) document.ranges document.cursor Forward h.ranges,
@@ -69,7 +69,7 @@ step_kept document RemoveBefore h made =
     let at = symbol_at text index (omega (arith, made.1, index_within text cursor h.cursor)) in
     let start = place_of text index in
     let ends : cursor ≡ end start (take 1 (drop index text)) = sym (place_of-index text cursor h.cursor) ∙ ap (place_of text) (sym next) ∙ at.ends in
-    let stands : StandsAt text start (at.symbol ∷ []) = ap (λ n. take 1 (drop n text)) at.index_is ∙ at.symbol_is in (
+    let stands : OccursAt text start (at.symbol ∷ []) = ap (λ n. take 1 (drop n text)) at.index_is ∙ at.symbol_is in (
       symbol_removal_fits text index at,
       subst (TakesWhole document.ranges start) ends
           (before_by text document.ranges cursor start at.symbol h.ranges made.0 at.is_place stands (ends ∙ ap (end start) at.symbol_is)),
@@ -79,7 +79,7 @@ step_kept document RemoveBehind h made =
     let index = cursor_index document in
     let at = symbol_at text index (omega (arith, made.1, index_within text document.cursor h.cursor)) in
     let start = place_of text index in
-    let none : hit document.ranges start DeleteForward ≡ None = ap (λ p. hit document.ranges p DeleteForward) (place_of-index text document.cursor h.cursor) ∙ made.0 in
+    let none : range_at_place document.ranges start DeleteForward ≡ None = ap (λ p. range_at_place document.ranges p DeleteForward) (place_of-index text document.cursor h.cursor) ∙ made.0 in
     (symbol_removal_fits text index at, whole_behind document.ranges start (end start (take 1 (drop index text))) at.symbol none (ap (end start) at.symbol_is))
 step_kept document RemoveBreak h made =
     let row = document.cursor.0 - 1 in

@@ -3,7 +3,7 @@ use Rattle.std.proofs.Common.{◌≡◌, ℕ, ◌+◌, ◌-◌, ◌≢◌, ◌<�
 use Rattle.std.proofs.lemmas.Bool.Decides.{nat_tests}
 use Rattle.std.proofs.lemmas.Grind.{common_steps}
 use Rattle.std.proofs.lemmas.List.{drop_more}
-use Rattle.textarea_document.specs.Prelude.{Symbol, Character, Break, joined, Place, IsPlace, IsPlaceOf, StandsAt, end, index_of, line_end, place_of, next_place, previous_place}
+use Rattle.textarea_document.specs.Prelude.{Symbol, Character, Break, joined, Place, IsPlace, IsPlaceOf, OccursAt, end, index_of, line_end, place_of, next_place, previous_place}
 use Rattle.textarea_text.proofs.Splices.{lines-joined}
 use Rattle.textarea_text.proofs.TextPlaces.{index_within, place_of-index}
 use Rattle.textarea_text.proofs.StringRows.{stands_until}
@@ -20,7 +20,7 @@ pub record IsNext (text : List Symbol) (place next : Place) : Type 0 where
   pub within : index_of text next ≤ length text
 
 -- it is the end of the symbol at the first
-next_behind : (text : List Symbol) (place : Place) (symbol : Symbol) → IsPlace text place → StandsAt text place (symbol ∷ []) → IsNext text place (end place (symbol ∷ []))
+next_behind : (text : List Symbol) (place : Place) (symbol : Symbol) → IsPlace text place → OccursAt text place (symbol ∷ []) → IsNext text place (end place (symbol ∷ []))
 next_behind text place symbol h stands =
     let until = stands_until text place (symbol ∷ []) h stands in
     record {
@@ -53,8 +53,8 @@ IsNext-column rows row column within inside =
 pub IsNext-line : (rows : List (List ℕ)) (row column : ℕ) → row + 1 < length rows → column ≡ length (get_or rows row []) → IsNext (joined rows) (row, column) (row + 1, 0)
 IsNext-line rows row column within whole =
     let place : IsPlaceOf rows (row, column) = (omega arith, omega arith) in
-    let stands : StandsAt (joined rows) (row, column) (Break ∷ []) =
-    subst (λ (n : ℕ). StandsAt (joined rows) (row, n) (Break ∷ [])) (sym whole) (break_stands rows row within) in
+    let stands : OccursAt (joined rows) (row, column) (Break ∷ []) =
+    subst (λ (n : ℕ). OccursAt (joined rows) (row, n) (Break ∷ [])) (sym whole) (break_stands rows row within) in
     next_behind (joined rows) (row, column) Break (place_in rows (row, column) place) stands
 
 -- the last line's end is the text's end

@@ -4,7 +4,7 @@ use Rattle.std.proofs.lemmas.Bool.{cond-false}
 use Rattle.std.proofs.lemmas.Bool.Decides.{nat_tests}
 use Rattle.std.proofs.lemmas.List.{length-append}
 use Rattle.std.proofs.lemmas.Option.{slice_get_within}
-use Rattle.textarea_document.specs.Prelude.{IfSome, Symbol, Splice, Fits, place_after, place_before, StoodBefore, Place, end, merged, Log, Logged, done_after, grown, is_typed, joins, kept, newest, next, with_done, IsSame, times, DocumentState, logged, edited, redone, redone_by, undone, undone_by, GivesAllBack, GivesBack, IsSound}
+use Rattle.textarea_document.specs.Prelude.{IfSome, Symbol, Splice, Fits, place_after, place_before, IsTextBefore, Place, end, merged, Log, Logged, done_after, grown, is_typed, joins, remaining_done, newest, next, with_done, IsSame, times, DocumentState, logged, after_edit, after_redo, after_redo_by, after_undo, after_undo_by, RestoresAll, RestoresDocument, IsSound}
 use Rattle.textarea_text.proofs.Splices.{end-append}
 use Rattle.textarea_history.specs.Log.{redone as text_redone, redone_by as text_redone_by, undone as text_undone, undone_by as text_undone_by}
 use Rattle.textarea_history.proofs.Joins.{joins_newest}
@@ -12,45 +12,45 @@ use Rattle.textarea_history.proofs.LogLaws.{next_again, gives_back as text_gives
 use Rattle.textarea_document.proofs.Sounds.{logged_sound, sound_edited}
 
 -- an undo and a redo of a document change its text and log as they change a text with its log
-undone_logged : (document : DocumentState) → logged (undone document) ≡ text_undone (logged document)
+undone_logged : (document : DocumentState) → logged (after_undo document) ≡ text_undone (logged document)
 undone_logged document = by (newest document.log)
   where
-    by : (found : Option Splice) → logged (undone_by found document) ≡ text_undone_by found (logged document)
+    by : (found : Option Splice) → logged (after_undo_by found document) ≡ text_undone_by found (logged document)
     by None = refl
     by (Some splice) = refl
 
-redone_logged : (document : DocumentState) → logged (redone document) ≡ text_redone (logged document)
+redone_logged : (document : DocumentState) → logged (after_redo document) ≡ text_redone (logged document)
 redone_logged document = by (next document.log)
   where
-    by : (found : Option Splice) → logged (redone_by found document) ≡ text_redone_by found (logged document)
+    by : (found : Option Splice) → logged (after_redo_by found document) ≡ text_redone_by found (logged document)
     by None = refl
     by (Some splice) = refl
 
-undone_times : (count : ℕ) (document : DocumentState) → logged (times count undone document) ≡ times count text_undone (logged document)
+undone_times : (count : ℕ) (document : DocumentState) → logged (times count after_undo document) ≡ times count text_undone (logged document)
 undone_times zero document = refl
-undone_times (suc count) document = undone_logged (times count undone document) ∙ ap text_undone (undone_times count document)
+undone_times (suc count) document = undone_logged (times count after_undo document) ∙ ap text_undone (undone_times count document)
 
-redone_times : (count : ℕ) (document : DocumentState) → logged (times count redone document) ≡ times count text_redone (logged document)
+redone_times : (count : ℕ) (document : DocumentState) → logged (times count after_redo document) ≡ times count text_redone (logged document)
 redone_times zero document = refl
-redone_times (suc count) document = redone_logged (times count redone document) ∙ ap text_redone (redone_times count document)
+redone_times (suc count) document = redone_logged (times count after_redo document) ∙ ap text_redone (redone_times count document)
 
 -- the last of `count` redos leaves the cursor where the newest edit does
-cursor_again : (count : ℕ) (document : DocumentState) (found : Option Splice) → newest document.log ≡ found → IsSound document → count ≤ length document.log.done → 0 < count → IfSome found (λ splice. (times count redone (times count undone document)).cursor ≡ place_after splice)
+cursor_again : (count : ℕ) (document : DocumentState) (found : Option Splice) → newest document.log ≡ found → IsSound document → count ≤ length document.log.done → 0 < count → IfSome found (λ splice. (times count after_redo (times count after_undo document)).cursor ≡ place_after splice)
 cursor_again zero document found e h within some = absurd (omega arith)
 cursor_again (suc count) document None e h within some = tt
 cursor_again (suc count) document (Some splice) e h within some =
-    let left = times (suc count) undone document in
+    let left = times (suc count) after_undo document in
     let is = redone_times count left ∙ ap (times count text_redone) (undone_times (suc count) document) in
-    let ahead : next (times count redone left).log ≡ Some splice = ap (λ (l : Logged). next l.log) is ∙ next_again count (logged document) splice (logged_sound document h) e within in
-    ap (λ (o : Option Splice). (redone_by o (times count redone left)).cursor) ahead
+    let ahead : next (times count after_redo left).log ≡ Some splice = ap (λ (l : Logged). next l.log) is ∙ next_again count (logged document) splice (logged_sound document h) e within in
+    ap (λ (o : Option Splice). (after_redo_by o (times count after_redo left)).cursor) ahead
 
-pub gives_back : (count : ℕ) (document : DocumentState) → IsSound document → count ≤ length document.log.done → GivesBack document count
+pub gives_back : (count : ℕ) (document : DocumentState) → IsSound document → count ≤ length document.log.done → RestoresDocument document count
 gives_back count document h within =
     let given = text_gives_back count (logged document) (logged_sound document h) within in
     let back = undone_times count document in
-    let again = redone_times count (times count undone document) ∙ ap (times count text_redone) back in
+    let again = redone_times count (times count after_undo document) ∙ ap (times count text_redone) back in
     record {
-      before = subst (λ (l : Logged). StoodBefore l.text document.text (drop (length document.log.done - count) document.log.done)) (sym back) given.before;
+      before = subst (λ (l : Logged). IsTextBefore l.text document.text (drop (length document.log.done - count) document.log.done)) (sym back) given.before;
       again = subst (λ (l : Logged). IsSame l (logged document)) (sym again) given.again;
       cursor = cursor_again count document (newest document.log) refl h within;
     }
@@ -84,19 +84,19 @@ newest_after log splice typed now true e =
     let front = take (length log.done - 1) log.done in
     let done_is : done_after log splice true ≡ front ++ merged run splice ∷ [] = ap (λ (o : Option Splice). front ++ grown o splice ∷ []) joining.newest_is in
     (merged run splice, ap (λ (d : List Splice). slice_get d (length d - 1)) done_is ∙ newest-last front (merged run splice), merged_after run splice joining.direction joining.place)
-newest_after log splice typed now false e = (splice, newest-last (kept log) splice, refl)
+newest_after log splice typed now false e = (splice, newest-last (remaining_done log) splice, refl)
 
-pub gives_all_back : (document : DocumentState) (splice : Splice) (typed : Bool) (now : ℕ) → IsSound document → Fits document.text splice → 0 < document.log.maximum → GivesAllBack (edited document splice typed now)
+pub gives_all_back : (document : DocumentState) (splice : Splice) (typed : Bool) (now : ℕ) → IsSound document → Fits document.text splice → 0 < document.log.maximum → RestoresAll (after_edit document splice typed now)
 gives_all_back document splice typed now h fits some =
     let log = document.log in
-    let left = edited document splice typed now in
+    let left = after_edit document splice typed now in
     let remembers : (log.maximum == 0) ≡ false = positive log.maximum some in
     let found = newest_after log splice typed now (joins log splice typed now) refl in
     let log_is : left.log ≡ with_done log (done_after log splice (joins log splice typed now)) (is_typed splice typed) now = cond-false (log.maximum == 0) log (with_done log (done_after log splice (joins log splice typed now)) (is_typed splice typed) now) remembers in
     let newest_is : newest left.log ≡ Some found.0 = ap newest log_is ∙ found.1 in
     let within : 1 ≤ length left.log.done = omega (arith, slice_get_within left.log.done (length left.log.done - 1) found.0 newest_is) in
     let back = gives_back 1 left (sound_edited document splice typed now h fits) within in
-    let cursor : (redone (undone left)).cursor ≡ place_after found.0 = subst (λ (o : Option Splice). IfSome o (λ s. (redone (undone left)).cursor ≡ place_after s)) newest_is (back.cursor (omega arith)) in
+    let cursor : (after_redo (after_undo left)).cursor ≡ place_after found.0 = subst (λ (o : Option Splice). IfSome o (λ s. (after_redo (after_undo left)).cursor ≡ place_after s)) newest_is (back.cursor (omega arith)) in
     record { same = back.again; cursor = cursor ∙ found.2 }
   where
     positive : (n : ℕ) → 0 < n → (n == 0) ≡ false

@@ -3,14 +3,14 @@ use Rattle.std.specs.Prelude.{◌≡◌, ◌≢◌, ◌<◌, Bool, true, false, 
 use Rattle.textarea_text.specs.Text.{Symbol, Character, Break, lines}
 use Rattle.textarea_text.specs.Place.{Place, IsPlace, end, index_of, line_end, place_of}
 use Rattle.textarea_text.specs.Splice.{Splice}
-use Rattle.textarea_text.specs.Part.{part}
+use Rattle.textarea_text.specs.Between.{symbols_between}
 use Rattle.textarea_data.specs.declared.range.AtomicRange.{AtomicRange}
 use Rattle.textarea_data.specs.declared.range.AtomicCursorBias.TheVariants.{Forward}
 use Rattle.textarea_data.specs.declared.range.AtomicDeleteDirection.{AtomicDeleteDirection}
 use Rattle.textarea_data.specs.declared.range.AtomicDeleteDirection.TheVariants.{Backward as DeleteBackward, Forward as DeleteForward}
-use Rattle.textarea_ranges.specs.Held.{hit, moved_out, range_start, range_end, widened}
-use Rattle.textarea_document.specs.State.{DocumentState}
-use Rattle.textarea_document.specs.Outcomes.{edited, unanchored}
+use Rattle.textarea_ranges.specs.Lookup.{range_at_place, moved_out, range_start, range_end, widened}
+use Rattle.textarea_document.specs.DocumentState.{DocumentState}
+use Rattle.textarea_document.specs.Outcomes.{after_edit, unanchored}
 
 -- ---- insertion positions and removed ranges
 
@@ -19,14 +19,14 @@ abbrev pub insertion_place : DocumentState → Place
 insertion_place document = moved_out document.ranges document.cursor Forward
 
 -- the range at the cursor in this direction: before it, or after it
-abbrev pub hit_at_cursor : DocumentState → AtomicDeleteDirection → Option AtomicRange
-hit_at_cursor document direction = hit document.ranges document.cursor direction
+abbrev pub range_at_cursor : DocumentState → AtomicDeleteDirection → Option AtomicRange
+range_at_cursor document direction = range_at_place document.ranges document.cursor direction
 
-abbrev pub hit_before : DocumentState → Option AtomicRange
-hit_before document = hit_at_cursor document DeleteBackward
+abbrev pub range_before : DocumentState → Option AtomicRange
+range_before document = range_at_cursor document DeleteBackward
 
-abbrev pub hit_behind : DocumentState → Option AtomicRange
-hit_behind document = hit_at_cursor document DeleteForward
+abbrev pub range_after : DocumentState → Option AtomicRange
+range_after document = range_at_cursor document DeleteForward
 
 -- the number of symbols before the cursor
 abbrev pub cursor_index : DocumentState → ℕ
@@ -46,7 +46,7 @@ insertion place symbols = record { place = place; symbols = symbols; inserts = t
 
 -- the text between two positions, removed
 abbrev pub removal : List Symbol → Place → Place → Splice
-removal text from to = record { place = from; symbols = part text from to; inserts = false }
+removal text from to = record { place = from; symbols = symbols_between text from to; inserts = false }
 
 -- the same, widened over each atomic range that it overlaps
 abbrev pub widened_removal : DocumentState → Place → Place → Splice
@@ -67,35 +67,35 @@ break_removal text row =
 -- The steps: each insertion or removal of a call is one of these five. It inserts symbols at the
 -- insertion position; removes the text between two positions, with the ranges that this overlaps;
 -- or removes the symbol before the cursor, the one after it, or the break before the cursor's line.
-pub data Step : Type 0 where
-  Insert : List Symbol → Step
-  Remove : Place → Place → Step
-  RemoveBefore : Step
-  RemoveBehind : Step
-  RemoveBreak : Step
+pub data EditStep : Type 0 where
+  Insert : List Symbol → EditStep
+  Remove : Place → Place → EditStep
+  RemoveBefore : EditStep
+  RemoveBehind : EditStep
+  RemoveBreak : EditStep
 
-abbrev pub splice_of : DocumentState → Step → Splice
-splice_of document (Insert symbols) = insertion (insertion_place document) symbols
-splice_of document (Remove from to) = widened_removal document from to
-splice_of document RemoveBefore = symbol_removal document.text (cursor_index document - 1)
-splice_of document RemoveBehind = symbol_removal document.text (cursor_index document)
-splice_of document RemoveBreak = break_removal document.text (document.cursor.0 - 1)
+abbrev pub splice_of_step : DocumentState → EditStep → Splice
+splice_of_step document (Insert symbols) = insertion (insertion_place document) symbols
+splice_of_step document (Remove from to) = widened_removal document from to
+splice_of_step document RemoveBefore = symbol_removal document.text (cursor_index document - 1)
+splice_of_step document RemoveBehind = symbol_removal document.text (cursor_index document)
+splice_of_step document RemoveBreak = break_removal document.text (document.cursor.0 - 1)
 
 -- the condition of a step: there is a symbol to insert, or to remove; and a symbol beside the
 -- cursor is removed only if there is no range at the cursor on that side
-abbrev pub IsMade : DocumentState → Step → Type 0
-IsMade document (Insert symbols) = 0 < length symbols
-IsMade document (Remove from to) =
+abbrev pub HasEffect : DocumentState → EditStep → Type 0
+HasEffect document (Insert symbols) = 0 < length symbols
+HasEffect document (Remove from to) =
     IsPlace document.text from × IsPlace document.text to
     × (index_of document.text from < index_of document.text to)
-IsMade document RemoveBefore = (hit_before document ≡ None) × (cursor_index document ≢ 0)
-IsMade document RemoveBehind =
-    (hit_behind document ≡ None) × (cursor_index document ≢ length document.text)
-IsMade document RemoveBreak = document.cursor.0 ≢ 0
+HasEffect document RemoveBefore = (range_before document ≡ None) × (cursor_index document ≢ 0)
+HasEffect document RemoveBehind =
+    (range_after document ≡ None) × (cursor_index document ≢ length document.text)
+HasEffect document RemoveBreak = document.cursor.0 ≢ 0
 
 -- the step is made and recorded, as typed or not. Each definition below does so, or keeps the text
-abbrev pub stepped : DocumentState → Step → Bool → ℕ → DocumentState
-stepped document step typed now = edited document (splice_of document step) typed now
+abbrev pub stepped : DocumentState → EditStep → Bool → ℕ → DocumentState
+stepped document step typed now = after_edit document (splice_of_step document step) typed now
 
 -- ---- insertions
 
@@ -107,9 +107,9 @@ abbrev pub break_inserted : DocumentState → ℕ → DocumentState
 break_inserted document now = stepped document (Insert (Break ∷ [])) false now
 
 -- whether there is a symbol
-abbrev pub is_filled : List Symbol → Bool
-is_filled [] = false
-is_filled (symbol ∷ symbols) = true
+abbrev pub has_symbols : List Symbol → Bool
+has_symbols [] = false
+has_symbols (symbol ∷ symbols) = true
 
 -- nothing is inserted or recorded: the cursor moves to the insertion position, nothing selected
 abbrev pub nothing_inserted : DocumentState → DocumentState
@@ -132,15 +132,15 @@ abbrev pub taken_symbols : DocumentState → Place → Place → List Symbol
 taken_symbols document from to = (widened_removal document from to).symbols
 
 -- the range is removed, if there is one; otherwise it is the other document
-abbrev pub range_removed_or : Option AtomicRange → DocumentState → ℕ → DocumentState → DocumentState
-range_removed_or None document now other = other
-range_removed_or (Some range) document now other =
+abbrev pub removed_range_or : Option AtomicRange → DocumentState → ℕ → DocumentState → DocumentState
+removed_range_or None document now other = other
+removed_range_or (Some range) document now other =
     part_removed document (range_start range) (range_end range) now
 
 -- the range at the cursor in this direction is removed, if there is one
-abbrev pub hit_removed : DocumentState → AtomicDeleteDirection → ℕ → DocumentState
-hit_removed document direction now =
-    range_removed_or (hit_at_cursor document direction) document now document
+abbrev pub cursor_range_removed : DocumentState → AtomicDeleteDirection → ℕ → DocumentState
+cursor_range_removed document direction now =
+    removed_range_or (range_at_cursor document direction) document now document
 
 -- the symbol before the cursor is removed, if there is one, as typed or not
 abbrev pub symbol_removed_before : DocumentState → Bool → ℕ → DocumentState
@@ -148,22 +148,22 @@ symbol_removed_before document typed now =
     if is_at_start document then unanchored document else stepped document RemoveBefore typed now
 
 -- the symbol after the cursor is removed, if there is one, as typed or not
-abbrev pub symbol_removed_behind : DocumentState → Bool → ℕ → DocumentState
-symbol_removed_behind document typed now =
+abbrev pub symbol_removed_after : DocumentState → Bool → ℕ → DocumentState
+symbol_removed_after document typed now =
     if is_at_end document then unanchored document else stepped document RemoveBehind typed now
 
 -- the range at the cursor, backward, is removed, or else the symbol before the cursor
 unfoldable pub removed_before : DocumentState → Bool → ℕ → DocumentState
 removed_before document typed now =
-    range_removed_or (hit_before document) document now (symbol_removed_before document typed now)
+    removed_range_or (range_before document) document now (symbol_removed_before document typed now)
 
 -- the range at the cursor, forward, is removed, or else the symbol after the cursor
-unfoldable pub removed_behind : DocumentState → Bool → ℕ → DocumentState
-removed_behind document typed now =
-    range_removed_or (hit_behind document) document now (symbol_removed_behind document typed now)
+unfoldable pub removed_after : DocumentState → Bool → ℕ → DocumentState
+removed_after document typed now =
+    removed_range_or (range_after document) document now (symbol_removed_after document typed now)
 
 -- the symbol is directly after the position, not the text's end, and ends at the other position
-pub record IsSymbolBehind (text : List Symbol) (place to : Place) (symbol : Symbol) : Type 0 where
+pub record IsSymbolAfter (text : List Symbol) (place to : Place) (symbol : Symbol) : Type 0 where
   pub index : index_of text place ≢ length text
   pub symbol_is : take 1 (drop (index_of text place) text) ≡ symbol ∷ []
   pub ends : to ≡ end place (symbol ∷ [])

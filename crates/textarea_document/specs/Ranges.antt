@@ -3,24 +3,24 @@ use Rattle.std.specs.Prelude.{ℕ, Bool, true, false, List, [], All, Option, Non
 use Rattle.textarea_text.specs.Text.{lines}
 use Rattle.textarea_text.specs.Place.{Place, end, is_same_place}
 use Rattle.textarea_text.specs.Splice.{Splice}
-use Rattle.textarea_text.specs.Part.{clip}
+use Rattle.textarea_text.specs.Between.{clip}
 use Rattle.textarea_data.specs.declared.range.AtomicRange.{AtomicRange}
 use Rattle.textarea_data.specs.declared.range.AtomicCursorBias.{AtomicCursorBias}
 use Rattle.textarea_data.specs.declared.range.AtomicCursorBias.TheVariants.{Backward, Forward}
-use Rattle.textarea_ranges.specs.Held.{IsInside, TakesWhole, moved_out, range_start, range_end}
+use Rattle.textarea_ranges.specs.Lookup.{IsInside, TakesWhole, moved_out, range_start, range_end}
 use Rattle.textarea_ranges.specs.Order.{in_order}
-use Rattle.textarea_document.specs.State.{DocumentState}
+use Rattle.textarea_document.specs.DocumentState.{DocumentState}
 use Rattle.textarea_document.specs.Edits.{part_removed}
 
 -- a splice splits no range: it inserts strictly inside none, or removes each completely or not at
 -- all
-abbrev pub CutsNoneBy : Bool → List AtomicRange → Place → Place → Type 0
-CutsNoneBy true ranges place to = All (λ range. ¬ IsInside place range) ranges
-CutsNoneBy false ranges place to = TakesWhole ranges place to
+abbrev pub SplitsNoRangeBy : Bool → List AtomicRange → Place → Place → Type 0
+SplitsNoRangeBy true ranges place to = All (λ range. ¬ IsInside place range) ranges
+SplitsNoRangeBy false ranges place to = TakesWhole ranges place to
 
-abbrev pub CutsNone : List AtomicRange → Splice → Type 0
-CutsNone ranges splice =
-    CutsNoneBy splice.inserts ranges splice.place (end splice.place splice.symbols)
+abbrev pub SplitsNoRange : List AtomicRange → Splice → Type 0
+SplitsNoRange ranges splice =
+    SplitsNoRangeBy splice.inserts ranges splice.place (end splice.place splice.symbols)
 
 -- a selection that began at the cursor is dropped
 abbrev pub unless_empty : Option Place → Place → Option Place
@@ -33,8 +33,8 @@ anchor_out ranges anchor = option_map (λ place. moved_out ranges place Backward
 
 -- the ranges are replaced: a cursor strictly inside one moves to its end, such an anchor to its
 -- start, and a selection that is empty after that is dropped
-abbrev pub holding : DocumentState → List AtomicRange → DocumentState
-holding document ranges =
+abbrev pub with_ranges : DocumentState → List AtomicRange → DocumentState
+with_ranges document ranges =
     let cursor = moved_out ranges document.cursor Forward in
     record document {
       ranges = ranges;
@@ -44,7 +44,7 @@ holding document ranges =
 
 -- the ranges are accepted: sorted by row and start, those with the same start in their given order
 abbrev pub accepted : DocumentState → List AtomicRange → DocumentState
-accepted document ranges = holding document (in_order ranges)
+accepted document ranges = with_ranges document (in_order ranges)
 
 abbrev pub ranges_forgotten : DocumentState → DocumentState
 ranges_forgotten document = record document { ranges = [] }

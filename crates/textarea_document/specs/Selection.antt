@@ -2,8 +2,8 @@
 use Rattle.std.specs.Prelude.{Bool, ℕ, List, Option, Some, None, unwrap_or, if◌then◌else◌}
 use Rattle.textarea_text.specs.Text.{Symbol}
 use Rattle.textarea_text.specs.Place.{Place, is_before}
-use Rattle.textarea_text.specs.Part.{part}
-use Rattle.textarea_document.specs.State.{DocumentState}
+use Rattle.textarea_text.specs.Between.{symbols_between}
+use Rattle.textarea_document.specs.DocumentState.{DocumentState}
 use Rattle.textarea_document.specs.Edits.{part_removed, taken_symbols}
 
 -- where the selection began; the cursor if there is none
@@ -32,7 +32,7 @@ abbrev pub is_selected : DocumentState → Bool
 is_selected document = is_before (selection_start document) (selection_end document)
 
 abbrev pub selected : DocumentState → List Symbol
-selected document = part document.text (selection_start document) (selection_end document)
+selected document = symbols_between document.text (selection_start document) (selection_end document)
 
 -- the selected symbols are removed, if there are any
 abbrev pub selected_removed : DocumentState → ℕ → DocumentState

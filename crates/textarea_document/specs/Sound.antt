@@ -2,10 +2,10 @@
 use Rattle.std.specs.Prelude.{◌+◌, ◌≤◌, length, reverse, IfSome}
 use Rattle.textarea_text.specs.Text.{lines}
 use Rattle.textarea_text.specs.Place.{IsPlace}
-use Rattle.textarea_text.specs.Splice.{CanApply, CanTakeBack}
+use Rattle.textarea_text.specs.Splice.{CanApply, CanUndo}
 use Rattle.textarea_ranges.specs.Order.{AreInOrder}
 use Rattle.textarea_ranges.specs.Valid.{AreValid}
-use Rattle.textarea_document.specs.State.{DocumentState}
+use Rattle.textarea_document.specs.DocumentState.{DocumentState}
 
 -- the cursor and the anchor are positions of the text, and the ranges are valid for it and sorted;
 -- the done edits can be undone, the newest first; the undone ones can be redone, the next one
@@ -15,6 +15,6 @@ pub record IsSound (document : DocumentState) : Type 0 where
   pub anchor : IfSome document.anchor (IsPlace document.text)
   pub ranges : AreValid (lines document.text) document.ranges
   pub in_order : AreInOrder document.ranges
-  pub undo : CanTakeBack document.text (reverse document.log.done)
+  pub undo : CanUndo document.text (reverse document.log.done)
   pub redo : CanApply document.text document.log.undone
   pub bounded : length document.log.done + length document.log.undone ≤ document.log.maximum

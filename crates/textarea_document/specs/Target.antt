@@ -3,9 +3,9 @@ use Rattle.std.specs.Prelude.{ℕ, ◌+◌, ◌-◌, ◌==◌, nat_lt, ◌&&◌,
 use Rattle.textarea_text.specs.Text.{Symbol, lines}
 use Rattle.textarea_text.specs.Place.{Place, index_of, last_row, line_end, line_of, place_of}
 use Rattle.textarea_text.specs.Nearest.{least_below}
-use Rattle.textarea_text.specs.Words.{next_word_start, next_word_last, previous_word_start, next_behind_word}
+use Rattle.textarea_text.specs.Words.{next_word_start, next_word_last, previous_word_start, next_past_word}
 use Rattle.textarea_text.specs.Paragraphs.{next_paragraph_start, previous_paragraph_start}
-use Rattle.textarea_text.specs.Part.{clip}
+use Rattle.textarea_text.specs.Between.{clip}
 use Rattle.textarea_data.specs.declared.cursor.CursorMove.{CursorMove}
 use Rattle.textarea_data.specs.declared.cursor.CursorMove.TheVariants.{Forward, Back, Up, Down, Head, End, Top, Bottom, WordForward, WordEnd, WordBack, ParagraphForward, ParagraphBack, Jump, InViewport}
 
@@ -25,9 +25,9 @@ previous_place text place =
 -- ---- words
 
 -- the found column, in the line; the other position if none was found
-abbrev pub found_or : Option ℕ → ℕ → Place → Place
-found_or None row other = other
-found_or (Some column) row other = (row, column)
+abbrev pub place_or : Option ℕ → ℕ → Place → Place
+place_or None row other = other
+place_or (Some column) row other = (row, column)
 
 -- the start of the next line, or the end of the last line
 abbrev pub next_head : List (List ℕ) → ℕ → Place
@@ -49,24 +49,24 @@ next_word_row rows start = least_below (is_later_word_row rows start) (length ro
 abbrev pub first_word_end : List (List ℕ) → Option ℕ → Place
 first_word_end rows None = line_end rows (last_row rows)
 first_word_end rows (Some row) =
-    found_or (next_word_last (line_of rows row) 0) row (line_end rows (last_row rows))
+    place_or (next_word_last (line_of rows row) 0) row (line_end rows (last_row rows))
 
 -- the start of the next word of the line, otherwise the next line's start, otherwise the line's end
 abbrev pub word_forward : List (List ℕ) → Place → Place
 word_forward rows place =
-    found_or (next_word_start (line_of rows place.0) place.1) place.0 (next_head rows place.0)
+    place_or (next_word_start (line_of rows place.0) place.1) place.0 (next_head rows place.0)
 
 -- the first position after this one with a word's last character, or else the text's end
 abbrev pub word_end : List (List ℕ) → Place → Place
 word_end rows place =
     let later = first_word_end rows (next_word_row rows place.0) in
-    found_or (next_word_last (line_of rows place.0) (place.1 + 1)) place.0 later
+    place_or (next_word_last (line_of rows place.0) (place.1 + 1)) place.0 later
 
 -- the start of the word before the position in its line, otherwise the previous line's end,
 -- otherwise the text's start
 abbrev pub word_back : List (List ℕ) → Place → Place
 word_back rows place =
-    found_or (previous_word_start (line_of rows place.0) place.1) place.0
+    place_or (previous_word_start (line_of rows place.0) place.1) place.0
     (previous_end rows place.0)
 
 -- ---- paragraphs
@@ -124,4 +124,4 @@ word_start_before line column = unwrap_or (previous_word_start line column) 0
 
 -- the end of the first word that ends after the column and before the line's end, or the line's end
 abbrev pub word_end_after : List ℕ → ℕ → ℕ
-word_end_after line column = unwrap_or (next_behind_word line column) (length line)
+word_end_after line column = unwrap_or (next_past_word line column) (length line)

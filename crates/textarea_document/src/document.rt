@@ -8,7 +8,7 @@ mod rows;
 mod selection;
 
 ghost use Rattle.std.specs.Prelude.{◌≡◌, ◌<◌, ◌≤◌, ◌+◌, ◌↔◌, length, OnOk, OnErr, IsOk, IfOk, IfSome, None, IsTrue, is_some, [], vec_len};
-ghost use Rattle.textarea_document.specs.Prelude.{as_nanos, size_limit, lines, lines_of, text_of, IsPlace, size_of, Fits, place_after, IsWellFormed, empty_log, newest, next, clip, new_document, fresh_document, edited, moved, redone, run_ended, undone, applied_to, moved_ranges, AreValid, CutsNone};
+ghost use Rattle.textarea_document.specs.Prelude.{as_nanos, size_limit, lines, lines_of, text_of, IsPlace, size_of, Fits, place_after, IsWellFormed, empty_log, newest, next, clip, new_document, fresh_document, after_edit, after_move, after_redo, run_ended, after_undo, applied_to, moved_ranges, AreValid, SplitsNoRange};
 
 use std::alloc::{AllocError, Global};
 use std::marker::Model;
@@ -16,8 +16,8 @@ use std::time::Duration;
 use textarea_data::range::AtomicRange;
 use textarea_history::edit::{Change, Edit};
 use textarea_history::history::History;
-use textarea_lines::laid_out::LaidOutLines;
 use textarea_lines::settings::LayoutSettings;
+use textarea_lines::text_layout::TextLayout;
 use textarea_ranges::moved::move_ranges;
 use textarea_text::places::clip;
 
@@ -26,7 +26,7 @@ use textarea_text::places::clip;
 /// Rows and columns count from 0, columns in characters. Out of memory, a call changes nothing.
 #[derive(Drop)]
 pub struct Document {
-    laid: LaidOutLines,
+    text_layout: TextLayout,
     cursor: (usize, usize),
     anchor: Option<(usize, usize)>,
     ranges: Vec<AtomicRange>,
@@ -34,18 +34,18 @@ pub struct Document {
 }
 
 impl Model for Document {
-    ghost use Rattle.textarea_document.specs.State.{DocumentState, document_of};
+    ghost use Rattle.textarea_document.specs.DocumentState.{DocumentState, document_of};
 
     ghost Value = { DocumentState };
 
     ghost use Rattle.textarea_document.specs.Sound.{IsSound};
 
     ghost view = { λ document.
-        document_of document.laid document.cursor document.anchor document.ranges.items
+        document_of document.text_layout document.cursor document.anchor document.ranges.items
         document.history.log };
 
     ghost invariant = { λ document. IsSound
-        (document_of document.laid document.cursor document.anchor document.ranges.items
+        (document_of document.text_layout document.cursor document.anchor document.ranges.items
         document.history.log) };
 }
 
@@ -54,11 +54,11 @@ impl Clone for Document {
 
     /// Returns a copy of the document with its history, or an error if memory runs out.
     fn clone(&self) -> Result<Document, AllocError> {
-        let laid = self.laid.clone()?;
+        let text_layout = self.text_layout.clone()?;
         let ranges = self.ranges.clone()?;
         let history = self.history.clone()?;
         Ok(Document {
-            laid,
+            text_layout,
             cursor: self.cursor,
             anchor: self.anchor,
             ranges,
@@ -81,7 +81,7 @@ impl Document {
             document ≡ new_document (text_of lines.items) settings max_histories) }
     {
         Ok(Document {
-            laid: LaidOutLines::new(alloc, lines, settings)?,
+            text_layout: TextLayout::new(alloc, lines, settings)?,
             cursor: (0, 0),
             anchor: None,
             ranges: Vec::new(alloc),
@@ -98,12 +98,12 @@ impl Document {
         ensures limit { size_of result.now ≤ size_limit }
         ensures ranges { AreValid (lines self.now.text) self.now.ranges }
     {
-        self.laid.lines()
+        self.text_layout.lines()
     }
 
     /// Returns the allocator of all the document's memory.
     pub fn allocator(&self) -> Global {
-        self.laid.allocator()
+        self.text_layout.allocator()
     }
 
     /// Returns the cursor's (row, column), which is always a position of the text.
@@ -112,7 +112,7 @@ impl Document {
         ensures place { IsPlace self.now.text result }
         ensures small { (result.0 < size_limit) × (result.1 ≤ size_limit) }
     {
-        let _lines = self.laid.lines();
+        let _lines = self.text_layout.lines();
         self.cursor
     }
 
@@ -128,7 +128,7 @@ impl Document {
     pub fn is_empty(&self) -> bool
         ensures { IsTrue result ↔ (self.now.text ≡ []) }
     {
-        self.laid.is_empty()
+        self.text_layout.is_empty()
     }
 
     /// Undoes the newest edit, and returns whether there was one. The cursor is then after the
@@ -136,14 +136,14 @@ impl Document {
     /// ranges have moved with the text.
     pub fn undo(&mut self) -> Result<bool, AllocError>
         ensures undone { IfOk result (λ found. found ≡ is_some (newest self.old.log)) }
-        ensures ok { OnOk result (self.new ≡ undone self.old) }
+        ensures ok { OnOk result (self.new ≡ after_undo self.old) }
         ensures err { OnErr result (self.new ≡ self.old) }
         ensures nothing { newest self.old.log ≡ None → IsOk result }
     {
         let Some(edit) = self.history.newest() else {
             return Ok(false);
         };
-        let back = make_change(&mut self.laid, &mut self.ranges, edit.inverse())?;
+        let back = make_change(&mut self.text_layout, &mut self.ranges, edit.inverse())?;
         self.history.step_back();
         self.cursor = back;
         self.anchor = None;
@@ -154,14 +154,14 @@ impl Document {
     /// where that edit left it, nothing is selected, and the other ranges have moved with the text.
     pub fn redo(&mut self) -> Result<bool, AllocError>
         ensures redone { IfOk result (λ found. found ≡ is_some (next self.old.log)) }
-        ensures ok { OnOk result (self.new ≡ redone self.old) }
+        ensures ok { OnOk result (self.new ≡ after_redo self.old) }
         ensures err { OnErr result (self.new ≡ self.old) }
         ensures nothing { next self.old.log ≡ None → IsOk result }
     {
         let Some(edit) = self.history.next() else {
             return Ok(false);
         };
-        let ahead = make_change(&mut self.laid, &mut self.ranges, edit.change())?;
+        let ahead = make_change(&mut self.text_layout, &mut self.ranges, edit.change())?;
         self.history.step_forward();
         self.cursor = ahead;
         self.anchor = None;
@@ -173,12 +173,12 @@ impl Document {
     pub fn edit(&mut self, edit: Edit, typed: bool, now: Duration) -> Result<(), AllocError>
         requires well_formed { IsWellFormed edit }
         requires fits { Fits self.old.text edit.splice }
-        requires cuts_none { CutsNone self.old.ranges edit.splice }
-        ensures ok { OnOk result (self.new ≡ edited self.old edit.splice typed (as_nanos now)) }
+        requires cuts_none { SplitsNoRange self.old.ranges edit.splice }
+        ensures ok { OnOk result (self.new ≡ after_edit self.old edit.splice typed (as_nanos now)) }
         ensures err { OnErr result (self.new ≡ self.old) }
     {
         self.history.reserve()?;
-        let ahead = make_change(&mut self.laid, &mut self.ranges, edit.change())?;
+        let ahead = make_change(&mut self.text_layout, &mut self.ranges, edit.change())?;
         self.history.put(edit, typed, now);
         self.cursor = ahead;
         self.anchor = None;
@@ -189,7 +189,7 @@ impl Document {
     pub fn move_to(&mut self, cursor: (usize, usize), anchor: Option<(usize, usize)>)
         requires cursor { IsPlace self.old.text cursor }
         requires anchor { IfSome anchor (IsPlace self.old.text) }
-        ensures { self.new ≡ moved self.old cursor anchor }
+        ensures { self.new ≡ after_move self.old cursor anchor }
     {
         self.cursor = cursor;
         self.anchor = anchor;
@@ -234,7 +234,7 @@ impl Document {
     {
         let place = clip(lines.as_slice(), cursor);
         let history = History::new(*lines.allocator(), self.history.max_items());
-        self.laid.set_lines(lines)?;
+        self.text_layout.set_lines(lines)?;
         self.cursor = place;
         self.anchor = None;
         self.ranges.clear();
@@ -247,40 +247,40 @@ impl Document {
         ensures text { text_of result.items ≡ self.text }
         ensures some { 0 < vec_len result }
     {
-        let Document { laid, .. } = self;
-        laid.into_lines()
+        let Document { text_layout, .. } = self;
+        text_layout.into_lines()
     }
 
     /// Forgets all edits, and remembers at most this number from now on.
     pub fn set_max_histories(&mut self, max_histories: usize)
         ensures { self.new ≡ record self.old { log = empty_log max_histories } }
     {
-        self.history = History::new(self.laid.allocator(), max_histories);
+        self.history = History::new(self.text_layout.allocator(), max_histories);
     }
 }
 
 // Makes a change that fits the text of the lines, moves the ranges with it, and returns the cursor
 // after it. All memory is allocated before the first change.
 fn make_change(
-    laid: &mut LaidOutLines,
+    text_layout: &mut TextLayout,
     ranges: &mut Vec<AtomicRange>,
     change: Change<'_>,
 ) -> Result<(usize, usize), AllocError>
-    requires fits { Fits laid.old.text change }
-    requires valid { AreValid (lines laid.old.text) ranges.old.items }
+    requires fits { Fits text_layout.old.text change }
+    requires valid { AreValid (lines text_layout.old.text) ranges.old.items }
     ensures cursor { IfOk result (λ cursor. cursor ≡ place_after change.entry) }
-    ensures laid { OnOk result (laid.new ≡ applied_to laid.old change.entry) }
+    ensures text_layout { OnOk result (text_layout.new ≡ applied_to text_layout.old change.entry) }
     ensures ranges { OnOk result
         (ranges.new.items ≡ moved_ranges ranges.old.items change.entry) }
-    ensures laid_stay { OnErr result (laid.new ≡ laid.old) }
+    ensures laid_stay { OnErr result (text_layout.new ≡ text_layout.old) }
     ensures ranges_stay { OnErr result (ranges.new.items ≡ ranges.old.items) }
 {
     let start = change.start();
     let old = change.cursor_before();
     let new = change.cursor_after();
-    let _lines = laid.lines(); // their positions are small, before and after the change
-    laid.apply(change)?;
-    let _changed = laid.lines();
+    let _lines = text_layout.lines(); // their positions are small, before and after the change
+    text_layout.apply(change)?;
+    let _changed = text_layout.lines();
     move_ranges(ranges, start, old, new);
     Ok(new)
 }

@@ -1,9 +1,9 @@
 //! Laws of documents and their visual rows, each the contract of a function that does nothing.
 ghost use Rattle.std.specs.Prelude.{◌≡◌, ℕ, Bool, false, List, [], ◌∷◌, Contains, None, Option, Some};
-ghost use Rattle.textarea_document.specs.Prelude.{newest, next, LayoutSettings, AtomicRange, IsWithin, moved_range, Place, end, Fits, Splice, inverse, Symbol, CutsAll, CutsBySettings, CutsByWidth, SplicesBy, IsMade, Step, splice_of, stepped, AllStayOrAreDropped, AllStemFrom, GoesOver, GoesUncut, edited, redone, undone, CutsNone, HasRowsAt, IsAboveCursor, IsBelowCursor, with_inner_width, with_layout_settings, IsSound, DocumentState, fresh_document};
+ghost use Rattle.textarea_document.specs.Prelude.{newest, next, LayoutSettings, AtomicRange, TakesRange, moved_range, Place, end, Fits, Splice, inverse, Symbol, WrapsAll, WrapsBySettings, WrapsByWidth, SplicesBy, HasEffect, EditStep, splice_of_step, stepped, AllStayOrAreDropped, AllStemFrom, RangesFollowSplices, RangesStayWhole, after_edit, after_redo, after_undo, SplitsNoRange, HasRowsAt, IsAboveCursor, IsBelowCursor, with_inner_width, with_layout_settings, IsSound, DocumentState, fresh_document};
 
-use textarea_lines::laws::{settings_cut, splices_cut};
-use textarea_ranges::laws::ranges_go_with_the_text;
+use textarea_lines::laws::{settings_wrap, splices_wrap};
+use textarea_ranges::laws::ranges_follow_the_text;
 
 /// From a document's cursor at most one position is one visual row up, and at most one down.
 pub fn one_place_up_and_down()
@@ -26,68 +26,69 @@ pub fn one_row_count()
 
 /// Which lines each edit, undo and redo wraps, and so adds to the wrap counter: the lines that its
 /// splice touches if it keeps the width of the map of visual rows, and otherwise all lines.
-pub fn edits_cut()
+pub fn edits_wrap()
     ensures edited { (document : DocumentState) (splice : Splice) (typed : Bool) (now : ℕ) →
         Fits document.text splice →
-        SplicesBy document splice (edited document splice typed now) }
-    ensures stepped { (document : DocumentState) (step : Step) (typed : Bool) (now : ℕ) →
-        IsSound document → IsMade document step →
-        SplicesBy document (splice_of document step) (stepped document step typed now) }
+        SplicesBy document splice (after_edit document splice typed now) }
+    ensures stepped { (document : DocumentState) (step : EditStep) (typed : Bool) (now : ℕ) →
+        IsSound document → HasEffect document step →
+        SplicesBy document (splice_of_step document step) (stepped document step typed now) }
     ensures undone { (document : DocumentState) (splice : Splice) →
         IsSound document → newest document.log ≡ Some splice →
-        SplicesBy document (inverse splice) (undone document) }
+        SplicesBy document (inverse splice) (after_undo document) }
     ensures redone { (document : DocumentState) (splice : Splice) →
         IsSound document → next document.log ≡ Some splice →
-        SplicesBy document splice (redone document) }
+        SplicesBy document splice (after_redo document) }
 {
-    splices_cut();
+    splices_wrap();
 }
 
 /// What else wraps lines of a document: another inner width wraps all lines if it changes the width
 /// of the map of visual rows, settings wrap all lines if they change how lines wrap, and lines that
 /// replace all others are always wrapped.
-pub fn layouts_cut()
+pub fn layout_changes_wrap()
     ensures width { (document : DocumentState) (inner_width : ℕ) →
-        CutsByWidth document (with_inner_width document inner_width) }
+        WrapsByWidth document (with_inner_width document inner_width) }
     ensures settings { (document : DocumentState) (settings : LayoutSettings) →
-        CutsBySettings document settings (with_layout_settings document settings) }
+        WrapsBySettings document settings (with_layout_settings document settings) }
     ensures lines { (document : DocumentState) (text : List Symbol) (cursor : Place)
         (maximum : ℕ) →
-        CutsAll document
+        WrapsAll document
         (fresh_document text document.layout.settings document.layout.count cursor maximum) }
 {
-    settings_cut();
+    settings_wrap();
 }
 
 /// The ranges of a document move with its text: over the splice of each of the five steps, which
 /// splits no range, and over that of an undo or a redo. After such splices each range comes from an
 /// old one, and covers the same characters, all in one line; and each old range either is there, as
 /// the splices move it, or is disturbed by one of them: nothing else drops a range.
-pub fn ranges_go_along()
-    ensures stepped { (document : DocumentState) (step : Step) (typed : Bool) (now : ℕ) →
-        IsSound document → IsMade document step →
-        GoesUncut document (splice_of document step ∷ []) (stepped document step typed now) }
+pub fn ranges_follow_splices()
+    ensures stepped { (document : DocumentState) (step : EditStep) (typed : Bool) (now : ℕ) →
+        IsSound document → HasEffect document step →
+        RangesStayWhole document (splice_of_step document step ∷ [])
+        (stepped document step typed now) }
     ensures undone { (document : DocumentState) (splice : Splice) →
         IsSound document → newest document.log ≡ Some splice →
-        GoesOver document (inverse splice ∷ []) (undone document) }
+        RangesFollowSplices document (inverse splice ∷ []) (after_undo document) }
     ensures redone { (document : DocumentState) (splice : Splice) →
         IsSound document → next document.log ≡ Some splice →
-        GoesOver document (splice ∷ []) (redone document) }
+        RangesFollowSplices document (splice ∷ []) (after_redo document) }
     ensures stem { (old new : DocumentState) (splices : List Splice) →
-        IsSound old → GoesOver old splices new → AllStemFrom old splices new }
+        IsSound old → RangesFollowSplices old splices new → AllStemFrom old splices new }
     ensures dropped { (old new : DocumentState) (splices : List Splice) →
-        GoesOver old splices new → AllStayOrAreDropped old splices new }
+        RangesFollowSplices old splices new → AllStayOrAreDropped old splices new }
 {
-    ranges_go_with_the_text();
+    ranges_follow_the_text();
 }
 
 /// A splice that splits no range drops only those that it removes completely: it is a removal, and
 /// they are between its start and its end.
 pub fn only_taken_ranges_are_dropped()
     ensures { (ranges : List AtomicRange) (splice : Splice) (range : AtomicRange) →
-        CutsNone ranges splice → Contains ranges range → moved_range splice range ≡ None →
+        SplitsNoRange ranges splice → Contains ranges range → moved_range splice range ≡ None →
         (splice.inserts ≡ false)
-        × IsWithin splice.place (end splice.place splice.symbols) range }
+        × TakesRange splice.place (end splice.place splice.symbols) range }
 {
-    ranges_go_with_the_text();
+    ranges_follow_the_text();
 }

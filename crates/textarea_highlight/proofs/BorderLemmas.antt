@@ -11,9 +11,9 @@ use Rattle.std.proofs.lemmas.List.Sorted.{sorted_far}
 use Rattle.std.proofs.lemmas.Bool.{cases_lt}
 use Rattle.std.proofs.lemmas.List.{get_or_default, get_or_past, append_assoc, append-nil}
 use Rattle.std.proofs.lemmas.Str.{IsCharBoundary-end}
-use Rattle.textarea_highlight.specs.Borders.{rounded_down, highlight_borders, match_borders, search_rank, place_of, place_cmp}
+use Rattle.textarea_highlight.specs.Borders.{rounded_down, highlight_borders, match_borders, search_rank, border_key, border_cmp}
 use Rattle.textarea_screen.specs.declared.screen.style.Style.{Style}
-use Rattle.textarea_highlight.specs.Cut.{IsAscending}
+use Rattle.textarea_highlight.specs.Split.{IsAscending}
 use Rattle.textarea_highlight.specs.declared.highlight.borders.Border.{Border}
 
 -- ---- rounding down
@@ -60,13 +60,13 @@ rounded row offset at h = ⊎_elim
 
 -- ---- sorted borders have ascending offsets
 
-not_before : (a b : Border) → is_lt (place_cmp (place_of b) (place_of a)) ≡ false → a.offset ≤ b.offset
+not_before : (a b : Border) → is_lt (border_cmp (border_key b) (border_key a)) ≡ false → a.offset ≤ b.offset
 not_before a b h = grind (arith, nat_tests)
 
-pub order_of_borders : IsStrictWeakOrder (λ (a b : Border). is_lt (place_cmp (place_of a) (place_of b)))
-order_of_borders = ranks_by (then_total (on_total (λ (p : ℕ × ℕ). p.0) nat_cmp_total) (on_total (λ (p : ℕ × ℕ). p.1) nat_cmp_total)) place_of
+pub order_of_borders : IsStrictWeakOrder (λ (a b : Border). is_lt (border_cmp (border_key a) (border_key b)))
+order_of_borders = ranks_by (then_total (on_total (λ (p : ℕ × ℕ). p.0) nat_cmp_total) (on_total (λ (p : ℕ × ℕ). p.1) nat_cmp_total)) border_key
 
-pub ascending : (borders : List Border) → IsSortedByKey place_of place_cmp borders → IsAscending borders
+pub ascending : (borders : List Border) → IsSortedByKey border_key border_cmp borders → IsAscending borders
 ascending borders h i k d e le lt =
     rw (get_or_default borders k e d lt) (not_before (get_or borders i d) (get_or borders k d) (sorted_far _ order_of_borders borders h i k d le lt))
 

@@ -10,7 +10,7 @@ use Rattle.std.proofs.lemmas.List.Sums.{sum_by-cons}
 use Rattle.textarea_screen.specs.declared.screen.style.Style.{Style}
 use Rattle.textarea_highlight.specs.declared.highlight.borders.Mark.{Mark}
 use Rattle.textarea_highlight.specs.declared.highlight.borders.Mark.TheVariants.{Start, End}
-use Rattle.textarea_highlight.specs.Brackets.{is_start, is_end, StaysOpen, OpensAt, OpensLast, OpensNone, IsStyleBehind}
+use Rattle.textarea_highlight.specs.Brackets.{is_start, is_end, StaysOpen, OpensAt, OpensLast, OpensNone, IsStyleAfter}
 use Rattle.textarea_highlight.specs.OpenStyles.{passed, passed_all}
 
 -- the number of starts before them that these marks close
@@ -110,7 +110,7 @@ behind_end marks None h = behind_end_none marks h
 behind_end marks (Some t) h = (suc h.0, h.1, λ k other above. behind_end_later marks h.0 k other above h.2)
 
 by_last : (marks : List Mark) (base style : Style) (o : Option Style) → MatchOption o (OpensNone marks) (OpensLast marks) →
-    MatchOption o (style ≡ base) (λ s. style ≡ s) → IsStyleBehind marks base style
+    MatchOption o (style ≡ base) (λ s. style ≡ s) → IsStyleAfter marks base style
 by_last marks base style None h e = inr (h, e)
 by_last marks base style (Some t) h e = inl (subst (OpensLast marks) (sym e) h)
 
@@ -176,6 +176,6 @@ take-nil zero = refl
 take-nil (suc n) = refl
 
 pub style_behind : (marks : List Mark) (styles : List Style) (base style : Style) → styles ≡ passed_all [] marks →
-    MatchOption (slice_get styles (length styles - 1)) (style ≡ base) (λ s. style ≡ s) → IsStyleBehind marks base style
+    MatchOption (slice_get styles (length styles - 1)) (style ≡ base) (λ s. style ≡ s) → IsStyleAfter marks base style
 style_behind marks styles base style e h =
     grind (arith, common_steps, left_open marks, passed_parts marks [], take-nil (length {A = Style} [] - closed_by marks), closed_by marks, last (left_open marks), last_is styles, last, by_last, last_open marks)

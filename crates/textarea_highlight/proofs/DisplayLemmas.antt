@@ -9,7 +9,7 @@ use Rattle.std.proofs.lemmas.List.Folds.{list_any-append}
 use Rattle.std.proofs.lemmas.Str.{encodes-chars, length-le-encodes, encodes-append}
 use Rattle.std.proofs.lemmas.Bool.{false≢true}
 use Rattle.textarea_wrap.specs.Columns.{next_stop, column_after}
-use Rattle.textarea_highlight.specs.Display.{is_tab, shown_char, with_spaces, without_tabs, shown}
+use Rattle.textarea_highlight.specs.Display.{is_tab, display_char, with_spaces, without_tabs, display_text}
 use Rattle.textarea_highlight.proofs.SpaceLemmas.{spaces_encoded}
 
 pub length_chars : (bs : List ℕ) → IsUtf8 bs → length (chars bs) ≤ length bs
@@ -21,7 +21,7 @@ module _ (tab_len at : ℕ) (cs : List ℕ) (n c : ℕ) (turn : (n < length cs) 
   rest : drop n cs ≡ c ∷ drop (n + 1) cs
   rest = drop_more cs n c turn.0 ∙ ap (λ d. d ∷ drop (n + 1) cs) (sym turn.1)
 
-  pub expanded_more : (done more : List ℕ) → more ≡ done ++ encode_utf8_all (shown_char tab_len at c) →
+  pub expanded_more : (done more : List ℕ) → more ≡ done ++ encode_utf8_all (display_char tab_len at c) →
       more ++ encode_utf8_all (with_spaces tab_len (column_after tab_len at c) (drop (n + 1) cs))
       ≡ done ++ encode_utf8_all (with_spaces tab_len at (drop n cs))
   expanded_more done more e = rw (e, rest, encodes-append, append_assoc) refl
@@ -29,7 +29,7 @@ module _ (tab_len at : ℕ) (cs : List ℕ) (n c : ℕ) (turn : (n < length cs) 
 -- ---- a tab
 
 pub tab_shown : (tab_len column next c : ℕ) → c ≡ 9 → next ≡ column_after tab_len column c →
-    replicate (next - column) 32 ≡ encode_utf8_all (shown_char tab_len column c)
+    replicate (next - column) 32 ≡ encode_utf8_all (display_char tab_len column c)
 tab_shown tab_len column next c tab h = rw (h, tab) (sym (spaces_encoded (next_stop tab_len column - column)))
 
 -- ---- texts that are shown unchanged
@@ -50,7 +50,7 @@ with_spaces-same tab_len column (c ∷ cs) none =
 no_tab_shown : (tab_len column : ℕ) (cs : List ℕ) → list_any is_tab (with_spaces tab_len column cs) ≡ false
 no_tab_shown tab_len column [] = refl
 no_tab_shown tab_len column (c ∷ cs) =
-    grind (arith, common_steps, list_any-append is_tab (shown_char tab_len column c) (with_spaces tab_len (column_after tab_len column c) cs), char_none (is_tab c) (next_stop tab_len column - column) c, no_tab_shown tab_len (column_after tab_len column c) cs)
+    grind (arith, common_steps, list_any-append is_tab (display_char tab_len column c) (with_spaces tab_len (column_after tab_len column c) cs), char_none (is_tab c) (next_stop tab_len column - column) c, no_tab_shown tab_len (column_after tab_len column c) cs)
 
 filter-same : (cs : List ℕ) → list_any is_tab cs ≡ false → filter (λ c. not (is_tab c)) cs ≡ cs
 filter-same [] none = refl
@@ -71,24 +71,24 @@ without_tabs-changed (c ∷ cs) some = λ e.
 -- ---- a segment without a mask, by its tab length and whether it has a tab that counts
 
 module _ (tab_len column : ℕ) (bs : List ℕ) (u : IsUtf8 bs) where
-  at_zero : tab_len ≡ 0 → shown None tab_len column (chars bs) ≡ without_tabs (chars bs)
+  at_zero : tab_len ≡ 0 → display_text None tab_len column (chars bs) ≡ without_tabs (chars bs)
   at_zero e = rw e refl
 
-  at_some : 0 < tab_len → shown None tab_len column (chars bs) ≡ with_spaces tab_len column (chars bs)
+  at_some : 0 < tab_len → display_text None tab_len column (chars bs) ≡ with_spaces tab_len column (chars bs)
   at_some h = let no : (tab_len == 0) ≡ false = grind (arith, nat_tests) in rw no refl
 
-  pub kept_at_zero : tab_len ≡ 0 → list_any is_tab (drop 1 (chars bs)) ≡ false → shown None tab_len column (chars bs) ≡ chars bs
+  pub kept_at_zero : tab_len ≡ 0 → list_any is_tab (drop 1 (chars bs)) ≡ false → display_text None tab_len column (chars bs) ≡ chars bs
   kept_at_zero e none = at_zero e ∙ without_tabs-same (chars bs) none
 
-  pub changed_at_zero : tab_len ≡ 0 → list_any is_tab (drop 1 (chars bs)) ≡ true → shown None tab_len column (chars bs) ≢ chars bs
+  pub changed_at_zero : tab_len ≡ 0 → list_any is_tab (drop 1 (chars bs)) ≡ true → display_text None tab_len column (chars bs) ≢ chars bs
   changed_at_zero e some = λ same. without_tabs-changed (chars bs) some (sym (at_zero e) ∙ same)
 
-  pub kept_at_some : 0 < tab_len → list_any is_tab (chars bs) ≡ false → shown None tab_len column (chars bs) ≡ chars bs
+  pub kept_at_some : 0 < tab_len → list_any is_tab (chars bs) ≡ false → display_text None tab_len column (chars bs) ≡ chars bs
   kept_at_some h none = at_some h ∙ with_spaces-same tab_len column (chars bs) none
 
-  pub changed_at_some : 0 < tab_len → list_any is_tab (chars bs) ≡ true → shown None tab_len column (chars bs) ≢ chars bs
+  pub changed_at_some : 0 < tab_len → list_any is_tab (chars bs) ≡ true → display_text None tab_len column (chars bs) ≢ chars bs
   changed_at_some h some = λ same.
       false≢true (sym (no_tab_shown tab_len column (chars bs)) ∙ ap (list_any is_tab) (sym (at_some h) ∙ same) ∙ some)
 
-  pub text_of_kept : shown None tab_len column (chars bs) ≡ chars bs → bs ≡ encode_utf8_all (shown None tab_len column (chars bs))
+  pub text_of_kept : display_text None tab_len column (chars bs) ≡ chars bs → bs ≡ encode_utf8_all (display_text None tab_len column (chars bs))
   text_of_kept e = sym (encodes-chars bs u) ∙ ap encode_utf8_all (sym e)

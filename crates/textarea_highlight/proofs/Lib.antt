@@ -1,7 +1,7 @@
 pub mod BorderLemmas
 pub mod BracketLemmas
 pub mod CharacterLemmas
-pub mod CutLemmas
+pub mod SplitLemmas
 pub mod DisplayLemmas
 pub mod SpaceLemmas
 pub mod OneRowLemmas

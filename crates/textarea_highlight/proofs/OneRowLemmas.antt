@@ -8,17 +8,17 @@ use Rattle.std.proofs.lemmas.List.Elements.{All-head, All-tail}
 use Rattle.std.proofs.lemmas.List.Sorted.{sorted_far}
 use Rattle.std.proofs.lemmas.Grind.{common_steps}
 use Rattle.textarea_screen.specs.declared.screen.style.Style.{Style}
-use Rattle.textarea_screen.specs.Text.{ShownContent, ShownLine, ShownSpan}
-use Rattle.textarea_screen.specs.Text.ShownContent.{Lent, Held}
+use Rattle.textarea_screen.specs.Text.{ContentView, LineView, SpanView}
+use Rattle.textarea_screen.specs.Text.ContentView.{BorrowedBytes, OwnedBytes}
 use Rattle.textarea_highlight.specs.declared.highlight.borders.Border.{Border}
 use Rattle.textarea_highlight.specs.declared.highlight.borders.Mark.{Mark}
 use Rattle.textarea_highlight.specs.declared.highlight.borders.Mark.TheVariants.{Start}
-use Rattle.textarea_highlight.specs.Borders.{IsBorderOrder, place_of, place_cmp}
-use Rattle.textarea_highlight.specs.Brackets.{OpensLast, IsStyleBehind}
-use Rattle.textarea_highlight.specs.Cut.{marks_upto, IsCut, ShowsPiece}
+use Rattle.textarea_highlight.specs.Borders.{IsBorderOrder, border_key, border_cmp}
+use Rattle.textarea_highlight.specs.Brackets.{OpensLast, IsStyleAfter}
+use Rattle.textarea_highlight.specs.Split.{marks_upto, IsSplit, ShowsPiece}
 use Rattle.textarea_highlight.specs.Highlights.{Highlights, end_style, end_cell}
 use Rattle.textarea_highlight.specs.Row.{ShowsRow}
-use Rattle.textarea_highlight.specs.Texts.{bytes_of, IsLent}
+use Rattle.textarea_highlight.specs.Texts.{text_bytes_of, IsUncopied}
 use Rattle.textarea_highlight.proofs.BorderLemmas.{order_of_borders}
 
 -- ---- a sorted list, whose tied elements are ordered as in another list
@@ -89,7 +89,7 @@ module _ {X : Type 0} (lt : X → X → Bool) (order : IsStrictWeakOrder lt) whe
 
 one_border_order : (added sorted other : List Border) → IsBorderOrder added sorted → IsBorderOrder added other → sorted ≡ other
 one_border_order added sorted other h k =
-    let below : Border → Border → Bool = λ a b. is_lt (place_cmp (place_of a) (place_of b)) in
+    let below : Border → Border → Bool = λ a b. is_lt (border_cmp (border_key a) (border_key b)) in
     one_order below order_of_borders sorted other (sorted_far below order_of_borders sorted h.in_order) (sorted_far below order_of_borders other k.in_order)
     (λ x. h.stable x ∙ sym (k.stable x))
 
@@ -107,7 +107,7 @@ one_last marks style other h k = elim (cases_lt h.0 k.0) [
   ]
 ]
 
-one_style : (marks : List Mark) (base style other : Style) → IsStyleBehind marks base style → IsStyleBehind marks base other → style ≡ other
+one_style : (marks : List Mark) (base style other : Style) → IsStyleAfter marks base style → IsStyleAfter marks base other → style ≡ other
 one_style marks base style other (inl h) (inl k) = one_last marks style other h k
 one_style marks base style other (inl h) (inr k) = absurd (k.0 h.0 style h.1)
 one_style marks base style other (inr h) (inl k) = absurd (h.0 k.0 other k.1)
@@ -115,63 +115,63 @@ one_style marks base style other (inr h) (inr k) = h.1 ∙ sym k.1
 
 -- ---- one span shows a segment
 
-one_content : (content other : ShownContent) → bytes_of content ≡ bytes_of other → (IsLent content → IsLent other) → (IsLent other → IsLent content) → content ≡ other
-one_content (Lent text) (Lent text') e there back = ap Lent e
-one_content (Lent text) (Held text') e there back = absurd (there tt)
-one_content (Held text) (Lent text') e there back = absurd (back tt)
-one_content (Held text) (Held text') e there back = ap Held e
+one_content : (content other : ContentView) → text_bytes_of content ≡ text_bytes_of other → (IsUncopied content → IsUncopied other) → (IsUncopied other → IsUncopied content) → content ≡ other
+one_content (BorrowedBytes text) (BorrowedBytes text') e there back = ap BorrowedBytes e
+one_content (BorrowedBytes text) (OwnedBytes text') e there back = absurd (there tt)
+one_content (OwnedBytes text) (BorrowedBytes text') e there back = absurd (back tt)
+one_content (OwnedBytes text) (OwnedBytes text') e there back = ap OwnedBytes e
 
 module _ (row : List ℕ) (borders : List Border) (base : Style) (tab_len : ℕ) (mask : Option ℕ) where
-  one_span : (from to : ℕ) (span other : ShownSpan) → ShowsPiece row borders base tab_len mask from to span →
+  one_span : (from to : ℕ) (span other : SpanView) → ShowsPiece row borders base tab_len mask from to span →
       ShowsPiece row borders base tab_len mask from to other → span ≡ other
   one_span from to span other h k =
       let content : span.content ≡ other.content =
       one_content span.content other.content (h.text ∙ sym k.text) (λ lent. k.borrowed.1 (h.borrowed.0 lent)) (λ lent. h.borrowed.1 (k.borrowed.0 lent)) in
-      ap (λ (c : ShownContent). record { content = c; style = span.style }) content
+      ap (λ (c : ContentView). record { content = c; style = span.style }) content
       ∙ ap (λ (s : Style). record { content = other.content; style = s }) (one_style (marks_upto borders from) base span.style other.style h.style k.style)
 
   -- ---- the row has one list of spans
 
-  rises : (from : ℕ) (spans : List ShownSpan) (to : ℕ) → IsCut row borders base tab_len mask from spans to → from ≤ to
-  rises from [] to cut = omega (arith, cut)
-  rises from (span ∷ spans) to cut = omega (arith, cut.1.not_empty, rises cut.0 spans to cut.2)
+  rises : (from : ℕ) (spans : List SpanView) (to : ℕ) → IsSplit row borders base tab_len mask from spans to → from ≤ to
+  rises from [] to split = omega (arith, split)
+  rises from (span ∷ spans) to split = omega (arith, split.1.not_empty, rises split.0 spans to split.2)
 
   -- a segment does not continue past an offset at which another one ends
-  not_behind : (from to other : ℕ) (span next : ShownSpan) → ShowsPiece row borders base tab_len mask from to span →
+  not_behind : (from to other : ℕ) (span next : SpanView) → ShowsPiece row borders base tab_len mask from to span →
       ShowsPiece row borders base tab_len mask from other next → other ≤ length row → other ≤ to
   not_behind from to other span next h k within = ⊎_elim
       (λ at_end. omega (arith, at_end, within))
       (λ at_border. grind (arith, common_steps, h.not_empty, k.uncut))
       h.edge
 
-  one_end : (from to other : ℕ) (span next : ShownSpan) → ShowsPiece row borders base tab_len mask from to span →
+  one_end : (from to other : ℕ) (span next : SpanView) → ShowsPiece row borders base tab_len mask from to span →
       ShowsPiece row borders base tab_len mask from other next → to ≤ length row → other ≤ length row → to ≡ other
   one_end from to other span next h k within within' =
       omega (arith, not_behind from to other span next h k within', not_behind from other to next span k h within)
 
-  one_cut : (from : ℕ) (spans others : List ShownSpan) → IsCut row borders base tab_len mask from spans (length row) →
-      IsCut row borders base tab_len mask from others (length row) → spans ≡ others
-  one_cut from [] [] cut cut' = refl
-  one_cut from [] (other ∷ others) cut cut' =
-      absurd (omega (arith, cut, cut'.1.not_empty, rises cut'.0 others (length row) cut'.2))
-  one_cut from (span ∷ spans) [] cut cut' =
-      absurd (omega (arith, cut', cut.1.not_empty, rises cut.0 spans (length row) cut.2))
-  one_cut from (span ∷ spans) (other ∷ others) cut cut' =
-      let same : cut.0 ≡ cut'.0 =
-      one_end from cut.0 cut'.0 span other cut.1 cut'.1 (rises cut.0 spans (length row) cut.2) (rises cut'.0 others (length row) cut'.2) in
-      let piece = subst (λ mid. ShowsPiece row borders base tab_len mask from mid other) (sym same) cut'.1 in
-      let rest = subst (λ mid. IsCut row borders base tab_len mask mid others (length row)) (sym same) cut'.2 in
-      ap (λ s. s ∷ spans) (one_span from cut.0 span other cut.1 piece)
-      ∙ ap (λ ss. other ∷ ss) (one_cut cut.0 spans others cut.2 rest)
+  one_cut : (from : ℕ) (spans others : List SpanView) → IsSplit row borders base tab_len mask from spans (length row) →
+      IsSplit row borders base tab_len mask from others (length row) → spans ≡ others
+  one_cut from [] [] split split' = refl
+  one_cut from [] (other ∷ others) split split' =
+      absurd (omega (arith, split, split'.1.not_empty, rises split'.0 others (length row) split'.2))
+  one_cut from (span ∷ spans) [] split split' =
+      absurd (omega (arith, split', split.1.not_empty, rises split.0 spans (length row) split.2))
+  one_cut from (span ∷ spans) (other ∷ others) split split' =
+      let same : split.0 ≡ split'.0 =
+      one_end from split.0 split'.0 span other split.1 split'.1 (rises split.0 spans (length row) split.2) (rises split'.0 others (length row) split'.2) in
+      let piece = subst (λ mid. ShowsPiece row borders base tab_len mask from mid other) (sym same) split'.1 in
+      let rest = subst (λ mid. IsSplit row borders base tab_len mask mid others (length row)) (sym same) split'.2 in
+      ap (λ s. s ∷ spans) (one_span from split.0 span other split.1 piece)
+      ∙ ap (λ ss. other ∷ ss) (one_cut split.0 spans others split.2 rest)
 
 -- ---- the line
 
-pub one_line : (h : Highlights) (line other : ShownLine) → ShowsRow h line → ShowsRow h other → line ≡ other
+pub one_line : (h : Highlights) (line other : LineView) → ShowsRow h line → ShowsRow h other → line ≡ other
 one_line h line other shows shows' =
     let sorted : shows'.sorted ≡ shows.sorted = one_border_order h.borders shows'.sorted shows.sorted shows'.order shows.order in
-    let cut = subst (λ bs. IsCut h.row bs h.base h.tab_len h.mask 0 shows'.pieces (length h.row)) sorted shows'.cut in
-    let pieces : shows.pieces ≡ shows'.pieces = one_cut h.row shows.sorted h.base h.tab_len h.mask 0 shows.pieces shows'.pieces shows.cut cut in
+    let split = subst (λ bs. IsSplit h.row bs h.base h.tab_len h.mask 0 shows'.pieces (length h.row)) sorted shows'.split in
+    let pieces : shows.pieces ≡ shows'.pieces = one_cut h.row shows.sorted h.base h.tab_len h.mask 0 shows.pieces shows'.pieces shows.split split in
     let spans : line.spans ≡ other.spans =
     shows.spans ∙ ap (λ ss. h.numbers ++ (ss ++ end_cell (end_style h))) pieces ∙ sym shows'.spans in
-    ap (λ (ss : List ShownSpan). record { spans = ss; style = line.style }) spans
+    ap (λ (ss : List SpanView). record { spans = ss; style = line.style }) spans
     ∙ ap (λ (s : Style). record { spans = other.spans; style = s }) (shows.style ∙ sym shows'.style)

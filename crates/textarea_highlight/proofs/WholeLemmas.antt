@@ -7,12 +7,12 @@ use Rattle.std.proofs.lemmas.List.{append_assoc, map-append, drop_all}
 use Rattle.std.proofs.lemmas.List.Folds.{drop_split}
 use Rattle.std.proofs.lemmas.Str.{chars-append, encodes-append, chars-nil, IsUtf8-between, IsCharBoundary-start, IsCharBoundary-end}
 use Rattle.textarea_screen.specs.declared.screen.style.Style.{Style}
-use Rattle.textarea_screen.specs.Text.{ShownSpan}
+use Rattle.textarea_screen.specs.Text.{SpanView}
 use Rattle.textarea_wrap.specs.Columns.{column_after, end_column}
 use Rattle.textarea_highlight.specs.declared.highlight.borders.Border.{Border}
-use Rattle.textarea_highlight.specs.Display.{with_spaces, shown}
-use Rattle.textarea_highlight.specs.Cut.{piece_of, IsCut, text_of_spans}
-use Rattle.textarea_highlight.proofs.CutLemmas.{IsEdge, column_to}
+use Rattle.textarea_highlight.specs.Display.{with_spaces, display_text}
+use Rattle.textarea_highlight.specs.Split.{piece_of, IsSplit, text_of_spans}
+use Rattle.textarea_highlight.proofs.SplitLemmas.{IsEdge, column_to}
 
 with_spaces-append : (tab_len column : ℕ) (xs ys : List ℕ) →
     with_spaces tab_len column (xs ++ ys) ≡ with_spaces tab_len column xs ++ with_spaces tab_len (end_column tab_len column xs) ys
@@ -23,11 +23,11 @@ stops : (tab_len : ℕ) → 0 < tab_len → (tab_len == 0) ≡ false
 stops tab_len h = grind (arith, nat_tests)
 
 shown-append : (mask : Option ℕ) (tab_len column : ℕ) (xs ys : List ℕ) → 0 < tab_len →
-    shown mask tab_len column (xs ++ ys) ≡ shown mask tab_len column xs ++ shown mask tab_len (end_column tab_len column xs) ys
+    display_text mask tab_len column (xs ++ ys) ≡ display_text mask tab_len column xs ++ display_text mask tab_len (end_column tab_len column xs) ys
 shown-append (Some mask) tab_len column xs ys h = map-append (λ _. mask) xs ys
 shown-append None tab_len column xs ys h = rw (stops tab_len h) (with_spaces-append tab_len column xs ys)
 
-shown-nil : (mask : Option ℕ) (tab_len column : ℕ) → 0 < tab_len → shown mask tab_len column [] ≡ []
+shown-nil : (mask : Option ℕ) (tab_len column : ℕ) → 0 < tab_len → display_text mask tab_len column [] ≡ []
 shown-nil (Some mask) tab_len column h = refl
 shown-nil None tab_len column h = rw (stops tab_len h) refl
 
@@ -39,29 +39,29 @@ chars_parts : (row : List ℕ) (from to : ℕ) → IsUtf8 row → from ≤ to �
 chars_parts row from to u le at at' =
     ap chars (drop_split row from to le) ∙ chars-append (slice_range row from to) (drop to row) (IsUtf8-between row from to u le at at')
 
-whole_from : (row : List ℕ) (borders : List Border) (base : Style) (tab_len : ℕ) (mask : Option ℕ) (from : ℕ) (spans : List ShownSpan) →
+whole_from : (row : List ℕ) (borders : List Border) (base : Style) (tab_len : ℕ) (mask : Option ℕ) (from : ℕ) (spans : List SpanView) →
     IsUtf8 row → All (λ border. IsCharBoundary row border.offset) borders → 0 < tab_len → IsCharBoundary row from →
-    IsCut row borders base tab_len mask from spans (length row) →
-    text_of_spans spans ≡ encode_utf8_all (shown mask tab_len (end_column tab_len 0 (chars (take from row))) (chars (drop from row)))
-whole_from row borders base tab_len mask from [] u placed h at cut =
-    rw (drop_all from row (omega (arith, cut)), chars-nil, shown-nil mask tab_len (end_column tab_len 0 (chars (take from row))) h) refl
-whole_from row borders base tab_len mask from (span ∷ spans) u placed h at cut =
-    let mid = cut.0 in
-    let at' = edge_boundary row borders mid placed cut.1.edge in
-    let le : from ≤ mid = omega (arith, cut.1.not_empty) in
+    IsSplit row borders base tab_len mask from spans (length row) →
+    text_of_spans spans ≡ encode_utf8_all (display_text mask tab_len (end_column tab_len 0 (chars (take from row))) (chars (drop from row)))
+whole_from row borders base tab_len mask from [] u placed h at split =
+    rw (drop_all from row (omega (arith, split)), chars-nil, shown-nil mask tab_len (end_column tab_len 0 (chars (take from row))) h) refl
+whole_from row borders base tab_len mask from (span ∷ spans) u placed h at split =
+    let mid = split.0 in
+    let at' = edge_boundary row borders mid placed split.1.edge in
+    let le : from ≤ mid = omega (arith, split.1.not_empty) in
     let column = end_column tab_len 0 (chars (take from row)) in
     rw (
-      cut.1.text,
-      whole_from row borders base tab_len mask mid spans u placed h at' cut.2,
+      split.1.text,
+      whole_from row borders base tab_len mask mid spans u placed h at' split.2,
       ← column_to tab_len row from mid u le at at',
       chars_parts row from mid u le at at',
       shown-append mask tab_len column (piece_of row from mid) (chars (drop mid row)) h,
       encodes-append,
     ) refl
 
-pub whole : (row : List ℕ) (borders : List Border) (base : Style) (tab_len : ℕ) (mask : Option ℕ) (spans : List ShownSpan) →
+pub whole : (row : List ℕ) (borders : List Border) (base : Style) (tab_len : ℕ) (mask : Option ℕ) (spans : List SpanView) →
     IsUtf8 row → All (λ border. IsCharBoundary row border.offset) borders → 0 < tab_len →
-    IsCut row borders base tab_len mask 0 spans (length row) →
-    text_of_spans spans ≡ encode_utf8_all (shown mask tab_len 0 (chars row))
-whole row borders base tab_len mask spans u placed h cut =
-    grind (arith, common_steps, whole_from row borders base tab_len mask 0 spans u placed h (IsCharBoundary-start row u) cut, IsCharBoundary-start row u, chars-nil)
+    IsSplit row borders base tab_len mask 0 spans (length row) →
+    text_of_spans spans ≡ encode_utf8_all (display_text mask tab_len 0 (chars row))
+whole row borders base tab_len mask spans u placed h split =
+    grind (arith, common_steps, whole_from row borders base tab_len mask 0 spans u placed h (IsCharBoundary-start row u) split, IsCharBoundary-start row u, chars-nil)

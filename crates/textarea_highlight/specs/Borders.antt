@@ -43,19 +43,19 @@ MarkNothing {S} steps matches row =
     (before : List (ℕ × ℕ)) (found : ℕ × ℕ) (rest : S) → YieldsThen steps matches before (Some found) rest → IsEmptyAt row found.0 found.1
 
 -- the offset of a border, and its rank there
-abbrev pub place_of : Border → ℕ × ℕ
-place_of border = (border.offset, border.rank)
+abbrev pub border_key : Border → ℕ × ℕ
+border_key border = (border.offset, border.rank)
 
 -- each border is where a character of the row starts, or where the row ends
 abbrev pub ArePlaced : List ℕ → List Border → Type 0
 ArePlaced row borders = All (λ border. IsCharBoundary row border.offset) borders
 
 -- by offset, then by rank
-abbrev pub place_cmp : ℕ × ℕ → ℕ × ℕ → Ordering
-place_cmp a b = ordering_then (nat_cmp a.0 b.0) (nat_cmp a.1 b.1)
+abbrev pub border_cmp : ℕ × ℕ → ℕ × ℕ → Ordering
+border_cmp a b = ordering_then (nat_cmp a.0 b.0) (nat_cmp a.1 b.1)
 
 -- the borders in order; those of one offset and one rank are as they were added
 pub record IsBorderOrder (added sorted : List Border) : Type 0 where
   pub same : IsPermutation added sorted
-  pub in_order : IsSortedByKey place_of place_cmp sorted
-  pub stable : IsStableByKey place_of place_cmp added sorted
+  pub in_order : IsSortedByKey border_key border_cmp sorted
+  pub stable : IsStableByKey border_key border_cmp added sorted

@@ -31,5 +31,5 @@ abbrev pub OpensNone : List Mark → Type 0
 OpensNone marks = (k : ℕ) (other : Style) → ¬ (OpensAt marks k other)
 
 -- the style after these marks: that of the last open start, or the base
-abbrev pub IsStyleBehind : List Mark → Style → Style → Type 0
-IsStyleBehind marks base style = OpensLast marks style ⊎ (OpensNone marks × (style ≡ base))
+abbrev pub IsStyleAfter : List Mark → Style → Style → Type 0
+IsStyleAfter marks base style = OpensLast marks style ⊎ (OpensNone marks × (style ≡ base))

@@ -3,8 +3,8 @@ use Rattle.std.specs.Prelude.{◌≡◌, ℕ, ◌+◌, ◌≤◌, ◌⊎◌, Boo
 use Rattle.std.specs.Str.{chars}
 use Rattle.textarea_screen.specs.declared.screen.style.Style.{Style}
 use Rattle.textarea_screen.specs.Style.{empty_style}
-use Rattle.textarea_screen.specs.Text.{ShownSpan}
-use Rattle.textarea_screen.specs.Text.ShownContent.{Lent}
+use Rattle.textarea_screen.specs.Text.{SpanView}
+use Rattle.textarea_screen.specs.Text.ContentView.{BorrowedBytes}
 use Rattle.textarea_highlight.specs.declared.highlight.borders.Border.{Border}
 use Rattle.textarea_highlight.specs.declared.highlight.highlighter.CursorCellRender.{CursorCellRender}
 use Rattle.textarea_highlight.specs.declared.highlight.highlighter.CursorCellRender.TheVariants.{Draw, Hidden}
@@ -15,7 +15,7 @@ pub record Highlights : Type 0 where
   -- the bytes of the row
   pub row : List ℕ
   -- the spans in front of the row
-  pub numbers : List ShownSpan
+  pub numbers : List SpanView
   -- the borders of the highlights, as they were added
   pub borders : List Border
   -- the style where no highlight is
@@ -101,8 +101,8 @@ abbrev pub is_in_range : ℕ → Range → Bool
 is_in_range current range = nat_le range.0.0 current && nat_le current range.1.0
 
 -- the range continues after the row
-abbrev pub goes_on : ℕ → Range → Bool
-goes_on current range = nat_le range.0.0 current && nat_lt current range.1.0
+abbrev pub continues_after_row : ℕ → Range → Bool
+continues_after_row current range = nat_le range.0.0 current && nat_lt current range.1.0
 
 -- the range in the row: from its start, or else from 0; to its end, or else to the row's end
 abbrev pub part_start : ℕ → Range → ℕ
@@ -118,7 +118,7 @@ range_borders row current range style rank =
 abbrev pub with_range : Highlights → ℕ → Range → Style → ℕ → Highlights
 with_range h current range style rank = record h {
   borders = h.borders ++ range_borders h.row current range style rank;
-  break_is_selected = h.break_is_selected || goes_on current range;
+  break_is_selected = h.break_is_selected || continues_after_row current range;
 }
 
 -- the range covers no character of the row: the row is outside of it, or it is empty in the row
@@ -152,6 +152,6 @@ end_style h =
     else (if h.break_is_selected then Some h.select_style else None)
 
 -- one blank in that style, or nothing
-abbrev pub end_cell : Option Style → List ShownSpan
-end_cell (Some style) = record { content = Lent (codes " "); style = style } ∷ []
+abbrev pub end_cell : Option Style → List SpanView
+end_cell (Some style) = record { content = BorrowedBytes (codes " "); style = style } ∷ []
 end_cell None = []

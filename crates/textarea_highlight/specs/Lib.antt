@@ -3,7 +3,7 @@ pub mod Borders
 pub mod Brackets
 pub mod OpenStyles
 pub mod Display
-pub mod Cut
+pub mod Split
 pub mod Numbers
 pub mod Highlights
 pub mod Row

@@ -19,5 +19,5 @@ passed_all styles [] = styles
 passed_all styles (mark ∷ marks) = passed_all (passed styles mark) marks
 
 -- the open styles are those after these marks
-abbrev pub IsBehind : OpenStyles → List Mark → Type 0
-IsBehind styles marks = styles.started.items ≡ passed_all [] marks
+abbrev pub ArePassed : OpenStyles → List Mark → Type 0
+ArePassed styles marks = styles.started.items ≡ passed_all [] marks

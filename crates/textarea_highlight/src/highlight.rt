@@ -2,9 +2,9 @@
 
 mod borders;
 mod brackets;
-mod cut;
 mod display;
 mod highlighter;
 mod numbers;
+mod split;
 
 pub use highlighter::{CursorCellRender, LineHighlighter};

@@ -1,7 +1,7 @@
 -- The symbols of a change, from the content of its edit; and the replacements that make it.
 use Rattle.std.proofs.Common.{◌≡◌, ℕ, ◌+◌, ◌<◌, ◌≤◌, Bool, true, false, cond, List, [], ◌∷◌, length, sym, ap, ◌∙◌, arith, subst, inl, inr, ◌⊎◌, String, encode_utf8, Vec}
 use Rattle.std.proofs.lemmas.List.{append-nil, length-map}
-use Rattle.textarea_history.specs.Prelude.{Global, IfSome, chars, IsUtf8, Symbol, characters, characters_of, lines_of, text_of, Place, IsPlace, IsPlaceOf, StandsAt, changed, end, inserted, removed, Splice, Allows, Fits, applied, IsReplacementFor, ReplacesPart, breaks_of, lines_coming, lines_going, Replacement, Stored, IsWellFormed, directed, stored_of, symbols_in, Content}
+use Rattle.textarea_history.specs.Prelude.{Global, IfSome, chars, IsUtf8, Symbol, characters, characters_of, lines_of, text_of, Place, IsPlace, IsPlaceOf, OccursAt, changed, end, inserted, removed, Splice, Allows, Fits, applied, IsReplacementFor, ReplacesPart, breaks_of, new_line_count, replaced_line_count, Replacement, Stored, IsWellFormed, directed, stored_of, symbols_in, Content}
 use Rattle.textarea_text.proofs.Columns.{chars_from_bytes}
 use Rattle.textarea_text.proofs.StringRows.{changed_by_none, columns_ordered, rows_ordered, rows_place, stands_until}
 use Rattle.textarea_text.proofs.Touching.{breaks_of-joined, end_row}
@@ -40,7 +40,7 @@ pub record Removing {Z : Type 0} (items : List (String Z)) (splice : Splice) (st
 pub removing : {Z : Type 0} (items : List (String Z)) (splice : Splice) (start to : Place) → 0 < length items → Fits (text_of items) splice → splice.inserts ≡ false → start ≡ splice.place → to ≡ end splice.place splice.symbols → Removing items splice start to
 removing items splice start to some fits removes begins ends =
     let text = text_of items in
-    let stands : StandsAt text splice.place splice.symbols = subst (λ (b : Bool). Allows b text splice.place splice.symbols) removes fits.allowed in
+    let stands : OccursAt text splice.place splice.symbols = subst (λ (b : Bool). Allows b text splice.place splice.symbols) removes fits.allowed in
     let until = stands_until text splice.place splice.symbols fits.is_place stands in
     let gone : applied text splice ≡ removed text splice.place splice.symbols =
     ap (λ (b : Bool). cond b (inserted text splice.place splice.symbols) (removed text splice.place splice.symbols)) removes in
@@ -63,8 +63,8 @@ ends_inside splice start to none begins ends =
 
 pub removed_by : (items : List (String Global)) (splice : Splice) (start to : Place) (none : List Symbol) (r : Replacement) → 0 < length items → Fits (text_of items) splice → splice.inserts ≡ false → start ≡ splice.place → to ≡ end splice.place splice.symbols → none ≡ [] → ReplacesPart items start to none r → IsReplacementFor items splice r
 removed_by items splice start to none r some fits removes begins ends is k =
-    let going : lines_going splice ≡ breaks_of splice.symbols + 1 = ap (λ (b : Bool). cond b 1 (breaks_of splice.symbols + 1)) removes in
-    let coming : lines_coming splice ≡ 1 = ap (λ (b : Bool). cond b (breaks_of splice.symbols + 1) 1) removes in
+    let going : replaced_line_count splice ≡ breaks_of splice.symbols + 1 = ap (λ (b : Bool). cond b 1 (breaks_of splice.symbols + 1)) removes in
+    let coming : new_line_count splice ≡ 1 = ap (λ (b : Bool). cond b (breaks_of splice.symbols + 1) 1) removes in
     let row = ap (λ (p : Place). p.0) begins in
     record {
       row = k.row ∙ row;
@@ -79,8 +79,8 @@ removed_by items splice start to none r some fits removes begins ends is k =
 pub inserted_by : (items : List (String Global)) (splice : Splice) (start : Place) (symbols : List Symbol) (r : Replacement) → splice.inserts ≡ true → start ≡ splice.place → symbols ≡ splice.symbols → ReplacesPart items start start symbols r → IsReplacementFor items splice r
 inserted_by items splice start symbols r inserts begins same k =
     let text = text_of items in
-    let going : lines_going splice ≡ 1 = ap (λ (b : Bool). cond b 1 (breaks_of splice.symbols + 1)) inserts in
-    let coming : lines_coming splice ≡ breaks_of splice.symbols + 1 = ap (λ (b : Bool). cond b (breaks_of splice.symbols + 1) 1) inserts in
+    let going : replaced_line_count splice ≡ 1 = ap (λ (b : Bool). cond b 1 (breaks_of splice.symbols + 1)) inserts in
+    let coming : new_line_count splice ≡ breaks_of splice.symbols + 1 = ap (λ (b : Bool). cond b (breaks_of splice.symbols + 1) 1) inserts in
     let there : applied text splice ≡ inserted text splice.place splice.symbols =
     ap (λ (b : Bool). cond b (inserted text splice.place splice.symbols) (removed text splice.place splice.symbols)) inserts in
     record {

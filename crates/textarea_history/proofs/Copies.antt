@@ -1,7 +1,7 @@
 -- Copies of edits, and of a history's list of them.
 use Rattle.std.proofs.Common.{◌≡◌, ◌≤◌, ◌-◌, ℕ, zero, suc, List, [], ◌∷◌, length, map, Option, Some, None, sym, ap, refl, ◌∙◌, arith, subst, slice_get}
 use Rattle.std.proofs.lemmas.List.Elements.{AllZip-get_or, length_all_zip}
-use Rattle.textarea_history.specs.Prelude.{AllZip, IfSome, end, Splice, Stored, IsCopyOfEdit, IsWellFormed, edge_of, splice_in, IsRun, RunIs, IsStore}
+use Rattle.textarea_history.specs.Prelude.{AllZip, IfSome, end, Splice, Stored, IsCopyOfEdit, IsWellFormed, edge_of, splice_in, IsRun, IsRunEdge, IsStore}
 
 pub splices_copied : (items copies : List Stored) → AllZip IsCopyOfEdit items copies → map splice_in copies ≡ map splice_in items
 splices_copied [] [] h = refl
@@ -24,7 +24,7 @@ run_copied edge (edit ∷ items) [] n h run = absurd h
 run_copied edge (edit ∷ items) (copy ∷ copies) zero h run = record { grows = h.0.grows ∙ run.grows; edge_is = ap edge_of h.0.splice ∙ run.edge_is }
 run_copied edge (edit ∷ items) (copy ∷ copies) (suc n) h run = run_copied edge items copies n h.1 run
 
-runs_copied : (items copies : List Stored) (index : ℕ) (run : Option ℕ) → AllZip IsCopyOfEdit items copies → length items ≡ length copies → RunIs items index run → RunIs copies index run
+runs_copied : (items copies : List Stored) (index : ℕ) (run : Option ℕ) → AllZip IsCopyOfEdit items copies → length items ≡ length copies → IsRunEdge items index run → IsRunEdge copies index run
 runs_copied items copies index None h same is = is
 runs_copied items copies index (Some edge) h same is = (
   is.0 ∙ same,

@@ -1,6 +1,6 @@
 -- Facts of an edit that joins the newest one.
 use Rattle.std.proofs.Common.{◌≡◌, ℕ, ◌-◌, Bool, true, false, ◌&&◌, nat_lt, List, [], ◌∷◌, Option, Some, None, ap, refl, ◌∙◌, eqb, eqb-true}
-use Rattle.textarea_history.specs.Prelude.{Place, Splice, place_before, place_after, Log, continues_newest, is_empty, is_same_direction, is_same_place, is_typed, joins, newest, pause}
+use Rattle.textarea_history.specs.Prelude.{Place, Splice, place_before, place_after, Log, continues_newest, is_empty, is_same_direction, is_run_end, is_typed, joins, newest, pause}
 
 pub left_of : (a b : Bool) → (a && b) ≡ true → a ≡ true
 left_of true b e = refl
@@ -16,7 +16,7 @@ same_direction true false e = cc
 same_direction false true e = cc
 same_direction false false e = refl
 
-pub same_place : (first second : Place) → is_same_place first second ≡ true → first ≡ second
+pub same_place : (first second : Place) → is_run_end first second ≡ true → first ≡ second
 same_place first second e =
     ap (λ (n : ℕ). (n, first.1)) (eqb-true first.0 second.0 (left_of (eqb first.0 second.0) (eqb first.1 second.1) e))
     ∙ ap (λ (n : ℕ). (second.0, n)) (eqb-true first.1 second.1 (right_of (eqb first.0 second.0) (eqb first.1 second.1) e))

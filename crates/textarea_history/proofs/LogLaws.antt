@@ -3,20 +3,20 @@ use Rattle.std.proofs.Common.{◌≡◌, ◌≢◌, ℕ, zero, suc, ◌+◌, ◌
 use Rattle.std.proofs.lemmas.Bool.{eqb-true}
 use Rattle.std.proofs.lemmas.List.{reverse-append, length-append, length-drop, length-reverse, length-take-le, take-append-drop, nil_from_length, drop_more, drop_all, drop-append-le}
 use Rattle.std.proofs.lemmas.Option.{get_or_from_slice_get, slice_get_within, slice_get-get_or}
-use Rattle.textarea_history.specs.Prelude.{Symbol, Place, Splice, Fits, applied, inverse, place_after, CanApply, CanTakeBack, StoodBefore, merged, Log, Logged, Redoes, Undoes, done_after, grown, is_typed, joins, kept, newest, next, redone, redone_by, undone, undone_by, with_done, EachFits, GivesBack, IsRedone, IsSame, IsSound, edited, times}
+use Rattle.textarea_history.specs.Prelude.{Symbol, Place, Splice, Fits, applied, inverse, place_after, CanApply, CanUndo, IsTextBefore, merged, Log, Logged, Redoes, Undoes, done_after, grown, is_typed, joins, remaining_done, newest, next, redone, redone_by, undone, undone_by, with_done, EachFits, RestoresText, IsRedone, IsSame, IsSoundLog, edit_recorded, times}
 use Rattle.textarea_text.proofs.TextPlaces.{takes_back}
 use Rattle.textarea_history.proofs.Joins.{joins_newest}
-use Rattle.textarea_history.proofs.UndoLaws.{CanApply-last, CanTakeBack-merged, applied_all-last, inverse-inverse}
+use Rattle.textarea_history.proofs.UndoLaws.{CanApply-last, CanUndo-merged, applied_all-last, inverse-inverse}
 
 -- ---- lists of edits
 
-CanTakeBack-front : (xs ys : List Splice) (text : List Symbol) → CanTakeBack text (xs ++ ys) → CanTakeBack text xs
-CanTakeBack-front [] ys text h = tt
-CanTakeBack-front (x ∷ xs) ys text h = (h.0, CanTakeBack-front xs ys (applied text (inverse x)) h.1)
+CanUndo-front : (xs ys : List Splice) (text : List Symbol) → CanUndo text (xs ++ ys) → CanUndo text xs
+CanUndo-front [] ys text h = tt
+CanUndo-front (x ∷ xs) ys text h = (h.0, CanUndo-front xs ys (applied text (inverse x)) h.1)
 
-kept_back : (full : Bool) (done : List Splice) (text : List Symbol) → CanTakeBack text (reverse done) → CanTakeBack text (reverse (cond full (drop 1 done) done))
+kept_back : (full : Bool) (done : List Splice) (text : List Symbol) → CanUndo text (reverse done) → CanUndo text (reverse (cond full (drop 1 done) done))
 kept_back true [] text h = h
-kept_back true (first ∷ done) text h = CanTakeBack-front (reverse done) (first ∷ []) text (subst (CanTakeBack text) (reverse-append (first ∷ []) done) h)
+kept_back true (first ∷ done) text h = CanUndo-front (reverse done) (first ∷ []) text (subst (CanUndo text) (reverse-append (first ∷ []) done) h)
 kept_back false done text h = h
 
 kept_length : (full : Bool) (done undone : List Splice) (maximum : ℕ) → (length done + length undone == maximum) ≡ full → length done + length undone ≤ maximum → 0 < maximum → length (cond full (drop 1 done) done) + 1 ≤ maximum
@@ -65,42 +65,42 @@ recorded_joined : (log : Log) (splice run : Splice) → newest log ≡ Some run 
 recorded_joined log splice run e = ap (λ (o : Option Splice). take (length log.done - 1) log.done ++ grown o splice ∷ []) e
 
 -- the done edits after one that joined the newest, or did not
-pub recorded_done : (logged : Logged) (splice : Splice) (typed : Bool) (now : ℕ) → IsSound logged → Fits logged.text splice → 0 < logged.log.maximum → (joined : Bool) → joins logged.log splice typed now ≡ joined → CanTakeBack (applied logged.text splice) (reverse (done_after logged.log splice joined)) × (length (done_after logged.log splice joined) ≤ logged.log.maximum)
+pub recorded_done : (logged : Logged) (splice : Splice) (typed : Bool) (now : ℕ) → IsSoundLog logged → Fits logged.text splice → 0 < logged.log.maximum → (joined : Bool) → joins logged.log splice typed now ≡ joined → CanUndo (applied logged.text splice) (reverse (done_after logged.log splice joined)) × (length (done_after logged.log splice joined) ≤ logged.log.maximum)
 recorded_done logged splice typed now h fits some true e =
     let log = logged.log in
     let joining = joins_newest log splice typed now e in
     let front = take (length log.done - 1) log.done in
     let done_is = recorded_joined log splice joining.run joining.newest_is in
     let within = slice_get_within log.done (length log.done - 1) joining.run joining.newest_is in
-    let before : CanTakeBack logged.text (joining.run ∷ reverse front) = subst (CanTakeBack logged.text) (reverse_last log.done joining.run joining.newest_is) h.undo in (
-      subst (λ d. CanTakeBack (applied logged.text splice) (reverse d)) (sym done_is)
-          (subst (CanTakeBack (applied logged.text splice)) (sym (reverse-append front (merged joining.run splice ∷ [])))
-          (CanTakeBack-merged logged.text joining.run splice (reverse front) before fits joining.direction joining.place)),
+    let before : CanUndo logged.text (joining.run ∷ reverse front) = subst (CanUndo logged.text) (reverse_last log.done joining.run joining.newest_is) h.undo in (
+      subst (λ d. CanUndo (applied logged.text splice) (reverse d)) (sym done_is)
+          (subst (CanUndo (applied logged.text splice)) (sym (reverse-append front (merged joining.run splice ∷ [])))
+          (CanUndo-merged logged.text joining.run splice (reverse front) before fits joining.direction joining.place)),
       omega (arith, ap length done_is, length-append front (merged joining.run splice ∷ []), length-take-le (length log.done - 1) log.done (omega arith), h.bounded),
     )
 recorded_done logged splice typed now h fits some false e =
     let log = logged.log in
     let taken = takes_back logged.text splice fits in
     let full = length log.done + length log.undone == log.maximum in
-    let rest : CanTakeBack logged.text (reverse (kept log)) = kept_back full log.done logged.text h.undo in
-    let short : length (kept log) + 1 ≤ log.maximum = kept_length full log.done log.undone log.maximum refl h.bounded some in (
-      subst (CanTakeBack (applied logged.text splice)) (sym (reverse-append (kept log) (splice ∷ []))) (taken.fits, subst (λ t. CanTakeBack t (reverse (kept log))) (sym taken.back) rest),
-      omega (arith, length-append (kept log) (splice ∷ [])),
+    let rest : CanUndo logged.text (reverse (remaining_done log)) = kept_back full log.done logged.text h.undo in
+    let short : length (remaining_done log) + 1 ≤ log.maximum = kept_length full log.done log.undone log.maximum refl h.bounded some in (
+      subst (CanUndo (applied logged.text splice)) (sym (reverse-append (remaining_done log) (splice ∷ []))) (taken.fits, subst (λ t. CanUndo t (reverse (remaining_done log))) (sym taken.back) rest),
+      omega (arith, length-append (remaining_done log) (splice ∷ [])),
     )
 
-pub sound_edited : (logged : Logged) (splice : Splice) (typed : Bool) (now : ℕ) → IsSound logged → Fits logged.text splice → IsSound (edited logged splice typed now)
+pub sound_edited : (logged : Logged) (splice : Splice) (typed : Bool) (now : ℕ) → IsSoundLog logged → Fits logged.text splice → IsSoundLog (edit_recorded logged splice typed now)
 sound_edited logged splice typed now h fits = by (logged.log.maximum == 0) refl
   where
     log : Log
     log = logged.log
 
-    by : (none : Bool) → (log.maximum == 0) ≡ none → IsSound (record { text = applied logged.text splice; log = cond none log (with_done log (done_after log splice (joins log splice typed now)) (is_typed splice typed) now) })
+    by : (none : Bool) → (log.maximum == 0) ≡ none → IsSoundLog (record { text = applied logged.text splice; log = cond none log (with_done log (done_after log splice (joins log splice typed now)) (is_typed splice typed) now) })
     by true e =
         let zero_maximum : log.maximum ≡ 0 = eqb-true log.maximum 0 e in
         let no_done : log.done ≡ [] = nil_from_length log.done (omega (arith, h.bounded)) in
         let no_undone : log.undone ≡ [] = nil_from_length log.undone (omega (arith, h.bounded)) in
         record {
-          undo = subst (λ d. CanTakeBack (applied logged.text splice) (reverse d)) (sym no_done) tt;
+          undo = subst (λ d. CanUndo (applied logged.text splice) (reverse d)) (sym no_done) tt;
           redo = subst (CanApply (applied logged.text splice)) (sym no_undone) tt;
           bounded = h.bounded;
         }
@@ -124,10 +124,10 @@ before_newest text splice fits =
     record { fits = subst (Fits before) same taken.fits; leads = ap (applied before) (sym same) ∙ taken.back }
 
 -- the newest edit can be undone, and then those before it
-pub newest_back : (logged : Logged) (splice : Splice) → IsSound logged → newest logged.log ≡ Some splice → CanTakeBack logged.text (splice ∷ reverse (take (length logged.log.done - 1) logged.log.done))
-newest_back logged splice h e = subst (CanTakeBack logged.text) (reverse_last logged.log.done splice e) h.undo
+pub newest_back : (logged : Logged) (splice : Splice) → IsSoundLog logged → newest logged.log ≡ Some splice → CanUndo logged.text (splice ∷ reverse (take (length logged.log.done - 1) logged.log.done))
+newest_back logged splice h e = subst (CanUndo logged.text) (reverse_last logged.log.done splice e) h.undo
 
-pub sound_undone_by : (logged : Logged) (splice : Splice) → IsSound logged → newest logged.log ≡ Some splice → IsSound (undone_by (Some splice) logged)
+pub sound_undone_by : (logged : Logged) (splice : Splice) → IsSoundLog logged → newest logged.log ≡ Some splice → IsSoundLog (undone_by (Some splice) logged)
 sound_undone_by logged splice h e =
     let back = newest_back logged splice h e in
     let before = before_newest logged.text splice back.0 in
@@ -138,28 +138,28 @@ sound_undone_by logged splice h e =
       bounded = omega (arith, h.bounded, length-take-le (length logged.log.done - 1) logged.log.done (omega arith));
     }
 
-pub sound_undone : (logged : Logged) → IsSound logged → IsSound (undone logged)
+pub sound_undone : (logged : Logged) → IsSoundLog logged → IsSoundLog (undone logged)
 sound_undone logged h = by (newest logged.log) refl
   where
-    by : (found : Option Splice) → newest logged.log ≡ found → IsSound (undone_by found logged)
+    by : (found : Option Splice) → newest logged.log ≡ found → IsSoundLog (undone_by found logged)
     by None e = h
     by (Some splice) e = sound_undone_by logged splice h e
 
-pub sound_redone_by : (logged : Logged) (splice : Splice) → IsSound logged → next logged.log ≡ Some splice → IsSound (redone_by (Some splice) logged)
+pub sound_redone_by : (logged : Logged) (splice : Splice) → IsSoundLog logged → next logged.log ≡ Some splice → IsSoundLog (redone_by (Some splice) logged)
 sound_redone_by logged splice h e =
     let split = first_split logged.log.undone splice e in
     let ahead : CanApply logged.text (splice ∷ drop 1 logged.log.undone) = subst (CanApply logged.text) split h.redo in
     let taken = takes_back logged.text splice ahead.0 in
     record {
-      undo = subst (CanTakeBack (applied logged.text splice)) (sym (reverse-append logged.log.done (splice ∷ []))) (taken.fits, subst (λ t. CanTakeBack t (reverse logged.log.done)) (sym taken.back) h.undo);
+      undo = subst (CanUndo (applied logged.text splice)) (sym (reverse-append logged.log.done (splice ∷ []))) (taken.fits, subst (λ t. CanUndo t (reverse logged.log.done)) (sym taken.back) h.undo);
       redo = ahead.1;
       bounded = omega (arith, h.bounded, length-append logged.log.done (splice ∷ []), ap length split);
     }
 
-pub sound_redone : (logged : Logged) → IsSound logged → IsSound (redone logged)
+pub sound_redone : (logged : Logged) → IsSoundLog logged → IsSoundLog (redone logged)
 sound_redone logged h = by (next logged.log) refl
   where
-    by : (found : Option Splice) → next logged.log ≡ found → IsSound (redone_by found logged)
+    by : (found : Option Splice) → next logged.log ≡ found → IsSoundLog (redone_by found logged)
     by None e = h
     by (Some splice) e = sound_redone_by logged splice h e
 
@@ -180,7 +180,7 @@ redone_times count logged splice e = times-front count redone logged ∙ ap (λ 
 
 -- ---- each edit fits
 
-each_done : (count : ℕ) (logged : Logged) (splice : Splice) → IsSound logged → slice_get (reverse logged.log.done) count ≡ Some splice → Fits (times count undone logged).text (inverse splice)
+each_done : (count : ℕ) (logged : Logged) (splice : Splice) → IsSoundLog logged → slice_get (reverse logged.log.done) count ≡ Some splice → Fits (times count undone logged).text (inverse splice)
 each_done zero logged splice h e =
     let within = slice_get_within (reverse logged.log.done) 0 splice e in
     let found = newest_some logged.log.done (omega (arith, within, length-reverse logged.log.done)) in
@@ -198,7 +198,7 @@ next_some : (undone : List Splice) → 0 < length undone → (splice : Splice) �
 next_some [] some = absurd (omega arith)
 next_some (first ∷ rest) some = (first, refl)
 
-each_undone : (count : ℕ) (logged : Logged) (splice : Splice) → IsSound logged → slice_get logged.log.undone count ≡ Some splice → Fits (times count redone logged).text splice
+each_undone : (count : ℕ) (logged : Logged) (splice : Splice) → IsSoundLog logged → slice_get logged.log.undone count ≡ Some splice → Fits (times count redone logged).text splice
 each_undone zero logged splice h e = (subst (CanApply logged.text) (first_split logged.log.undone splice e) h.redo).0
 each_undone (suc count) logged splice h e =
     let within = slice_get_within logged.log.undone (suc count) splice e in
@@ -207,7 +207,7 @@ each_undone (suc count) logged splice h e =
     subst (λ (l : Logged). Fits l.text splice) (sym (redone_times count logged found.0 found.1))
     (each_undone count (redone_by (Some found.0) logged) splice (sound_redone_by logged found.0 h found.1) rest)
 
-pub each_fits : (logged : Logged) → IsSound logged → EachFits logged
+pub each_fits : (logged : Logged) → IsSoundLog logged → EachFits logged
 each_fits logged h = record { done = λ count splice e. each_done count logged splice h e; undone = λ count splice e. each_undone count logged splice h e }
 
 -- ---- undos, and the same number of redos
@@ -235,22 +235,22 @@ redone_same first second h = by (next second.log) (next first.log) (ap (λ (u : 
     by (Some splice) None e = cc
 
 -- a redo after an undo gives back the text and the lists
-redone_undone : (logged : Logged) (splice : Splice) → IsSound logged → newest logged.log ≡ Some splice → IsSame (redone (undone_by (Some splice) logged)) logged
+redone_undone : (logged : Logged) (splice : Splice) → IsSoundLog logged → newest logged.log ≡ Some splice → IsSame (redone (undone_by (Some splice) logged)) logged
 redone_undone logged splice h e = record {
   text = (before_newest logged.text splice (newest_back logged splice h e).0).leads;
   done = sym (last_split logged.log.done splice e);
   undone = refl;
 }
 
-pub redo_gives_back : (old back again : Logged) (splice : Splice) (undo_cursor redo_cursor : Option Place) → IsSound old → newest old.log ≡ Some splice → Undoes old back undo_cursor → Redoes back again redo_cursor → IsRedone splice old again redo_cursor
-redo_gives_back old back again splice undo_cursor redo_cursor h e undoes redoes =
+pub redo_restores : (old back again : Logged) (splice : Splice) (undo_cursor redo_cursor : Option Place) → IsSoundLog old → newest old.log ≡ Some splice → Undoes old back undo_cursor → Redoes back again redo_cursor → IsRedone splice old again redo_cursor
+redo_restores old back again splice undo_cursor redo_cursor h e undoes redoes =
     let back_is : back ≡ undone_by (Some splice) old = undoes.is_undone ∙ undone_is old splice e in (
       subst (λ (l : Logged). IsSame l old) (sym (redoes.is_redone ∙ ap redone back_is)) (redone_undone old splice h e),
       redoes.cursor ∙ ap (λ (l : Logged). option_map place_after (next l.log)) back_is,
     )
 
 -- the newest edit led from the text before it to the present one
-stood_last : (base : List Symbol) (logged : Logged) (splice : Splice) (changes : List Splice) → IsSound logged → newest logged.log ≡ Some splice → StoodBefore base (applied logged.text (inverse splice)) changes → StoodBefore base logged.text (changes ++ splice ∷ [])
+stood_last : (base : List Symbol) (logged : Logged) (splice : Splice) (changes : List Splice) → IsSoundLog logged → newest logged.log ≡ Some splice → IsTextBefore base (applied logged.text (inverse splice)) changes → IsTextBefore base logged.text (changes ++ splice ∷ [])
 stood_last base logged splice changes h e stood =
     let before = before_newest logged.text splice (newest_back logged splice h e).0 in
     record {
@@ -258,9 +258,9 @@ stood_last base logged splice changes h e stood =
       leads = applied_all-last base changes splice ∙ ap (λ t. applied t splice) stood.leads ∙ before.leads;
     }
 
-pub gives_back : (count : ℕ) (logged : Logged) → IsSound logged → count ≤ length logged.log.done → GivesBack logged count
+pub gives_back : (count : ℕ) (logged : Logged) → IsSoundLog logged → count ≤ length logged.log.done → RestoresText logged count
 gives_back zero logged h within = record {
-  before = subst (StoodBefore logged.text logged.text) (sym (drop_all (length logged.log.done - 0) logged.log.done (omega arith))) (record { can = tt; leads = refl });
+  before = subst (IsTextBefore logged.text logged.text) (sym (drop_all (length logged.log.done - 0) logged.log.done (omega arith))) (record { can = tt; leads = refl });
   again = same_all logged;
 }
 gives_back (suc count) logged h within =
@@ -270,15 +270,15 @@ gives_back (suc count) logged h within =
     let rest = gives_back count first (sound_undone_by logged splice h found.1) (omega (arith, within, length-take-le (length logged.log.done - 1) logged.log.done (omega arith))) in
     let whole : times (suc count) undone logged ≡ times count undone first = undone_times count logged splice found.1 in
     record {
-      before = subst (λ (d : Logged). StoodBefore d.text logged.text (drop (length logged.log.done - suc count) logged.log.done)) (sym whole)
-          (subst (StoodBefore (times count undone first).text logged.text) (last_changes logged.log.done splice count found.1 within)
+      before = subst (λ (d : Logged). IsTextBefore d.text logged.text (drop (length logged.log.done - suc count) logged.log.done)) (sym whole)
+          (subst (IsTextBefore (times count undone first).text logged.text) (last_changes logged.log.done splice count found.1 within)
           (stood_last (times count undone first).text logged splice (drop (length first.log.done - count) first.log.done) h found.1 rest.before));
       again = subst (λ (d : Logged). IsSame (times (suc count) redone d) logged) (sym whole)
           (same_then (redone (times count redone (times count undone first))) (redone first) logged (redone_same (times count redone (times count undone first)) first rest.again) (redone_undone logged splice h found.1));
     }
 
 -- after one undo more than redos, the next edit to redo is the newest one
-pub next_again : (count : ℕ) (logged : Logged) (splice : Splice) → IsSound logged → newest logged.log ≡ Some splice → suc count ≤ length logged.log.done → next (times count redone (times (suc count) undone logged)).log ≡ Some splice
+pub next_again : (count : ℕ) (logged : Logged) (splice : Splice) → IsSoundLog logged → newest logged.log ≡ Some splice → suc count ≤ length logged.log.done → next (times count redone (times (suc count) undone logged)).log ≡ Some splice
 next_again count logged splice h e within =
     let rest = gives_back count (undone_by (Some splice) logged) (sound_undone_by logged splice h e) (omega (arith, within, length-take-le (length logged.log.done - 1) logged.log.done (omega arith))) in
     ap (λ (l : Logged). next (times count redone l).log) (undone_times count logged splice e) ∙ ap (λ (u : List Splice). slice_get u 0) rest.again.undone

@@ -3,7 +3,7 @@ use Rattle.std.proofs.Common.{◌≡◌, ℕ, zero, suc, ◌+◌, ◌<◌, ◌^�
 use Rattle.std.proofs.Math.Seq.{take-add}
 use Rattle.std.proofs.lemmas.List.{length-append, take_at}
 use Rattle.std.proofs.lemmas.Str.{encodes-chars, IsUtf8-string_bytes}
-use Rattle.textarea_history.specs.Prelude.{offset_at, Place, IsPlaceOf, StandsAt, index_of, weight, Symbol, characters, joined, leading, lines_of}
+use Rattle.textarea_history.specs.Prelude.{offset_at, Place, IsPlaceOf, OccursAt, index_of, weight, Symbol, characters, joined, leading, lines_of}
 use Rattle.textarea_text.proofs.Columns.{encodes_cut}
 use Rattle.textarea_text.proofs.TextPlaces.{index_parted, part_rows}
 use Rattle.textarea_text.proofs.Sizes.{weight-append, weight-characters}
@@ -21,7 +21,7 @@ weight_before rows place h =
     ap weight front ∙ weight-append (leading (take place.0 rows)) (characters line) ∙ ap (λ n. weight (leading (take place.0 rows)) + n) (weight-characters line)
 
 -- the byte offset of the end of symbols that end in their row
-pub offset_behind : (rows : List (List ℕ)) (place to : Place) (symbols : List Symbol) → IsPlaceOf rows place → IsPlaceOf rows to → place.0 ≡ to.0 → StandsAt (joined rows) place symbols → index_of (joined rows) to ≡ index_of (joined rows) place + length symbols → offset_at rows to ≡ offset_at rows place + weight symbols
+pub offset_behind : (rows : List (List ℕ)) (place to : Place) (symbols : List Symbol) → IsPlaceOf rows place → IsPlaceOf rows to → place.0 ≡ to.0 → OccursAt (joined rows) place symbols → index_of (joined rows) to ≡ index_of (joined rows) place + length symbols → offset_at rows to ≡ offset_at rows place + weight symbols
 offset_behind rows place to symbols h h' same stands ends =
     let text = joined rows in
     let at = index_of text place in

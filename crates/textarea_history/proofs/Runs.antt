@@ -2,7 +2,7 @@
 use Rattle.std.proofs.Common.{◌≡◌, ℕ, ◌+◌, ◌-◌, ◌≤◌, Bool, true, false, cond, List, [], ◌∷◌, ◌++◌, length, reverse, sym, ap, refl, ◌∙◌, arith, subst, encode_utf8, encode_utf8_all, String, string_bytes, Result, is_ok, Some, None}
 use Rattle.std.proofs.lemmas.List.{append-nil, append_assoc, reverse-append, reverse-reverse, length-append, length-reverse, nil_from_length}
 use Rattle.std.proofs.lemmas.Str.{encodes-append, encodes-chars, IsUtf8-string_bytes, IsUtf8-past_char, chars_past_char, chars-nil}
-use Rattle.textarea_history.specs.Prelude.{IfSome, Global, chars, IsUtf8, string_len, string_capacity, Symbol, Character, characters, characters_of, following, joined, Place, end, Splice, place_before, place_after, Stored, IsWellFormed, pieces_in, stored_of, symbols_in, character_of, merged, Content, Typed}
+use Rattle.textarea_history.specs.Prelude.{IfSome, Global, chars, IsUtf8, string_len, string_capacity, Symbol, Character, characters, characters_of, following, joined, Place, end, Splice, place_before, place_after, Stored, IsWellFormed, line_count_in, stored_of, symbols_in, character_of, merged, Content, Typed}
 use Rattle.textarea_history.specs.declared.edit.Content.TheVariants as content
 use Rattle.textarea_text.proofs.Columns.{chars_from_bytes}
 use Rattle.textarea_text.proofs.Splices.{characters-append, end-append}
@@ -112,8 +112,8 @@ only_pieces (first ∷ second ∷ rest) h = by first
 pub symbols_as : {kept same : Content} {inserts : Bool} (start to : Place) {now : Stored} → stored_of kept inserts start to ≡ now → kept ≡ same → symbols_in inserts same ≡ now.splice.symbols
 symbols_as {inserts = inserts} start to view is = ap (symbols_in inserts) (sym is) ∙ ap (λ (s : Stored). s.splice.symbols) view
 
-pub pieces_as : {kept same : Content} → kept ≡ same → IfSome (pieces_in kept) (λ n. 2 ≤ n) → IfSome (pieces_in same) (λ n. 2 ≤ n)
-pieces_as is h = subst (λ k. IfSome (pieces_in k) (λ n. 2 ≤ n)) is h
+pub pieces_as : {kept same : Content} → kept ≡ same → IfSome (line_count_in kept) (λ n. 2 ≤ n) → IfSome (line_count_in same) (λ n. 2 ≤ n)
+pieces_as is h = subst (λ k. IfSome (line_count_in k) (λ n. 2 ≤ n)) is h
 
 -- the content is stored again with the same symbols
 pub kept_again : {kept : Content} (inserts : Bool) (start to : Place) (c : ℕ) (new : String Global) → IsWellFormed (stored_of kept inserts start to) → kept ≡ content.Character c → characters_of new ≡ c ∷ [] → IsWellFormed (stored_of (Typed new) inserts start to)

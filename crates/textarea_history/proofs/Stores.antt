@@ -5,7 +5,7 @@ use Rattle.std.proofs.lemmas.List.Elements.{All-set, All-push, All-same}
 use Rattle.std.proofs.lemmas.Grind.{take-set_at}
 use Rattle.std.proofs.lemmas.Option.{slice_get_read, get_or_from_slice_get}
 use Rattle.std.proofs.lemmas.Bool.Decides.{nat_tests}
-use Rattle.textarea_history.specs.Prelude.{IfSome, IsSome, All, Symbol, Character, Break, Place, Splice, place_before, place_after, Stored, IsWellFormed, Log, with_done, kept, typed_character, newest, next, taken_back, made_again, joins, continues, continues_newest, is_same_direction, is_empty, is_typed, done_joined, grown, edge_of, pause, character_of, merged, log_at, splice_in, spare_in, room_at, IsRun, RunIs, IsStore}
+use Rattle.textarea_history.specs.Prelude.{IfSome, IsSome, All, Symbol, Character, Break, Place, Splice, place_before, place_after, Stored, IsWellFormed, Log, with_done, remaining_done, typed_character, newest, next, undone_log, redone_log, joins, continues, continues_newest, is_same_direction, is_empty, is_typed, done_joined, grown, edge_of, pause, character_of, merged, log_at, splice_in, spare_in, room_at, IsRun, IsRunEdge, IsStore}
 use Rattle.textarea_history.proofs.Joins.{left_of, right_of, same_direction, same_place}
 
 -- ---- the newest edit
@@ -45,7 +45,7 @@ last_read items index edit whole some e =
 pub joining : (items : List Stored) (index maximum : ℕ) (run : Option ℕ) (last now : ℕ) (newest_edit : Stored) (edit : Splice) (log : Log) → IsStore items index maximum run → log_at (map splice_in items) index maximum (is_some run) last ≡ log → newest_edit ≡ get_or items (index - 1) newest_edit → joins log edit true now ≡ true → Joining items index run newest_edit edit
 joining items index maximum run last now newest_edit edit log store view read e = by run store.run_is (subst (λ l. joins l edit true now ≡ true) (sym view) e)
   where
-    by : (r : Option ℕ) → RunIs items index r → joins (log_at (map splice_in items) index maximum (is_some r) last) edit true now ≡ true → Joining items index r newest_edit edit
+    by : (r : Option ℕ) → IsRunEdge items index r → joins (log_at (map splice_in items) index maximum (is_some r) last) edit true now ≡ true → Joining items index r newest_edit edit
     by None run_is e = absurd (let open_is : false ≡ true = right_of (is_typed edit true) false (left_of (is_typed edit true && false) _ e) in cc)
     by (Some edge) run_is e =
         let log = log_at (map splice_in items) index maximum true last in
@@ -142,7 +142,7 @@ log_joined items index maximum run last now newest_edit new edit log store j rea
 -- whether a typed edit joins, if a run is open and the pause was short
 pub joins_is : (items : List Stored) (index maximum : ℕ) (run : Option ℕ) (last now edge c : ℕ) (newest_edit : Stored) (edit : Splice) (coalesce : Bool) (log : Log) → IsStore items index maximum run → run ≡ Some edge → typed_character edit coalesce ≡ Some c → nat_lt (now - last) pause ≡ true → newest_edit ≡ get_or items (index - 1) newest_edit → log_at (map splice_in items) index maximum (is_some run) last ≡ log → continues newest_edit.splice edit ≡ joins log edit coalesce now
 joins_is items index maximum run last now edge c newest_edit edit coalesce log store is typed soon read view =
-    let whole = subst (RunIs items index) is store.run_is in
+    let whole = subst (IsRunEdge items index) is store.run_is in
     let splices = map splice_in items in
     let old = log_at splices index maximum (is_some run) last in
     let none : is_empty (drop index splices) ≡ true = ap is_empty (drop_all index splices (omega (arith, length-map items splice_in, whole.0))) in
@@ -154,21 +154,21 @@ joins_is items index maximum run last now edge c newest_edit edit coalesce log s
     ∙ ap (λ (o : Option Splice). continues_newest o edit) found)
     ∙ ap (λ (l : Log). joins l edit coalesce now) view
 
-pub run_some : (items : List Stored) (index : ℕ) (run : Option ℕ) → RunIs items index run → is_some run ≡ true → (index ≡ length items) × (0 < length items)
+pub run_some : (items : List Stored) (index : ℕ) (run : Option ℕ) → IsRunEdge items index run → is_some run ≡ true → (index ≡ length items) × (0 < length items)
 run_some items index None h e = absurd (let no : false ≡ true = e in cc)
 run_some items index (Some edge) h e = (h.0, h.1)
 
 -- the newest edit of an open run can grow
-newest_run : (items : List Stored) (index edge : ℕ) (edit : Stored) → RunIs items index (Some edge) → edit ≡ get_or items (index - 1) edit → IsRun edit edge
+newest_run : (items : List Stored) (index edge : ℕ) (edit : Stored) → IsRunEdge items index (Some edge) → edit ≡ get_or items (index - 1) edit → IsRun edit edge
 newest_run items index edge edit run_is read =
     subst (λ (o : Option Stored). IfSome o (λ s. IsRun s edge)) (last_read items index edit run_is.0 (omega (arith, run_is.0, run_is.1)) read) run_is.2
 
-pub newest_grows : (items : List Stored) (index : ℕ) (run : Option ℕ) (edit : Stored) → RunIs items index run → is_some run ≡ true → edit ≡ get_or items (index - 1) edit → edit.grows ≡ true
+pub newest_grows : (items : List Stored) (index : ℕ) (run : Option ℕ) (edit : Stored) → IsRunEdge items index run → is_some run ≡ true → edit ≡ get_or items (index - 1) edit → edit.grows ≡ true
 newest_grows items index None edit run_is is_open read = absurd (let no : false ≡ true = is_open in cc)
 newest_grows items index (Some edge) edit run_is is_open read = (newest_run items index edge edit run_is read).grows
 
 -- it is stored again with the same splice
-run_ready : (items : List Stored) (index : ℕ) (run : Option ℕ) (edit new : Stored) → RunIs items index run → edit ≡ get_or items (index - 1) edit → new.splice ≡ edit.splice → new.grows ≡ true → RunIs (set items (index - 1) new) index run
+run_ready : (items : List Stored) (index : ℕ) (run : Option ℕ) (edit new : Stored) → IsRunEdge items index run → edit ≡ get_or items (index - 1) edit → new.splice ≡ edit.splice → new.grows ≡ true → IsRunEdge (set items (index - 1) new) index run
 run_ready items index None edit new run_is read same grows = tt
 run_ready items index (Some edge) edit new run_is read same grows =
     let size : length (set items (index - 1) new) ≡ length items = length-set items (index - 1) new in
@@ -213,7 +213,7 @@ room_ready items index (Some edge) free new whole some room ready =
 -- ---- room for one more edit
 
 -- the oldest edit is dropped if the history is full and has a done one
-pub place_made : (items kept_items : List Stored) (index kept_index maximum : ℕ) (run_open : Bool) (last : ℕ) (log : Log) → index ≤ length items → log_at (map splice_in items) index maximum run_open last ≡ log → kept_items ≡ take kept_index (cond (length items == maximum) (drop (index - kept_index) items) items) → kept_index ≡ cond (length items == maximum) (index - 1) index → log_at (map splice_in kept_items) kept_index maximum false last ≡ record log { done = kept log; undone = []; run_open = false }
+pub place_made : (items kept_items : List Stored) (index kept_index maximum : ℕ) (run_open : Bool) (last : ℕ) (log : Log) → index ≤ length items → log_at (map splice_in items) index maximum run_open last ≡ log → kept_items ≡ take kept_index (cond (length items == maximum) (drop (index - kept_index) items) items) → kept_index ≡ cond (length items == maximum) (index - 1) index → log_at (map splice_in kept_items) kept_index maximum false last ≡ record log { done = remaining_done log; undone = []; run_open = false }
 place_made items kept_items index kept_index maximum run_open last log within view is at =
     let splices = map splice_in items in
     let old = log_at splices index maximum run_open last in
@@ -222,15 +222,15 @@ place_made items kept_items index kept_index maximum run_open last log within vi
     omega (arith, many, length-append (take index splices) (drop index splices), ap length (take-append-drop index splices)) in
     let short : length kept_items ≤ kept_index = subst (λ (t : List Stored). length t ≤ kept_index) (sym is) (length-take_below kept_index _) in
     let mapped : length (map splice_in kept_items) ≡ length kept_items = length-map kept_items splice_in in
-    let done : take kept_index (map splice_in kept_items) ≡ kept old =
+    let done : take kept_index (map splice_in kept_items) ≡ remaining_done old =
     take_all kept_index (map splice_in kept_items) (omega arith)
     ∙ ap (map splice_in) is
     ∙ by (length items == maximum) at
     ∙ ap (λ n. cond (n == maximum) (drop 1 (take index splices)) (take index splices)) (sym parts) in
     let undone : drop kept_index (map splice_in kept_items) ≡ [] = drop_all kept_index (map splice_in kept_items) (omega arith) in
     ap (λ (d : List Splice). record { done = d; undone = drop kept_index (map splice_in kept_items); maximum = maximum; run_open = false; last = last }) done
-    ∙ ap (λ (u : List Splice). record { done = kept old; undone = u; maximum = maximum; run_open = false; last = last }) undone
-    ∙ ap (λ (l : Log). record l { done = kept l; undone = []; run_open = false }) view
+    ∙ ap (λ (u : List Splice). record { done = remaining_done old; undone = u; maximum = maximum; run_open = false; last = last }) undone
+    ∙ ap (λ (l : Log). record l { done = remaining_done l; undone = []; run_open = false }) view
   where
     length-take_below : (n : ℕ) (xs : List Stored) → length (take n xs) ≤ n
     length-take_below n xs = omega (arith, length-take n xs)
@@ -252,7 +252,7 @@ place_made items kept_items index kept_index maximum run_open last log within vi
             ∙ sym (drop-map splice_in 1 (take (suc m) items))
             ∙ ap (drop 1) (sym (take-map splice_in (suc m) items))
 
-pub place_made_full : (items kept_items : List Stored) (index maximum : ℕ) (run_open : Bool) (last : ℕ) (log : Log) → index ≤ length items → log_at (map splice_in items) index maximum run_open last ≡ log → length items ≡ maximum → 0 < index → kept_items ≡ take (index - 1) (drop 1 items) → log_at (map splice_in kept_items) (index - 1) maximum false last ≡ record log { done = kept log; undone = []; run_open = false }
+pub place_made_full : (items kept_items : List Stored) (index maximum : ℕ) (run_open : Bool) (last : ℕ) (log : Log) → index ≤ length items → log_at (map splice_in items) index maximum run_open last ≡ log → length items ≡ maximum → 0 < index → kept_items ≡ take (index - 1) (drop 1 items) → log_at (map splice_in kept_items) (index - 1) maximum false last ≡ record log { done = remaining_done log; undone = []; run_open = false }
 place_made_full items kept_items index maximum run_open last log within view full some is =
     let test : (length items == maximum) ≡ true = eq-eqb (length items) maximum full in
     let one : 1 ≡ index - (index - 1) = omega arith in
@@ -260,10 +260,10 @@ place_made_full items kept_items index maximum run_open last log within view ful
     (is ∙ ap (λ n. take (index - 1) (drop n items)) one ∙ ap (λ b. take (index - 1) (cond b (drop (index - (index - 1)) items) items)) (sym test))
     (ap (λ b. cond b (index - 1) index) (sym test))
 
-pub place_made_rest : (items kept_items : List Stored) (index maximum : ℕ) (run_open : Bool) (last : ℕ) (log : Log) → index ≤ length items → log_at (map splice_in items) index maximum run_open last ≡ log → (length items ≡ maximum → index ≡ 0) → kept_items ≡ take index items → log_at (map splice_in kept_items) index maximum false last ≡ record log { done = kept log; undone = []; run_open = false }
+pub place_made_rest : (items kept_items : List Stored) (index maximum : ℕ) (run_open : Bool) (last : ℕ) (log : Log) → index ≤ length items → log_at (map splice_in items) index maximum run_open last ≡ log → (length items ≡ maximum → index ≡ 0) → kept_items ≡ take index items → log_at (map splice_in kept_items) index maximum false last ≡ record log { done = remaining_done log; undone = []; run_open = false }
 place_made_rest items kept_items index maximum run_open last log within view free is = by (length items == maximum) refl
   where
-    by : (b : Bool) → (length items == maximum) ≡ b → log_at (map splice_in kept_items) index maximum false last ≡ record log { done = kept log; undone = []; run_open = false }
+    by : (b : Bool) → (length items == maximum) ≡ b → log_at (map splice_in kept_items) index maximum false last ≡ record log { done = remaining_done log; undone = []; run_open = false }
     by false test =
         place_made items kept_items index index maximum run_open last log within view
         (is ∙ ap (λ b. take index (cond b (drop (index - index) items) items)) (sym test)) (ap (λ b. cond b (index - 1) index) (sym test))
@@ -302,7 +302,7 @@ store_appended items new_items index maximum run typed was edit store none below
     (sym (ap (λ t. get_or t (length items) edit) is ∙ get_or_at items edit [] edit (length items) refl)) in
     record { sound = All-same IsWellFormed new_items (items ++ edit ∷ []) is (All-push IsWellFormed items edit store.sound formed); within = omega arith; bounded = omega arith; run_is = by typed grows one size read }
   where
-    by : (t : Option ℕ) → IfSome t (λ c. edit.grows ≡ true) → IfSome t (λ c. was.symbols ≡ Character c ∷ []) → length new_items ≡ index + 1 → slice_get new_items (length new_items - 1) ≡ Some edit → RunIs new_items (index + 1) t
+    by : (t : Option ℕ) → IfSome t (λ c. edit.grows ≡ true) → IfSome t (λ c. was.symbols ≡ Character c ∷ []) → length new_items ≡ index + 1 → slice_get new_items (length new_items - 1) ≡ Some edit → IsRunEdge new_items (index + 1) t
     by None grows one size read = tt
     by (Some c) grows one size read = (
       sym size,
@@ -351,7 +351,7 @@ next_within items index maximum run_open last log within view some = by (nat_lt 
         let no : false ≡ true = subst (λ (o : Option Splice). IsSome o) (next_none items index maximum run_open last whole) (subst (λ (l : Log). IsSome (next l)) (sym view) some) in cc
 
 -- the newest edit is undone
-pub stepped_back : (items : List Stored) (index maximum : ℕ) (run_open : Bool) (last : ℕ) (log : Log) → index ≤ length items → log_at (map splice_in items) index maximum run_open last ≡ log → 0 < index → (splice : Splice) → newest log ≡ Some splice → log_at (map splice_in items) (index - 1) maximum false last ≡ taken_back log splice
+pub stepped_back : (items : List Stored) (index maximum : ℕ) (run_open : Bool) (last : ℕ) (log : Log) → index ≤ length items → log_at (map splice_in items) index maximum run_open last ≡ log → 0 < index → (splice : Splice) → newest log ≡ Some splice → log_at (map splice_in items) (index - 1) maximum false last ≡ undone_log log splice
 stepped_back items index maximum run_open last log within view some splice e =
     let splices = map splice_in items in
     let old = log_at splices index maximum run_open last in
@@ -366,10 +366,10 @@ stepped_back items index maximum run_open last log within view some splice e =
     drop_more splices (index - 1) splice (omega (arith, length-map items splice_in)) ∙ ap (λ (s : Splice). s ∷ drop (index - 1 + 1) splices) (sym read) ∙ ap (λ n. splice ∷ drop n splices) back in
     ap (λ (d : List Splice). record { done = d; undone = drop (index - 1) splices; maximum = maximum; run_open = false; last = last }) done
     ∙ ap (λ (u : List Splice). record { done = take (length (take index splices) - 1) (take index splices); undone = u; maximum = maximum; run_open = false; last = last }) undone
-    ∙ ap (λ (l : Log). taken_back l splice) view
+    ∙ ap (λ (l : Log). undone_log l splice) view
 
 -- the edit that was undone last is redone
-pub stepped_forward : (items : List Stored) (index maximum : ℕ) (run_open : Bool) (last : ℕ) (log : Log) → index < length items → log_at (map splice_in items) index maximum run_open last ≡ log → (splice : Splice) → next log ≡ Some splice → log_at (map splice_in items) (index + 1) maximum false last ≡ made_again log splice
+pub stepped_forward : (items : List Stored) (index maximum : ℕ) (run_open : Bool) (last : ℕ) (log : Log) → index < length items → log_at (map splice_in items) index maximum run_open last ≡ log → (splice : Splice) → next log ≡ Some splice → log_at (map splice_in items) (index + 1) maximum false last ≡ redone_log log splice
 stepped_forward items index maximum run_open last log within view splice e =
     let splices = map splice_in items in
     let here : index < length splices = omega (arith, length-map items splice_in) in
@@ -381,7 +381,7 @@ stepped_forward items index maximum run_open last log within view splice e =
     let undone : drop (index + 1) splices ≡ drop 1 (drop index splices) = ap (drop 1) (sym first) in
     ap (λ (d : List Splice). record { done = d; undone = drop (index + 1) splices; maximum = maximum; run_open = false; last = last }) done
     ∙ ap (λ (u : List Splice). record { done = take index splices ++ splice ∷ []; undone = u; maximum = maximum; run_open = false; last = last }) undone
-    ∙ ap (λ (l : Log). made_again l splice) view
+    ∙ ap (λ (l : Log). redone_log l splice) view
 
 -- the done and undone edits are those of the store
 pub bounded_log : (items : List Stored) (index maximum : ℕ) (run_open : Bool) (last : ℕ) (log : Log) → length items ≤ maximum → log_at (map splice_in items) index maximum run_open last ≡ log → length log.done + length log.undone ≤ maximum

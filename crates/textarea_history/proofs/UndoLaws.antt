@@ -1,7 +1,7 @@
 -- Splices one after another, and the undo of a run with the edit that joins it.
 use Rattle.std.proofs.Common.{◌≡◌, ◌<◌, arith, Bool, true, false, not, List, [], ◌∷◌, ◌++◌, length, drop, sym, ap, refl, ◌∙◌, subst}
 use Rattle.std.proofs.lemmas.List.{append_assoc, length-append, take-append-drop}
-use Rattle.textarea_history.specs.Prelude.{Symbol, Place, IsPlace, StandsAt, end, inserted, removed, Splice, Fits, applied, inverse, place_before, place_after, CanApply, CanTakeBack, applied_all, merged}
+use Rattle.textarea_history.specs.Prelude.{Symbol, Place, IsPlace, OccursAt, end, inserted, removed, Splice, Fits, applied, inverse, place_before, place_after, CanApply, CanUndo, applied_all, merged}
 use Rattle.textarea_text.proofs.Splices.{end-append, inserted_at, removed_at, stands_at}
 use Rattle.textarea_text.proofs.TextPlaces.{parted, standing, place_parted, index_parted}
 
@@ -33,7 +33,7 @@ record Held (text : List Symbol) (place : Place) (symbols : List Symbol) : Type 
   is : text ≡ front ++ (symbols ++ rest)
   ends : end (0, 0) front ≡ place
 
-held : (text : List Symbol) (place : Place) (symbols : List Symbol) → IsPlace text place → StandsAt text place symbols → Held text place symbols
+held : (text : List Symbol) (place : Place) (symbols : List Symbol) → IsPlace text place → OccursAt text place symbols → Held text place symbols
 held text place symbols h stands =
     let parts = parted text place h in
     record {
@@ -47,7 +47,7 @@ held text place symbols h stands =
 behind : (front symbols : List Symbol) (place to : Place) → end (0, 0) front ≡ place → end place symbols ≡ to → end (0, 0) (front ++ symbols) ≡ to
 behind front symbols place to e e' = end-append (0, 0) front symbols ∙ ap (λ (p : Place). end p symbols) e ∙ e'
 
-merges_inserted : (text : List Symbol) (p q : Place) (s c : List Symbol) → 0 < length s → IsPlace text p → StandsAt text p s → end p s ≡ q → Merges text (record { place = p; symbols = s; inserts = true }) (record { place = q; symbols = c; inserts = true })
+merges_inserted : (text : List Symbol) (p q : Place) (s c : List Symbol) → 0 < length s → IsPlace text p → OccursAt text p s → end p s ≡ q → Merges text (record { place = p; symbols = s; inserts = true }) (record { place = q; symbols = c; inserts = true })
 merges_inserted text p q s c some h stands e =
     let parts = held text p s h stands in
     let f = parts.front in
@@ -60,13 +60,13 @@ merges_inserted text p q s c some h stands e =
       fits = record {
         some = omega (arith, length-append s c);
         is_place = subst (λ t. IsPlace t p) (sym now) (place_parted p f ((s ++ c) ++ r) parts.ends);
-        allowed = subst (λ t. StandsAt t p (s ++ c)) (sym now) (stands_at f r (s ++ c) p (index_parted p f ((s ++ c) ++ r) parts.ends));
+        allowed = subst (λ t. OccursAt t p (s ++ c)) (sym now) (stands_at f r (s ++ c) p (index_parted p f ((s ++ c) ++ r) parts.ends));
       };
       back = ap (λ t. removed t p (s ++ c)) now ∙ removed_at f r (s ++ c) p (index_parted p f ((s ++ c) ++ r) parts.ends)
           ∙ sym (ap (λ t. removed t p s) parts.is ∙ removed_at f r s p (index_parted p f (s ++ r) parts.ends));
     }
 
-merges_removed : (text : List Symbol) (p q : Place) (s c : List Symbol) → 0 < length s → IsPlace text q → StandsAt text q c → end q c ≡ p → Merges text (record { place = p; symbols = s; inserts = false }) (record { place = q; symbols = c; inserts = false })
+merges_removed : (text : List Symbol) (p q : Place) (s c : List Symbol) → 0 < length s → IsPlace text q → OccursAt text q c → end q c ≡ p → Merges text (record { place = p; symbols = s; inserts = false }) (record { place = q; symbols = c; inserts = false })
 merges_removed text p q s c some h stands e =
     let parts = held text q c h stands in
     let g = parts.front in
@@ -89,7 +89,7 @@ merges text run edit back fits same meets = by run.inserts edit.inserts same run
     by false true same p q s c back fits meets = absurd cc
 
 -- so if the edits of a log can be undone, they can be after an edit joins the newest one
-pub CanTakeBack-merged : (text : List Symbol) (run edit : Splice) (rest : List Splice) → CanTakeBack text (run ∷ rest) → Fits text edit → edit.inserts ≡ run.inserts → place_after run ≡ place_before edit → CanTakeBack (applied text edit) (merged run edit ∷ rest)
-CanTakeBack-merged text run edit rest can fits same meets =
+pub CanUndo-merged : (text : List Symbol) (run edit : Splice) (rest : List Splice) → CanUndo text (run ∷ rest) → Fits text edit → edit.inserts ≡ run.inserts → place_after run ≡ place_before edit → CanUndo (applied text edit) (merged run edit ∷ rest)
+CanUndo-merged text run edit rest can fits same meets =
     let m = merges text run edit can.0 fits same meets in
-    (m.fits, subst (λ t. CanTakeBack t rest) (sym m.back) can.1)
+    (m.fits, subst (λ t. CanUndo t rest) (sym m.back) can.1)

@@ -12,8 +12,8 @@ pub record FitsLines {Z : Type 0} (strings : List (String Z)) (splice : Splice) 
   pub fits : Fits (text_of strings) splice
 
 -- the splice turns the first lines into the second ones: their text is the one after it
-abbrev pub Makes : {Z : Type 0} → Splice → List (String Z) → List (String Z) → Type 0
-Makes splice old new = text_of new ≡ applied (text_of old) splice
+abbrev pub MakesLines : {Z : Type 0} → Splice → List (String Z) → List (String Z) → Type 0
+MakesLines splice old new = text_of new ≡ applied (text_of old) splice
 
 -- the splice removes symbols within one line
 abbrev pub IsRemovalInLine : Splice → Type 0

@@ -31,10 +31,10 @@ inserts_of (InsertChunk pieces) = true
 inserts_of (DeleteChunk pieces) = false
 
 -- the number of lines of a fragment
-abbrev pub pieces_of : EditKind → Option ℕ
-pieces_of (InsertChunk pieces) = Some (length pieces.items)
-pieces_of (DeleteChunk pieces) = Some (length pieces.items)
-pieces_of kind = None
+abbrev pub line_count_of : EditKind → Option ℕ
+line_count_of (InsertChunk pieces) = Some (length pieces.items)
+line_count_of (DeleteChunk pieces) = Some (length pieces.items)
+line_count_of kind = None
 
 -- a copy of a kind is of the same variant, with the same character, or the same characters in its
 -- text or in each of its lines
@@ -106,9 +106,9 @@ symbols_in inserts (content.Typed s) = characters (cond inserts (characters_of s
 symbols_in inserts content.Break = Break ∷ []
 symbols_in inserts (content.Chunk pieces) = joined (lines_of pieces.items)
 
-abbrev pub pieces_in : Content → Option ℕ
-pieces_in (content.Chunk pieces) = Some (length pieces.items)
-pieces_in other = None
+abbrev pub line_count_in : Content → Option ℕ
+line_count_in (content.Chunk pieces) = Some (length pieces.items)
+line_count_in other = None
 
 -- whether it can grow as a run
 abbrev pub grows_of : Content → Bool
@@ -125,7 +125,7 @@ abbrev pub stored_of : Content → Bool → Place → Place → Stored
 stored_of kept inserts start to = record {
   splice = record { place = start; symbols = symbols_in inserts kept; inserts = inserts };
   end = to;
-  pieces = pieces_in kept;
+  pieces = line_count_in kept;
   grows = grows_of kept;
   spare = spare_of kept;
 }
@@ -133,5 +133,5 @@ stored_of kept inserts start to = record {
 -- a copy of a content has the same symbols in either direction
 pub record IsCopyOfContent (kept copy : Content) : Type 0 where
   pub symbols : (inserts : Bool) → symbols_in inserts copy ≡ symbols_in inserts kept
-  pub pieces : pieces_in copy ≡ pieces_in kept
+  pub pieces : line_count_in copy ≡ line_count_in kept
   pub grows : grows_of copy ≡ grows_of kept

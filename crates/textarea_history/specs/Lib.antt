@@ -2,7 +2,7 @@ pub mod Change
 pub mod Edit
 pub mod Run
 pub mod EditLaw
-pub mod Law
+pub mod HistoryLaw
 pub mod Log
 pub mod Store
 pub mod Prelude

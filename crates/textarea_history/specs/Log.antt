@@ -4,7 +4,7 @@ use Rattle.std.specs.Char.{is_whitespace}
 use Rattle.textarea_text.specs.Text.{Symbol, Character, Break, text_of}
 use Rattle.textarea_text.specs.Place.{Place}
 use Rattle.textarea_text.specs.Splice.{Splice, applied, inverse, place_before, place_after}
-use Rattle.textarea_text.specs.Words.{class_of, is_same}
+use Rattle.textarea_text.specs.Words.{class_of, is_same_class}
 use Rattle.textarea_history.specs.Run.{character_of, merged}
 
 -- the done edits, the newest last; the undone ones, the next to redo first; their greatest number;
@@ -33,24 +33,24 @@ abbrev pub edge_of : Splice → Option Symbol
 edge_of run = slice_get run.symbols (if run.inserts then length run.symbols - 1 else 0)
 
 -- a character continues a run if it is whitespace, or of the class of the run's edge
-abbrev pub goes_on : Option Symbol → Option ℕ → Bool
-goes_on edge None = false
-goes_on None (Some c) = is_whitespace c
-goes_on (Some Break) (Some c) = is_whitespace c
-goes_on (Some (Character d)) (Some c) = is_whitespace c || is_same (class_of d) (class_of c)
+abbrev pub continues_run : Option Symbol → Option ℕ → Bool
+continues_run edge None = false
+continues_run None (Some c) = is_whitespace c
+continues_run (Some Break) (Some c) = is_whitespace c
+continues_run (Some (Character d)) (Some c) = is_whitespace c || is_same_class (class_of d) (class_of c)
 
 abbrev pub is_same_direction : Bool → Bool → Bool
 is_same_direction true other = other
 is_same_direction false other = if other then false else true
 
-abbrev pub is_same_place : Place → Place → Bool
-is_same_place first second = (first.0 == second.0) && (first.1 == second.1)
+abbrev pub is_run_end : Place → Place → Bool
+is_run_end first second = (first.0 == second.0) && (first.1 == second.1)
 
 -- the edit continues the run where it ended
 abbrev pub continues : Splice → Splice → Bool
 continues run edit =
     is_same_direction run.inserts edit.inserts
-    && (is_same_place (place_after run) (place_before edit) && goes_on (edge_of run) (character_of edit.symbols))
+    && (is_run_end (place_after run) (place_before edit) && continues_run (edge_of run) (character_of edit.symbols))
 
 abbrev pub continues_newest : Option Splice → Splice → Bool
 continues_newest None edit = false
@@ -83,14 +83,14 @@ grown None edit = edit
 grown (Some run) edit = merged run edit
 
 -- the done edits that stay when one more is recorded
-abbrev pub kept : Log → List Splice
-kept log = if length log.done + length log.undone == log.maximum then drop 1 log.done else log.done
+abbrev pub remaining_done : Log → List Splice
+remaining_done log = if length log.done + length log.undone == log.maximum then drop 1 log.done else log.done
 
 abbrev pub done_joined : Log → Splice → List Splice
 done_joined log edit = take (length log.done - 1) log.done ++ grown (newest log) edit ∷ []
 
 abbrev pub done_appended : Log → Splice → List Splice
-done_appended log edit = kept log ++ edit ∷ []
+done_appended log edit = remaining_done log ++ edit ∷ []
 
 abbrev pub done_after : Log → Splice → Bool → List Splice
 done_after log edit joined = if joined then done_joined log edit else done_appended log edit
@@ -107,18 +107,18 @@ recorded log edit coalesce now =
 -- ---- undo and redo
 
 -- the log after the newest edit is undone
-abbrev pub taken_back : Log → Splice → Log
-taken_back log splice = record log { done = take (length log.done - 1) log.done; undone = splice ∷ log.undone; run_open = false }
+abbrev pub undone_log : Log → Splice → Log
+undone_log log splice = record log { done = take (length log.done - 1) log.done; undone = splice ∷ log.undone; run_open = false }
 
 -- the edit to redo next, and the log after that
 abbrev pub next : Log → Option Splice
 next log = slice_get log.undone 0
 
-abbrev pub made_again : Log → Splice → Log
-made_again log splice = record log { done = log.done ++ splice ∷ []; undone = drop 1 log.undone; run_open = false }
+abbrev pub redone_log : Log → Splice → Log
+redone_log log splice = record log { done = log.done ++ splice ∷ []; undone = drop 1 log.undone; run_open = false }
 
 -- what a history holds, and the number of edits that it can record without allocating
-pub record Kept : Type 0 where
+pub record StoredLog : Type 0 where
   pub log : Log
   pub room : ℕ
 
@@ -136,7 +136,7 @@ logged_of lines log = record { text = text_of lines; log = log }
 -- the text and its log after the newest edit is undone, if there is one
 abbrev pub undone_by : Option Splice → Logged → Logged
 undone_by None logged = logged
-undone_by (Some splice) logged = record { text = applied logged.text (inverse splice); log = taken_back logged.log splice }
+undone_by (Some splice) logged = record { text = applied logged.text (inverse splice); log = undone_log logged.log splice }
 
 abbrev pub undone : Logged → Logged
 undone logged = undone_by (newest logged.log) logged
@@ -144,7 +144,7 @@ undone logged = undone_by (newest logged.log) logged
 -- the text and its log after the edit that was undone last is redone, if there is one
 abbrev pub redone_by : Option Splice → Logged → Logged
 redone_by None logged = logged
-redone_by (Some splice) logged = record { text = applied logged.text splice; log = made_again logged.log splice }
+redone_by (Some splice) logged = record { text = applied logged.text splice; log = redone_log logged.log splice }
 
 abbrev pub redone : Logged → Logged
 redone logged = redone_by (next logged.log) logged

@@ -30,9 +30,9 @@ pub record IsRun (edit : Stored) (edge : ℕ) : Type 0 where
   pub grows : edit.grows ≡ true
   pub edge_is : edge_of edit.splice ≡ Some (Character edge)
 
-abbrev pub RunIs : List Stored → ℕ → Option ℕ → Type 0
-RunIs items index None = Unit {0}
-RunIs items index (Some edge) =
+abbrev pub IsRunEdge : List Stored → ℕ → Option ℕ → Type 0
+IsRunEdge items index None = Unit {0}
+IsRunEdge items index (Some edge) =
     (index ≡ length items) × (0 < length items)
     × IfSome (slice_get items (length items - 1)) (λ edit. IsRun edit edge)
 
@@ -41,4 +41,4 @@ pub record IsStore (items : List Stored) (index maximum : ℕ) (run : Option ℕ
   pub sound : All IsWellFormed items
   pub within : index ≤ length items
   pub bounded : length items ≤ maximum
-  pub run_is : RunIs items index run
+  pub run_is : IsRunEdge items index run

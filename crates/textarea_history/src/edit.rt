@@ -4,8 +4,8 @@ mod run;
 
 ghost use Rattle.std.specs.Prelude.{◌≡◌, ◌<◌, ◌∷◌, [], IsOk, None, OnOk, OnErr, vec_len, true, false};
 ghost use Rattle.textarea_text.specs.Text.{symbol_in};
-ghost use Rattle.textarea_history.specs.Edit.{inserts_of, pieces_of, symbols_of};
-ghost use Rattle.textarea_history.specs.Prelude.{inverse, place_after, place_before, FitsLines, IsRemovalInLine, Makes};
+ghost use Rattle.textarea_history.specs.Edit.{inserts_of, line_count_of, symbols_of};
+ghost use Rattle.textarea_history.specs.Prelude.{inverse, place_after, place_before, FitsLines, IsRemovalInLine, MakesLines};
 
 pub use change::Change;
 use std::alloc::AllocError;
@@ -50,7 +50,7 @@ impl Clone for EditKind {
 pub fn deletion_of(character: Option<char>) -> EditKind
     ensures symbols { symbols_of result ≡ symbol_in character ∷ [] }
     ensures inserts { inserts_of result ≡ false }
-    ensures pieces { pieces_of result ≡ None }
+    ensures pieces { line_count_of result ≡ None }
 {
     match character {
         Some(c) => EditKind::DeleteChar(c),
@@ -121,7 +121,7 @@ impl Clone for Edit {
 }
 
 impl Edit {
-    ghost use Rattle.textarea_history.specs.Edit.{IsWellFormed, after_of, before_of, pieces_of, splice_of, end_of_kind, stored_of};
+    ghost use Rattle.textarea_history.specs.Edit.{IsWellFormed, after_of, before_of, line_count_of, splice_of, end_of_kind, stored_of};
 
     /// Creates an edit from the cursor's positions before and after it. Ignores their byte offsets.
     pub fn new(kind: EditKind, before: Pos, after: Pos) -> Self
@@ -129,7 +129,7 @@ impl Edit {
             ≡ splice_of kind (before.row, before.col) (after.row, after.col) }
         ensures end { result.end
             ≡ end_of_kind kind (before.row, before.col) (after.row, after.col) }
-        ensures pieces { result.pieces ≡ pieces_of kind }
+        ensures pieces { result.pieces ≡ line_count_of kind }
     {
         Edit::between(kind, (before.row, before.col), (after.row, after.col))
     }
@@ -138,7 +138,7 @@ impl Edit {
     pub fn between(kind: EditKind, before: (usize, usize), after: (usize, usize)) -> Self
         ensures splice { result.splice ≡ splice_of kind before after }
         ensures end { result.end ≡ end_of_kind kind before after }
-        ensures pieces { result.pieces ≡ pieces_of kind }
+        ensures pieces { result.pieces ≡ line_count_of kind }
     {
         match kind {
             EditKind::InsertChar(c) => Edit::insertion(Content::Character(c), before, after),
@@ -216,7 +216,7 @@ impl Edit {
     pub fn redo(&self, lines: &mut Vec<String>) -> Result<(), AllocError>
         requires well_formed { IsWellFormed self.now }
         requires fits { FitsLines lines.old.items self.now.splice }
-        ensures ok { OnOk result (Makes self.now.splice lines.old.items lines.new.items) }
+        ensures ok { OnOk result (MakesLines self.now.splice lines.old.items lines.new.items) }
         ensures err { OnErr result (lines.new.items ≡ lines.old.items) }
         ensures nonempty { 0 < vec_len lines.new }
         ensures no_memory { IsRemovalInLine self.now.splice → IsOk result }
@@ -228,7 +228,8 @@ impl Edit {
     pub fn undo(&self, lines: &mut Vec<String>) -> Result<(), AllocError>
         requires well_formed { IsWellFormed self.now }
         requires fits { FitsLines lines.old.items (inverse self.now.splice) }
-        ensures ok { OnOk result (Makes (inverse self.now.splice) lines.old.items lines.new.items) }
+        ensures ok { OnOk result
+            (MakesLines (inverse self.now.splice) lines.old.items lines.new.items) }
         ensures err { OnErr result (lines.new.items ≡ lines.old.items) }
         ensures nonempty { 0 < vec_len lines.new }
         ensures no_memory { IsRemovalInLine (inverse self.now.splice) → IsOk result }

@@ -2,7 +2,7 @@
 pub mod laws;
 
 ghost use Rattle.std.specs.Prelude.{drop, ◌≡◌, ◌<◌, ◌≤◌, ◌+◌, length, OnOk, OnErr, IfOk, IfSome, IsSome, IsOk, MatchOption, Some, ◌∷◌, [], vec_len, true, false};
-ghost use Rattle.textarea_history.specs.Prelude.{deque_capacity, as_nanos, Character, Splice, inverse, FitsLines, IsWellFormed, continues, edge_of, empty_log, recorded, joins, typed_character, with_done, done_joined, done_appended, is_typed, kept, logged_of, Undoes, Redoes, newest, next, taken_back, made_again};
+ghost use Rattle.textarea_history.specs.Prelude.{deque_capacity, as_nanos, Character, Splice, inverse, FitsLines, IsWellFormed, continues, edge_of, empty_log, recorded, joins, typed_character, with_done, done_joined, done_appended, is_typed, remaining_done, logged_of, Undoes, Redoes, newest, next, undone_log, redone_log};
 
 pub use crate::edit::{Edit, EditKind};
 use std::alloc::{AllocError, Global};
@@ -29,9 +29,9 @@ impl Model for History {
     ghost use Rattle.std.specs.Prelude.{◌-◌, map, is_some};
     ghost use Rattle.std.specs.VecDeque.{deque_len, deque_capacity};
     ghost use Rattle.std.specs.Duration.{as_nanos};
-    ghost use Rattle.textarea_history.specs.Log.{Kept};
+    ghost use Rattle.textarea_history.specs.Log.{StoredLog};
 
-    ghost Value = { Kept };
+    ghost Value = { StoredLog };
 
     ghost use Rattle.textarea_history.specs.Store.{IsStore, log_at, room_at, splice_in};
 
@@ -169,7 +169,7 @@ impl History {
             (done_appended self.old.log edit.splice) (is_typed edit.splice coalesce)
             (as_nanos now) }
     {
-        self.make_place();
+        self.drop_excess();
         let typed = typed_character(&edit, coalesce);
         edit.start_run(typed);
         let _ = self.items.push_back(edit);
@@ -179,11 +179,12 @@ impl History {
     }
 
     /// Drops the undone edits, and also the oldest done one if the history is full.
-    fn make_place(&mut self)
+    fn drop_excess(&mut self)
         requires room { 0 < self.old.room }
         requires some { 0 < self.old.log.maximum }
         ensures log { self.new.log
-            ≡ record self.old.log { done = kept self.old.log; undone = []; run_open = false } }
+            ≡ record self.old.log
+            { done = remaining_done self.old.log; undone = []; run_open = false } }
         ensures place { length self.new.log.done < self.new.log.maximum }
         ensures room { 0 < self.new.room }
     {
@@ -223,7 +224,7 @@ impl History {
     pub fn step_back(&mut self)
         requires { IsSome (newest self.old.log) }
         ensures { (splice : Splice) → newest self.old.log ≡ Some splice →
-            self.new.log ≡ taken_back self.old.log splice }
+            self.new.log ≡ undone_log self.old.log splice }
     {
         self.index -= 1;
         self.run = None;
@@ -233,7 +234,7 @@ impl History {
     pub fn step_forward(&mut self)
         requires { IsSome (next self.old.log) }
         ensures { (splice : Splice) → next self.old.log ≡ Some splice →
-            self.new.log ≡ made_again self.old.log splice }
+            self.new.log ≡ redone_log self.old.log splice }
     {
         self.index += 1;
         self.run = None;

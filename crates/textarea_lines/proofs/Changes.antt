@@ -15,14 +15,14 @@ use Rattle.textarea_util.proofs.Replacing.{length-replaced}
 use Rattle.textarea_text.proofs.Sizes.{size_of_text, weight_inserted, weight_removed}
 use Rattle.textarea_wrap.specs.RowsView.{RowsView}
 use Rattle.textarea_screen_map.specs.declared.layout.Wrapping.{Wrapping}
-use Rattle.textarea_screen_map.specs.Layout.{AreRowsOf, ticks_behind, ticks_of, with_tab_len}
+use Rattle.textarea_screen_map.specs.LineRows.{AreRowsOf, ticks_after, ticks_of, with_tab_len}
 use Rattle.textarea_screen_map.specs.Map.{MapView}
 use Rattle.textarea_lines.specs.declared.settings.LayoutSettings.{LayoutSettings}
-use Rattle.textarea_lines.specs.Layout.{LaidOut, applied_to, laid_out_anew, after_replacement, replaced_in, wrapping_of}
+use Rattle.textarea_lines.specs.TextLayout.{TextAndLayout, applied_to, layout_from_scratch, after_replacement, replaced_in, wrapping_of}
 use Rattle.textarea_lines.specs.Stored.{IsStored, HoldsRows}
-use Rattle.textarea_lines.specs.Wrappings.{is_same, is_wrapped, wrapping_for}
+use Rattle.textarea_lines.specs.Wrappings.{is_same_wrapping, is_wrapped, wrapping_for}
 use Rattle.textarea_lines.proofs.Layouts.{map-replaced}
-use Rattle.textarea_lines.proofs.SameCuts.{kept_whole, kept_wrapped}
+use Rattle.textarea_lines.proofs.SameWraps.{kept_whole, kept_wrapped}
 use Rattle.textarea_lines.proofs.Stores.{count_held, lines_held, seen}
 
 -- the text of the new lines
@@ -51,7 +51,7 @@ holds_replaced settings old now new row count size n map h n_is wrapping right s
     record {
       stored = record { some = some; size_is = omega (arith, size_is, size_of_text now some, ap weight (text_now old now new row count h)); limit = limit };
       wrapping_is = wrapping ∙ ap (wrapping_for settings) (sym long);
-      laid_out = rw h.now_is right;
+      text_layout = rw h.now_is right;
     }
 
 pub layout_replaced : {Z : Type 0} (settings : LayoutSettings) (old now new : List (String Z)) (row count n before after : ℕ) (first rows : List RowsView) → Replacing old now new row count → n ≡ length new → record { settings = settings; count = after; ticks = ticks_of rows } ≡ after_replacement (record { settings = settings; count = before; ticks = ticks_of first }) (length old) row count n → seen settings now after rows ≡ replaced_in (seen settings old before first) row count (lines_of new)
@@ -61,8 +61,8 @@ layout_replaced settings old now new row count n before after first rows h n_is 
 -- ---- a change
 
 -- a replacement that makes a splice of the lines makes it of the text
-pub made : (laid : LaidOut) (items lent : List (String Global)) (replacement : Replacement) (splice : Splice) → 0 < length items → text_of items ≡ laid.text → lent ≡ items → IsReplacementFor lent splice replacement → replaced_in laid replacement.row replacement.count (lines_of replacement.lines.items) ≡ applied_to laid splice
-made laid items lent replacement splice some is lent_is h = grind (arith, common_steps, text_replaced, length-map)
+pub made : (text_layout : TextAndLayout) (items lent : List (String Global)) (replacement : Replacement) (splice : Splice) → 0 < length items → text_of items ≡ text_layout.text → lent ≡ items → IsReplacementFor lent splice replacement → replaced_in text_layout replacement.row replacement.count (lines_of replacement.lines.items) ≡ applied_to text_layout splice
+made text_layout items lent replacement splice some is lent_is h = grind (arith, common_steps, text_replaced, length-map)
 
 -- the size after a change
 pub size_made : {Z : Type 0} (items : List (String Z)) (text : List Symbol) (size after : ℕ) (splice : Splice) → IsStored items size → text_of items ≡ text → Fits text splice → after ≡ cond splice.inserts (size + weight splice.symbols) (size - weight splice.symbols) → after ≡ weight (applied text splice) + 1
@@ -76,26 +76,26 @@ size_made items text size after splice stored is fits after_is =
 -- ---- all lines
 
 -- some lines, all of which are wrapped
-pub laid_new : {Z : Type 0} (settings : LayoutSettings) (items lent : List (String Z)) (old count : ℕ) (rows : List RowsView) → 0 < length items → lent ≡ items → count ≡ old + length lent → ticks_of rows ≡ ticks_behind old (length lent) → seen settings items count rows ≡ laid_out_anew settings old (text_of items)
+pub laid_new : {Z : Type 0} (settings : LayoutSettings) (items lent : List (String Z)) (old count : ℕ) (rows : List RowsView) → 0 < length items → lent ≡ items → count ≡ old + length lent → ticks_of rows ≡ ticks_after old (length lent) → seen settings items count rows ≡ layout_from_scratch settings old (text_of items)
 laid_new settings items lent old count rows some lent_is counted ticks =
     cc (count_held items some)
 
 -- how lines are wrapped under old and new settings
-pub record Reviewing {Z : Type 0} (old settings : LayoutSettings) (items : List (String Z)) (count : ℕ) (rows : List RowsView) (laid : LaidOut) (before after : Wrapping) : Type 0 where
+pub record Reviewing {Z : Type 0} (old settings : LayoutSettings) (items : List (String Z)) (count : ℕ) (rows : List RowsView) (text_layout : TextAndLayout) (before after : Wrapping) : Type 0 where
   pub some : 0 < length items
-  pub is : seen old items count rows ≡ laid
+  pub is : seen old items count rows ≡ text_layout
   pub before_is : before ≡ wrapping_for old (length items)
   pub after_is : after ≡ wrapping_for settings (length items)
 
-pub test_is : {Z : Type 0} (old settings : LayoutSettings) (items : List (String Z)) (count : ℕ) (rows : List RowsView) (laid : LaidOut) (before after : Wrapping) → Reviewing old settings items count rows laid before after → is_same (wrapping_for settings (length (lines laid.text))) (wrapping_of laid) ≡ is_same after before
-test_is old settings items count rows laid before after h =
+pub test_is : {Z : Type 0} (old settings : LayoutSettings) (items : List (String Z)) (count : ℕ) (rows : List RowsView) (text_layout : TextAndLayout) (before after : Wrapping) → Reviewing old settings items count rows text_layout before after → is_same_wrapping (wrapping_for settings (length (lines text_layout.text))) (wrapping_of text_layout) ≡ is_same_wrapping after before
+test_is old settings items count rows text_layout before after h =
     rw (← h.is, count_held items h.some, h.after_is, h.before_is)
 
 -- if lines are wrapped as before, their rows remain right: those of whole lines at other tab stops
-pub holds_wrapped : {Z : Type 0} (old settings : LayoutSettings) (items : List (String Z)) (size : ℕ) (map : MapView) → is_wrapped settings ≡ true → is_same (wrapping_for settings (length items)) map.wrapping ≡ true → HoldsRows old items size map → HoldsRows settings items size map
+pub holds_wrapped : {Z : Type 0} (old settings : LayoutSettings) (items : List (String Z)) (size : ℕ) (map : MapView) → is_wrapped settings ≡ true → is_same_wrapping (wrapping_for settings (length items)) map.wrapping ≡ true → HoldsRows old items size map → HoldsRows settings items size map
 holds_wrapped old settings items size map wrapped same k =
-    record { stored = k.stored; wrapping_is = kept_wrapped settings (length items) map.wrapping wrapped same; laid_out = k.laid_out }
+    record { stored = k.stored; wrapping_is = kept_wrapped settings (length items) map.wrapping wrapped same; text_layout = k.text_layout }
 
-pub holds_whole : {Z : Type 0} (old settings : LayoutSettings) (items : List (String Z)) (size : ℕ) (map now : MapView) → is_wrapped settings ≡ false → is_same (wrapping_for settings (length items)) map.wrapping ≡ true → HoldsRows old items size map → now.wrapping ≡ with_tab_len map.wrapping settings.tab_len → AreRowsOf now.wrapping (lines_of items) now.rows → HoldsRows settings items size now
+pub holds_whole : {Z : Type 0} (old settings : LayoutSettings) (items : List (String Z)) (size : ℕ) (map now : MapView) → is_wrapped settings ≡ false → is_same_wrapping (wrapping_for settings (length items)) map.wrapping ≡ true → HoldsRows old items size map → now.wrapping ≡ with_tab_len map.wrapping settings.tab_len → AreRowsOf now.wrapping (lines_of items) now.rows → HoldsRows settings items size now
 holds_whole old settings items size map now whole same k wrapping_is right =
-    record { stored = k.stored; wrapping_is = wrapping_is ∙ kept_whole old settings (length items) map.wrapping k.wrapping_is whole same; laid_out = right }
+    record { stored = k.stored; wrapping_is = wrapping_is ∙ kept_whole old settings (length items) map.wrapping k.wrapping_is whole same; text_layout = right }

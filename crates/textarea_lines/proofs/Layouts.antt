@@ -6,7 +6,7 @@ use Rattle.textarea_util.specs.Replaced.{replaced}
 use Rattle.textarea_text.specs.Text.{lines_of}
 use Rattle.textarea_wrap.specs.RowsView.{RowsView}
 use Rattle.textarea_screen_map.specs.declared.layout.Wrapping.{Wrapping}
-use Rattle.textarea_screen_map.specs.Layout.{AreRowsOf, ticks_behind}
+use Rattle.textarea_screen_map.specs.LineRows.{AreRowsOf, ticks_after}
 use Rattle.textarea_screen_map.proofs.Layouts.{ticks_append}
 
 -- ---- items that are replaced
@@ -23,6 +23,6 @@ pub rows_together : {Z : Type 0} (w : Wrapping) (items new above lent below : Li
 rows_together w items new above lent below row count rows a l b k =
     simp (map-append, ← a, ← l, ← b) (simp append_assoc at k)
 
-pub ticks_together : (t t' t'' t''' : List ℕ) (count first second a b d size : ℕ) → t ≡ [] → t' ≡ t ++ ticks_behind count a → first ≡ count + a → t'' ≡ t' ++ ticks_behind first b → second ≡ first + b → t''' ≡ t'' ++ ticks_behind second d → a + b + d ≡ size → t''' ≡ ticks_behind count size
+pub ticks_together : (t t' t'' t''' : List ℕ) (count first second a b d size : ℕ) → t ≡ [] → t' ≡ t ++ ticks_after count a → first ≡ count + a → t'' ≡ t' ++ ticks_after first b → second ≡ first + b → t''' ≡ t'' ++ ticks_after second d → a + b + d ≡ size → t''' ≡ ticks_after count size
 ticks_together t t' t'' t''' count first second a b d size none e1 c1 e2 c2 e3 sum =
     grind (arith, common_steps, ticks_append count a b, ticks_append count (a + b) d)

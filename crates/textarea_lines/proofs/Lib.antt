@@ -1,6 +1,6 @@
 mod Layouts
 mod Stores
-mod SameCuts
+mod SameWraps
 mod Preparing
 mod Changes
 mod Measuring
@@ -12,5 +12,5 @@ mod PutSettings
 mod MapWidths
 mod Splicing
 mod SplicedRows
-mod Cutting
-pub mod Founds
+mod Wrapping
+pub mod Positions

@@ -1,7 +1,7 @@
 -- Lists of rows that have the same ranges and the same ticks are one list.
 use Rattle.std.proofs.Common.{◌≡◌, ℕ, List, [], ◌∷◌, ap₂, map, refl}
 use Rattle.textarea_wrap.specs.RowsView.{RowsView}
-use Rattle.textarea_screen_map.specs.Layout.{ticks_of}
+use Rattle.textarea_screen_map.specs.LineRows.{ticks_of}
 
 pub rows_same : (rows others : List RowsView) → map (λ (r : RowsView). r.ranges) rows ≡ map (λ (r : RowsView). r.ranges) others → ticks_of rows ≡ ticks_of others → rows ≡ others
 rows_same [] [] ranges ticks = refl

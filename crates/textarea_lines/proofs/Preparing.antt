@@ -6,24 +6,24 @@ use Rattle.std.specs.declared.alloc.AllocError.{AllocError}
 use Rattle.std.proofs.lemmas.List.{length-map}
 use Rattle.textarea_text.specs.declared.rows.Replacement.{Replacement}
 use Rattle.textarea_screen_map.specs.Map.{MapView}
-use Rattle.textarea_screen_map.specs.Prepared.{IsReady, rows_in}
+use Rattle.textarea_screen_map.specs.Prepared.{CanPutRows, rows_in}
 use Rattle.textarea_screen_map.specs.declared.screen_map.PreparedRows.{PreparedRows}
 use Rattle.textarea_lines.specs.Replacing.{AreReadyRows, CanReplace}
 use Rattle.textarea_util.specs.Replaced.{replaced}
 use Rattle.textarea_text.specs.Text.{characters_of, lines_of}
 use Rattle.textarea_wrap.specs.RowsView.{RowsView}
 use Rattle.textarea_screen_map.specs.declared.layout.Wrapping.{Wrapping}
-use Rattle.textarea_screen_map.specs.Layout.{AreRowsOf, ticks_behind, ticks_of}
+use Rattle.textarea_screen_map.specs.LineRows.{AreRowsOf, ticks_after, ticks_of}
 use Rattle.textarea_screen_map.proofs.Layouts.{AreRowsOf-replaced, length-AreRowsOf}
 use Rattle.textarea_lines.specs.declared.settings.LayoutSettings.{LayoutSettings}
-use Rattle.textarea_lines.specs.Layout.{Layout, after_replacement, count_after, lines_after}
-use Rattle.textarea_lines.specs.Wrappings.{is_same, wrapping_for}
+use Rattle.textarea_lines.specs.TextLayout.{Layout, after_replacement, count_after, lines_after}
+use Rattle.textarea_lines.specs.Wrappings.{is_same_wrapping, wrapping_for}
 use Rattle.textarea_lines.proofs.Layouts.{map-replaced, replaced_whole}
-use Rattle.textarea_lines.proofs.SameCuts.{AreRowsOf-same}
+use Rattle.textarea_lines.proofs.SameWraps.{AreRowsOf-same}
 
 -- ---- rows
 
-rows_of_some : {Z : Type 0} (was now after : Wrapping) (items new lent : List (String Z)) (row count at number : ℕ) (rows cut others : List RowsView) → is_same after was ≡ true → after ≡ now → AreRowsOf was (lines_of items) rows → lent ≡ new → AreRowsOf after (lines_of lent) cut → at ≡ row → number ≡ count → others ≡ cut → AreRowsOf now (lines_of (replaced items row count new)) (replaced rows at number others)
+rows_of_some : {Z : Type 0} (was now after : Wrapping) (items new lent : List (String Z)) (row count at number : ℕ) (rows cut others : List RowsView) → is_same_wrapping after was ≡ true → after ≡ now → AreRowsOf was (lines_of items) rows → lent ≡ new → AreRowsOf after (lines_of lent) cut → at ≡ row → number ≡ count → others ≡ cut → AreRowsOf now (lines_of (replaced items row count new)) (replaced rows at number others)
 rows_of_some was now after items new lent row count at number rows cut others same is h lent_is k at_is number_is others_is =
     grind (arith, common_steps, map-replaced characters_of items new row count, AreRowsOf-replaced after (lines_of items) (lines_of new) rows cut row count (AreRowsOf-same after was (lines_of items) rows same h) (rw lent_is at k), AreRowsOf-same after was (lines_of items) rows same h)
 
@@ -36,19 +36,19 @@ rows_of_all now after lines n at number rows cut others size is k at_is number_i
 abbrev screen_at : LayoutSettings → ℕ → List ℕ → Layout
 screen_at settings count ticks = record { settings = settings; count = count; ticks = ticks }
 
-screen_of_some : (settings : LayoutSettings) (old count n row going coming size at number : ℕ) (rows cut others : List RowsView) → is_same (wrapping_for settings (n - going + coming)) (wrapping_for settings n) ≡ true → count ≡ old + size → size ≡ coming → ticks_of cut ≡ ticks_behind old size → at ≡ row → number ≡ going → others ≡ cut → screen_at settings count (ticks_of (replaced rows at number others)) ≡ after_replacement (screen_at settings old (ticks_of rows)) n row going coming
+screen_of_some : (settings : LayoutSettings) (old count n row going coming size at number : ℕ) (rows cut others : List RowsView) → is_same_wrapping (wrapping_for settings (n - going + coming)) (wrapping_for settings n) ≡ true → count ≡ old + size → size ≡ coming → ticks_of cut ≡ ticks_after old size → at ≡ row → number ≡ going → others ≡ cut → screen_at settings count (ticks_of (replaced rows at number others)) ≡ after_replacement (screen_at settings old (ticks_of rows)) n row going coming
 screen_of_some settings old count n row going coming size at number rows cut others same counted size_is ticks at_is number_is others_is =
     cc (map-replaced (λ (r : RowsView). r.tick) rows cut row going)
 
-screen_of_all : (settings : LayoutSettings) (old count n row going coming size at number : ℕ) (rows cut others : List RowsView) → is_same (wrapping_for settings (n - going + coming)) (wrapping_for settings n) ≡ false → length rows ≡ n → count ≡ old + size → size ≡ n - going + coming → ticks_of cut ≡ ticks_behind old size → at ≡ 0 → number ≡ n → others ≡ cut → screen_at settings count (ticks_of (replaced rows at number others)) ≡ after_replacement (screen_at settings old (ticks_of rows)) n row going coming
+screen_of_all : (settings : LayoutSettings) (old count n row going coming size at number : ℕ) (rows cut others : List RowsView) → is_same_wrapping (wrapping_for settings (n - going + coming)) (wrapping_for settings n) ≡ false → length rows ≡ n → count ≡ old + size → size ≡ n - going + coming → ticks_of cut ≡ ticks_after old size → at ≡ 0 → number ≡ n → others ≡ cut → screen_at settings count (ticks_of (replaced rows at number others)) ≡ after_replacement (screen_at settings old (ticks_of rows)) n row going coming
 screen_of_all settings old count n row going coming size at number rows cut others differs long counted size_is ticks at_is number_is others_is =
     cc (replaced_whole rows cut n long)
 
 -- ---- what is ready
 
 -- if lines are wrapped as before, the rows of the new lines
-pub some_ready : (settings : LayoutSettings) (lines lent : List (String Global)) (old now : MapView) (new : Replacement) (count after : ℕ) (wrapping : Wrapping) (r : Result PreparedRows AllocError) → CanReplace settings lines old new → now.rows ≡ old.rows → lent ≡ new.lines.items → wrapping ≡ wrapping_for settings (count_after (length lines) new) → is_same wrapping old.wrapping ≡ true →
-    IfOk r (IsReady now) → IfOk r (λ p. p.row ≡ new.row) → IfOk r (λ p. p.count ≡ new.count) → IfOk r (λ p. p.wrapping ≡ wrapping) → IfOk r (λ p. AreRowsOf wrapping (lines_of lent) (rows_in p.rows)) → IfOk r (λ p. ticks_of (rows_in p.rows) ≡ ticks_behind count (length lent)) → OnOk r (after ≡ count + length lent) →
+pub some_ready : (settings : LayoutSettings) (lines lent : List (String Global)) (old now : MapView) (new : Replacement) (count after : ℕ) (wrapping : Wrapping) (r : Result PreparedRows AllocError) → CanReplace settings lines old new → now.rows ≡ old.rows → lent ≡ new.lines.items → wrapping ≡ wrapping_for settings (count_after (length lines) new) → is_same_wrapping wrapping old.wrapping ≡ true →
+    IfOk r (CanPutRows now) → IfOk r (λ p. p.row ≡ new.row) → IfOk r (λ p. p.count ≡ new.count) → IfOk r (λ p. p.wrapping ≡ wrapping) → IfOk r (λ p. AreRowsOf wrapping (lines_of lent) (rows_in p.rows)) → IfOk r (λ p. ticks_of (rows_in p.rows) ≡ ticks_after count (length lent)) → OnOk r (after ≡ count + length lent) →
     IfOk r (AreReadyRows settings lines now new count after)
 some_ready settings lines lent old now new count after wrapping (Err e) can stay is w_is same ready row number w right ticks counted = tt
 some_ready settings lines lent old now new count after wrapping (Ok p) can stay is w_is same ready row number w right ticks counted =
@@ -60,9 +60,9 @@ some_ready settings lines lent old now new count after wrapping (Ok p) can stay 
     }
 
 -- otherwise the rows of all lines
-pub all_ready : (settings : LayoutSettings) (lines : List (String Global)) (old now : MapView) (new : Replacement) (count after : ℕ) (wrapping : Wrapping) (r : Result PreparedRows AllocError) → CanReplace settings lines old new → now.rows ≡ old.rows → wrapping ≡ wrapping_for settings (count_after (length lines) new) → is_same wrapping old.wrapping ≡ false →
-    (cut : List RowsView) → AreRowsOf wrapping (lines_after lines new) cut → ticks_of cut ≡ ticks_behind count (count_after (length lines) new) → after ≡ count + count_after (length lines) new →
-    IfOk r (IsReady now) → IfOk r (λ p. p.row ≡ 0) → IfOk r (λ p. p.count ≡ length lines) → IfOk r (λ p. p.wrapping ≡ wrapping) → IfOk r (λ p. rows_in p.rows ≡ cut) →
+pub all_ready : (settings : LayoutSettings) (lines : List (String Global)) (old now : MapView) (new : Replacement) (count after : ℕ) (wrapping : Wrapping) (r : Result PreparedRows AllocError) → CanReplace settings lines old new → now.rows ≡ old.rows → wrapping ≡ wrapping_for settings (count_after (length lines) new) → is_same_wrapping wrapping old.wrapping ≡ false →
+    (cut : List RowsView) → AreRowsOf wrapping (lines_after lines new) cut → ticks_of cut ≡ ticks_after count (count_after (length lines) new) → after ≡ count + count_after (length lines) new →
+    IfOk r (CanPutRows now) → IfOk r (λ p. p.row ≡ 0) → IfOk r (λ p. p.count ≡ length lines) → IfOk r (λ p. p.wrapping ≡ wrapping) → IfOk r (λ p. rows_in p.rows ≡ cut) →
     IfOk r (AreReadyRows settings lines now new count after)
 all_ready settings lines old now new count after wrapping (Err e) can stay w_is differs cut right ticks counted ready row number w is = tt
 all_ready settings lines old now new count after wrapping (Ok p) can stay w_is differs cut right ticks counted ready row number w is =

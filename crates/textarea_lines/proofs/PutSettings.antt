@@ -5,28 +5,28 @@ use Rattle.std.proofs.Math.Dec.{eqb-suc-zero}
 use Rattle.textarea_wrap.specs.declared.wrap.WrapMode.{WrapMode}
 use Rattle.textarea_wrap.specs.declared.wrap.WrapMode.TheVariants as mode
 use Rattle.textarea_screen_map.specs.declared.layout.Wrapping.{Wrapping}
-use Rattle.textarea_lines.specs.Layout.{LaidOut, at_width, laid_out_anew, laid_out_with, stays_cut, wrapping_at, wrapping_of}
-use Rattle.textarea_lines.specs.Wrappings.{cut_at_width, is_same, is_same_mode, whole_lines, wrapping_for, wraps}
+use Rattle.textarea_lines.specs.TextLayout.{TextAndLayout, at_width, layout_from_scratch, with_settings, keeps_wrapping, wrapping_at, wrapping_of}
+use Rattle.textarea_lines.specs.Wrappings.{wrapped_at_width, is_same_wrapping, is_same_mode, whole_lines, wrapping_for, wraps}
 use Rattle.textarea_lines.specs.declared.settings.LayoutSettings.{LayoutSettings}
 
 -- ---- other settings
 
-abbrev put_if : Bool → LaidOut → LayoutSettings → LaidOut
-put_if b laid settings = cond b (record { text = laid.text; layout = record { settings = settings; count = laid.layout.count; ticks = laid.layout.ticks } }) (laid_out_anew settings laid.layout.count laid.text)
+abbrev put_if : Bool → TextAndLayout → LayoutSettings → TextAndLayout
+put_if b text_layout settings = cond b (record { text = text_layout.text; layout = record { settings = settings; count = text_layout.layout.count; ticks = text_layout.layout.ticks } }) (layout_from_scratch settings text_layout.layout.count text_layout.text)
 
-put_if_text : (b : Bool) (laid : LaidOut) (settings : LayoutSettings) → (put_if b laid settings).text ≡ laid.text
-put_if_text true laid settings = refl
-put_if_text false laid settings = refl
+put_if_text : (b : Bool) (text_layout : TextAndLayout) (settings : LayoutSettings) → (put_if b text_layout settings).text ≡ text_layout.text
+put_if_text true text_layout settings = refl
+put_if_text false text_layout settings = refl
 
-put_if_settings : (b : Bool) (laid : LaidOut) (settings : LayoutSettings) → (put_if b laid settings).layout.settings ≡ settings
-put_if_settings true laid settings = refl
-put_if_settings false laid settings = refl
+put_if_settings : (b : Bool) (text_layout : TextAndLayout) (settings : LayoutSettings) → (put_if b text_layout settings).layout.settings ≡ settings
+put_if_settings true text_layout settings = refl
+put_if_settings false text_layout settings = refl
 
-pub text_stays : (laid : LaidOut) (settings : LayoutSettings) → (laid_out_with laid settings).text ≡ laid.text
-text_stays laid settings = put_if_text (stays_cut laid settings) laid settings
+pub text_stays : (text_layout : TextAndLayout) (settings : LayoutSettings) → (with_settings text_layout settings).text ≡ text_layout.text
+text_stays text_layout settings = put_if_text (keeps_wrapping text_layout settings) text_layout settings
 
-pub settings_put : (laid : LaidOut) (settings : LayoutSettings) → (laid_out_with laid settings).layout.settings ≡ settings
-settings_put laid settings = put_if_settings (stays_cut laid settings) laid settings
+pub settings_put : (text_layout : TextAndLayout) (settings : LayoutSettings) → (with_settings text_layout settings).layout.settings ≡ settings
+settings_put text_layout settings = put_if_settings (keeps_wrapping text_layout settings) text_layout settings
 
 -- ---- another width
 
@@ -37,22 +37,22 @@ some_width (suc width) some = eqb-suc-zero width
 abbrev settings_of : WrapMode → ℕ → Bool → ℕ → LayoutSettings
 settings_of wrap tab_len numbers width = record { mode = wrap; tab_len = tab_len; line_numbers = numbers; inner_width = width }
 
-abbrev cut_if : Bool → LayoutSettings → ℕ → Wrapping
-cut_if b settings line_count = cond b (cut_at_width settings settings.inner_width line_count) (whole_lines settings)
+abbrev wrapping_if : Bool → LayoutSettings → ℕ → Wrapping
+wrapping_if b settings line_count = cond b (wrapped_at_width settings settings.inner_width line_count) (whole_lines settings)
 
 cut_by_mode : (wrap : WrapMode) (width tab_len : ℕ) (numbers : Bool) (line_count : ℕ) → (width == 0) ≡ false →
-    wrapping_for (settings_of wrap tab_len numbers width) line_count ≡ cut_at_width (settings_of wrap tab_len numbers width) width line_count
+    wrapping_for (settings_of wrap tab_len numbers width) line_count ≡ wrapped_at_width (settings_of wrap tab_len numbers width) width line_count
 cut_by_mode mode.None width tab_len numbers line_count some =
-    ap (λ (z : Bool). cut_if (not z && false) (settings_of mode.None tab_len numbers width) line_count) some
+    ap (λ (z : Bool). wrapping_if (not z && false) (settings_of mode.None tab_len numbers width) line_count) some
 cut_by_mode mode.Word width tab_len numbers line_count some =
-    ap (λ (z : Bool). cut_if (not z && true) (settings_of mode.Word tab_len numbers width) line_count) some
+    ap (λ (z : Bool). wrapping_if (not z && true) (settings_of mode.Word tab_len numbers width) line_count) some
 cut_by_mode mode.Glyph width tab_len numbers line_count some =
-    ap (λ (z : Bool). cut_if (not z && true) (settings_of mode.Glyph tab_len numbers width) line_count) some
+    ap (λ (z : Bool). wrapping_if (not z && true) (settings_of mode.Glyph tab_len numbers width) line_count) some
 cut_by_mode mode.WordOrGlyph width tab_len numbers line_count some =
-    ap (λ (z : Bool). cut_if (not z && true) (settings_of mode.WordOrGlyph tab_len numbers width) line_count) some
+    ap (λ (z : Bool). wrapping_if (not z && true) (settings_of mode.WordOrGlyph tab_len numbers width) line_count) some
 
-pub measured_cut : (laid : LaidOut) (inner_width : ℕ) → 0 < inner_width → wrapping_of (laid_out_with laid (at_width laid inner_width)) ≡ wrapping_at laid inner_width
-measured_cut laid inner_width some = grind (arith, common_steps, text_stays, settings_put, cut_by_mode, some_width inner_width some)
+pub measured_cut : (text_layout : TextAndLayout) (inner_width : ℕ) → 0 < inner_width → wrapping_of (with_settings text_layout (at_width text_layout inner_width)) ≡ wrapping_at text_layout inner_width
+measured_cut text_layout inner_width some = grind (arith, common_steps, text_stays, settings_put, cut_by_mode, some_width inner_width some)
 
 -- ---- its own
 
@@ -68,8 +68,8 @@ all_true true false true d ea ec ed = ed
 all_true true false false d ea ec ed = ec
 all_true false b c d ea ec ed = ea
 
-pub same_cut : (w : Wrapping) → is_same w w ≡ true
+pub same_cut : (w : Wrapping) → is_same_wrapping w w ≡ true
 same_cut w = all_true (is_same_mode w.mode w.mode) (not (wraps w.mode)) (w.width == w.width) (w.tab_len == w.tab_len) (same_mode w.mode) (eq-eqb w.width w.width refl) (eq-eqb w.tab_len w.tab_len refl)
 
-pub put_again : (laid : LaidOut) → laid_out_with laid laid.layout.settings ≡ laid
-put_again laid = ap (λ (b : Bool). put_if b laid laid.layout.settings) (same_cut (wrapping_of laid))
+pub put_again : (text_layout : TextAndLayout) → with_settings text_layout text_layout.layout.settings ≡ text_layout
+put_again text_layout = ap (λ (b : Bool). put_if b text_layout text_layout.layout.settings) (same_cut (wrapping_of text_layout))

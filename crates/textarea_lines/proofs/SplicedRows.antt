@@ -5,12 +5,12 @@ use Rattle.std.specs.List.{AllByRecursion, range_with_len}
 use Rattle.textarea_util.specs.Replaced.{replaced}
 use Rattle.textarea_text.specs.Splice.{Splice, applied}
 use Rattle.textarea_text.specs.Text.{Symbol, lines}
-use Rattle.textarea_text.specs.Touched.{lines_coming, lines_going}
+use Rattle.textarea_text.specs.Touched.{new_line_count, replaced_line_count}
 use Rattle.textarea_wrap.specs.RowsView.{RowsView}
-use Rattle.textarea_screen_map.specs.Layout.{AreRowsOf, ticks_behind, ticks_of}
+use Rattle.textarea_screen_map.specs.LineRows.{AreRowsOf, ticks_after, ticks_of}
 use Rattle.textarea_screen_map.specs.declared.layout.Wrapping.{Wrapping}
 use Rattle.textarea_screen_map.proofs.Layouts.{AreRowsOf-drop, AreRowsOf-take, length-AreRowsOf}
-use Rattle.textarea_lines.specs.Cuts.{KeepsOtherRows, touched_rows}
+use Rattle.textarea_lines.specs.LineWraps.{KeepsOtherRows, touched_rows}
 use Rattle.textarea_lines.proofs.OneList.{rows_same}
 use Rattle.textarea_lines.proofs.Splicing.{SplicesLines, drop-replaced, middle-replaced, take-replaced}
 
@@ -30,32 +30,32 @@ above_all count first (suc size) (r ∷ rows) less e =
     let rest : ticks_of rows ≡ range_with_len (first + 1) size = cc in
     (omega arith, above_all count (first + 1) size rows (omega arith) rest)
 
-length-ticks_behind : (first size : ℕ) → length (range_with_len first size) ≡ size
-length-ticks_behind first zero = refl
-length-ticks_behind first (suc size) = ap suc (length-ticks_behind (first + 1) size)
+length-ticks_after : (first size : ℕ) → length (range_with_len first size) ≡ size
+length-ticks_after first zero = refl
+length-ticks_after first (suc size) = ap suc (length-ticks_after (first + 1) size)
 
-pub keeps_others : (one : OneMap) (w : Wrapping) (text : List Symbol) (splice : Splice) (count : ℕ) (before after : List RowsView) → SplicesLines text splice → AreRowsOf w (lines text) before → AreRowsOf w (lines (applied text splice)) after → ticks_of after ≡ replaced (ticks_of before) splice.place.0 (lines_going splice) (ticks_behind count (lines_coming splice)) → KeepsOtherRows count splice before after
+pub keeps_others : (one : OneMap) (w : Wrapping) (text : List Symbol) (splice : Splice) (count : ℕ) (before after : List RowsView) → SplicesLines text splice → AreRowsOf w (lines text) before → AreRowsOf w (lines (applied text splice)) after → ticks_of after ≡ replaced (ticks_of before) splice.place.0 (replaced_line_count splice) (ticks_after count (new_line_count splice)) → KeepsOtherRows count splice before after
 keeps_others one w text splice count before after s h k ticks =
     let row = splice.place.0 in
-    let going = lines_going splice in
-    let coming = lines_coming splice in
+    let going = replaced_line_count splice in
+    let coming = new_line_count splice in
     let old = lines text in
     let now : AreRowsOf w (replaced old row going s.new) after = subst (λ (l : List (List ℕ)). AreRowsOf w l after) s.lines_are k in
     let within : row ≤ length old = omega (arith, s.within) in
     let as_many : length (ticks_of before) ≡ length old = length-map before tick_of ∙ length-AreRowsOf w old before h in
     let first : row ≤ length (ticks_of before) = omega (arith, as_many, within) in
-    let numbers : length (ticks_behind count coming) ≡ coming = length-ticks_behind (count + 1) coming in
+    let numbers : length (ticks_after count coming) ≡ coming = length-ticks_after (count + 1) coming in
     let above : AreRowsOf w (take row old) (take row after) =
     subst (λ (l : List (List ℕ)). AreRowsOf w l (take row after)) (take-replaced old s.new row going within) (AreRowsOf-take w row (replaced old row going s.new) after now) in
     let below : AreRowsOf w (drop (row + going) old) (drop (row + coming) after) =
     subst (λ (l : List (List ℕ)). AreRowsOf w l (drop (row + coming) after)) (drop-replaced old s.new row going coming within s.coming) (AreRowsOf-drop w (row + coming) (replaced old row going s.new) after now) in
-    let middle : ticks_of (touched_rows splice after) ≡ ticks_behind count coming =
-    sym (take-map tick_of coming (drop row after)) ∙ ap (take coming) (sym (drop-map tick_of row after) ∙ ap (drop row) ticks) ∙ middle-replaced (ticks_of before) (ticks_behind count coming) row going coming first numbers in
+    let middle : ticks_of (touched_rows splice after) ≡ ticks_after count coming =
+    sym (take-map tick_of coming (drop row after)) ∙ ap (take coming) (sym (drop-map tick_of row after) ∙ ap (drop row) ticks) ∙ middle-replaced (ticks_of before) (ticks_after count coming) row going coming first numbers in
     record {
       above = rows_same (take row after) (take row before) (one w (take row old) (take row after) (take row before) above (AreRowsOf-take w row old before h))
-          (sym (take-map tick_of row after) ∙ ap (take row) ticks ∙ take-replaced (ticks_of before) (ticks_behind count coming) row going first ∙ take-map tick_of row before);
+          (sym (take-map tick_of row after) ∙ ap (take row) ticks ∙ take-replaced (ticks_of before) (ticks_after count coming) row going first ∙ take-map tick_of row before);
       below = rows_same (drop (row + coming) after) (drop (row + going) before) (one w (drop (row + going) old) (drop (row + coming) after) (drop (row + going) before) below (AreRowsOf-drop w (row + going) old before h))
-          (sym (drop-map tick_of (row + coming) after) ∙ ap (drop (row + coming)) ticks ∙ drop-replaced (ticks_of before) (ticks_behind count coming) row going coming first numbers ∙ drop-map tick_of (row + going) before);
+          (sym (drop-map tick_of (row + coming) after) ∙ ap (drop (row + coming)) ticks ∙ drop-replaced (ticks_of before) (ticks_after count coming) row going coming first numbers ∙ drop-map tick_of (row + going) before);
       touched = middle;
       newer = above_all count (count + 1) coming (touched_rows splice after) (omega arith) middle;
     }

@@ -7,7 +7,7 @@ use Rattle.textarea_text.specs.Place.{Place, IsPlaceOf, changed, end}
 use Rattle.textarea_util.specs.Replaced.{replaced}
 use Rattle.textarea_text.specs.Splice.{Splice, Allows, Fits, applied}
 use Rattle.textarea_text.specs.Text.{Symbol, Character, Break, characters, lines, on_first}
-use Rattle.textarea_text.specs.Touched.{breaks_of, lines_coming, lines_going}
+use Rattle.textarea_text.specs.Touched.{breaks_of, new_line_count, replaced_line_count}
 use Rattle.textarea_text.proofs.TextPlaces.{joined-lines}
 use Rattle.textarea_util.proofs.Replacing.{length-replaced}
 use Rattle.textarea_text.proofs.Splices.{lines-joined}
@@ -37,9 +37,9 @@ middle-replaced items new start count coming within long =
 -- the lines after a splice, which replace lines from its row on
 pub record SplicesLines (text : List Symbol) (splice : Splice) : Type 0 where
   pub new : List (List ℕ)
-  pub coming : length new ≡ lines_coming splice
-  pub within : splice.place.0 + lines_going splice ≤ length (lines text)
-  pub lines_are : lines (applied text splice) ≡ replaced (lines text) splice.place.0 (lines_going splice) new
+  pub coming : length new ≡ new_line_count splice
+  pub within : splice.place.0 + replaced_line_count splice ≤ length (lines text)
+  pub lines_are : lines (applied text splice) ≡ replaced (lines text) splice.place.0 (replaced_line_count splice) new
 
 -- a text has one line more than breaks
 as_long : (c : ℕ) (rows : List (List ℕ)) (n : ℕ) → length rows ≡ n + 1 → length (on_first c rows) ≡ n + 1
@@ -88,5 +88,5 @@ pub splices_lines : (text : List Symbol) (splice : Splice) → Fits text splice 
 splices_lines text splice fits = spliced splice.inserts text splice.place splice.symbols fits.is_place fits.allowed
 
 -- the number of lines after it
-pub count_spliced : (text : List Symbol) (splice : Splice) → Fits text splice → length (lines (applied text splice)) ≡ length (lines text) - lines_going splice + lines_coming splice
+pub count_spliced : (text : List Symbol) (splice : Splice) → Fits text splice → length (lines (applied text splice)) ≡ length (lines text) - replaced_line_count splice + new_line_count splice
 count_spliced text splice fits = grind (arith, common_steps, splices_lines text splice fits, length-replaced)

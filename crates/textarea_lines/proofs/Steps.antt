@@ -7,13 +7,13 @@ use Rattle.textarea_text.specs.Text.{lines, lines_of}
 use Rattle.textarea_wrap.specs.RowsView.{RowsView}
 use Rattle.textarea_screen_map.specs.declared.layout.VisualPosition.{VisualPosition}
 use Rattle.textarea_screen_map.specs.declared.layout.Wrapping.{Wrapping}
-use Rattle.textarea_screen_map.specs.Layout.{AreRowsOf}
+use Rattle.textarea_screen_map.specs.LineRows.{AreRowsOf}
 use Rattle.textarea_screen_map.specs.Map.{MapView}
-use Rattle.textarea_screen_map.specs.Seen.{IsAbove, IsBelow, IsInFirstRow, IsInLastRow, IsVisualPosition}
+use Rattle.textarea_screen_map.specs.VisualPositions.{IsAbove, IsBelow, IsInFirstRow, IsInLastRow, IsVisualPosition}
 use Rattle.textarea_lines.specs.declared.settings.LayoutSettings.{LayoutSettings}
 use Rattle.textarea_lines.specs.Stored.{HoldsRows}
-use Rattle.textarea_lines.specs.Rows.{IsLaidOutAs, OfRows}
-use Rattle.textarea_lines.specs.Layout.{LaidOut}
+use Rattle.textarea_lines.specs.TextRows.{HasLayout, OfRows}
+use Rattle.textarea_lines.specs.TextLayout.{TextAndLayout}
 use Rattle.textarea_lines.proofs.Stores.{in_text, laid_out_as, seen, tab_len_of}
 
 -- ---- steps, and positions without a step, in rows at some tab stops
@@ -55,11 +55,11 @@ one_found Nothing Goes (Some target) None ends one h k = absurd (ends target k h
 one_found Nothing Goes (Some target) (Some more) ends one h k = ap Some (one target more h k)
 
 -- the result of a look-up from a position, in the rows of a text with its layout
-abbrev pub Finds : Edge → Step → LaidOut → Place → Option Place → Type 0
-Finds Ends Goes laid place found = OfRows laid (λ (rows : List RowsView). MatchOption found (Ends laid.layout.settings.tab_len (lines laid.text) rows place) (Goes laid.layout.settings.tab_len (lines laid.text) rows place))
+abbrev pub Finds : Edge → Step → TextAndLayout → Place → Option Place → Type 0
+Finds Ends Goes text_layout place found = OfRows text_layout (λ (rows : List RowsView). MatchOption found (Ends text_layout.layout.settings.tab_len (lines text_layout.text) rows place) (Goes text_layout.layout.settings.tab_len (lines text_layout.text) rows place))
 
-pub finds_once : (Ends : Edge) (Goes : Step) (laid : LaidOut) (place : Place) (found other : Option Place) → ((rows others : List RowsView) → IsLaidOutAs laid rows → IsLaidOutAs laid others → rows ≡ others) → EndsAt Ends Goes → LeadsToOne Goes → Finds Ends Goes laid place found → Finds Ends Goes laid place other → found ≡ other
-finds_once Ends Goes laid place found other one_list ends one h k = grind (arith, common_steps, tab_len_of, one_found)
+pub finds_once : (Ends : Edge) (Goes : Step) (text_layout : TextAndLayout) (place : Place) (found other : Option Place) → ((rows others : List RowsView) → HasLayout text_layout rows → HasLayout text_layout others → rows ≡ others) → EndsAt Ends Goes → LeadsToOne Goes → Finds Ends Goes text_layout place found → Finds Ends Goes text_layout place other → found ≡ other
+finds_once Ends Goes text_layout place found other one_list ends one h k = grind (arith, common_steps, tab_len_of, one_found)
 
 -- of a target with two facts, each fact
 targets : {X : Type 0} (o : Option X) (P : Type 0) (Q R : X → Type 0) → MatchOption o P (λ x. Q x × R x) → IfSome o Q × MatchOption o P R
@@ -67,9 +67,9 @@ targets None P Q R h = (tt, h)
 targets (Some x) P Q R h = h
 
 -- what the map finds in the borrowed lines
-pub found_in_text : {Z : Type 0} (Ends : Edge) (Goes : Step) (settings : LayoutSettings) (items lent : List (String Z)) (size count : ℕ) (map : MapView) (laid : LaidOut) (place : Place) (found : Option Place) → HoldsRows settings items size map → lent ≡ items → seen settings items count map.rows ≡ laid → MatchOption found (Ends map.wrapping.tab_len (lines_of lent) map.rows place) (λ target. IsPlaceOf (lines_of lent) target × Goes map.wrapping.tab_len (lines_of lent) map.rows place target) → IfSome found (IsPlaceOf (lines laid.text)) × Finds Ends Goes laid place found
-found_in_text Ends Goes settings items lent size count map laid place found held lent_is is h =
-    let tab_len = laid.layout.settings.tab_len in
-    let both = targets found (Ends tab_len (lines laid.text) map.rows place) (IsPlaceOf (lines laid.text)) (Goes tab_len (lines laid.text) map.rows place)
-    (in_text settings items lent size count map laid (λ t ls. MatchOption found (Ends t ls map.rows place) (λ target. IsPlaceOf ls target × Goes t ls map.rows place target)) held lent_is is h) in
-    (both.0, (map.rows, laid_out_as settings items size count map laid held is, both.1))
+pub found_in_text : {Z : Type 0} (Ends : Edge) (Goes : Step) (settings : LayoutSettings) (items lent : List (String Z)) (size count : ℕ) (map : MapView) (text_layout : TextAndLayout) (place : Place) (found : Option Place) → HoldsRows settings items size map → lent ≡ items → seen settings items count map.rows ≡ text_layout → MatchOption found (Ends map.wrapping.tab_len (lines_of lent) map.rows place) (λ target. IsPlaceOf (lines_of lent) target × Goes map.wrapping.tab_len (lines_of lent) map.rows place target) → IfSome found (IsPlaceOf (lines text_layout.text)) × Finds Ends Goes text_layout place found
+found_in_text Ends Goes settings items lent size count map text_layout place found held lent_is is h =
+    let tab_len = text_layout.layout.settings.tab_len in
+    let both = targets found (Ends tab_len (lines text_layout.text) map.rows place) (IsPlaceOf (lines text_layout.text)) (Goes tab_len (lines text_layout.text) map.rows place)
+    (in_text settings items lent size count map text_layout (λ t ls. MatchOption found (Ends t ls map.rows place) (λ target. IsPlaceOf ls target × Goes t ls map.rows place target)) held lent_is is h) in
+    (both.0, (map.rows, laid_out_as settings items size count map text_layout held is, both.1))

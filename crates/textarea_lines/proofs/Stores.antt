@@ -11,13 +11,13 @@ use Rattle.textarea_text.proofs.Sizes.{length-le-size_of, size_of_text}
 use Rattle.textarea_text.proofs.Splices.{lines-joined}
 use Rattle.textarea_text.proofs.StringRows.{row_within, rows_place}
 use Rattle.textarea_wrap.specs.RowsView.{RowsView}
-use Rattle.textarea_screen_map.specs.Layout.{AreRowsOf, ticks_of}
+use Rattle.textarea_screen_map.specs.LineRows.{AreRowsOf, ticks_of}
 use Rattle.textarea_screen_map.specs.declared.layout.Wrapping.{Wrapping}
 use Rattle.textarea_screen_map.specs.Map.{MapView}
 use Rattle.textarea_lines.specs.declared.settings.LayoutSettings.{LayoutSettings}
-use Rattle.textarea_lines.specs.Wrappings.{cut_at_width, is_wrapped, whole_lines, wrapping_for}
-use Rattle.textarea_lines.specs.Rows.{IsLaidOutAs}
-use Rattle.textarea_lines.specs.Layout.{LaidOut}
+use Rattle.textarea_lines.specs.Wrappings.{wrapped_at_width, is_wrapped, whole_lines, wrapping_for}
+use Rattle.textarea_lines.specs.TextRows.{HasLayout}
+use Rattle.textarea_lines.specs.TextLayout.{TextAndLayout}
 use Rattle.textarea_lines.specs.Stored.{IsStored, HoldsRows}
 
 -- ---- positions
@@ -41,35 +41,35 @@ pub count_held : {Z : Type 0} (items : List (String Z)) → 0 < length items →
 count_held items some = ap length (lines_held items some) ∙ length-map items characters_of
 
 -- what contracts see of some lines with their rows
-abbrev pub seen : {Z : Type 0} → LayoutSettings → List (String Z) → ℕ → List RowsView → LaidOut
+abbrev pub seen : {Z : Type 0} → LayoutSettings → List (String Z) → ℕ → List RowsView → TextAndLayout
 seen settings items count rows = record { text = text_of items; layout = record { settings = settings; count = count; ticks = ticks_of rows } }
 
 -- the stored rows, wrapped by the settings
 pub right_rows : {Z : Type 0} (settings : LayoutSettings) (items : List (String Z)) (size : ℕ) (map : MapView) → HoldsRows settings items size map → AreRowsOf (wrapping_for settings (length items)) (lines_of items) map.rows
-right_rows settings items size map h = subst (λ (w : Wrapping). AreRowsOf w (lines_of items) map.rows) h.wrapping_is h.laid_out
+right_rows settings items size map h = subst (λ (w : Wrapping). AreRowsOf w (lines_of items) map.rows) h.wrapping_is h.text_layout
 
 -- they are those of the text
-pub laid_out_as : {Z : Type 0} (settings : LayoutSettings) (items : List (String Z)) (size count : ℕ) (map : MapView) (laid : LaidOut) → HoldsRows settings items size map → seen settings items count map.rows ≡ laid → IsLaidOutAs laid map.rows
-laid_out_as settings items size count map laid h is =
-    subst (λ (l : LaidOut). IsLaidOutAs l map.rows) is
-    (record { laid_out = rw (lines_held items h.stored.some, length-map items characters_of) (right_rows settings items size map h); ticks = refl })
+pub laid_out_as : {Z : Type 0} (settings : LayoutSettings) (items : List (String Z)) (size count : ℕ) (map : MapView) (text_layout : TextAndLayout) → HoldsRows settings items size map → seen settings items count map.rows ≡ text_layout → HasLayout text_layout map.rows
+laid_out_as settings items size count map text_layout h is =
+    subst (λ (l : TextAndLayout). HasLayout l map.rows) is
+    (record { text_layout = rw (lines_held items h.stored.some, length-map items characters_of) (right_rows settings items size map h); ticks = refl })
 
 -- the columns between tab stops are the view's, wrapped or not
 pub tab_len_of : (settings : LayoutSettings) (n : ℕ) → (wrapping_for settings n).tab_len ≡ settings.tab_len
 tab_len_of settings n =
-    elim (is_wrapped settings) as (λ b. (cond b (cut_at_width settings settings.inner_width n) (whole_lines settings)).tab_len ≡ settings.tab_len) [ true ↦ refl | false ↦ refl ]
+    elim (is_wrapped settings) as (λ b. (cond b (wrapped_at_width settings settings.inner_width n) (whole_lines settings)).tab_len ≡ settings.tab_len) [ true ↦ refl | false ↦ refl ]
 
 pub tab_len_kept : {Z : Type 0} (settings : LayoutSettings) (items : List (String Z)) (size : ℕ) (map : MapView) → HoldsRows settings items size map → map.wrapping.tab_len ≡ settings.tab_len
 tab_len_kept settings items size map h = ap (λ (w : Wrapping). w.tab_len) h.wrapping_is ∙ tab_len_of settings (length items)
 
 -- a position of the text is one of the borrowed lines
-pub place_in_lent : {Z : Type 0} (settings : LayoutSettings) (items lent : List (String Z)) (size count : ℕ) (map : MapView) (laid : LaidOut) (place : Place) → HoldsRows settings items size map → lent ≡ items → seen settings items count map.rows ≡ laid → IsPlace laid.text place → IsPlaceOf (lines_of lent) place
-place_in_lent settings items lent size count map laid place h lent_is is there =
+pub place_in_lent : {Z : Type 0} (settings : LayoutSettings) (items lent : List (String Z)) (size count : ℕ) (map : MapView) (text_layout : TextAndLayout) (place : Place) → HoldsRows settings items size map → lent ≡ items → seen settings items count map.rows ≡ text_layout → IsPlace text_layout.text place → IsPlaceOf (lines_of lent) place
+place_in_lent settings items lent size count map text_layout place h lent_is is there =
     rw lent_is (rows_place items place h.stored.some (rw (← is) at there))
 
 -- what is true of the borrowed lines, at the map's tab stops, is true of the text's lines
-pub in_text : {Z : Type 0} (settings : LayoutSettings) (items lent : List (String Z)) (size count : ℕ) (map : MapView) (laid : LaidOut) (Fact : ℕ → List (List ℕ) → Type 0) → HoldsRows settings items size map → lent ≡ items → seen settings items count map.rows ≡ laid → Fact map.wrapping.tab_len (lines_of lent) → Fact laid.layout.settings.tab_len (lines laid.text)
-in_text settings items lent size count map laid Fact held lent_is is h =
+pub in_text : {Z : Type 0} (settings : LayoutSettings) (items lent : List (String Z)) (size count : ℕ) (map : MapView) (text_layout : TextAndLayout) (Fact : ℕ → List (List ℕ) → Type 0) → HoldsRows settings items size map → lent ≡ items → seen settings items count map.rows ≡ text_layout → Fact map.wrapping.tab_len (lines_of lent) → Fact text_layout.layout.settings.tab_len (lines text_layout.text)
+in_text settings items lent size count map text_layout Fact held lent_is is h =
     grind (arith, common_steps, lines_held items held.stored.some, tab_len_kept settings items size map held)
 
 -- copies of the lines, with the same rows
@@ -84,7 +84,7 @@ holds_copied settings old copies size map again h e same =
         limit = h.stored.limit;
       };
       wrapping_is = same.1 ∙ h.wrapping_is ∙ ap (wrapping_for settings) (sym long);
-      laid_out = rw (same.1, same.0, e) h.laid_out;
+      text_layout = rw (same.1, same.0, e) h.text_layout;
     }
 
 pub seen_copied : {Z : Type 0} (settings : LayoutSettings) (old copies : List (String Z)) (count again : ℕ) (rows others : List RowsView) → lines_of copies ≡ lines_of old → again ≡ count → others ≡ rows → seen settings copies again others ≡ seen settings old count rows

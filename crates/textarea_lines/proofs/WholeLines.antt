@@ -8,17 +8,17 @@ use Rattle.textarea_util.specs.Replaced.{replaced}
 use Rattle.textarea_text.specs.Size.{weight}
 use Rattle.textarea_text.specs.Splice.{Splice, Fits, applied}
 use Rattle.textarea_text.specs.Text.{characters, characters_of, following, lines, lines_of, text_of}
-use Rattle.textarea_text.specs.Touched.{breaks_of, lines_coming, lines_going}
+use Rattle.textarea_text.specs.Touched.{breaks_of, new_line_count, replaced_line_count}
 use Rattle.textarea_util.proofs.Replacing.{length-replaced}
 use Rattle.textarea_text.proofs.Sizes.{length-le-size_of, size_of_text, weight-append, weight-characters, weight_of_following}
 use Rattle.textarea_text.proofs.Splices.{following-append}
 use Rattle.textarea_text.proofs.Touching.{ChangesLine, changes_line}
-use Rattle.textarea_wrap.specs.Cutting.{ranges_from}
+use Rattle.textarea_wrap.specs.WrapRules.{ranges_from}
 use Rattle.textarea_wrap.specs.RowsView.{RowsView}
-use Rattle.textarea_wrap.specs.Wrapped.{IsWrapped}
+use Rattle.textarea_wrap.specs.WrapResult.{IsWrapped}
 use Rattle.textarea_wrap.specs.declared.wrap.WrapMode.TheVariants as mode
 use Rattle.textarea_screen_map.specs.declared.layout.Wrapping.{Wrapping}
-use Rattle.textarea_screen_map.specs.Layout.{AreRowsOf, AreRowsOfLine, ticks_of}
+use Rattle.textarea_screen_map.specs.LineRows.{AreRowsOf, AreRowsOfLine, ticks_of}
 use Rattle.textarea_blocks.specs.Sums.{line_bytes, ranges_at, row_total, size_total}
 use Rattle.textarea_screen_map.specs.Map.{MapView}
 use Rattle.textarea_screen_map.proofs.Layouts.{AreRowsOf-drop, AreRowsOf-replaced, AreRowsOf-take, length-AreRowsOf}
@@ -26,12 +26,12 @@ use Rattle.textarea_blocks.proofs.Numbers.{row_total-replaced}
 use Rattle.textarea_blocks.proofs.LineSums.{size_total-append}
 use Rattle.textarea_screen_map.proofs.RowSizes.{size_of_lines}
 use Rattle.textarea_lines.specs.declared.settings.LayoutSettings.{LayoutSettings}
-use Rattle.textarea_lines.specs.Rows.{CanStayWhole, HasWholeLine, line_size}
-use Rattle.textarea_lines.specs.Layout.{Layout, applied_to, after_replacement, some_cut}
+use Rattle.textarea_lines.specs.TextRows.{CanStayWhole, HasWholeLine, line_size}
+use Rattle.textarea_lines.specs.TextLayout.{Layout, applied_to, after_replacement, some_wrapped}
 use Rattle.textarea_lines.specs.Stored.{IsStored, HoldsRows}
 use Rattle.textarea_lines.specs.Wrappings.{is_wrapped, whole_lines, wrapping_for}
 use Rattle.textarea_lines.proofs.Layouts.{map-replaced}
-use Rattle.textarea_lines.proofs.SameCuts.{whole_is}
+use Rattle.textarea_lines.proofs.SameWraps.{whole_is}
 use Rattle.textarea_lines.proofs.Stores.{right_rows, seen, tab_len_kept}
 
 -- ---- one row a line
@@ -159,12 +159,12 @@ holds_inside settings old now lent size after map new splice row tick h k same =
     record {
       stored = inside_stored settings old now lent size after map splice row h;
       wrapping_is = wrapping;
-      laid_out = rw (wrapping ∙ whole_is settings (length now) h.whole, line.new_is, k.new_is)
+      text_layout = rw (wrapping ∙ whole_is settings (length now) h.whole, line.new_is, k.new_is)
           (AreRowsOf-replaced (whole_lines settings) (lines_of old) (line.line ∷ []) map.rows (k.cut ∷ []) row 1 right (cut, tt));
     }
 
 -- without wrapping, one line is wrapped again
-recut_one : (layout : Layout) (n row going coming : ℕ) → is_wrapped layout.settings ≡ false → going ≡ 1 → coming ≡ 1 → after_replacement layout n row going coming ≡ some_cut layout row 1 1
+recut_one : (layout : Layout) (n row going coming : ℕ) → is_wrapped layout.settings ≡ false → going ≡ 1 → coming ≡ 1 → after_replacement layout n row going coming ≡ some_wrapped layout row 1 1
 recut_one layout n row going coming whole one one' = rw (whole, one, one')
 
 going_one : (b : Bool) (breaks : ℕ) → breaks ≡ 0 → (cond b 1 (breaks + 1) ≡ 1) × (cond b (breaks + 1) 1 ≡ 1)
@@ -175,5 +175,5 @@ pub layout_inside : {Z : Type 0} (settings : LayoutSettings) (old now lent : Lis
 layout_inside settings old now lent size after count counted map new splice row h k counted_is =
     let numbers = going_one splice.inserts (breaks_of splice.symbols) h.none in
     let layout : Layout = record { settings = settings; count = count; ticks = ticks_of map.rows } in
-    rw (recut_one layout (length (lines (text_of old))) splice.place.0 (lines_going splice) (lines_coming splice) h.whole numbers.0 numbers.1)
+    rw (recut_one layout (length (lines (text_of old))) splice.place.0 (replaced_line_count splice) (new_line_count splice) h.whole numbers.0 numbers.1)
     (cc (map-replaced (λ (r : RowsView). r.tick) map.rows (k.cut ∷ []) row 1))

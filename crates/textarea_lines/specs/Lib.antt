@@ -1,7 +1,7 @@
 pub mod Wrappings
-pub mod Layout
+pub mod TextLayout
 pub mod Stored
 pub mod Replacing
-pub mod Rows
+pub mod TextRows
 pub mod View
-pub mod Cuts
+pub mod LineWraps

@@ -3,12 +3,12 @@ use Rattle.std.specs.Prelude.{◌≡◌, ℕ, ◌+◌, ◌^◌, ◌<◌, ◌≤�
 use Rattle.std.specs.declared.alloc.Global.{Global}
 use Rattle.textarea_text.specs.Text.{lines_of}
 use Rattle.textarea_text.specs.declared.rows.Replacement.{Replacement}
-use Rattle.textarea_screen_map.specs.Layout.{AreRowsOf}
+use Rattle.textarea_screen_map.specs.LineRows.{AreRowsOf}
 use Rattle.textarea_screen_map.specs.Map.{MapView}
-use Rattle.textarea_screen_map.specs.Prepared.{IsReady, rows_with}
+use Rattle.textarea_screen_map.specs.Prepared.{CanPutRows, rows_with}
 use Rattle.textarea_screen_map.specs.declared.screen_map.PreparedRows.{PreparedRows}
 use Rattle.textarea_lines.specs.declared.settings.LayoutSettings.{LayoutSettings}
-use Rattle.textarea_lines.specs.Layout.{after_replacement, count_after, layout_of, lines_after}
+use Rattle.textarea_lines.specs.TextLayout.{after_replacement, count_after, layout_of, lines_after}
 use Rattle.textarea_lines.specs.Wrappings.{wrapping_for}
 
 -- the map has the rows of the lines, wrapped by the settings, and the replacement is within them
@@ -20,7 +20,7 @@ pub record CanReplace (settings : LayoutSettings) (lines : List (String Global))
 
 -- the map has room for these rows, and with them the right rows and count after the replacement
 pub record AreReadyRows (settings : LayoutSettings) (lines : List (String Global)) (map : MapView) (replacement : Replacement) (count after : ℕ) (prepared : PreparedRows) : Type 0 where
-  pub ready : IsReady map prepared
+  pub ready : CanPutRows map prepared
   pub wrapping : prepared.wrapping ≡ wrapping_for settings (count_after (length lines) replacement)
   pub rows : AreRowsOf prepared.wrapping (lines_after lines replacement) (rows_with map.rows prepared)
   pub layout : layout_of settings after (rows_with map.rows prepared)

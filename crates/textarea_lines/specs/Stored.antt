@@ -7,10 +7,10 @@ use Rattle.textarea_text.specs.Place.{IsPlaceOf}
 use Rattle.textarea_text.specs.Text.{lines_of}
 use Rattle.textarea_text.specs.Size.{size_of, weight}
 use Rattle.textarea_text.specs.Splice.{Splice}
-use Rattle.textarea_screen_map.specs.Layout.{AreRowsOf, ticks_behind, ticks_of}
-use Rattle.textarea_lines.specs.declared.cut.CutAnew.{CutAnew}
+use Rattle.textarea_screen_map.specs.LineRows.{AreRowsOf, ticks_after, ticks_of}
+use Rattle.textarea_lines.specs.declared.rewrap.WrappedRows.{WrappedRows}
 use Rattle.textarea_lines.specs.declared.settings.LayoutSettings.{LayoutSettings}
-use Rattle.textarea_lines.specs.declared.cut.Measured.{Measured}
+use Rattle.textarea_lines.specs.declared.rewrap.Measured.{Measured}
 use Rattle.textarea_lines.specs.Wrappings.{wrapping_for}
 use Rattle.textarea_screen_map.specs.Map.{IsRowCount, MapView}
 
@@ -28,23 +28,23 @@ size_after size splice = if splice.inserts then size + weight splice.symbols els
 pub record HoldsRows {Z : Type 0} (settings : LayoutSettings) (lines : List (String Z)) (size : ℕ) (map : MapView) : Type 0 where
   pub stored : IsStored lines size
   pub wrapping_is : map.wrapping ≡ wrapping_for settings (length lines)
-  pub laid_out : AreRowsOf map.wrapping (lines_of lines) map.rows
+  pub text_layout : AreRowsOf map.wrapping (lines_of lines) map.rows
 
 -- `found` is a position in the lines, with the number of bytes before it in its line
-pub record IsFound {Z : Type 0} (lines : List (String Z)) (found : Pos) : Type 0 where
+pub record IsPlaceAtByte {Z : Type 0} (lines : List (String Z)) (found : Pos) : Type 0 where
   pub place : IsPlaceOf (lines_of lines) (found.row, found.col)
   pub offset : found.offset ≡ offset_at (lines_of lines) (found.row, found.col)
 
 -- all lines are wrapped again, with the next ticks: these rows can replace the current ones
-pub record IsNextCut {Z : Type 0} (count : ℕ) (lines : List (String Z)) (cut : CutAnew) : Type 0 where
+pub record IsNextWrap {Z : Type 0} (count : ℕ) (lines : List (String Z)) (cut : WrappedRows) : Type 0 where
   pub rows : AreRowsOf cut.map.wrapping (lines_of lines) cut.map.rows
-  pub ticks : ticks_of cut.map.rows ≡ ticks_behind count (length lines)
+  pub ticks : ticks_of cut.map.rows ≡ ticks_after count (length lines)
   pub count_is : cut.count ≡ count + length lines
 
 -- The rows are stored. If there is a last measurement, it is true of the current lines. If there
 -- are cached rows, they have the next ticks. The stored position is one of the lines.
-pub record KeepsRows {Z : Type 0} (settings : LayoutSettings) (lines : List (String Z)) (size : ℕ) (map : MapView) (last : Option Measured) (count : ℕ) (next : Option CutAnew) (found : Pos) : Type 0 where
+pub record KeepsRows {Z : Type 0} (settings : LayoutSettings) (lines : List (String Z)) (size : ℕ) (map : MapView) (last : Option Measured) (count : ℕ) (next : Option WrappedRows) (found : Pos) : Type 0 where
   pub held : HoldsRows settings lines size map
   pub measured : IfSome last (λ measured. IsRowCount measured.wrapping (lines_of lines) measured.rows)
-  pub kept : IfSome next (IsNextCut count lines)
-  pub place : IsFound lines found
+  pub kept : IfSome next (IsNextWrap count lines)
+  pub place : IsPlaceAtByte lines found

@@ -4,67 +4,70 @@ ghost use Rattle.textarea_text.specs.Place.{Place};
 ghost use Rattle.textarea_text.specs.Splice.{Fits, Splice};
 ghost use Rattle.textarea_text.specs.Text.{Symbol};
 ghost use Rattle.textarea_wrap.specs.RowsView.{RowsView};
-ghost use Rattle.textarea_lines.specs.Rows.{IsFoundAbove, IsFoundBelow, IsLaidOutAs};
-ghost use Rattle.textarea_lines.specs.Cuts.{AreSpliced, CutsAllLines, IsSetTo, IsSpliced, IsWidened};
-ghost use Rattle.textarea_lines.specs.Layout.{LaidOut, applied_to, at_width, laid_out_anew, laid_out_with, wrapping_at, wrapping_of};
-ghost use Rattle.textarea_screen_map.specs.Lent.{LentRows};
+ghost use Rattle.textarea_lines.specs.TextRows.{IsFoundAbove, IsFoundBelow, HasLayout};
+ghost use Rattle.textarea_lines.specs.LineWraps.{WrapsForSplices, WrapsAllLines, WrapsForSettings, WrapsForSplice, WrapsForWidth};
+ghost use Rattle.textarea_lines.specs.TextLayout.{TextAndLayout, applied_to, at_width, layout_from_scratch, with_settings, wrapping_at, wrapping_of};
+ghost use Rattle.textarea_screen_map.specs.BorrowedLines.{BorrowedRows};
 ghost use Rattle.textarea_lines.specs.View.{IsViewOf};
 ghost use Rattle.textarea_lines.specs.declared.settings.LayoutSettings.{LayoutSettings};
 
-use textarea_screen_map::laws::{one_map, seen_once};
+use textarea_screen_map::laws::{one_map, one_visual_position};
 
 /// A text with its layout has only one list of right rows. So a contract that mentions right rows,
 /// such as that of `row_count`, is about that list.
 pub fn one_list_of_rows()
-    ensures { (laid : LaidOut) (rows others : List RowsView) →
-        IsLaidOutAs laid rows → IsLaidOutAs laid others → rows ≡ others }
+    ensures { (text_layout : TextAndLayout) (rows others : List RowsView) →
+        HasLayout text_layout rows → HasLayout text_layout others → rows ≡ others }
 {
     one_map();
 }
 
 /// The results of `above` and `below` depend only on the text, its layout and the position.
 pub fn one_place_up_and_down()
-    ensures above { (laid : LaidOut) (place : Place) (found other : Option Place) →
-        IsFoundAbove laid place found → IsFoundAbove laid place other → found ≡ other }
-    ensures below { (laid : LaidOut) (place : Place) (found other : Option Place) →
-        IsFoundBelow laid place found → IsFoundBelow laid place other → found ≡ other }
+    ensures above { (text_layout : TextAndLayout) (place : Place) (found other : Option Place) →
+        IsFoundAbove text_layout place found → IsFoundAbove text_layout place other → found ≡
+        other }
+    ensures below { (text_layout : TextAndLayout) (place : Place) (found other : Option Place) →
+        IsFoundBelow text_layout place found → IsFoundBelow text_layout place other → found ≡
+        other }
 {
     one_list_of_rows();
-    seen_once();
+    one_visual_position();
 }
 
 /// A text with its layout has only one view.
 pub fn one_view()
-    ensures { (laid : LaidOut) (view other : LentRows) →
-        IsViewOf laid view → IsViewOf laid other → view ≡ other }
+    ensures { (text_layout : TextAndLayout) (view other : BorrowedRows) →
+        IsViewOf text_layout view → IsViewOf text_layout other → view ≡ other }
 {
     one_list_of_rows();
 }
 
 /// Setting an inner width of at least one column wraps lines as measuring at that width does.
-pub fn cut_as_measured()
-    ensures { (laid : LaidOut) (inner_width : ℕ) → 0 < inner_width →
-        wrapping_of (laid_out_with laid (at_width laid inner_width))
-        ≡ wrapping_at laid inner_width }
+pub fn wrapped_as_measured()
+    ensures { (text_layout : TextAndLayout) (inner_width : ℕ) → 0 < inner_width →
+        wrapping_of (with_settings text_layout (at_width text_layout inner_width))
+        ≡ wrapping_at text_layout inner_width }
 {}
 
 /// Other settings don't change the text, and are its settings then. Setting the current settings
 /// changes nothing and wraps nothing.
 pub fn settings_stay()
-    ensures text { (laid : LaidOut) (settings : LayoutSettings) →
-        (laid_out_with laid settings).text ≡ laid.text }
-    ensures put { (laid : LaidOut) (settings : LayoutSettings) →
-        (laid_out_with laid settings).layout.settings ≡ settings }
-    ensures again { (laid : LaidOut) → laid_out_with laid laid.layout.settings ≡ laid }
+    ensures text { (text_layout : TextAndLayout) (settings : LayoutSettings) →
+        (with_settings text_layout settings).text ≡ text_layout.text }
+    ensures put { (text_layout : TextAndLayout) (settings : LayoutSettings) →
+        (with_settings text_layout settings).layout.settings ≡ settings }
+    ensures again { (text_layout : TextAndLayout) → with_settings text_layout
+        text_layout.layout.settings ≡ text_layout }
 {}
 
 /// The lines that a splice wraps. If it doesn't change the width of the map, the count increases by
 /// its breaks plus one if it inserts, and by one if it removes. The rows of the lines that it
 /// touches have ticks above the old count, and all other lines keep their rows, tick included. If
 /// it changes that width, each line is wrapped, and the count increases by the new number of lines.
-pub fn splices_cut()
-    ensures { (laid : LaidOut) (splice : Splice) → Fits laid.text splice →
-        IsSpliced laid splice (applied_to laid splice) }
+pub fn splices_wrap()
+    ensures { (text_layout : TextAndLayout) (splice : Splice) → Fits text_layout.text splice →
+        WrapsForSplice text_layout splice (applied_to text_layout splice) }
 {
     one_map();
 }
@@ -72,23 +75,25 @@ pub fn splices_cut()
 /// The other calls that wrap lines. Another inner width wraps each line if it changes the width of
 /// the map, other settings if they change how lines are wrapped, and replacing all lines always.
 /// The count then increases by the number of lines. Otherwise count and ticks don't change.
-pub fn settings_cut()
-    ensures width { (laid : LaidOut) (inner_width : ℕ) →
-        IsWidened laid (laid_out_with laid (at_width laid inner_width)) }
-    ensures settings { (laid : LaidOut) (settings : LayoutSettings) →
-        IsSetTo laid settings (laid_out_with laid settings) }
-    ensures lines { (laid : LaidOut) (text : List Symbol) →
-        CutsAllLines laid (laid_out_anew laid.layout.settings laid.layout.count text) }
+pub fn settings_wrap()
+    ensures width { (text_layout : TextAndLayout) (inner_width : ℕ) →
+        WrapsForWidth text_layout (with_settings text_layout (at_width text_layout inner_width)) }
+    ensures settings { (text_layout : TextAndLayout) (settings : LayoutSettings) →
+        WrapsForSettings text_layout settings (with_settings text_layout settings) }
+    ensures lines { (text_layout : TextAndLayout) (text : List Symbol) →
+        WrapsAllLines text_layout
+        (layout_from_scratch text_layout.layout.settings text_layout.layout.count text) }
 {}
 
 /// The count never decreases.
 pub fn count_never_falls()
-    ensures splices { (old new : LaidOut) (splices : List Splice) → AreSpliced old splices new →
+    ensures splices { (old new : TextAndLayout) (splices : List Splice) → WrapsForSplices old
+        splices new →
         old.layout.count ≤ new.layout.count }
-    ensures width { (old new : LaidOut) → IsWidened old new →
+    ensures width { (old new : TextAndLayout) → WrapsForWidth old new →
         old.layout.count ≤ new.layout.count }
-    ensures settings { (old new : LaidOut) (settings : LayoutSettings) →
-        IsSetTo old settings new → old.layout.count ≤ new.layout.count }
-    ensures lines { (old new : LaidOut) → CutsAllLines old new →
+    ensures settings { (old new : TextAndLayout) (settings : LayoutSettings) →
+        WrapsForSettings old settings new → old.layout.count ≤ new.layout.count }
+    ensures lines { (old new : TextAndLayout) → WrapsAllLines old new →
         old.layout.count ≤ new.layout.count }
 {}

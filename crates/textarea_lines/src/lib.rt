@@ -1,7 +1,7 @@
 //! The lines of a text with their visual rows, changed together.
 #![tactic(auto)]
 
-mod cut;
-pub mod laid_out;
 pub mod laws;
+mod rewrap;
 pub mod settings;
+pub mod text_layout;

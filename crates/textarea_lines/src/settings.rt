@@ -1,6 +1,6 @@
 //! Settings that determine how the lines of a text are wrapped.
 ghost use Rattle.std.specs.Prelude.{◌≡◌};
-ghost use Rattle.textarea_lines.specs.Wrappings.{cut_at_width, is_same, is_wrapped, wrapping_for};
+ghost use Rattle.textarea_lines.specs.Wrappings.{wrapped_at_width, is_same_wrapping, is_wrapped, wrapping_for};
 
 use textarea_screen_map::layout::Wrapping;
 use textarea_wrap::layout::LayoutMetrics;
@@ -40,7 +40,7 @@ pub fn wrapping_for(settings: LayoutSettings, line_count: usize) -> Wrapping
 /// Returns how a text of `line_count` lines would be wrapped in an inner area of this width, in
 /// columns. If line numbers leave no column, the width is 1.
 pub fn wrapping_at(settings: LayoutSettings, inner_width: u16, line_count: usize) -> Wrapping
-    ensures { result ≡ cut_at_width settings inner_width line_count }
+    ensures { result ≡ wrapped_at_width settings inner_width line_count }
 {
     let metrics = LayoutMetrics::new(
         inner_width,
@@ -57,7 +57,7 @@ pub fn wrapping_at(settings: LayoutSettings, inner_width: u16, line_count: usize
 
 /// Returns whether both wrap lines alike. Width and tab stops matter only if the mode wraps.
 pub fn is_same(one: Wrapping, other: Wrapping) -> bool
-    ensures { result ≡ is_same one other }
+    ensures { result ≡ is_same_wrapping one other }
 {
     one.mode == other.mode && (one.mode == WrapMode::None || one == other)
 }

@@ -5,7 +5,7 @@ use Rattle.textarea_data.specs.declared.input.Input.{Input}
 use Rattle.textarea_calls.specs.declared.call.Call.{Call}
 use Rattle.tui_textarea.specs.State.{State}
 use Rattle.textarea_modal.specs.Course.{Course, course, unless}
-use Rattle.textarea_modal.specs.Runs.{AllMade, Finishes, OneRefused, RefusedAt, RunsOut}
+use Rattle.textarea_modal.specs.Runs.{AllMade, Finishes, OneRunsOut, RunsOutAt, RunsOut}
 use Rattle.textarea_modal.specs.Table.{step}
 use Rattle.textarea_modal.specs.declared.mode.Mode.{Mode}
 use Rattle.textarea_modal.proofs.Courses.{alone, course-append, course-end, course-more, joined}
@@ -44,13 +44,13 @@ inputs_split inputs index input within =
     ∙ take-append-drop (index + 1) inputs
 
 -- a call of the input there runs out of memory
-pub runs_out : (old mid new : State) (from mode : Mode) (inputs : List Input) (input : Input) (index taken : ℕ) → index < length inputs → Finishes old from (take index inputs) mid mode taken false → OneRefused mid (step mode (get_or inputs index input)).calls new → RunsOut old from inputs new mode index
+pub runs_out : (old mid new : State) (from mode : Mode) (inputs : List Input) (input : Input) (index taken : ℕ) → index < length inputs → Finishes old from (take index inputs) mid mode taken false → OneRunsOut mid (step mode (get_or inputs index input)).calls new → RunsOut old from inputs new mode index
 runs_out old mid new from mode inputs input index taken within so_far refused =
     let earlier = take index inputs in
     let this = get_or inputs index input in
     let before = course from earlier in
     let its = (step before.mode this).calls in
-    let one : OneRefused mid its new = subst (λ (m : Mode). OneRefused mid (step m this).calls new) so_far.mode refused in
+    let one : OneRunsOut mid its new = subst (λ (m : Mode). OneRunsOut mid (step m this).calls new) so_far.mode refused in
     let up_to : (course from (take (index + 1) inputs)).calls ≡ before.calls ++ its = ap (λ (l : List Input). (course from l).calls) (take_more inputs index input within) ∙ ap (λ (c : Course). c.calls) (course-more from earlier this (sym so_far.quit)) in
     let here = step before.mode this in
     let rest = (unless here.quits here.mode (course here.mode (drop (index + 1) inputs))).calls in
@@ -63,6 +63,6 @@ runs_out old mid new from mode inputs input index taken within so_far refused =
       behind = omega arith;
       ahead = subst (λ (l : List Call). length before.calls + one.index < length l) (sym up_to)
           (omega (arith, one.refused.within, length-append before.calls its));
-      refused = subst (λ (l : List Call). RefusedAt old l (length before.calls + one.index) new) all
+      refused = subst (λ (l : List Call). RunsOutAt old l (length before.calls + one.index) new) all
           (refused_behind old mid new before.calls its rest one.index so_far.made one.refused);
     }

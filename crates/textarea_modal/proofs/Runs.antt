@@ -5,15 +5,15 @@ use Rattle.std.proofs.lemmas.List.{append-nil, map-append, take-append-le, get_o
 use Rattle.std.proofs.lemmas.Option.{slice_get_read, get_or_from_slice_get}
 use Rattle.textarea_screen.specs.declared.screen.buffer.Buffer.{Buffer}
 use Rattle.tui_textarea.proofs.Runs.{leads_more}
-use Rattle.tui_textarea.specs.Outcomes.{IsAnswer, IsBehind, IsShown, IsSpared, Refused}
+use Rattle.tui_textarea.specs.Outcomes.{IsAnswer, IsAfterCall, IsBufferAfter, IsBufferOutOfMemory, RanOutOfMemory}
 use Rattle.tui_textarea.specs.Run.{Leads, StopsAt}
-use Rattle.tui_textarea.specs.Said.{Said, Done, said}
+use Rattle.tui_textarea.specs.CallResults.{CallResult, Done, call_result}
 use Rattle.textarea_calls.specs.declared.answer.Answer.{Answer}
 use Rattle.textarea_calls.specs.declared.answer.Answer.TheVariants as answer
 use Rattle.textarea_data.specs.declared.cursor.CursorMove.{CursorMove}
 use Rattle.textarea_calls.specs.declared.call.Call.{Call}
 use Rattle.tui_textarea.specs.State.{State}
-use Rattle.textarea_calls.specs.Kinds.{call_of_edit, call_of_setting, call_of_write, draws}
+use Rattle.textarea_calls.specs.CallGroups.{call_of_edit, call_of_setting, call_of_write, draws}
 use Rattle.textarea_calls.specs.declared.call.Call.TheVariants as call
 use Rattle.textarea_calls.specs.declared.kind.Edit.{Edit}
 use Rattle.textarea_calls.specs.declared.kind.Edit.TheVariants as edit
@@ -21,17 +21,17 @@ use Rattle.textarea_calls.specs.declared.kind.Setting.{Setting}
 use Rattle.textarea_calls.specs.declared.kind.Setting.TheVariants as setting
 use Rattle.textarea_calls.specs.declared.kind.Write.{Write}
 use Rattle.textarea_calls.specs.declared.kind.Write.TheVariants as write
-use Rattle.textarea_modal.specs.Calls.{call_of}
+use Rattle.textarea_modal.specs.Calls.{key_call}
 use Rattle.textarea_modal.specs.declared.step.KeyCall.{KeyCall}
 use Rattle.textarea_modal.specs.declared.step.KeyCall.TheVariants as key
-use Rattle.textarea_modal.specs.Runs.{AllMade, OneRefused, RefusedAt}
+use Rattle.textarea_modal.specs.Runs.{AllMade, OneRunsOut, RunsOutAt}
 
 -- ---- calls that draw nothing
 
 -- the call leaves the buffer unchanged, whether it is made or runs out of memory
 pub record DrawsNothing (call : Call) : Type 0 where
-  pub made : (state : State) (buffer : Buffer) → IsShown call state buffer buffer
-  pub refused : (buffer : Buffer) → IsSpared call buffer buffer
+  pub made : (state : State) (buffer : Buffer) → IsBufferAfter call state buffer buffer
+  pub refused : (buffer : Buffer) → IsBufferOutOfMemory call buffer buffer
 
 pub draws_nothing_of : (made : Call) → draws made ≡ false → DrawsNothing made
 draws_nothing_of (call.Render area) none = let no : true ≡ false = none in cc
@@ -49,7 +49,7 @@ setting_undrawn : (asked : Setting) → draws (call_of_setting asked) ≡ false
 setting_undrawn setting.SelectAll = refl
 setting_undrawn other = refl
 
-pub draws_nothing : (made : KeyCall) → DrawsNothing (call_of made)
+pub draws_nothing : (made : KeyCall) → DrawsNothing (key_call made)
 draws_nothing (key.Edit asked) = draws_nothing_of (call_of_edit asked) (edit_undrawn asked)
 draws_nothing (key.Write asked) = draws_nothing_of (call_of_write asked) (write_undrawn asked)
 draws_nothing (key.Set asked) = draws_nothing_of (call_of_setting asked) (setting_undrawn asked)
@@ -71,14 +71,14 @@ pub none_made : (state : State) → AllMade state [] state
 none_made state = record { answers = []; run = λ buffer. (refl, refl) }
 
 -- the calls before this one were made, and then this one
-pub made_more : (old mid new : State) (calls : List Call) (index : ℕ) (call : Call) (answer : Answer) → index < length calls → call ≡ get_or calls index call → AllMade old (take index calls) mid → IsAnswer mid call (said answer) → IsBehind mid call (said answer) new → DrawsNothing call → AllMade old (take (index + 1) calls) new
+pub made_more : (old mid new : State) (calls : List Call) (index : ℕ) (call : Call) (answer : Answer) → index < length calls → call ≡ get_or calls index call → AllMade old (take index calls) mid → IsAnswer mid call (call_result answer) → IsAfterCall mid call (call_result answer) new → DrawsNothing call → AllMade old (take (index + 1) calls) new
 made_more old mid new calls index call answer within is_call so_far answered behind nothing = record {
   answers = so_far.answers ++ answer ∷ [];
   run = λ buffer. leads_more old mid new buffer buffer buffer calls so_far.answers index call answer within is_call (so_far.run buffer) (record { answered = answered; behind = behind; drawn = nothing.made new buffer });
 }
 
 -- the calls before this one were made, and this one ran out of memory
-pub refused_here : (old mid new : State) (calls : List Call) (index : ℕ) (call : Call) → index < length calls → call ≡ get_or calls index call → AllMade old (take index calls) mid → Refused mid call new → DrawsNothing call → OneRefused old calls new
+pub refused_here : (old mid new : State) (calls : List Call) (index : ℕ) (call : Call) → index < length calls → call ≡ get_or calls index call → AllMade old (take index calls) mid → RanOutOfMemory mid call new → DrawsNothing call → OneRunsOut old calls new
 refused_here old mid new calls index call within is_call so_far refused nothing = record {
   index = index;
   refused = record {
@@ -98,7 +98,7 @@ refused_here old mid new calls index call within is_call so_far refused nothing 
 
 -- ---- ---- runs after runs
 
-Leads-behind : (old mid new : State) (buffer screen shown : Buffer) (calls later : List Call) (answers others : List Said) → Leads old buffer calls answers mid screen → Leads mid screen later others new shown → Leads old buffer (calls ++ later) (answers ++ others) new shown
+Leads-behind : (old mid new : State) (buffer screen shown : Buffer) (calls later : List Call) (answers others : List CallResult) → Leads old buffer calls answers mid screen → Leads mid screen later others new shown → Leads old buffer (calls ++ later) (answers ++ others) new shown
 Leads-behind old mid new buffer screen shown [] later [] others earlier rest =
     subst (λ (s : State). Leads s buffer later others new shown) earlier.0 (subst (λ (b : Buffer). Leads mid b later others new shown) earlier.1 rest)
 Leads-behind old mid new buffer screen shown [] later (a ∷ answers) others earlier rest = absurd earlier
@@ -106,10 +106,10 @@ Leads-behind old mid new buffer screen shown (call ∷ calls) later [] others ea
 Leads-behind old mid new buffer screen shown (call ∷ calls) later (a ∷ answers) others earlier rest =
     (earlier.0, earlier.1, earlier.2, Leads-behind earlier.0 mid new earlier.1 screen shown calls later answers others earlier.3 rest)
 
-leads_behind : (old mid new : State) (buffer : Buffer) (calls later : List Call) (answers others : List Answer) → Leads old buffer calls (map said answers) mid buffer → Leads mid buffer later (map said others) new buffer → Leads old buffer (calls ++ later) (map said (answers ++ others)) new buffer
+leads_behind : (old mid new : State) (buffer : Buffer) (calls later : List Call) (answers others : List Answer) → Leads old buffer calls (map call_result answers) mid buffer → Leads mid buffer later (map call_result others) new buffer → Leads old buffer (calls ++ later) (map call_result (answers ++ others)) new buffer
 leads_behind old mid new buffer calls later answers others earlier rest =
-    subst (λ (all : List Said). Leads old buffer (calls ++ later) all new buffer) (sym (map-append said answers others))
-    (Leads-behind old mid new buffer buffer buffer calls later (map said answers) (map said others) earlier rest)
+    subst (λ (all : List CallResult). Leads old buffer (calls ++ later) all new buffer) (sym (map-append call_result answers others))
+    (Leads-behind old mid new buffer buffer buffer calls later (map call_result answers) (map call_result others) earlier rest)
 
 -- calls were made after others
 pub made_behind : (old mid new : State) (calls later : List Call) → AllMade old calls mid → AllMade mid later new → AllMade old (calls ++ later) new
@@ -131,21 +131,21 @@ calls_before : (calls later rest : List Call) (index : ℕ) → index < length l
 calls_before calls later rest index within =
     sym (take-append-add calls (later ++ rest) index ∙ ap (λ (l : List Call). calls ++ l) (take-append-le index later rest (omega (arith, within))))
 
-stops_behind : (old mid new : State) (buffer : Buffer) (calls later rest : List Call) (answers others : List Answer) (index : ℕ) → index < length later → Leads old buffer calls (map said answers) mid buffer → StopsAt mid buffer later others index new buffer → StopsAt old buffer (calls ++ (later ++ rest)) (answers ++ others) (length calls + index) new buffer
+stops_behind : (old mid new : State) (buffer : Buffer) (calls later rest : List Call) (answers others : List Answer) (index : ℕ) → index < length later → Leads old buffer calls (map call_result answers) mid buffer → StopsAt mid buffer later others index new buffer → StopsAt old buffer (calls ++ (later ++ rest)) (answers ++ others) (length calls + index) new buffer
 stops_behind old mid new buffer calls later rest answers others index within earlier stopped = record {
   call = stopped.call;
   here = call_behind calls later rest index stopped.call within stopped.here;
   before = stopped.before;
   screen = stopped.screen;
-  led = subst (λ (all : List Call). Leads old buffer all (map said (answers ++ others)) stopped.before stopped.screen) (calls_before calls later rest index within)
-      (subst (λ (all : List Said). Leads old buffer (calls ++ take index later) all stopped.before stopped.screen) (sym (map-append said answers others))
-      (Leads-behind old mid stopped.before buffer buffer stopped.screen calls (take index later) (map said answers) (map said others) earlier stopped.led));
+  led = subst (λ (all : List Call). Leads old buffer all (map call_result (answers ++ others)) stopped.before stopped.screen) (calls_before calls later rest index within)
+      (subst (λ (all : List CallResult). Leads old buffer (calls ++ take index later) all stopped.before stopped.screen) (sym (map-append call_result answers others))
+      (Leads-behind old mid stopped.before buffer buffer stopped.screen calls (take index later) (map call_result answers) (map call_result others) earlier stopped.led));
   refused = stopped.refused;
   spared = stopped.spared;
 }
 
 -- a call after others ran out of memory, whatever follows it
-pub refused_behind : (old mid new : State) (calls later rest : List Call) (index : ℕ) → AllMade old calls mid → RefusedAt mid later index new → RefusedAt old (calls ++ (later ++ rest)) (length calls + index) new
+pub refused_behind : (old mid new : State) (calls later rest : List Call) (index : ℕ) → AllMade old calls mid → RunsOutAt mid later index new → RunsOutAt old (calls ++ (later ++ rest)) (length calls + index) new
 refused_behind old mid new calls later rest index earlier refused = record {
   within = omega (arith, refused.within, length-append calls (later ++ rest), length-append later rest);
   answers = earlier.answers ++ refused.answers;
@@ -153,15 +153,15 @@ refused_behind old mid new calls later rest index earlier refused = record {
 }
 
 -- a call was made, and then one of others ran out of memory
-pub one_refused_behind : (old mid new : State) (first : Call) (later : List Call) → AllMade old (first ∷ []) mid → OneRefused mid later new → OneRefused old (first ∷ later) new
+pub one_refused_behind : (old mid new : State) (first : Call) (later : List Call) → AllMade old (first ∷ []) mid → OneRunsOut mid later new → OneRunsOut old (first ∷ later) new
 one_refused_behind old mid new first later earlier one = record {
   index = length (first ∷ []) + one.index;
-  refused = subst (λ (l : List Call). RefusedAt old (first ∷ l) (length (first ∷ []) + one.index) new) (append-nil later)
+  refused = subst (λ (l : List Call). RunsOutAt old (first ∷ l) (length (first ∷ []) + one.index) new) (append-nil later)
       (refused_behind old mid new (first ∷ []) later [] one.index earlier one.refused);
 }
 
 -- a single move
-pub moved : (old new : State) (cursor_move : CursorMove) → IsBehind old (call.Move cursor_move) Done new → AllMade old (call.Move cursor_move ∷ []) new
+pub moved : (old new : State) (cursor_move : CursorMove) → IsAfterCall old (call.Move cursor_move) Done new → AllMade old (call.Move cursor_move ∷ []) new
 moved old new cursor_move behind =
     let made = call.Move cursor_move in
     made_more old old new (made ∷ []) 0 made answer.Done (lit< tt) refl (none_made old) refl behind (draws_nothing_of made refl)

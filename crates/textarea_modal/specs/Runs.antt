@@ -17,15 +17,15 @@ pub record AllMade (old : State) (calls : List Call) (new : State) : Type 0 wher
   pub run : (buffer : Buffer) → Run old buffer calls answers None new buffer
 
 -- the run ends at the call of this index, which runs out of memory and leaves the new state
-pub record RefusedAt (old : State) (calls : List Call) (index : ℕ) (new : State) : Type 0 where
+pub record RunsOutAt (old : State) (calls : List Call) (index : ℕ) (new : State) : Type 0 where
   pub within : index < length calls
   pub answers : List Answer
   pub run : (buffer : Buffer) → StopsAt old buffer calls answers index new buffer
 
 -- the run ends at one of the calls, which runs out of memory
-pub record OneRefused (old : State) (calls : List Call) (new : State) : Type 0 where
+pub record OneRunsOut (old : State) (calls : List Call) (new : State) : Type 0 where
   pub index : ℕ
-  pub refused : RefusedAt old calls index new
+  pub refused : RunsOutAt old calls index new
 
 -- the inputs' calls are all made; mode, number of used inputs and reason are those of the table
 pub record Finishes (old : State) (from : Mode) (inputs : List Input) (new : State) (to : Mode) (taken : ℕ) (quits : Bool) : Type 0 where
@@ -42,7 +42,7 @@ pub record RunsOut (old : State) (from : Mode) (inputs : List Input) (new : Stat
   pub index : ℕ
   pub behind : length (course from (take taken inputs)).calls ≤ index
   pub ahead : index < length (course from (take (taken + 1) inputs)).calls
-  pub refused : RefusedAt old (course from inputs).calls index new
+  pub refused : RunsOutAt old (course from inputs).calls index new
 
 -- the outcome of the inputs from a state and a mode: state, mode, number of used inputs, reason
 abbrev pub EndsAs : State → Mode → List Input → State → Mode → ℕ → ModalStop → Type 0

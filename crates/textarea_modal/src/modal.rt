@@ -1,11 +1,11 @@
 //! A modal editor, and its runs of inputs.
 ghost use Rattle.std.specs.Prelude.{◌≡◌, IfOk, OnErr, OnOk};
-ghost use Rattle.textarea_modal.specs.Runs.{AllMade, EndsAs, OneRefused};
+ghost use Rattle.textarea_modal.specs.Runs.{AllMade, EndsAs, OneRunsOut};
 ghost use Rattle.textarea_modal.specs.Table.{step};
 
-mod making;
+mod calls;
 
-use crate::modal::making::{hand_on, make_step};
+use crate::modal::calls::{make_step, pass_on};
 use crate::mode::Mode;
 use crate::steps::step;
 use std::alloc::AllocError;
@@ -101,7 +101,7 @@ impl Modal {
         ensures mode { OnOk result (self.new ≡ (step self.old input.now).mode) }
         ensures quits { IfOk result (λ quits. quits ≡ (step self.old input.now).quits) }
         ensures err { OnErr result
-            (OneRefused area.old (step self.old input.now).calls area.new) }
+            (OneRunsOut area.old (step self.old input.now).calls area.new) }
         ensures stays { OnErr result (self.new ≡ self.old) }
     {
         match step(self.mode, input) {
@@ -111,7 +111,7 @@ impl Modal {
                 Ok(step.quits)
             }
             None => {
-                hand_on(area, input)?;
+                pass_on(area, input)?;
                 Ok(false)
             }
         }

@@ -1,7 +1,7 @@
 //! What a key does: its calls on a text area, and the mode after them.
 ghost use Rattle.std.specs.Prelude.{◌≡◌, map};
-ghost use Rattle.textarea_modal.specs.Calls.{call_of, shown};
-ghost use Rattle.textarea_modal.specs.Table.{goes};
+ghost use Rattle.textarea_modal.specs.Calls.{key_call, step_calls};
+ghost use Rattle.textarea_modal.specs.Table.{calls_then};
 
 use crate::mode::Mode;
 use textarea_calls::kind::{Edit, Setting, Write};
@@ -37,8 +37,8 @@ pub struct Step {
 
 impl Step {
     /// A step that makes these calls and enters this mode.
-    pub fn goes(calls: &'static [KeyCall], mode: Mode) -> Step
-        ensures { shown result ≡ goes (map call_of calls.now) mode }
+    pub fn calls_then(calls: &'static [KeyCall], mode: Mode) -> Step
+        ensures { step_calls result ≡ calls_then (map key_call calls.now) mode }
     {
         Step {
             motion: None,

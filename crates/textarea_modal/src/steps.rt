@@ -3,8 +3,8 @@ ghost use Rattle.std.specs.Prelude.{◌≡◌, ◌∷◌, [], true, false, map, 
 ghost use Rattle.textarea_calls.specs.declared.call.Call.TheVariants as call;
 ghost use Rattle.textarea_data.specs.declared.cursor.CursorMove.TheVariants.{End, Forward, Head};
 ghost use Rattle.textarea_data.specs.declared.input.Key.TheVariants.{Char};
-ghost use Rattle.textarea_modal.specs.Calls.{call_of, shown};
-ghost use Rattle.textarea_modal.specs.Table.{IsHandedOn, goes, handing_on, mode_behind, motion_of, moves_over, normal, operates, step, step_behind, step_by, step_in_insert, step_in_normal, step_in_visual, takes};
+ghost use Rattle.textarea_modal.specs.Calls.{key_call, step_calls};
+ghost use Rattle.textarea_modal.specs.Table.{IsPassedOn, calls_then, passing_on, mode_after, motion_of, moves_over, normal, operates, step, step_after_operator, step_by, step_in_insert, step_in_normal, step_in_visual, takes};
 ghost use Rattle.textarea_modal.specs.declared.mode.Mode.TheVariants as mode;
 
 use crate::mode::{Mode, Op};
@@ -52,14 +52,14 @@ const PREVIOUS_MATCH: KeyCall = KeyCall::SearchBack(false);
 
 /// Returns what an input does in a mode, or none where it is passed to the text area, in Insert.
 pub fn step(mode: Mode, input: &Input) -> Option<Step>
-    ensures { MatchOption result (IsHandedOn mode input.now)
-        (λ made. shown made ≡ step mode input.now) }
+    ensures { MatchOption result (IsPassedOn mode input.now)
+        (λ made. step_calls made ≡ step mode input.now) }
 {
     let (key, ctrl, alt) = (input.key, input.ctrl, input.alt);
     match mode {
         Mode::Normal => Some(in_normal(key, ctrl, alt)),
         Mode::Visual => Some(in_visual(key, ctrl, alt)),
-        Mode::Operator(op) => Some(behind_operator(op, key, ctrl, alt)),
+        Mode::Operator(op) => Some(after_operator(op, key, ctrl, alt)),
         Mode::Insert => in_insert(input),
     }
 }
@@ -101,7 +101,7 @@ fn motion_by(character: char) -> Option<CursorMove>
 // What a key does in Normal.
 #[tactic(auto, unfolding(crate::specs::Table::normal, crate::specs::Table::step_by))]
 fn in_normal(key: Key, ctrl: bool, alt: bool) -> Step
-    ensures { shown result ≡ step_in_normal key ctrl alt }
+    ensures { step_calls result ≡ step_in_normal key ctrl alt }
 {
     if let Some(cursor_move) = motion(key, ctrl, alt) {
         return moves(cursor_move, &[], Mode::Normal);
@@ -109,80 +109,82 @@ fn in_normal(key: Key, ctrl: bool, alt: bool) -> Step
     match (key, ctrl, alt) {
         (Key::Char(character), false, false) => by_character(character),
         (Key::Char(character), true, false) => by_character_with_ctrl(character),
-        _ => Step::goes(&[], Mode::Normal),
+        _ => Step::calls_then(&[], Mode::Normal),
     }
 }
 
 // What a character does in Normal, if it is not a motion.
 #[tactic(auto, unfolding(crate::specs::Table::normal, crate::specs::Table::step_by))]
 fn by_character(character: char) -> Step
-    ensures { shown result ≡ step_by normal (goes [] mode.Normal) (Char character) false false }
+    ensures { step_calls result ≡ step_by normal (calls_then [] mode.Normal) (Char character) false
+        false }
 {
     match character {
-        'i' => Step::goes(&[], Mode::Insert),
-        'I' => Step::goes(&[HEAD], Mode::Insert),
-        'a' => Step::goes(&[FORWARD], Mode::Insert),
-        'A' => Step::goes(&[END], Mode::Insert),
-        'o' => Step::goes(&[END, NEWLINE], Mode::Insert),
-        'O' => Step::goes(&[HEAD, NEWLINE, BACK], Mode::Insert),
-        'x' => Step::goes(&[DELETE_NEXT_CHAR], Mode::Normal),
-        'D' => Step::goes(&[DELETE_TO_LINE_END], Mode::Normal),
-        'C' => Step::goes(&[DELETE_TO_LINE_END], Mode::Insert),
-        'p' => Step::goes(&[PASTE], Mode::Normal),
-        'u' => Step::goes(&[UNDO], Mode::Normal),
-        'n' => Step::goes(&[NEXT_MATCH], Mode::Normal),
-        'N' => Step::goes(&[PREVIOUS_MATCH], Mode::Normal),
-        'v' => Step::goes(&[START_SELECTION], Mode::Visual),
-        'V' => Step::goes(&[HEAD, START_SELECTION, END], Mode::Visual),
-        'd' => Step::goes(&[START_SELECTION], Mode::Operator(Op::Delete)),
-        'y' => Step::goes(&[START_SELECTION], Mode::Operator(Op::Yank)),
-        'c' => Step::goes(&[START_SELECTION], Mode::Operator(Op::Change)),
+        'i' => Step::calls_then(&[], Mode::Insert),
+        'I' => Step::calls_then(&[HEAD], Mode::Insert),
+        'a' => Step::calls_then(&[FORWARD], Mode::Insert),
+        'A' => Step::calls_then(&[END], Mode::Insert),
+        'o' => Step::calls_then(&[END, NEWLINE], Mode::Insert),
+        'O' => Step::calls_then(&[HEAD, NEWLINE, BACK], Mode::Insert),
+        'x' => Step::calls_then(&[DELETE_NEXT_CHAR], Mode::Normal),
+        'D' => Step::calls_then(&[DELETE_TO_LINE_END], Mode::Normal),
+        'C' => Step::calls_then(&[DELETE_TO_LINE_END], Mode::Insert),
+        'p' => Step::calls_then(&[PASTE], Mode::Normal),
+        'u' => Step::calls_then(&[UNDO], Mode::Normal),
+        'n' => Step::calls_then(&[NEXT_MATCH], Mode::Normal),
+        'N' => Step::calls_then(&[PREVIOUS_MATCH], Mode::Normal),
+        'v' => Step::calls_then(&[START_SELECTION], Mode::Visual),
+        'V' => Step::calls_then(&[HEAD, START_SELECTION, END], Mode::Visual),
+        'd' => Step::calls_then(&[START_SELECTION], Mode::Operator(Op::Delete)),
+        'y' => Step::calls_then(&[START_SELECTION], Mode::Operator(Op::Yank)),
+        'c' => Step::calls_then(&[START_SELECTION], Mode::Operator(Op::Change)),
         'q' => Step {
             motion: None,
             calls: &[],
             mode: Mode::Normal,
             quits: true,
         },
-        _ => Step::goes(&[], Mode::Normal),
+        _ => Step::calls_then(&[], Mode::Normal),
     }
 }
 
 // What a character with Ctrl does in Normal.
 #[tactic(auto, unfolding(crate::specs::Table::normal, crate::specs::Table::step_by))]
 fn by_character_with_ctrl(character: char) -> Step
-    ensures { shown result ≡ step_by normal (goes [] mode.Normal) (Char character) true false }
+    ensures { step_calls result ≡ step_by normal (calls_then [] mode.Normal) (Char character) true
+        false }
 {
     match character {
-        'r' => Step::goes(&[REDO], Mode::Normal),
-        'd' => Step::goes(&[HALF_PAGE_DOWN], Mode::Normal),
-        'u' => Step::goes(&[HALF_PAGE_UP], Mode::Normal),
-        _ => Step::goes(&[], Mode::Normal),
+        'r' => Step::calls_then(&[REDO], Mode::Normal),
+        'd' => Step::calls_then(&[HALF_PAGE_DOWN], Mode::Normal),
+        'u' => Step::calls_then(&[HALF_PAGE_UP], Mode::Normal),
+        _ => Step::calls_then(&[], Mode::Normal),
     }
 }
 
 // What a key does in Visual.
 #[tactic(auto, unfolding(crate::specs::Table::visual, crate::specs::Table::step_by))]
 fn in_visual(key: Key, ctrl: bool, alt: bool) -> Step
-    ensures { shown result ≡ step_in_visual key ctrl alt }
+    ensures { step_calls result ≡ step_in_visual key ctrl alt }
 {
     if let Some(cursor_move) = motion(key, ctrl, alt) {
         return moves(cursor_move, &[], Mode::Visual);
     }
     match (key, ctrl, alt) {
-        (Key::Char('d' | 'x'), false, false) => Step::goes(&[CUT], Mode::Normal),
-        (Key::Char('y'), false, false) => Step::goes(&[COPY], Mode::Normal),
-        (Key::Char('c'), false, false) => Step::goes(&[CUT], Mode::Insert),
+        (Key::Char('d' | 'x'), false, false) => Step::calls_then(&[CUT], Mode::Normal),
+        (Key::Char('y'), false, false) => Step::calls_then(&[COPY], Mode::Normal),
+        (Key::Char('c'), false, false) => Step::calls_then(&[CUT], Mode::Insert),
         (Key::Char('v'), false, false) | (Key::Esc, ..) => {
-            Step::goes(&[CANCEL_SELECTION], Mode::Normal)
+            Step::calls_then(&[CANCEL_SELECTION], Mode::Normal)
         }
-        _ => Step::goes(&[], Mode::Visual),
+        _ => Step::calls_then(&[], Mode::Visual),
     }
 }
 
 // What a key does after an operator.
 #[tactic(auto, unfolding(crate::specs::Table::step_by))]
-fn behind_operator(op: Op, key: Key, ctrl: bool, alt: bool) -> Step
-    ensures { shown result ≡ step_behind op key ctrl alt }
+fn after_operator(op: Op, key: Key, ctrl: bool, alt: bool) -> Step
+    ensures { step_calls result ≡ step_after_operator op key ctrl alt }
 {
     if let Some(cursor_move) = motion(key, ctrl, alt) {
         return over_motion(op, cursor_move);
@@ -191,25 +193,25 @@ fn behind_operator(op: Op, key: Key, ctrl: bool, alt: bool) -> Step
         (Op::Delete, Key::Char('d'), false, false)
         | (Op::Yank, Key::Char('y'), false, false)
         | (Op::Change, Key::Char('c'), false, false) => {
-            Step::goes(over_line(op), mode_behind(op))
+            Step::calls_then(over_line(op), mode_after(op))
         }
-        _ => Step::goes(&[CANCEL_SELECTION], Mode::Normal),
+        _ => Step::calls_then(&[CANCEL_SELECTION], Mode::Normal),
     }
 }
 
 // What a motion does after an operator. `WordEnd` stops before a word's last character: one more.
 fn over_motion(op: Op, cursor_move: CursorMove) -> Step
-    ensures { shown result ≡ operates op (moves_over cursor_move) }
+    ensures { step_calls result ≡ operates op (moves_over cursor_move) }
 {
     match cursor_move {
-        CursorMove::WordEnd => moves(cursor_move, one_more(op), mode_behind(op)),
-        _ => moves(cursor_move, taking(op), mode_behind(op)),
+        CursorMove::WordEnd => moves(cursor_move, one_more(op), mode_after(op)),
+        _ => moves(cursor_move, taking(op), mode_after(op)),
     }
 }
 
 // A step of a motion, these calls, and then this mode.
 fn moves(cursor_move: CursorMove, calls: &'static [KeyCall], mode: Mode) -> Step
-    ensures { shown result ≡ goes (call.Move cursor_move ∷ map call_of calls.now) mode }
+    ensures { step_calls result ≡ calls_then (call.Move cursor_move ∷ map key_call calls.now) mode }
 {
     Step {
         motion: Some(cursor_move),
@@ -221,7 +223,7 @@ fn moves(cursor_move: CursorMove, calls: &'static [KeyCall], mode: Mode) -> Step
 
 // The call of an operator on the selection.
 fn taking(op: Op) -> &'static [KeyCall]
-    ensures { map call_of result.now ≡ takes op ∷ [] }
+    ensures { map key_call result.now ≡ takes op ∷ [] }
 {
     match op {
         Op::Delete | Op::Change => &[CUT],
@@ -231,7 +233,7 @@ fn taking(op: Op) -> &'static [KeyCall]
 
 // A move by one more character, and the call of an operator on the selection.
 fn one_more(op: Op) -> &'static [KeyCall]
-    ensures { map call_of result.now ≡ call.Move Forward ∷ takes op ∷ [] }
+    ensures { map key_call result.now ≡ call.Move Forward ∷ takes op ∷ [] }
 {
     match op {
         Op::Delete | Op::Change => &[FORWARD, CUT],
@@ -241,7 +243,7 @@ fn one_more(op: Op) -> &'static [KeyCall]
 
 // The selection of the whole line, and the call of an operator on it.
 fn over_line(op: Op) -> &'static [KeyCall]
-    ensures { map call_of result.now
+    ensures { map key_call result.now
         ≡ call.Move Head ∷ call.StartSelection ∷ call.Move End ∷ takes op ∷ [] }
 {
     match op {
@@ -251,8 +253,8 @@ fn over_line(op: Op) -> &'static [KeyCall]
 }
 
 // The mode after an operator.
-fn mode_behind(op: Op) -> Mode
-    ensures { result ≡ mode_behind op }
+fn mode_after(op: Op) -> Mode
+    ensures { result ≡ mode_after op }
 {
     match op {
         Op::Delete | Op::Yank => Mode::Normal,
@@ -263,11 +265,13 @@ fn mode_behind(op: Op) -> Mode
 // What an input does in Insert, or none where it is passed to the text area.
 #[tactic(auto, unfolding(crate::specs::Table::insert, crate::specs::Table::step_by))]
 fn in_insert(input: &Input) -> Option<Step>
-    ensures { MatchOption result (step_in_insert input.now ≡ handing_on input.now)
-        (λ made. shown made ≡ step_in_insert input.now) }
+    ensures { MatchOption result (step_in_insert input.now ≡ passing_on input.now)
+        (λ made. step_calls made ≡ step_in_insert input.now) }
 {
     match (input.key, input.ctrl, input.alt) {
-        (Key::Esc, ..) | (Key::Char('c'), true, false) => { Some(Step::goes(&[], Mode::Normal)) }
+        (Key::Esc, ..) | (Key::Char('c'), true, false) => {
+            Some(Step::calls_then(&[], Mode::Normal))
+        }
         _ => None,
     }
 }

@@ -4,7 +4,7 @@ use Rattle.std.proofs.Common.{◌≡◌, ℕ, ◌+◌, ◌-◌, ◌<◌, ◌≤�
 use Rattle.std.proofs.lemmas.Bool.Decides.{nat_tests}
 use Rattle.textarea_screen.specs.Block.{has_border, left_side, right_side}
 use Rattle.textarea_screen.specs.Buffer.{Change, Changes}
-use Rattle.textarea_screen.specs.Cell.{ShownCell, with_symbol}
+use Rattle.textarea_screen.specs.Cell.{CellView, with_symbol}
 use Rattle.textarea_screen.specs.Inset.{inset_of}
 use Rattle.textarea_screen.specs.Rect.{contains}
 use Rattle.textarea_screen.proofs.BufferLemmas.{is_before_column, is_before_row}
@@ -21,7 +21,7 @@ use Rattle.textarea_paint.proofs.CellLemmas.{cond-then, row_change-outside}
 -- ---- one change of an area after another
 
 pub Changes-in_area : {a b c : Buffer} (area : Rect) (f g h : Change) → Changes a b (in_area area f) → Changes b c (in_area area g) →
-    ((x y : ℕ) (cell : ShownCell) → g x y (f x y cell) ≡ h x y cell) → Changes a c (in_area area h)
+    ((x y : ℕ) (cell : CellView) → g x y (f x y cell) ≡ h x y cell) → Changes a c (in_area area h)
 Changes-in_area area f g h first second same = grind (arith, common_steps, Changes-then, cond-then)
 
 -- ---- the cells of a rectangle inside the area
@@ -68,7 +68,7 @@ contains-cell area part at_x at_y is_x is_width is_y is_height column row =
 
 -- ---- a border or a corner
 
-bordered : (inside drawn part test : Bool) (f g : ShownCell → ShownCell) (cell : ShownCell) → part ≡ (inside && test) →
+bordered : (inside drawn part test : Bool) (f g : CellView → CellView) (cell : CellView) → part ≡ (inside && test) →
     cond (drawn && part) (g (cond inside (f cell) cell)) (cond inside (f cell) cell) ≡ cond inside (cond (drawn && test) (g (f cell)) (f cell)) cell
 bordered true drawn part test f g cell is = rw is refl
 bordered false true part test f g cell is = rw is refl
@@ -114,10 +114,10 @@ title_cells-are borders area x width is_x is_width = rw (is_x, is_width) refl
 pub title_cells-within : (borders : Borders) (area : Rect) (x y : ℕ) → 0 < area.height → contains area x y ≡ false → is_in_cells (title_cells borders area) x y ≡ false
 title_cells-within borders area x y rows outside = grind (arith, nat_tests)
 
-in_area-same : (inside : Bool) (f : ShownCell → ShownCell) (cell : ShownCell) → (inside ≡ false → f cell ≡ cell) → f cell ≡ cond inside (f cell) cell
+in_area-same : (inside : Bool) (f : CellView → CellView) (cell : CellView) → (inside ≡ false → f cell ≡ cell) → f cell ≡ cond inside (f cell) cell
 in_area-same true f cell out = refl
 in_area-same false f cell out = out refl
 
-pub title_in_area : (borders : Borders) (area : Rect) (cells : RowCells) (row : List Placed) → cells ≡ title_cells borders area → 0 < area.height → (x y : ℕ) (cell : ShownCell) →
+pub title_in_area : (borders : Borders) (area : Rect) (cells : RowCells) (row : List Placed) → cells ≡ title_cells borders area → 0 < area.height → (x y : ℕ) (cell : CellView) →
     row_change cells 0 row x y cell ≡ in_area area (row_change (title_cells borders area) 0 row) x y cell
 title_in_area borders area cells row are rows x y cell = grind (arith, common_steps, in_area-same, row_change-outside, title_cells-within)

@@ -3,11 +3,11 @@ use Rattle.std.proofs.Common.{◌≡◌, ℕ, ◌+◌, ◌-◌, ◌<◌, ◌≤�
 use Rattle.std.specs.List.{find}
 use Rattle.std.proofs.lemmas.Bool.Decides.{nat_tests}
 use Rattle.std.proofs.lemmas.Bool.{cond-true, cond-false}
-use Rattle.textarea_screen.specs.Cell.{ShownCell, with_symbol}
+use Rattle.textarea_screen.specs.Cell.{CellView, with_symbol}
 use Rattle.textarea_screen.specs.Rect.{contains}
 use Rattle.textarea_screen.specs.declared.screen.rect.Rect.{Rect}
 use Rattle.textarea_screen.specs.declared.screen.style.Style.{Style}
-use Rattle.textarea_paint.specs.Cells.{Placed, placed_at, place_from, covers, is_between, is_in_cells, is_whole, symbol_of, symbol_in, covered, row_change, IsPenAt}
+use Rattle.textarea_paint.specs.Cells.{Placed, placed_at, place_from, covers, is_between, is_in_cells, is_whole, symbol_of, symbol_in_column, covered_cell, row_change, IsPenAt}
 use Rattle.textarea_paint.specs.Clusters.{Cluster}
 use Rattle.textarea_paint.specs.Columns.{columns_of}
 use Rattle.textarea_paint.specs.declared.paint.cells.Pen.{Pen}
@@ -34,19 +34,19 @@ find-before : (column start : ℕ) (clusters : List Cluster) → column < start 
 find-before column start [] before = refl
 find-before column start (cluster ∷ clusters) before = grind (arith, nat_tests, find-before column (start + columns_of cluster.text) clusters (omega arith))
 
-covered-then : (cells : RowCells) (left column : ℕ) (here : Bool) (placed : Placed) (behind : Option Placed) (cell : ShownCell) → (here ≡ true → behind ≡ None) →
-    covered cells left column behind (covered cells left column (cond here (Some placed) None) cell) ≡ covered cells left column (cond here (Some placed) behind) cell
+covered-then : (cells : RowCells) (left column : ℕ) (here : Bool) (placed : Placed) (behind : Option Placed) (cell : CellView) → (here ≡ true → behind ≡ None) →
+    covered_cell cells left column behind (covered_cell cells left column (cond here (Some placed) None) cell) ≡ covered_cell cells left column (cond here (Some placed) behind) cell
 covered-then cells left column true placed behind cell none = rw (none refl) refl
 covered-then cells left column false placed behind cell none = refl
 
 -- a change of only these cells, after another one
-pub cond-then : (inside : Bool) (f g both : ShownCell → ShownCell) (cell : ShownCell) → g (f cell) ≡ both cell →
+pub cond-then : (inside : Bool) (f g both : CellView → CellView) (cell : CellView) → g (f cell) ≡ both cell →
     cond inside (g (cond inside (f cell) cell)) (cond inside (f cell) cell) ≡ cond inside (both cell) cell
 cond-then true f g both cell same = same
 cond-then false f g both cell same = refl
 
 -- a row is its first cluster and then the others
-pub row_change-cons : (cells : RowCells) (left start : ℕ) (cluster : Cluster) (clusters : List Cluster) (x y : ℕ) (cell : ShownCell) →
+pub row_change-cons : (cells : RowCells) (left start : ℕ) (cluster : Cluster) (clusters : List Cluster) (x y : ℕ) (cell : CellView) →
     row_change cells left (place_from (start + columns_of cluster.text) clusters) x y (row_change cells left (placed_at start cluster ∷ []) x y cell)
     ≡ row_change cells left (place_from start (cluster ∷ clusters)) x y cell
 unfolding row_change
@@ -54,24 +54,24 @@ row_change-cons cells left start cluster clusters x y cell =
     let column = left + (x - cells.x) in
     let behind = find (covers column) (place_from (start + columns_of cluster.text) clusters) in
     cond-then (is_in_cells cells x y)
-    (λ c. covered cells left column (cond (covers column (placed_at start cluster)) (Some (placed_at start cluster)) None) c)
-    (λ c. covered cells left column behind c)
-    (λ c. covered cells left column (cond (covers column (placed_at start cluster)) (Some (placed_at start cluster)) behind) c) cell
+    (λ c. covered_cell cells left column (cond (covers column (placed_at start cluster)) (Some (placed_at start cluster)) None) c)
+    (λ c. covered_cell cells left column behind c)
+    (λ c. covered_cell cells left column (cond (covers column (placed_at start cluster)) (Some (placed_at start cluster)) behind) c) cell
     (covered-then cells left column (covers column (placed_at start cluster)) (placed_at start cluster) behind cell
     (λ here. find-before column (start + columns_of cluster.text) clusters (covers_parts column (placed_at start cluster) here).1))
 
 -- without clusters the cells are unchanged
-pub row_change-nil : (cells : RowCells) (left x y : ℕ) (cell : ShownCell) → row_change cells left [] x y cell ≡ cell
+pub row_change-nil : (cells : RowCells) (left x y : ℕ) (cell : CellView) → row_change cells left [] x y cell ≡ cell
 unfolding row_change
 row_change-nil cells left x y cell = elim (is_in_cells cells x y) as (λ inside. cond inside cell cell ≡ cell) [ true ↦ refl | false ↦ refl ]
 
-cond-none : (cells : RowCells) (left column : ℕ) (inside : Bool) (found : Option Placed) (cell : ShownCell) → (inside ≡ true → found ≡ None) →
-    cond inside (covered cells left column found cell) cell ≡ cell
+cond-none : (cells : RowCells) (left column : ℕ) (inside : Bool) (found : Option Placed) (cell : CellView) → (inside ≡ true → found ≡ None) →
+    cond inside (covered_cell cells left column found cell) cell ≡ cell
 cond-none cells left column true found cell none = rw (none refl) refl
 cond-none cells left column false found cell none = refl
 
 -- so they are if all clusters start after the column that the cell shows
-pub row_change-past : (cells : RowCells) (left start : ℕ) (clusters : List Cluster) (x y : ℕ) (cell : ShownCell) →
+pub row_change-past : (cells : RowCells) (left start : ℕ) (clusters : List Cluster) (x y : ℕ) (cell : CellView) →
     (cells.x ≤ x → x < cells.x + cells.width → left + (x - cells.x) < start) →
     row_change cells left (place_from start clusters) x y cell ≡ cell
 unfolding row_change
@@ -80,7 +80,7 @@ row_change-past cells left start clusters x y cell past =
     (λ inside. find-before (left + (x - cells.x)) start clusters (past (grind (arith, nat_tests)) (grind (arith, nat_tests))))
 
 -- cells outside of the row are unchanged
-pub row_change-outside : (cells : RowCells) (left : ℕ) (row : List Placed) (x y : ℕ) (cell : ShownCell) → is_in_cells cells x y ≡ false → row_change cells left row x y cell ≡ cell
+pub row_change-outside : (cells : RowCells) (left : ℕ) (row : List Placed) (x y : ℕ) (cell : CellView) → is_in_cells cells x y ≡ false → row_change cells left row x y cell ≡ cell
 unfolding row_change
 row_change-outside cells left row x y cell outside = cond-false _ _ _ outside
 
@@ -105,16 +105,16 @@ module _ (cells : RowCells) (pen : Pen) (left column hidden shown : ℕ) (cluste
       eqb x pen.x ≡ eqb (left + (x - cells.x)) column
   drawn_first x y h whole = grind (arith, nat_tests, at.hidden, at.x, drawn.left_of, drawn.inside)
 
-cond-one : (cells : RowCells) (left column : ℕ) (placed : Placed) (test inside here : Bool) (symbol : List ℕ) (cell : ShownCell) → test ≡ (inside && here) →
-    (test ≡ true → symbol ≡ symbol_in cells left placed column) →
-    cond test (with_symbol symbol placed.style cell) cell ≡ cond inside (covered cells left column (cond here (Some placed) None) cell) cell
+cond-one : (cells : RowCells) (left column : ℕ) (placed : Placed) (test inside here : Bool) (symbol : List ℕ) (cell : CellView) → test ≡ (inside && here) →
+    (test ≡ true → symbol ≡ symbol_in_column cells left placed column) →
+    cond test (with_symbol symbol placed.style cell) cell ≡ cond inside (covered_cell cells left column (cond here (Some placed) None) cell) cell
 cond-one cells left column placed test true true symbol cell is same = cond-true test _ _ is ∙ ap (λ s. with_symbol s placed.style cell) (same is)
 cond-one cells left column placed test true false symbol cell is same = cond-false test _ _ is
 cond-one cells left column placed test false here symbol cell is same = cond-false test _ _ is
 
 -- the result is the row of only this cluster
 pub row_change-one : (cells : RowCells) (pen : Pen) (left column hidden shown : ℕ) (cluster : Cluster) → IsPenAt cells left column pen →
-    IsDrawnAt cells pen (columns_of cluster.text) hidden shown → (x y : ℕ) (cell : ShownCell) →
+    IsDrawnAt cells pen (columns_of cluster.text) hidden shown → (x y : ℕ) (cell : CellView) →
     cond (is_between cells.y pen.x (pen.x + shown) x y) (with_symbol (symbol_of (eqb shown (columns_of cluster.text)) (eqb x pen.x) cluster.text) cluster.style cell) cell
     ≡ row_change cells left (placed_at column cluster ∷ []) x y cell
 unfolding row_change
@@ -130,7 +130,7 @@ row_change-one cells pen left column hidden shown cluster at drawn x y cell =
 -- ---- one column after another
 
 -- the cells up to a column, and then the cell of that column
-pub between_more : (row first from at : ℕ) (whole : Bool) (text symbol : List ℕ) (style : Style) (x y : ℕ) (cell : ShownCell) → from ≤ at → symbol ≡ symbol_of whole (eqb at first) text →
+pub between_more : (row first from at : ℕ) (whole : Bool) (text symbol : List ℕ) (style : Style) (x y : ℕ) (cell : CellView) → from ≤ at → symbol ≡ symbol_of whole (eqb at first) text →
     cond (eqb x at && eqb y row) (with_symbol symbol style (cond (is_between row from at x y) (with_symbol (symbol_of whole (eqb x first) text) style cell) cell))
     (cond (is_between row from at x y) (with_symbol (symbol_of whole (eqb x first) text) style cell) cell)
     ≡ cond (is_between row from (at + 1) x y) (with_symbol (symbol_of whole (eqb x first) text) style cell) cell

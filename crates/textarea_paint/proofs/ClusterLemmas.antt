@@ -6,7 +6,7 @@ use Rattle.std.specs.Slice.Iter.{iter_rest}
 use Rattle.unicode_segmentation.specs.Grapheme.{graphemes}
 use Rattle.unicode_segmentation.specs.Iter.{graphemes_left}
 use Rattle.textarea_screen.specs.Style.{patched}
-use Rattle.textarea_screen.specs.Text.{text_bytes, shown_content, shown_span, shown_line}
+use Rattle.textarea_screen.specs.Text.{text_bytes, content_view, span_view, line_view}
 use Rattle.textarea_screen.specs.declared.screen.cell.TheConstants.{INLINE_BYTES}
 use Rattle.textarea_screen.specs.declared.screen.style.Style.{Style}
 use Rattle.textarea_screen.specs.declared.screen.text.Line.{Line}
@@ -18,11 +18,11 @@ use Rattle.textarea_paint.specs.LineClusters.{clusters_left}
 use Rattle.textarea_paint.proofs.PlainLemmas.{graphemes-nil}
 use Rattle.textarea_paint.specs.declared.paint.clusters.LineClusters.{LineClusters}
 
-content_bytes-shown : (content : SpanText) → content_bytes (shown_content content) ≡ text_bytes content
+content_bytes-shown : (content : SpanText) → content_bytes (content_view content) ≡ text_bytes content
 content_bytes-shown (Borrowed text) = refl
 content_bytes-shown (Owned text) = refl
 
-span_clusters-shown : (base : Style) (span : Span) → span_clusters base (shown_span span) ≡ map (in_style (patched base span.style)) (graphemes true (text_bytes span.content))
+span_clusters-shown : (base : Style) (span : Span) → span_clusters base (span_view span) ≡ map (in_style (patched base span.style)) (graphemes true (text_bytes span.content))
 span_clusters-shown base span = ap (λ bytes. map (in_style (patched base span.style)) (graphemes true bytes)) (content_bytes-shown span.content)
 
 -- a cluster is taken, and the clusters after it are left
@@ -60,7 +60,7 @@ clusters_left-none s none behind spans = rw (none, behind, graphemes-nil, spans)
 
 -- no span is begun yet
 pub clusters_left-new : (s : LineClusters) (style : Style) (line : Line) → graphemes_left s.texts ≡ [] → s.behind.now ≡ [] → iter_rest s.spans ≡ line.spans.items →
-    s.base ≡ patched style line.style → clusters_left s ≡ row_clusters style (shown_line line)
+    s.base ≡ patched style line.style → clusters_left s ≡ row_clusters style (line_view line)
 unfolding clusters_left
 clusters_left-new s style line none behind spans base = rw (none, behind, graphemes-nil, spans, base) refl
 

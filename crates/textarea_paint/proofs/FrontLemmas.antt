@@ -7,7 +7,7 @@ use Rattle.std.proofs.lemmas.List.Sums.{sum_by-cons}
 use Rattle.std.specs.Prelude.{if◌then◌else◌}
 use Rattle.textarea_paint.specs.Clusters.{Cluster}
 use Rattle.textarea_paint.specs.Columns.{columns_of}
-use Rattle.textarea_paint.specs.Row.{IsLongestFront, front_within, longest_front, row_width}
+use Rattle.textarea_paint.specs.Row.{IsLongestFront, front_within, longest_front, clusters_width}
 
 -- a cluster that fits is followed by the longest prefix of the others
 pub front-fits : (room most : ℕ) (cluster : Cluster) (clusters : List Cluster) → columns_of cluster.text ≤ room →
@@ -27,12 +27,12 @@ front-full room (suc most) cluster clusters full =
 -- the longest of the prefixes of at most `most` clusters
 record IsLongestUpTo (room most : ℕ) (clusters front : List Cluster) : Type 0 where
   is_front : front ≡ take (length front) clusters
-  fits : row_width front ≤ room
-  longest : (count : ℕ) → count ≤ most → row_width (take count clusters) ≤ room → count ≤ length front
+  fits : clusters_width front ≤ room
+  longest : (count : ℕ) → count ≤ most → clusters_width (take count clusters) ≤ room → count ≤ length front
 
 -- one cluster more, which fits or not
 longer : (test : Bool) (room most : ℕ) (clusters shorter : List Cluster) → suc most ≤ length clusters →
-    (test ≡ true → row_width (take (suc most) clusters) ≤ room) → (test ≡ false → room < row_width (take (suc most) clusters)) →
+    (test ≡ true → clusters_width (take (suc most) clusters) ≤ room) → (test ≡ false → room < clusters_width (take (suc most) clusters)) →
     IsLongestUpTo room most clusters shorter → IsLongestUpTo room (suc most) clusters (if test then take (suc most) clusters else shorter)
 longer true room most clusters shorter within fits full found =
     let all : length (take (suc most) clusters) ≡ suc most = length-take-le (suc most) clusters within in
@@ -44,7 +44,7 @@ longer false room most clusters shorter within fits full found = record {
       elim (cases_lt most count) [
         | inl more ↦
             let same : count ≡ suc most = omega (arith, few, more) in
-            let wide : row_width (take (suc most) clusters) ≤ room = subst (λ n. row_width (take n clusters) ≤ room) same narrow in
+            let wide : clusters_width (take (suc most) clusters) ≤ room = subst (λ n. clusters_width (take n clusters) ≤ room) same narrow in
             absurd (omega (arith, full refl, wide))
         | inr less ↦ found.longest count less narrow
       ];
@@ -53,7 +53,7 @@ longer false room most clusters shorter within fits full found = record {
 longest_up_to : (room most : ℕ) (clusters : List Cluster) → most ≤ length clusters → IsLongestUpTo room most clusters (longest_front room most clusters)
 longest_up_to room zero clusters within = record { is_front = refl; fits = omega arith; longest = λ count few fits. few }
 longest_up_to room (suc most) clusters within =
-    longer (nat_le (row_width (take (suc most) clusters)) room) room most clusters (longest_front room most clusters) within
+    longer (nat_le (clusters_width (take (suc most) clusters)) room) room most clusters (longest_front room most clusters) within
     (λ e. grind (arith, nat_tests)) (λ e. grind (arith, nat_tests)) (longest_up_to room most clusters (omega (arith, within)))
 
 pub longest_of_all : (room : ℕ) (clusters : List Cluster) → IsLongestFront room clusters (front_within room clusters)

@@ -4,9 +4,9 @@ use Rattle.std.proofs.Common.{◌≡◌, ◌≢◌, ◌≤◌, ℕ, Bool, true, 
 use Rattle.std.proofs.lemmas.Bool.{cond-false}
 use Rattle.std.proofs.lemmas.Bool.Decides.{nat_tests}
 use Rattle.textarea_screen.specs.Buffer.{area_of, Changes, HasNone, KeepsOutside}
-use Rattle.textarea_screen.specs.Cell.{ShownCell}
+use Rattle.textarea_screen.specs.Cell.{CellView}
 use Rattle.textarea_screen.specs.Rect.{contains, is_in_row}
-use Rattle.textarea_screen.specs.Text.{ShownLine}
+use Rattle.textarea_screen.specs.Text.{LineView}
 use Rattle.textarea_screen.proofs.ChangeLemmas.{Changes-as, KeepsOutside-wider}
 use Rattle.textarea_screen.specs.declared.screen.buffer.Buffer.{Buffer}
 use Rattle.textarea_screen.specs.declared.screen.rect.Rect.{Rect}
@@ -14,7 +14,7 @@ use Rattle.textarea_screen.specs.declared.screen.alignment.Alignment.{Alignment}
 use Rattle.textarea_screen.specs.declared.screen.alignment.Alignment.TheVariants.{Left, Center, Right}
 use Rattle.textarea_paint.specs.Cells.{Placed, is_in_cells, place_from, row_change}
 use Rattle.textarea_paint.specs.Clusters.{Cluster, row_clusters}
-use Rattle.textarea_paint.specs.Row.{cells_of_row, first_shown, fitting, placed_row, row_start, row_cell}
+use Rattle.textarea_paint.specs.Row.{cells_of_row, first_shown_column, fitting, placed_row, line_offset, row_cell}
 use Rattle.textarea_paint.specs.declared.paint.row.RowArea.{RowArea}
 use Rattle.textarea_paint.proofs.CellLemmas.{row_change-outside}
 
@@ -25,28 +25,28 @@ Meets area other seen = (x y : ℕ) → contains seen x y ≡ (contains area x y
 pub unseen_row : (area other seen : Rect) (row : ℕ) → Meets area other seen → contains seen seen.x row ≡ false → (x y : ℕ) → contains other x y ≡ true → is_in_row area row x y ≡ false
 unseen_row area other seen row meets none x y inside = let h = meets x y in grind (arith, nat_tests)
 
-pub row_cell-outside : (rows : RowArea) (row : ℕ) (line : ShownLine) (x y : ℕ) (cell : ShownCell) → is_in_row rows.area row x y ≡ false → row_cell rows row line x y cell ≡ cell
+pub row_cell-outside : (rows : RowArea) (row : ℕ) (line : LineView) (x y : ℕ) (cell : CellView) → is_in_row rows.area row x y ≡ false → row_cell rows row line x y cell ≡ cell
 unfolding row_cell
 row_cell-outside rows row line x y cell outside = cond-false (is_in_row rows.area row x y) _ _ outside
 
-cond-within : (inside other : Bool) (f : ShownCell → ShownCell) (cell : ShownCell) → other ≡ inside → (other ≡ false → f cell ≡ cell) → f cell ≡ cond inside (f cell) cell
+cond-within : (inside other : Bool) (f : CellView → CellView) (cell : CellView) → other ≡ inside → (other ≡ false → f cell ≡ cell) → f cell ≡ cond inside (f cell) cell
 cond-within true other f cell same out = refl
 cond-within false other f cell same out = out same
 
 -- ---- a row in the middle or at the right
 
-pub first_shown-fitting : (alignment : Alignment) (left : ℕ) → alignment ≢ Left → first_shown alignment left ≡ 0
+pub first_shown-fitting : (alignment : Alignment) (left : ℕ) → alignment ≢ Left → first_shown_column alignment left ≡ 0
 first_shown-fitting Left left not = absurd (not refl)
 first_shown-fitting Center left not = refl
 first_shown-fitting Right left not = refl
 
-pub placed_row-fitting : (alignment : Alignment) (width start : ℕ) (clusters : List Cluster) → alignment ≢ Left → start ≡ row_start alignment width clusters →
+pub placed_row-fitting : (alignment : Alignment) (width start : ℕ) (clusters : List Cluster) → alignment ≢ Left → start ≡ line_offset alignment width clusters →
     placed_row alignment width clusters ≡ place_from start (fitting width clusters)
 placed_row-fitting Left width start clusters not is = absurd (not refl)
 placed_row-fitting Center width start clusters not is = ap (λ n. place_from n (fitting width clusters)) (sym is)
 placed_row-fitting Right width start clusters not is = ap (λ n. place_from n (fitting width clusters)) (sym is)
 
-pub row_start-within : (alignment : Alignment) (width : ℕ) (clusters : List Cluster) → row_start alignment width clusters ≤ width
+pub row_start-within : (alignment : Alignment) (width : ℕ) (clusters : List Cluster) → line_offset alignment width clusters ≤ width
 row_start-within Left width clusters = omega arith
 row_start-within Center width clusters = omega arith
 row_start-within Right width clusters = omega arith
@@ -59,16 +59,16 @@ module _ (rows : RowArea) (other seen : Rect) (row : ℕ) (meets : Meets rows.ar
   in_row x y = let in_area = meets seen.x row in grind (arith, nat_tests)
 
   -- the change of the row's cells is the change of the area's row
-  pub shown_row : {old new : Buffer} (line : ShownLine) (left : ℕ) (placed : List Placed) → first_shown rows.alignment rows.left ≡ left →
+  pub row_of_texts : {old new : Buffer} (line : LineView) (left : ℕ) (placed : List Placed) → first_shown_column rows.alignment rows.left ≡ left →
       placed_row rows.alignment rows.area.width (row_clusters rows.style line) ≡ placed →
       Changes old new (row_change (cells_of_row rows.area row) left placed) → Changes old new (row_cell rows row line)
   unfolding row_cell
-  shown_row line left placed at_left at_placed drawn =
+  row_of_texts line left placed at_left at_placed drawn =
       Changes-as (row_cell rows row line) drawn
       (λ x y cell.
       ap₂ (λ l p. row_change (cells_of_row rows.area row) l p x y cell) (sym at_left) (sym at_placed)
       ∙ cond-within (is_in_row rows.area row x y) (is_in_cells (cells_of_row rows.area row) x y)
-      (row_change (cells_of_row rows.area row) (first_shown rows.alignment rows.left) (placed_row rows.alignment rows.area.width (row_clusters rows.style line)) x y) cell
+      (row_change (cells_of_row rows.area row) (first_shown_column rows.alignment rows.left) (placed_row rows.alignment rows.area.width (row_clusters rows.style line)) x y) cell
       (in_row x y) (λ outside. row_change-outside (cells_of_row rows.area row) _ _ x y cell outside))
 
   pub kept_outside : {old new : Buffer} → KeepsOutside (is_in_cells (cells_of_row rows.area row)) old new → KeepsOutside (is_in_row rows.area row) old new

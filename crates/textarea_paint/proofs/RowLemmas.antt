@@ -9,7 +9,7 @@ use Rattle.textarea_screen.specs.declared.screen.buffer.Buffer.{Buffer}
 use Rattle.textarea_paint.specs.Cells.{Placed, placed_at, place_from, is_in_cells, row_change, IsPenAt}
 use Rattle.textarea_paint.specs.Clusters.{Cluster}
 use Rattle.textarea_paint.specs.Columns.{columns_of}
-use Rattle.textarea_paint.specs.Row.{front_within, is_narrow, fitting, row_width}
+use Rattle.textarea_paint.specs.Row.{front_within, is_narrow, fitting, clusters_width}
 use Rattle.textarea_paint.specs.declared.paint.cells.Pen.{Pen}
 use Rattle.textarea_paint.specs.declared.paint.cells.RowCells.{RowCells}
 use Rattle.textarea_paint.proofs.FrontLemmas.{front-fits, front-full}
@@ -95,36 +95,36 @@ fitting_ahead-fits width room cluster clusters narrow fits = grind (arith, commo
 -- clusters `ahead` take the columns of the row
 pub record IsMeasuring (width : ℕ) (row : List Cluster) (room : ℕ) (ahead : List Cluster) : Type 0 where
   pub bound : room ≤ width
-  pub sum : (width - room) + row_width (fitting_ahead width room ahead) ≡ row_width (fitting width row)
+  pub sum : (width - room) + clusters_width (fitting_ahead width room ahead) ≡ clusters_width (fitting width row)
 
 pub measuring_start : (width : ℕ) (row ahead : List Cluster) → ahead ≡ row → IsMeasuring width row width ahead
 measuring_start width row ahead all = record {
   bound = omega arith;
-  sum = omega (arith, ap (λ clusters. row_width (fitting width clusters)) all);
+  sum = omega (arith, ap (λ clusters. clusters_width (fitting width clusters)) all);
 }
 
 pub measuring_wide : {width room : ℕ} {row ahead : List Cluster} (cluster : Cluster) (behind : List Cluster) → IsMeasuring width row room ahead → ahead ≡ cluster ∷ behind →
     width < columns_of cluster.text → IsMeasuring width row room behind
 measuring_wide {width} {room} {row} {ahead} cluster behind m taken wide = record {
   bound = m.bound;
-  sum = omega (arith, m.sum, ap (λ clusters. row_width (fitting_ahead width room clusters)) taken, ap row_width (fitting_ahead-wide width room cluster behind wide));
+  sum = omega (arith, m.sum, ap (λ clusters. clusters_width (fitting_ahead width room clusters)) taken, ap clusters_width (fitting_ahead-wide width room cluster behind wide));
 }
 
 pub measuring_fits : {width room : ℕ} {row ahead : List Cluster} (cluster : Cluster) (behind : List Cluster) → IsMeasuring width row room ahead → ahead ≡ cluster ∷ behind →
     columns_of cluster.text ≤ width → columns_of cluster.text ≤ room → IsMeasuring width row (room - columns_of cluster.text) behind
 measuring_fits {width} {room} {row} {ahead} cluster behind m taken narrow fits =
     let columns = columns_of cluster.text in
-    let more : row_width (fitting_ahead width room (cluster ∷ behind)) ≡ columns + row_width (fitting_ahead width (room - columns) behind) =
-    ap row_width (fitting_ahead-fits width room cluster behind narrow fits) ∙ sum_by-cons (λ c. columns_of c.text) cluster (fitting_ahead width (room - columns) behind) in
+    let more : clusters_width (fitting_ahead width room (cluster ∷ behind)) ≡ columns + clusters_width (fitting_ahead width (room - columns) behind) =
+    ap clusters_width (fitting_ahead-fits width room cluster behind narrow fits) ∙ sum_by-cons (λ c. columns_of c.text) cluster (fitting_ahead width (room - columns) behind) in
     record {
       bound = omega (arith, m.bound);
-      sum = omega (arith, m.bound, m.sum, fits, ap (λ clusters. row_width (fitting_ahead width room clusters)) taken, more);
+      sum = omega (arith, m.bound, m.sum, fits, ap (λ clusters. clusters_width (fitting_ahead width room clusters)) taken, more);
     }
 
 pub measuring_full : {width room : ℕ} {row ahead : List Cluster} (cluster : Cluster) (behind : List Cluster) → IsMeasuring width row room ahead → ahead ≡ cluster ∷ behind →
-    columns_of cluster.text ≤ width → room < columns_of cluster.text → width - room ≡ row_width (fitting width row)
+    columns_of cluster.text ≤ width → room < columns_of cluster.text → width - room ≡ clusters_width (fitting width row)
 measuring_full {width} {room} {row} {ahead} cluster behind m taken narrow full =
-    omega (arith, m.sum, ap (λ clusters. row_width (fitting_ahead width room clusters)) taken, ap row_width (fitting_ahead-full width room cluster behind narrow full))
+    omega (arith, m.sum, ap (λ clusters. clusters_width (fitting_ahead width room clusters)) taken, ap clusters_width (fitting_ahead-full width room cluster behind narrow full))
 
-pub measuring_end : {width room : ℕ} {row ahead : List Cluster} → IsMeasuring width row room ahead → ahead ≡ [] → width - room ≡ row_width (fitting width row)
-measuring_end {width} {room} {row} {ahead} m none = omega (arith, m.sum, ap (λ clusters. row_width (fitting_ahead width room clusters)) none)
+pub measuring_end : {width room : ℕ} {row ahead : List Cluster} → IsMeasuring width row room ahead → ahead ≡ [] → width - room ≡ clusters_width (fitting width row)
+measuring_end {width} {room} {row} {ahead} m none = omega (arith, m.sum, ap (λ clusters. clusters_width (fitting_ahead width room clusters)) none)

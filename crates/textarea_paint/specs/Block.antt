@@ -1,12 +1,12 @@
 -- A block's effect on the cells of an area.
 use Rattle.std.specs.Prelude.{ℕ, ◌+◌, ◌-◌, Bool, ◌&&◌, ◌==◌, List, [], ◌∷◌, ◌++◌, Option, None, Some, encode_utf8, if◌then◌else◌}
-use Rattle.textarea_screen.specs.Block.{ShownBlock, has_border, left_side, top_side, right_side, bottom_side}
+use Rattle.textarea_screen.specs.Block.{BlockView, has_border, left_side, top_side, right_side, bottom_side}
 use Rattle.textarea_screen.specs.Buffer.{Change}
 use Rattle.textarea_screen.specs.Cell.{styled, with_symbol}
 use Rattle.textarea_screen.specs.Inset.{inset_of}
 use Rattle.textarea_screen.specs.Rect.{contains}
 use Rattle.textarea_screen.specs.Style.{empty_style}
-use Rattle.textarea_screen.specs.Text.{ShownLine}
+use Rattle.textarea_screen.specs.Text.{LineView}
 use Rattle.textarea_screen.specs.declared.screen.block.Borders.{Borders}
 use Rattle.textarea_screen.specs.declared.screen.rect.Rect.{Rect}
 use Rattle.textarea_screen.specs.declared.screen.style.Style.{Style}
@@ -74,19 +74,19 @@ title_cells borders area = record {
 }
 
 -- the title from its first column on, with no style under its own
-abbrev pub title_row : Option ShownLine → RowCells → Change
+abbrev pub title_row : Option LineView → RowCells → Change
 title_row None cells x y cell = cell
 title_row (Some title) cells x y cell = row_change cells 0 (place_from 0 (row_clusters empty_style title)) x y cell
 
-abbrev pub title_change : ShownBlock → Rect → Change
+abbrev pub title_change : BlockView → Rect → Change
 title_change block area = title_row block.title (title_cells block.borders area)
 
 -- the block's style, then its borders, its corners and its title
-abbrev pub block_changes : ShownBlock → Rect → List Change
+abbrev pub block_changes : BlockView → Rect → List Change
 block_changes block area =
     (λ x y cell. styled block.style cell)
     ∷ side_changes block.borders block.border_style area ++ corner_changes block.borders block.border_style area ++ title_change block area ∷ []
 
 -- a cell after a block is drawn over an area; a cell outside of the area is unchanged
-unfoldable pub block_cell : ShownBlock → Rect → Change
+unfoldable pub block_cell : BlockView → Rect → Change
 block_cell block area = in_area area (in_turn (block_changes block area))

@@ -2,7 +2,7 @@
 use Rattle.std.specs.Prelude.{◌≡◌, ℕ, ◌≤◌, ◌+◌, ◌-◌, min, Bool, ◌&&◌, ◌==◌, nat_lt, nat_le, List, [], ◌∷◌, Option, None, Some, if◌then◌else◌}
 use Rattle.std.specs.List.{find}
 use Rattle.textarea_screen.specs.Buffer.{Change}
-use Rattle.textarea_screen.specs.Cell.{ShownCell, with_symbol}
+use Rattle.textarea_screen.specs.Cell.{CellView, with_symbol}
 use Rattle.textarea_screen.specs.declared.screen.style.Style.{Style}
 use Rattle.textarea_paint.specs.Clusters.{Cluster}
 use Rattle.textarea_paint.specs.Columns.{columns_of}
@@ -40,8 +40,8 @@ abbrev pub is_in_cells : RowCells → ℕ → ℕ → Bool
 is_in_cells cells = is_between cells.y cells.x (cells.x + cells.width)
 
 -- the column of one of the cells, or the one after them
-abbrev pub IsWithin : RowCells → ℕ → Type 0
-IsWithin cells x = (cells.x ≤ x) × (x ≤ cells.x + cells.width)
+abbrev pub IsColumnWithin : RowCells → ℕ → Type 0
+IsColumnWithin cells x = (cells.x ≤ x) × (x ≤ cells.x + cells.width)
 
 -- whether no edge of the cells cuts the cluster, if they show the row from the column `left` on
 abbrev pub is_whole : RowCells → ℕ → Placed → Bool
@@ -52,18 +52,18 @@ is_whole cells left placed = nat_le left placed.start && nat_le (placed.start + 
 abbrev pub symbol_of : Bool → Bool → List ℕ → List ℕ
 symbol_of whole first text = if whole then (if first then text else []) else 32 ∷ []
 
-abbrev pub symbol_in : RowCells → ℕ → Placed → ℕ → List ℕ
-symbol_in cells left placed column = symbol_of (is_whole cells left placed) (column == placed.start) placed.text
+abbrev pub symbol_in_column : RowCells → ℕ → Placed → ℕ → List ℕ
+symbol_in_column cells left placed column = symbol_of (is_whole cells left placed) (column == placed.start) placed.text
 
 -- a cell that shows this column, after the cluster that takes the column is drawn, if there is one
-abbrev pub covered : RowCells → ℕ → ℕ → Option Placed → ShownCell → ShownCell
-covered cells left column None cell = cell
-covered cells left column (Some placed) cell = with_symbol (symbol_in cells left placed column) placed.style cell
+abbrev pub covered_cell : RowCells → ℕ → ℕ → Option Placed → CellView → CellView
+covered_cell cells left column None cell = cell
+covered_cell cells left column (Some placed) cell = with_symbol (symbol_in_column cells left placed column) placed.style cell
 
 -- a cell after a row is drawn: one of these cells gets its column's cluster, if any; others none
 unfoldable pub row_change : RowCells → ℕ → List Placed → Change
 row_change cells left row x y cell =
-    if is_in_cells cells x y then covered cells left (left + (x - cells.x)) (find (covers (left + (x - cells.x))) row) cell else cell
+    if is_in_cells cells x y then covered_cell cells left (left + (x - cells.x)) (find (covers (left + (x - cells.x))) row) cell else cell
 
 -- ---- the pen
 

@@ -3,8 +3,8 @@ use Rattle.std.specs.Prelude.{ℕ, ◌≤◌, true, List, map, length, All}
 use Rattle.std.specs.List.{flat_map}
 use Rattle.unicode_segmentation.specs.Grapheme.{graphemes}
 use Rattle.textarea_screen.specs.Style.{patched}
-use Rattle.textarea_screen.specs.Text.{ShownContent, ShownSpan, ShownLine}
-use Rattle.textarea_screen.specs.Text.ShownContent.{Lent, Held}
+use Rattle.textarea_screen.specs.Text.{ContentView, SpanView, LineView}
+use Rattle.textarea_screen.specs.Text.ContentView.{BorrowedBytes, OwnedBytes}
 use Rattle.textarea_screen.specs.declared.screen.cell.TheConstants.{INLINE_BYTES}
 use Rattle.textarea_screen.specs.declared.screen.style.Style.{Style}
 
@@ -17,16 +17,16 @@ abbrev pub in_style : Style → List ℕ → Cluster
 in_style style text = record { text = text; style = style }
 
 -- the bytes of a text, borrowed or owned
-abbrev pub content_bytes : ShownContent → List ℕ
-content_bytes (Lent bytes) = bytes
-content_bytes (Held bytes) = bytes
+abbrev pub content_bytes : ContentView → List ℕ
+content_bytes (BorrowedBytes bytes) = bytes
+content_bytes (OwnedBytes bytes) = bytes
 
 -- the extended grapheme clusters (UAX #29) of a span, in its style patched over the given one
-abbrev pub span_clusters : Style → ShownSpan → List Cluster
+abbrev pub span_clusters : Style → SpanView → List Cluster
 span_clusters style span = map (in_style (patched style span.style)) (graphemes true (content_bytes span.content))
 
 -- the clusters of a line; its style is under that of each span, and the given one under both
-abbrev pub row_clusters : Style → ShownLine → List Cluster
+abbrev pub row_clusters : Style → LineView → List Cluster
 row_clusters style line = flat_map (span_clusters (patched style line.style)) line.spans
 
 -- each cluster is short enough to be stored in its cell

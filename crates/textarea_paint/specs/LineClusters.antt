@@ -4,7 +4,7 @@ use Rattle.std.specs.List.{flat_map}
 use Rattle.std.specs.Slice.Iter.{iter_rest}
 use Rattle.unicode_segmentation.specs.Grapheme.{graphemes}
 use Rattle.unicode_segmentation.specs.Iter.{graphemes_left}
-use Rattle.textarea_screen.specs.Text.{shown_span}
+use Rattle.textarea_screen.specs.Text.{span_view}
 use Rattle.textarea_paint.specs.Clusters.{Cluster, in_style, span_clusters}
 use Rattle.textarea_paint.specs.declared.paint.clusters.LineClusters.{LineClusters}
 use Rattle.textarea_paint.specs.declared.paint.clusters.StyledCluster.{StyledCluster}
@@ -15,4 +15,4 @@ styled_cluster cluster = record { text = cluster.text.now; style = cluster.style
 -- the clusters left of the current span, those already split first, and of the following spans
 unfoldable pub clusters_left : LineClusters → List Cluster
 clusters_left s =
-    map (in_style s.style) (graphemes_left s.texts ++ graphemes true s.behind.now) ++ flat_map (span_clusters s.base) (map shown_span (iter_rest s.spans))
+    map (in_style s.style) (graphemes_left s.texts ++ graphemes true s.behind.now) ++ flat_map (span_clusters s.base) (map span_view (iter_rest s.spans))

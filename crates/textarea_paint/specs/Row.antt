@@ -2,7 +2,7 @@
 use Rattle.std.specs.Prelude.{◌≡◌, ℕ, zero, suc, ◌≤◌, ◌-◌, ◌/◌, Bool, nat_le, List, [], length, take, filter, sum_by, if◌then◌else◌}
 use Rattle.textarea_screen.specs.Buffer.{Change}
 use Rattle.textarea_screen.specs.Rect.{is_in_row}
-use Rattle.textarea_screen.specs.Text.{ShownLine}
+use Rattle.textarea_screen.specs.Text.{LineView}
 use Rattle.textarea_screen.specs.declared.screen.alignment.Alignment.{Alignment}
 use Rattle.textarea_screen.specs.declared.screen.alignment.Alignment.TheVariants.{Left, Center, Right}
 use Rattle.textarea_screen.specs.declared.screen.rect.Rect.{Rect}
@@ -15,14 +15,14 @@ use Rattle.textarea_paint.specs.declared.paint.row.RowArea.{RowArea}
 -- ---- the grapheme clusters that are drawn in the middle or at the right
 
 -- the sum of the clusters' columns
-abbrev pub row_width : List Cluster → ℕ
-row_width clusters = sum_by (λ cluster. columns_of cluster.text) clusters
+abbrev pub clusters_width : List Cluster → ℕ
+clusters_width clusters = sum_by (λ cluster. columns_of cluster.text) clusters
 
 -- the longest prefix of at most `most` clusters whose widths sum to at most the room
 abbrev pub longest_front : ℕ → ℕ → List Cluster → List Cluster
 longest_front room zero clusters = []
 longest_front room (suc most) clusters =
-    if nat_le (row_width (take (suc most) clusters)) room then take (suc most) clusters else longest_front room most clusters
+    if nat_le (clusters_width (take (suc most) clusters)) room then take (suc most) clusters else longest_front room most clusters
 
 -- the longest prefix of the clusters whose widths sum to at most the room
 abbrev pub front_within : ℕ → List Cluster → List Cluster
@@ -31,8 +31,8 @@ front_within room clusters = longest_front room (length clusters) clusters
 -- a prefix of the clusters whose widths sum to at most the room, and the longest such prefix
 pub record IsLongestFront (room : ℕ) (clusters front : List Cluster) : Type 0 where
   pub is_front : front ≡ take (length front) clusters
-  pub fits : row_width front ≤ room
-  pub longest : (count : ℕ) → count ≤ length clusters → row_width (take count clusters) ≤ room → count ≤ length front
+  pub fits : clusters_width front ≤ room
+  pub longest : (count : ℕ) → count ≤ length clusters → clusters_width (take count clusters) ≤ room → count ≤ length front
 
 -- whether the cluster is no wider than the area
 abbrev pub is_narrow : ℕ → Cluster → Bool
@@ -46,10 +46,10 @@ fitting width clusters = front_within width (filter (is_narrow width) clusters)
 
 -- the number of columns between the left edge of an area and the start of a line: 0 at the left,
 -- else that which centers the drawn clusters, both halves rounded down, or aligns them at the right
-abbrev pub row_start : Alignment → ℕ → List Cluster → ℕ
-row_start Left width clusters = 0
-row_start Center width clusters = width / 2 - row_width (fitting width clusters) / 2
-row_start Right width clusters = width - row_width (fitting width clusters)
+abbrev pub line_offset : Alignment → ℕ → List Cluster → ℕ
+line_offset Left width clusters = 0
+line_offset Center width clusters = width / 2 - clusters_width (fitting width clusters) / 2
+line_offset Right width clusters = width - clusters_width (fitting width clusters)
 
 -- the clusters that are in the row
 abbrev pub taken : Alignment → ℕ → List Cluster → List Cluster
@@ -59,20 +59,20 @@ taken Right width clusters = fitting width clusters
 
 -- the clusters of a line with their columns in a row of `width` columns
 abbrev pub placed_row : Alignment → ℕ → List Cluster → List Placed
-placed_row alignment width clusters = place_from (row_start alignment width clusters) (taken alignment width clusters)
+placed_row alignment width clusters = place_from (line_offset alignment width clusters) (taken alignment width clusters)
 
 -- the first column of the row that is shown
-abbrev pub first_shown : Alignment → ℕ → ℕ
-first_shown Left left = left
-first_shown Center left = 0
-first_shown Right left = 0
+abbrev pub first_shown_column : Alignment → ℕ → ℕ
+first_shown_column Left left = left
+first_shown_column Center left = 0
+first_shown_column Right left = 0
 
 abbrev pub cells_of_row : Rect → ℕ → RowCells
 cells_of_row area y = record { x = area.x; y = y; width = area.width }
 
 -- a cell after a line is drawn in row y of an area
-unfoldable pub row_cell : RowArea → ℕ → ShownLine → Change
+unfoldable pub row_cell : RowArea → ℕ → LineView → Change
 row_cell rows y line column row cell = if is_in_row rows.area y column row
-    then row_change (cells_of_row rows.area y) (first_shown rows.alignment rows.left)
+    then row_change (cells_of_row rows.area y) (first_shown_column rows.alignment rows.left)
     (placed_row rows.alignment rows.area.width (row_clusters rows.style line)) column row cell
     else cell

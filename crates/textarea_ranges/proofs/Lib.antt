@@ -1,7 +1,7 @@
 pub mod Cases
 pub mod Closing
 pub mod Finds
-pub mod HeldLemmas
+pub mod LookupLemmas
 pub mod Lists
 pub mod Moving
 pub mod Sorts

@@ -4,10 +4,10 @@ use Rattle.std.proofs.lemmas.Bool.{cases_Bool}
 use Rattle.std.proofs.lemmas.Bool.Decides.{nat_tests}
 use Rattle.std.proofs.lemmas.List.{append_assoc, length-append, length-drop, length-take-le, take-append-drop, take_at, drop_at, get_or_at}
 use Rattle.std.proofs.lemmas.List.Elements.{All-from_recursion, recursion_from_All}
-use Rattle.textarea_ranges.specs.Prelude.{AllByRecursion, cons_option, Symbol, Character, Break, characters, following, joined, leading, lines, on_first, Place, IsUpTo, end, line_of, Splice, Fits, applied, place_after, place_before, is_up_to, shifted, AtomicRange, range_end, range_start, CoversTheSame, Disturbs, DisturbsBy, covered, moved_range, moved_ranges, shifted_range, AreInOrder, is_before, AreDisjoint, AreValid, IsPart}
+use Rattle.textarea_ranges.specs.Prelude.{AllByRecursion, cons_option, Symbol, Character, Break, characters, following, joined, leading, lines, on_first, Place, IsUpTo, end, line_of, Splice, Fits, applied, place_after, place_before, is_up_to, shifted, AtomicRange, range_end, range_start, CoversTheSame, Disturbs, DisturbsBy, covered_characters, moved_range, moved_ranges, shifted_range, AreInOrder, is_range_before, AreDisjoint, AreValid, IsPart}
 use Rattle.textarea_text.proofs.Splices.{characters-append, end-append, end_of_front, end-characters, joined-append, lines-joined}
 use Rattle.textarea_text.proofs.TextPlaces.{Parted, cut, joined-lines, part_rows}
-use Rattle.textarea_text.proofs.Carrying.{back_stays, end_from, front_stays}
+use Rattle.textarea_text.proofs.PlacesAfterSplice.{back_stays, end_from, front_stays}
 use Rattle.textarea_ranges.proofs.Lists.{AllPairs-later, EachLater, each_both, later-AllPairs}
 use Rattle.textarea_ranges.proofs.OrderLemmas.{in_order-sorted, sorted-in_order}
 use Rattle.textarea_ranges.proofs.Sorts.{NotBefore}
@@ -17,9 +17,9 @@ use Rattle.textarea_ranges.proofs.Sorts.{NotBefore}
 pub record Segment (text : List Symbol) (range : AtomicRange) : Type 0 where
   pub front : List Symbol
   pub back : List Symbol
-  pub is : text ≡ front ++ (characters (covered (lines text) range) ++ back)
+  pub is : text ≡ front ++ (characters (covered_characters (lines text) range) ++ back)
   pub starts : end (0, 0) front ≡ range_start range
-  pub ends : range.start_col + length (covered (lines text) range) ≡ range.end_col
+  pub ends : range.start_col + length (covered_characters (lines text) range) ≡ range.end_col
 
 pub segment : (text : List Symbol) (range : AtomicRange) → IsPart (lines text) range → Segment text range
 unfolding part_rows
@@ -50,9 +50,9 @@ filled (Break ∷ text) = ([], lines text, refl)
 -- characters in a text that are a range of the line in which they begin
 pub record Stands (text : List Symbol) (range : AtomicRange) (cs : List ℕ) : Type 0 where
   pub part : IsPart (lines text) range
-  pub is : covered (lines text) range ≡ cs
+  pub is : covered_characters (lines text) range ≡ cs
 
-stands_in : (rows above rest : List (List ℕ)) (before cs behind : List ℕ) (range : AtomicRange) → rows ≡ above ++ ((before ++ (cs ++ behind)) ∷ rest) → range.row ≡ length above → range.start_col ≡ length before → range.end_col ≡ length before + length cs → 0 < length cs → IsPart rows range × (covered rows range ≡ cs)
+stands_in : (rows above rest : List (List ℕ)) (before cs behind : List ℕ) (range : AtomicRange) → rows ≡ above ++ ((before ++ (cs ++ behind)) ∷ rest) → range.row ≡ length above → range.start_col ≡ length before → range.end_col ≡ length before + length cs → 0 < length cs → IsPart rows range × (covered_characters rows range ≡ cs)
 stands_in rows above rest before cs behind range e row start to some =
     let line = before ++ (cs ++ behind) in
     let here : line_of rows range.row ≡ line =
@@ -124,7 +124,7 @@ pub covers_the_same : (text : List Symbol) (splice : Splice) (old new : AtomicRa
 covers_the_same text splice old new h part e = by_cases (left splice old new e)
   where
     cs : List ℕ
-    cs = covered (lines text) old
+    cs = covered_characters (lines text) old
 
     at : Segment text old
     at = segment text old part
@@ -283,18 +283,18 @@ valid_moved text splice ranges h valid =
           ranges parts (later-AllPairs AreDisjoint ranges valid.disjoint));
     }
 
-up_to-not_before : (one other : AtomicRange) → is_before other one ≡ false → IsUpTo (range_start one) (range_start other)
+up_to-not_before : (one other : AtomicRange) → is_range_before other one ≡ false → IsUpTo (range_start one) (range_start other)
 up_to-not_before one other e = (grind (arith, nat_tests), λ same. grind (arith, nat_tests))
 
-not_before-up_to : (one other : AtomicRange) → IsUpTo (range_start one) (range_start other) → is_before other one ≡ false
+not_before-up_to : (one other : AtomicRange) → IsUpTo (range_start one) (range_start other) → is_range_before other one ≡ false
 not_before-up_to one other h = grind (arith, nat_tests)
 
 pub in_order_moved : (text : List Symbol) (splice : Splice) (ranges : List AtomicRange) → Fits text splice → AreValid (lines text) ranges → AreInOrder ranges → AreInOrder (moved_ranges ranges splice)
 unfolding moved_ranges
 in_order_moved text splice ranges h valid ordered =
     let Was : AtomicRange → Type 0 = IsPart (lines text) in
-    let later : EachLater (NotBefore is_before) ranges = subst (EachLater (NotBefore is_before)) ordered (sorted-in_order ranges) in
+    let later : EachLater (NotBefore is_range_before) ranges = subst (EachLater (NotBefore is_range_before)) ordered (sorted-in_order ranges) in
     sym (in_order-sorted (moved_ranges ranges splice) (moved_ranges ranges splice)
-    (later_left Was (NotBefore is_before) (NotBefore is_before) (moved_range splice)
+    (later_left Was (NotBefore is_range_before) (NotBefore is_range_before) (moved_range splice)
     (λ one other there away p q up e k. not_before-up_to there away (ordered_by splice one other there away p.1 q.1 (left splice one there e) (left splice other away k) (up_to-not_before one other up)))
     ranges (recursion_from_All Was ranges valid.parts) later) (λ z. refl))

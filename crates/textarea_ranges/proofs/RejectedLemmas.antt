@@ -3,7 +3,7 @@ use Rattle.std.proofs.Common.{◌≡◌, ◌≢◌, ◌↔◌, ℕ, ◌+◌, ◌
 use Rattle.std.proofs.lemmas.Bool.Decides.{nat_tests}
 use Rattle.std.proofs.lemmas.List.{append_assoc, drop_more, get_or_past, length-map}
 use Rattle.std.proofs.lemmas.List.Elements.{All-from_recursion, recursion_from_All}
-use Rattle.textarea_ranges.specs.Prelude.{Global, AllByRecursion, AtomicRange, RejectedAtomicRange, AtomicRangeRejectReason, line_of, characters_of, lines_of, AreInOrder, in_order, is_before, free_from, last_valid, reason, rejected_behind, rejected_of, with_reason, AreAccepted, AreRefused, AreDisjoint, AreValid, IsPart}
+use Rattle.textarea_ranges.specs.Prelude.{Global, AllByRecursion, AtomicRange, RejectedAtomicRange, AtomicRangeRejectReason, line_of, characters_of, lines_of, AreInOrder, in_order, is_range_before, free_from, last_valid, reason, rejected_after, rejected_of, with_reason, AreAccepted, AreRejected, AreDisjoint, AreValid, IsPart}
 use Rattle.textarea_ranges.proofs.Lists.{AllPairs-later, EachLater, each_both, each_weaker, later-AllPairs}
 use Rattle.textarea_ranges.proofs.Sorts.{NotBefore}
 use Rattle.textarea_ranges.proofs.OrderLemmas.{AreInOrder-in_order, each-in_order, each_from_in_order, later-in_order, later_from_in_order, sorted-in_order}
@@ -36,29 +36,29 @@ abbrev AllSuit : List (List ℕ) → Option AtomicRange → List AtomicRange →
 AllSuit rows last [] = Unit {0}
 AllSuit rows last (range ∷ rest) = Suits rows last range × AllSuit rows (Some range) rest
 
-suit_by_reason : (rows : List (List ℕ)) (last : Option AtomicRange) (range : AtomicRange) (rest : List AtomicRange) (o : Option AtomicRangeRejectReason) → reason rows last range ≡ o → (rejected_behind rows (Some range) rest ≡ [] → AllSuit rows (Some range) rest) → with_reason range o ++ rejected_behind rows (last_valid last range o) rest ≡ [] → AllSuit rows last (range ∷ rest)
+suit_by_reason : (rows : List (List ℕ)) (last : Option AtomicRange) (range : AtomicRange) (rest : List AtomicRange) (o : Option AtomicRangeRejectReason) → reason rows last range ≡ o → (rejected_after rows (Some range) rest ≡ [] → AllSuit rows (Some range) rest) → with_reason range o ++ rejected_after rows (last_valid last range o) rest ≡ [] → AllSuit rows last (range ∷ rest)
 suit_by_reason rows last range rest None e below h = (Suits-reason rows last range e, below h)
 suit_by_reason rows last range rest (Some r) e below h = absurd cc
 
-suit-none_rejected : (rows : List (List ℕ)) (last : Option AtomicRange) (ranges : List AtomicRange) → rejected_behind rows last ranges ≡ [] → AllSuit rows last ranges
+suit-none_rejected : (rows : List (List ℕ)) (last : Option AtomicRange) (ranges : List AtomicRange) → rejected_after rows last ranges ≡ [] → AllSuit rows last ranges
 suit-none_rejected rows last [] h = tt
 suit-none_rejected rows last (range ∷ rest) h = suit_by_reason rows last range rest (reason rows last range) refl (suit-none_rejected rows (Some range) rest) h
 
-none_rejected-suit : (rows : List (List ℕ)) (last : Option AtomicRange) (ranges : List AtomicRange) → AllSuit rows last ranges → rejected_behind rows last ranges ≡ []
+none_rejected-suit : (rows : List (List ℕ)) (last : Option AtomicRange) (ranges : List AtomicRange) → AllSuit rows last ranges → rejected_after rows last ranges ≡ []
 none_rejected-suit rows last [] suit = refl
 none_rejected-suit rows last (range ∷ rest) suit =
-    ap (λ (o : Option AtomicRangeRejectReason). with_reason range o ++ rejected_behind rows (last_valid last range o) rest) (reason-Suits rows last range suit.0)
+    ap (λ (o : Option AtomicRangeRejectReason). with_reason range o ++ rejected_after rows (last_valid last range o) rest) (reason-Suits rows last range suit.0)
     ∙ none_rejected-suit rows (Some range) rest suit.1
 
 -- rows and starts of ordered ranges
-not_before_parts : (one other : AtomicRange) → NotBefore is_before one other → (one.row ≤ other.row) × (one.row ≡ other.row → one.start_col ≤ other.start_col)
+not_before_parts : (one other : AtomicRange) → NotBefore is_range_before one other → (one.row ≤ other.row) × (one.row ≡ other.row → one.start_col ≤ other.start_col)
 not_before_parts one other h = (grind (arith, nat_tests), λ same. grind (arith, nat_tests))
 
 -- the one range ends at or before the other's start, if they are in one row
 abbrev EndsBy : AtomicRange → AtomicRange → Type 0
 EndsBy one other = one.row ≡ other.row → one.end_col ≤ other.start_col
 
-ends_by_all : (rows : List (List ℕ)) (range : AtomicRange) (rest : List AtomicRange) → AllSuit rows (Some range) rest → EachLater (NotBefore is_before) (range ∷ rest) → AllByRecursion (EndsBy range) rest
+ends_by_all : (rows : List (List ℕ)) (range : AtomicRange) (rest : List AtomicRange) → AllSuit rows (Some range) rest → EachLater (NotBefore is_range_before) (range ∷ rest) → AllByRecursion (EndsBy range) rest
 ends_by_all rows range [] suit order = tt
 ends_by_all rows range (first ∷ rest) suit order =
     let part = suit.0.part in
@@ -66,12 +66,12 @@ ends_by_all rows range (first ∷ rest) suit order =
     let here : EndsBy range first = λ same. (let free = free_from-same range first.row same in omega (arith, suit.0.behind)) in
     let below = ends_by_all rows first rest suit.1 order.1 in (
       here,
-      each_both (EndsBy first) (NotBefore is_before first) (EndsBy range) (λ z ends not_before same.
+      each_both (EndsBy first) (NotBefore is_range_before first) (EndsBy range) (λ z ends not_before same.
           let more = not_before_parts first z not_before in
           grind (arith, nat_tests)) rest below order.1.0,
     )
 
-disjoint-suit : (rows : List (List ℕ)) (last : Option AtomicRange) (ranges : List AtomicRange) → AllSuit rows last ranges → EachLater (NotBefore is_before) ranges → EachLater AreDisjoint ranges
+disjoint-suit : (rows : List (List ℕ)) (last : Option AtomicRange) (ranges : List AtomicRange) → AllSuit rows last ranges → EachLater (NotBefore is_range_before) ranges → EachLater AreDisjoint ranges
 disjoint-suit rows last [] suit order = tt
 disjoint-suit rows last (range ∷ rest) suit order = (
   each_weaker (EndsBy range) (AreDisjoint range) (λ z ends same. inl (ends same)) rest (ends_by_all rows range rest suit.1 order),
@@ -82,16 +82,16 @@ parts-suit : (rows : List (List ℕ)) (last : Option AtomicRange) (ranges : List
 parts-suit rows last [] suit = tt
 parts-suit rows last (range ∷ rest) suit = (suit.0.part, parts-suit rows (Some range) rest suit.1)
 
-free_behind : (rows : List (List ℕ)) (range z : AtomicRange) → AreDisjoint range z × NotBefore is_before range z → IsPart rows z → free_from (Some range) z.row ≤ z.start_col
+free_behind : (rows : List (List ℕ)) (range z : AtomicRange) → AreDisjoint range z × NotBefore is_range_before range z → IsPart rows z → free_from (Some range) z.row ≤ z.start_col
 free_behind rows range z apart part = grind (arith, nat_tests)
 
-suit-valid : (rows : List (List ℕ)) (last : Option AtomicRange) (ranges : List AtomicRange) → AllByRecursion (λ z. free_from last z.row ≤ z.start_col) ranges → AllByRecursion (IsPart rows) ranges → EachLater AreDisjoint ranges → EachLater (NotBefore is_before) ranges → AllSuit rows last ranges
+suit-valid : (rows : List (List ℕ)) (last : Option AtomicRange) (ranges : List AtomicRange) → AllByRecursion (λ z. free_from last z.row ≤ z.start_col) ranges → AllByRecursion (IsPart rows) ranges → EachLater AreDisjoint ranges → EachLater (NotBefore is_range_before) ranges → AllSuit rows last ranges
 suit-valid rows last [] free parts disjoint order = tt
 suit-valid rows last (range ∷ rest) free parts disjoint order = (
   record { part = parts.0; behind = free.0 },
   suit-valid rows (Some range) rest
-      (each_both (λ z. AreDisjoint range z × NotBefore is_before range z) (IsPart rows) (λ z. free_from (Some range) z.row ≤ z.start_col) (free_behind rows range) rest
-      (each_both (AreDisjoint range) (NotBefore is_before range) (λ z. AreDisjoint range z × NotBefore is_before range z) (λ z p q. (p, q)) rest disjoint.0 order.0) parts.1)
+      (each_both (λ z. AreDisjoint range z × NotBefore is_range_before range z) (IsPart rows) (λ z. free_from (Some range) z.row ≤ z.start_col) (free_behind rows range) rest
+      (each_both (AreDisjoint range) (NotBefore is_range_before range) (λ z. AreDisjoint range z × NotBefore is_range_before range z) (λ z p q. (p, q)) rest disjoint.0 order.0) parts.1)
       parts.1 disjoint.1 order.1,
 )
 
@@ -138,19 +138,19 @@ AreAccepted-in_order rows given held rejected order listed none =
     let nothing : rejected_of rows held ≡ [] = sym listed ∙ none in
     record { order = order; sorted = subst AreInOrder (sym order) (AreInOrder-in_order given); valid = subst (AreValid rows) (sym order) (valid-none_rejected rows given (ap (rejected_of rows) (sym order) ∙ nothing)); none = nothing }
 
-pub AreRefused-in_order : (rows : List (List ℕ)) (given held : List AtomicRange) (rejected : List RejectedAtomicRange) → held ≡ in_order given → rejected ≡ rejected_of rows held → rejected ≢ [] → AreRefused rows given rejected
-AreRefused-in_order rows given held rejected order listed some =
+pub AreRejected-in_order : (rows : List (List ℕ)) (given held : List AtomicRange) (rejected : List RejectedAtomicRange) → held ≡ in_order given → rejected ≡ rejected_of rows held → rejected ≢ [] → AreRejected rows given rejected
+AreRejected-in_order rows given held rejected order listed some =
     let all : rejected ≡ rejected_of rows (in_order given) = listed ∙ ap (rejected_of rows) order in
     record { listed = all; some = some; invalid = λ valid. some (all ∙ (accepted_if_valid rows given).1 valid) }
 
 -- the rejected ranges up to a range and those of the rest are all, also with this range judged
-pub listed_on : (rows : List (List ℕ)) (ranges : List AtomicRange) (index : ℕ) (none : AtomicRange) (last after : Option AtomicRange) (items new all : List RejectedAtomicRange) → index < length ranges → items ++ rejected_behind rows last (drop index ranges) ≡ all → new ≡ items ++ with_reason (get_or ranges index none) (reason rows last (get_or ranges index none)) → after ≡ last_valid last (get_or ranges index none) (reason rows last (get_or ranges index none)) → new ++ rejected_behind rows after (drop (index + 1) ranges) ≡ all
+pub listed_on : (rows : List (List ℕ)) (ranges : List AtomicRange) (index : ℕ) (none : AtomicRange) (last after : Option AtomicRange) (items new all : List RejectedAtomicRange) → index < length ranges → items ++ rejected_after rows last (drop index ranges) ≡ all → new ≡ items ++ with_reason (get_or ranges index none) (reason rows last (get_or ranges index none)) → after ≡ last_valid last (get_or ranges index none) (reason rows last (get_or ranges index none)) → new ++ rejected_after rows after (drop (index + 1) ranges) ≡ all
 listed_on rows ranges index none last after items new all within old listed is =
     let range = get_or ranges index none in
     let why = reason rows last range in
     let rest = drop (index + 1) ranges in
-    ap (λ (t : List RejectedAtomicRange). t ++ rejected_behind rows after rest) listed
-    ∙ ap (λ (l : Option AtomicRange). (items ++ with_reason range why) ++ rejected_behind rows l rest) is
-    ∙ append_assoc items (with_reason range why) (rejected_behind rows (last_valid last range why) rest)
-    ∙ ap (λ (t : List AtomicRange). items ++ rejected_behind rows last t) (sym (drop_more ranges index none within))
+    ap (λ (t : List RejectedAtomicRange). t ++ rejected_after rows after rest) listed
+    ∙ ap (λ (l : Option AtomicRange). (items ++ with_reason range why) ++ rejected_after rows l rest) is
+    ∙ append_assoc items (with_reason range why) (rejected_after rows (last_valid last range why) rest)
+    ∙ ap (λ (t : List AtomicRange). items ++ rejected_after rows last t) (sym (drop_more ranges index none within))
     ∙ old

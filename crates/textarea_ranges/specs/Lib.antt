@@ -1,4 +1,4 @@
-pub mod Held
+pub mod Lookup
 pub mod Moved
 pub mod Order
 pub mod Rejected

@@ -4,9 +4,9 @@ use Rattle.textarea_util.specs.Limit.{size_limit}
 use Rattle.textarea_text.specs.Text.{Symbol, lines}
 use Rattle.textarea_text.specs.Place.{Place, end, line_of}
 use Rattle.textarea_text.specs.Splice.{Splice, place_after, place_before}
-use Rattle.textarea_text.specs.Carried.{is_up_to, shifted}
+use Rattle.textarea_text.specs.PlacesAfterSplice.{is_up_to, shifted}
 use Rattle.textarea_data.specs.declared.range.AtomicRange.{AtomicRange}
-use Rattle.textarea_ranges.specs.Held.{IsInside, Overlaps, range_end, range_start}
+use Rattle.textarea_ranges.specs.Lookup.{IsInside, Overlaps, range_end, range_start}
 use Rattle.textarea_ranges.specs.Valid.{IsPart}
 
 -- the range, with both ends moved with the text after the old position to the new one
@@ -42,14 +42,14 @@ pub record IsMovable (range : AtomicRange) : Type 0 where
 -- ---- facts of the ranges that are left, and of those that are dropped
 
 -- the characters that the range covers in the line of its row
-abbrev pub covered : List (List ℕ) → AtomicRange → List ℕ
-covered rows range =
+abbrev pub covered_characters : List (List ℕ) → AtomicRange → List ℕ
+covered_characters rows range =
     take (range.end_col - range.start_col) (drop range.start_col (line_of rows range.row))
 
 -- the new range is within a line of the new text, and covers the characters of the old one
 pub record CoversTheSame (text new_text : List Symbol) (old new : AtomicRange) : Type 0 where
   pub part : IsPart (lines new_text) new
-  pub same : covered (lines new_text) new ≡ covered (lines text) old
+  pub same : covered_characters (lines new_text) new ≡ covered_characters (lines text) old
 
 -- a splice between two positions disturbs a range: it inserts strictly inside, or removes some of
 -- it

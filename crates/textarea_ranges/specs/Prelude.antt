@@ -2,7 +2,7 @@
 pub use Rattle.std.specs.List.{AllByRecursion, cons_option}
 pub use Rattle.std.specs.declared.alloc.Global.{Global}
 pub use Rattle.textarea_util.specs.Limit.{size_limit}
-pub use Rattle.textarea_text.specs.Carried.{is_up_to, shifted}
+pub use Rattle.textarea_text.specs.PlacesAfterSplice.{is_up_to, shifted}
 pub use Rattle.textarea_text.specs.Place.{IsBefore, IsPlaceOf, IsUpTo, Place, end, line_of}
 pub use Rattle.textarea_text.specs.Splice.{Fits, Splice, applied, place_after, place_before}
 pub use Rattle.textarea_text.specs.Text.{Break, Character, Symbol, characters, characters_of, following, joined, leading, lines, lines_of, on_first}
@@ -13,9 +13,9 @@ pub use Rattle.textarea_data.specs.declared.range.AtomicRange.{AtomicRange}
 pub use Rattle.textarea_data.specs.declared.range.AtomicRangeRejectReason.{AtomicRangeRejectReason}
 pub use Rattle.textarea_data.specs.declared.range.AtomicRangeRejectReason.TheVariants.{ColumnOutOfBounds, Empty, OverlapsPrevious, RowOutOfBounds}
 pub use Rattle.textarea_data.specs.declared.range.RejectedAtomicRange.{RejectedAtomicRange}
-pub use Rattle.textarea_ranges.specs.Held.{IsBeside, IsHit, IsInside, IsWidened, IsWithin, Overlaps, TakesWhole, border, border_or, hit, inside, is_hit, is_inside, moved_out, range_end, range_start, widened}
-pub use Rattle.textarea_ranges.specs.Moved.{CoversTheSame, Disturbs, DisturbsBy, IsMovable, covered, moved_by, moved_range, shifted_range}
+pub use Rattle.textarea_ranges.specs.Lookup.{IsBeside, IsRangeAtPlace, IsInside, IsWidened, TakesRange, Overlaps, TakesWhole, range_edge, range_edge_or, range_at_place, range_around, is_range_at_place, is_inside, moved_out, range_end, range_start, widened}
+pub use Rattle.textarea_ranges.specs.Moved.{CoversTheSame, Disturbs, DisturbsBy, IsMovable, covered_characters, moved_by, moved_range, shifted_range}
 unfoldable pub use Rattle.textarea_ranges.specs.Moved.{moved_ranges}
-pub use Rattle.textarea_ranges.specs.Order.{AreInOrder, IsInOrder, in_order, insert_among, is_before}
-pub use Rattle.textarea_ranges.specs.Rejected.{AreAccepted, AreRefused, free_from, last_valid, reason, rejected_behind, rejected_of, with_reason}
+pub use Rattle.textarea_ranges.specs.Order.{AreInOrder, IsInOrder, in_order, insert_among, is_range_before}
+pub use Rattle.textarea_ranges.specs.Rejected.{AreAccepted, AreRejected, free_from, last_valid, reason, rejected_after, rejected_of, with_reason}
 pub use Rattle.textarea_ranges.specs.Valid.{AreDisjoint, AreValid, IsPart}

@@ -38,16 +38,16 @@ last_valid last range None = Some range
 last_valid last range (Some reason) = last
 
 -- the rejected ranges of an ordered list, after the last valid range
-abbrev pub rejected_behind : List (List ℕ) → Option AtomicRange → List AtomicRange →
+abbrev pub rejected_after : List (List ℕ) → Option AtomicRange → List AtomicRange →
     List RejectedAtomicRange
-rejected_behind rows last [] = []
-rejected_behind rows last (range ∷ rest) =
+rejected_after rows last [] = []
+rejected_after rows last (range ∷ rest) =
     let why = reason rows last range in
-    with_reason range why ++ rejected_behind rows (last_valid last range why) rest
+    with_reason range why ++ rejected_after rows (last_valid last range why) rest
 
 -- the rejected ranges of an ordered list, in that order, each with its reason
 abbrev pub rejected_of : List (List ℕ) → List AtomicRange → List RejectedAtomicRange
-rejected_of rows ranges = rejected_behind rows None ranges
+rejected_of rows ranges = rejected_after rows None ranges
 
 -- the ranges are accepted: they are stored in order, they are valid, and none is rejected
 pub record AreAccepted (rows : List (List ℕ)) (given held : List AtomicRange) : Type 0 where
@@ -57,7 +57,7 @@ pub record AreAccepted (rows : List (List ℕ)) (given held : List AtomicRange) 
   pub none : rejected_of rows held ≡ []
 
 -- the ranges are rejected: all that have a reason are listed, at least one, and they are not valid
-pub record AreRefused (rows : List (List ℕ)) (given : List AtomicRange)
+pub record AreRejected (rows : List (List ℕ)) (given : List AtomicRange)
     (rejected : List RejectedAtomicRange) : Type 0 where
   pub listed : rejected ≡ rejected_of rows (in_order given)
   pub some : rejected ≢ []

@@ -1,6 +1,6 @@
 //! Laws of ranges, each stated as the contract of a function without a body.
 ghost use Rattle.std.specs.Prelude.{◌≡◌, ◌↔◌, ℕ, List, [], All, Contains, MatchOption, None, Some};
-ghost use Rattle.textarea_ranges.specs.Prelude.{Symbol, lines, Place, Fits, Splice, applied, AtomicDeleteDirection, AtomicRange, IsHit, IsInside, hit, inside, CoversTheSame, Disturbs, moved_range, moved_ranges, AreInOrder, IsInOrder, in_order, rejected_of, AreValid, IsPart};
+ghost use Rattle.textarea_ranges.specs.Prelude.{Symbol, lines, Place, Fits, Splice, applied, AtomicDeleteDirection, AtomicRange, IsRangeAtPlace, IsInside, range_at_place, range_around, CoversTheSame, Disturbs, moved_range, moved_ranges, AreInOrder, IsInOrder, in_order, rejected_of, AreValid, IsPart};
 
 /// Ordered ranges are the same ranges by row and start, and those with the same start keep their
 /// order. No other list is so. Ordering them again changes nothing.
@@ -23,30 +23,32 @@ pub fn only_one_is_found()
     ensures inside { (rows : List (List ℕ)) (ranges : List AtomicRange) (place : Place)
         (range : AtomicRange)
         → AreValid rows ranges → Contains ranges range
-        → IsInside place range → inside ranges place ≡ Some range }
+        → IsInside place range → range_around ranges place ≡ Some range }
     ensures hit { (rows : List (List ℕ)) (ranges : List AtomicRange) (place : Place)
         (direction : AtomicDeleteDirection) (range : AtomicRange)
         → AreValid rows ranges → Contains ranges range
-        → IsHit place direction range → hit ranges place direction ≡ Some range }
+        → IsRangeAtPlace place direction range → range_at_place ranges place direction ≡ Some
+        range }
 {}
 
 /// A range that is found is in the list, and strictly contains the position or is at it. If none is
 /// found, no range of the list does or is.
-pub fn found_where_there_is_one()
-    ensures inside { (ranges : List AtomicRange) (place : Place) → MatchOption (inside ranges place)
+pub fn found_exactly_if_there()
+    ensures inside { (ranges : List AtomicRange) (place : Place) → MatchOption
+        (range_around ranges place)
         (All (λ range. ¬ IsInside place range) ranges)
         (λ range. Contains ranges range × IsInside place range) }
     ensures hit { (ranges : List AtomicRange) (place : Place) (direction : AtomicDeleteDirection)
-        → MatchOption (hit ranges place direction)
-        (All (λ range. ¬ IsHit place direction range) ranges)
-        (λ range. Contains ranges range × IsHit place direction range) }
+        → MatchOption (range_at_place ranges place direction)
+        (All (λ range. ¬ IsRangeAtPlace place direction range) ranges)
+        (λ range. Contains ranges range × IsRangeAtPlace place direction range) }
 {}
 
 /// Ranges move with the text. A range that a splice leaves is within a line of the new text, and
 /// covers the same characters. Exactly those ranges are dropped that the splice disturbs: it
 /// inserts strictly inside them or removes one of their characters. Valid ranges stay valid for the
 /// new text, and ordered ranges stay ordered.
-pub fn ranges_go_with_the_text()
+pub fn ranges_follow_the_text()
     ensures covers { (text : List Symbol) (splice : Splice) (old new : AtomicRange)
         → Fits text splice → IsPart (lines text) old → moved_range splice old ≡ Some new
         → CoversTheSame text (applied text splice) old new }

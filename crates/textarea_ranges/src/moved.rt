@@ -3,7 +3,7 @@ ghost use Rattle.std.specs.Prelude.{◌≡◌, ◌≤◌, All, filter_map, lengt
 ghost use Rattle.textarea_ranges.specs.Prelude.{size_limit, IsMovable, moved_by};
 
 use textarea_data::range::AtomicRange;
-use textarea_text::carried::{is_up_to, shift};
+use textarea_text::place_shift::{is_up_to, shift};
 
 /// Moves the ranges with a text that changes from `start` to `old`, and whose text after `old`
 /// moves to `new`. A range at or before `start` stays, one at or after `old` moves, others are

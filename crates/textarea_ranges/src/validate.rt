@@ -1,6 +1,6 @@
 //! Validates a list of ranges against some lines.
 ghost use Rattle.std.specs.Prelude.{◌≡◌, ◌++◌, length, None, IfOk, MatchResult, OnOk};
-ghost use Rattle.textarea_ranges.specs.Prelude.{line_of, lines_of, AreAccepted, AreRefused, free_from, last_valid, reason, rejected_of, with_reason};
+ghost use Rattle.textarea_ranges.specs.Prelude.{line_of, lines_of, AreAccepted, AreRejected, free_from, last_valid, reason, rejected_of, with_reason};
 
 use crate::order::in_order;
 use std::alloc::{AllocError, Global};
@@ -20,7 +20,7 @@ pub fn validate(
 ) -> Result<Result<Vec<AtomicRange>, AtomicRangeError>, AllocError>
     ensures { IfOk result (λ outcome. MatchResult outcome
         (λ held. AreAccepted (lines_of lines.now) ranges.items held.items)
-        (λ error. AreRefused (lines_of lines.now) ranges.items error.rejected.items)) }
+        (λ error. AreRejected (lines_of lines.now) ranges.items error.rejected.items)) }
 {
     let ordered = in_order(ranges)?;
     let rejected = rejected_of(alloc, ordered.as_slice(), lines)?;

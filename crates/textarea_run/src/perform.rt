@@ -1,13 +1,13 @@
 //! Makes one call on a text area.
 ghost use Rattle.std.specs.Prelude.{◌≡◌, OnErr, OnOk, IfOk};
-ghost use Rattle.textarea_calls.specs.Kinds.{call_of_attempt, call_of_write};
-ghost use Rattle.textarea_calls.specs.Made.{CanBeMade};
-ghost use Rattle.tui_textarea.specs.Outcomes.{IsAnswer, IsBehind, IsShown, IsSpared, Refused};
-ghost use Rattle.tui_textarea.specs.Said.{said, Done, Flag};
+ghost use Rattle.textarea_calls.specs.CallGroups.{call_of_attempt, call_of_write};
+ghost use Rattle.textarea_calls.specs.Possible.{CanBeMade};
+ghost use Rattle.tui_textarea.specs.Outcomes.{IsAnswer, IsAfterCall, IsBufferAfter, IsBufferOutOfMemory, RanOutOfMemory};
+ghost use Rattle.tui_textarea.specs.CallResults.{call_result, Done, Flag};
 
 use crate::questions::ask;
 use crate::settings::{change, set, set_appearance};
-use crate::special::answer_specially;
+use crate::special::perform_special;
 use std::alloc::AllocError;
 use textarea_calls::kind::{Attempt, Kind, Write, kind_of};
 use textarea_calls::{Answer, Call};
@@ -23,11 +23,12 @@ pub fn perform(
     buffer: &mut Buffer,
 ) -> Result<Answer, AllocError>
     requires { CanBeMade call }
-    ensures answer { IfOk result (λ answer. IsAnswer area.old call.entry (said answer)) }
-    ensures ok { IfOk result (λ answer. IsBehind area.old call.entry (said answer) area.new) }
-    ensures err { OnErr result (Refused area.old call.entry area.new) }
-    ensures shown { OnOk result (IsShown call.entry area.new buffer.old buffer.new) }
-    ensures spared { OnErr result (IsSpared call.entry buffer.old buffer.new) }
+    ensures answer { IfOk result (λ answer. IsAnswer area.old call.entry (call_result answer)) }
+    ensures ok { IfOk result
+        (λ answer. IsAfterCall area.old call.entry (call_result answer) area.new) }
+    ensures err { OnErr result (RanOutOfMemory area.old call.entry area.new) }
+    ensures shown { OnOk result (IsBufferAfter call.entry area.new buffer.old buffer.new) }
+    ensures spared { OnErr result (IsBufferOutOfMemory call.entry buffer.old buffer.new) }
 {
     match kind_of(call) {
         Kind::Edit(edit) => area.edit(edit).map(Answer::Flag),
@@ -43,7 +44,7 @@ pub fn perform(
             Ok(Answer::Done)
         }
         Kind::Question(call) => Ok(ask(area, call)),
-        Kind::Special(call) => answer_specially(area, call),
+        Kind::Special(call) => perform_special(area, call),
         Kind::Render(place) => area.render(place, buffer).map(|()| Answer::Done),
     }
 }
@@ -51,8 +52,8 @@ pub fn perform(
 /// Inserts a character or a line break, or copies the selection.
 pub fn write(area: &mut TextArea<'_>, call: Write) -> Result<(), AllocError>
     ensures answer { OnOk result (IsAnswer area.old (call_of_write call) Done) }
-    ensures ok { OnOk result (IsBehind area.old (call_of_write call) Done area.new) }
-    ensures err { OnErr result (Refused area.old (call_of_write call) area.new) }
+    ensures ok { OnOk result (IsAfterCall area.old (call_of_write call) Done area.new) }
+    ensures err { OnErr result (RanOutOfMemory area.old (call_of_write call) area.new) }
 {
     match call {
         Write::InsertChar(c) => area.insert_char(c),
@@ -63,10 +64,11 @@ pub fn write(area: &mut TextArea<'_>, call: Write) -> Result<(), AllocError>
 
 // Makes another call that returns whether there was something to do.
 fn attempt(area: &mut TextArea<'_>, call: Attempt<'_>) -> Result<bool, AllocError>
-    ensures answer { IfOk result (λ done. IsAnswer area.old (call_of_attempt call.entry) (Flag done)) }
+    ensures answer { IfOk result
+        (λ done. IsAnswer area.old (call_of_attempt call.entry) (Flag done)) }
     ensures ok { IfOk result
-        (λ done. IsBehind area.old (call_of_attempt call.entry) (Flag done) area.new) }
-    ensures err { OnErr result (Refused area.old (call_of_attempt call.entry) area.new) }
+        (λ done. IsAfterCall area.old (call_of_attempt call.entry) (Flag done) area.new) }
+    ensures err { OnErr result (RanOutOfMemory area.old (call_of_attempt call.entry) area.new) }
 {
     match call {
         Attempt::InsertStr(text) => area.insert_str(text),

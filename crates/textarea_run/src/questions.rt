@@ -1,8 +1,8 @@
 // Calls that return the cursor's position or a setting.
 ghost use Rattle.std.specs.Prelude.{◌≡◌};
-ghost use Rattle.textarea_calls.specs.Kinds.{call_of_question};
-ghost use Rattle.tui_textarea.specs.Outcomes.{IsAnswer, IsBehind};
-ghost use Rattle.tui_textarea.specs.Said.{said};
+ghost use Rattle.textarea_calls.specs.CallGroups.{call_of_question};
+ghost use Rattle.tui_textarea.specs.Outcomes.{IsAnswer, IsAfterCall};
+ghost use Rattle.tui_textarea.specs.CallResults.{call_result};
 
 use textarea_calls::Answer;
 use textarea_calls::kind::Question;
@@ -10,8 +10,8 @@ use tui_textarea::TextArea;
 
 // Returns the cursor's position or a setting.
 pub fn ask(area: &TextArea<'_>, call: Question) -> Answer
-    ensures answer { IsAnswer area.now (call_of_question call) (said result) }
-    ensures ok { IsBehind area.now (call_of_question call) (said result) area.now }
+    ensures answer { IsAnswer area.now (call_of_question call) (call_result result) }
+    ensures ok { IsAfterCall area.now (call_of_question call) (call_result result) area.now }
 {
     match call {
         Question::Cursor => Answer::Cursor(area.cursor()),

@@ -1,13 +1,13 @@
 // Makes a list of calls, one after another.
 ghost use Rattle.std.specs.Prelude.{◌≡◌, ◌≤◌, [], length, vec_capacity, All, IfOk, OnErr};
-ghost use Rattle.textarea_document.specs.Goes.{GoesUncut};
+ghost use Rattle.textarea_document.specs.RangesOverSplices.{RangesStayWhole};
 ghost use Rattle.textarea_document.specs.Sound.{IsSound};
-ghost use Rattle.textarea_calls.specs.Made.{CanBeMade};
-ghost use Rattle.tui_textarea.specs.CallGoes.{GoesByCall, RangesOfRun};
-ghost use Rattle.tui_textarea.specs.Outcomes.{IsSpared, Refused};
-ghost use Rattle.tui_textarea.specs.Run.{Makes, Run};
-ghost use Rattle.tui_textarea.specs.Said.{said};
-ghost use Rattle.tui_textarea.specs.CallSplices.{OfLeft};
+ghost use Rattle.textarea_calls.specs.Possible.{CanBeMade};
+ghost use Rattle.tui_textarea.specs.RangesOverCalls.{RangesFollowCall, RangesOfRun};
+ghost use Rattle.tui_textarea.specs.Outcomes.{IsBufferOutOfMemory, RanOutOfMemory};
+ghost use Rattle.tui_textarea.specs.Run.{CallLeads, Run};
+ghost use Rattle.tui_textarea.specs.CallResults.{call_result};
+ghost use Rattle.tui_textarea.specs.CallSplices.{OfSplicesOutOfMemory};
 
 use crate::memory::allocator;
 use crate::perform::perform;
@@ -16,7 +16,7 @@ use textarea_calls::{Answer, Call};
 use textarea_screen::screen::Buffer;
 use tui_textarea::TextArea;
 use tui_textarea::laws::is_sound;
-use tui_textarea::outcomes::laws::ranges_go_with_each_call;
+use tui_textarea::outcomes::laws::ranges_follow_each_call;
 
 /// The end of a run of calls.
 #[derive(Drop)]
@@ -98,19 +98,19 @@ fn make_all(
 fn make(area: &mut TextArea<'_>, call: Call<'_>, buffer: &mut Buffer) -> Result<Answer, AllocError>
     requires { CanBeMade call }
     ensures made { IfOk result (λ answer.
-        Makes area.old buffer.old call.entry (said answer) area.new buffer.new) }
+        CallLeads area.old buffer.old call.entry (call_result answer) area.new buffer.new) }
     ensures goes { IfOk result (λ answer.
-        GoesByCall area.old call.entry (said answer) area.new) }
-    ensures err { OnErr result (Refused area.old call.entry area.new) }
-    ensures spared { OnErr result (IsSpared call.entry buffer.old buffer.new) }
-    ensures left { OnErr result (OfLeft area.old (λ splices.
-        GoesUncut area.old.document splices area.new.document)) }
+        RangesFollowCall area.old call.entry (call_result answer) area.new) }
+    ensures err { OnErr result (RanOutOfMemory area.old call.entry area.new) }
+    ensures spared { OnErr result (IsBufferOutOfMemory call.entry buffer.old buffer.new) }
+    ensures left { OnErr result (OfSplicesOutOfMemory area.old (λ splices.
+        RangesStayWhole area.old.document splices area.new.document)) }
     ensures before { IsSound area.old.document }
     ensures behind { IsSound area.new.document }
 {
     is_sound(area);
     let outcome = perform(area, call, buffer);
     is_sound(area);
-    ranges_go_with_each_call();
+    ranges_follow_each_call();
     outcome
 }

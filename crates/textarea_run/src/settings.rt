@@ -1,27 +1,27 @@
 //! Calls that set something. They have no result.
 ghost use Rattle.std.specs.Prelude.{◌≡◌, ◌<◌, length, OnErr, OnOk, Some};
-ghost use Rattle.textarea_calls.specs.Kinds.{call_of_appearance, call_of_change, call_of_setting};
-ghost use Rattle.textarea_calls.specs.Made.{CanBeMade};
-ghost use Rattle.textarea_screen.specs.Block.{shown_block};
-ghost use Rattle.textarea_screen.specs.Text.{shown_text};
+ghost use Rattle.textarea_calls.specs.CallGroups.{call_of_appearance, call_of_change, call_of_setting};
+ghost use Rattle.textarea_calls.specs.Possible.{CanBeMade};
+ghost use Rattle.textarea_screen.specs.Block.{block_view};
+ghost use Rattle.textarea_screen.specs.Text.{text_view};
 ghost use Rattle.tui_textarea.specs.Calls.{with_lines};
 ghost use Rattle.tui_textarea.specs.Measure.{with_surround};
-ghost use Rattle.tui_textarea.specs.Outcomes.{IsAnswer, IsBehind, Refused};
-ghost use Rattle.tui_textarea.specs.Said.{Done};
+ghost use Rattle.tui_textarea.specs.Outcomes.{IsAnswer, IsAfterCall, RanOutOfMemory};
+ghost use Rattle.tui_textarea.specs.CallResults.{Done};
 
 use crate::memory::allocator;
 use std::alloc::AllocError;
 use textarea_calls::kind::{Appearance, Change, Setting};
 use textarea_screen::screen::{Block, Text};
-use textarea_text::given::copy_pieces;
+use textarea_text::fragment::copy_fragment;
 use tui_textarea::TextArea;
 
 /// Sets a text or a setting. Memory can run out.
 pub(crate) fn change(area: &mut TextArea<'_>, call: Change<'_>) -> Result<(), AllocError>
     requires { CanBeMade (call_of_change call) }
     ensures answer { OnOk result (IsAnswer area.old (call_of_change call.entry) Done) }
-    ensures ok { OnOk result (IsBehind area.old (call_of_change call.entry) Done area.new) }
-    ensures err { OnErr result (Refused area.old (call_of_change call.entry) area.new) }
+    ensures ok { OnOk result (IsAfterCall area.old (call_of_change call.entry) Done area.new) }
+    ensures err { OnErr result (RanOutOfMemory area.old (call_of_change call.entry) area.new) }
 {
     match call {
         Change::SetYankText(text) => area.set_yank_text(text),
@@ -53,14 +53,14 @@ fn set_lines(
     ensures err { OnErr result (area.new ≡ area.old) }
 {
     let alloc = allocator(area);
-    area.set_lines(copy_pieces(alloc, lines)?, cursor)
+    area.set_lines(copy_fragment(alloc, lines)?, cursor)
 }
 
 // Sets a copy of the block as the border around the text.
 fn set_block(area: &mut TextArea<'_>, block: &Block<'static>) -> Result<(), AllocError>
     ensures ok { OnOk result
         (area.new ≡ with_surround area.old
-        (record area.old.surround { block = Some (shown_block block.now) })) }
+        (record area.old.surround { block = Some (block_view block.now) })) }
     ensures err { OnErr result (area.new ≡ area.old) }
 {
     area.set_block(block.clone()?);
@@ -71,7 +71,7 @@ fn set_block(area: &mut TextArea<'_>, block: &Block<'static>) -> Result<(), Allo
 fn set_styled_placeholder(area: &mut TextArea<'_>, text: &Text<'static>) -> Result<(), AllocError>
     ensures ok { OnOk result
         (area.new ≡ with_surround area.old
-        (record area.old.surround { placeholder = shown_text text.now })) }
+        (record area.old.surround { placeholder = text_view text.now })) }
     ensures err { OnErr result (area.new ≡ area.old) }
 {
     area.set_styled_placeholder(text.clone()?);
@@ -81,7 +81,7 @@ fn set_styled_placeholder(area: &mut TextArea<'_>, text: &Text<'static>) -> Resu
 /// Moves, scrolls, selects, clears the atomic ranges, or sets an option of tabs or of the history.
 pub fn set(area: &mut TextArea<'_>, call: Setting)
     ensures answer { IsAnswer area.old (call_of_setting call) Done }
-    ensures ok { IsBehind area.old (call_of_setting call) Done area.new }
+    ensures ok { IsAfterCall area.old (call_of_setting call) Done area.new }
 {
     match call {
         Setting::Move(cursor_move) => area.move_cursor(cursor_move),
@@ -92,7 +92,7 @@ pub fn set(area: &mut TextArea<'_>, call: Setting)
         Setting::SetHardTabIndent(hard) => area.set_hard_tab_indent(hard),
         Setting::SetMaxHistories(maximum) => area.set_max_histories(maximum),
         Setting::SetUndoCoalescing(joins) => area.set_undo_coalescing(joins),
-        Setting::SetNow(moment) => area.set_now(moment),
+        Setting::SetNow(time) => area.set_now(time),
         Setting::ClearAtomicRanges => area.clear_atomic_ranges(),
     }
 }
@@ -100,7 +100,7 @@ pub fn set(area: &mut TextArea<'_>, call: Setting)
 /// Sets how the text and its surroundings look.
 pub(crate) fn set_appearance(area: &mut TextArea<'_>, call: Appearance)
     ensures answer { IsAnswer area.old (call_of_appearance call) Done }
-    ensures ok { IsBehind area.old (call_of_appearance call) Done area.new }
+    ensures ok { IsAfterCall area.old (call_of_appearance call) Done area.new }
 {
     match call {
         Appearance::RemoveBlock => area.remove_block(),

@@ -1,10 +1,10 @@
 // Calls with results of their own forms: on atomic ranges, patterns, heights, hit tests and yanks.
 ghost use Rattle.std.specs.Prelude.{◌≡◌, IfOk, OnErr, OnOk};
-ghost use Rattle.textarea_calls.specs.Kinds.{call_of_special};
+ghost use Rattle.textarea_calls.specs.CallGroups.{call_of_special};
 ghost use Rattle.tui_textarea.specs.Calls.{ranges_answer, rejected_ranges, with_ranges_if};
-ghost use Rattle.tui_textarea.specs.Outcomes.{behind_pattern, IsAnswer, IsBehind, IsPatternAnswer, Refused};
-ghost use Rattle.tui_textarea.specs.Patterns.{IsNewPattern, IsToldAs};
-ghost use Rattle.tui_textarea.specs.Said.{said};
+ghost use Rattle.tui_textarea.specs.Outcomes.{after_pattern, IsAnswer, IsAfterCall, IsPatternAnswer, RanOutOfMemory};
+ghost use Rattle.tui_textarea.specs.Patterns.{IsNewPattern, IsPatternResult};
+ghost use Rattle.tui_textarea.specs.CallResults.{call_result};
 
 use crate::memory::allocator;
 use std::alloc::AllocError;
@@ -15,11 +15,13 @@ use textarea_search::search::SearchError;
 use tui_textarea::TextArea;
 
 // Makes the call and returns its result.
-pub fn answer_specially(area: &mut TextArea<'_>, call: Special<'_>) -> Result<Answer, AllocError>
-    ensures answer { IfOk result (λ answer. IsAnswer area.old (call_of_special call.entry) (said answer)) }
+pub fn perform_special(area: &mut TextArea<'_>, call: Special<'_>) -> Result<Answer, AllocError>
+    ensures answer { IfOk result
+        (λ answer. IsAnswer area.old (call_of_special call.entry) (call_result answer)) }
     ensures ok { IfOk result
-        (λ answer. IsBehind area.old (call_of_special call.entry) (said answer) area.new) }
-    ensures err { OnErr result (Refused area.old (call_of_special call.entry) area.new) }
+        (λ answer. IsAfterCall area.old (call_of_special call.entry) (call_result answer)
+        area.new) }
+    ensures err { OnErr result (RanOutOfMemory area.old (call_of_special call.entry) area.new) }
 {
     match call {
         Special::YankText => area.yank_text().map(Answer::Text),
@@ -45,7 +47,7 @@ fn copy_and_set_ranges(
     ranges: &[AtomicRange],
 ) -> Result<Answer, AllocError>
     ensures answer { IfOk result
-        (λ answer. said answer ≡ ranges_answer (rejected_ranges area.old ranges.now)) }
+        (λ answer. call_result answer ≡ ranges_answer (rejected_ranges area.old ranges.now)) }
     ensures ok { OnOk result
         (area.new ≡ with_ranges_if (rejected_ranges area.old ranges.now) area.old ranges.now) }
     ensures err { OnErr result (area.new ≡ area.old) }
@@ -57,7 +59,7 @@ fn copy_and_set_ranges(
 // Sets the ranges, or returns the rejected ones.
 fn set_ranges(area: &mut TextArea<'_>, ranges: Vec<AtomicRange>) -> Result<Answer, AllocError>
     ensures answer { IfOk result
-        (λ answer. said answer ≡ ranges_answer (rejected_ranges area.old ranges.items)) }
+        (λ answer. call_result answer ≡ ranges_answer (rejected_ranges area.old ranges.items)) }
     ensures ok { OnOk result
         (area.new ≡ with_ranges_if (rejected_ranges area.old ranges.items) area.old ranges.items) }
     ensures err { OnErr result (area.new ≡ area.old) }
@@ -70,9 +72,10 @@ fn set_ranges(area: &mut TextArea<'_>, ranges: Vec<AtomicRange>) -> Result<Answe
 
 // Sets the search pattern, or returns that it is rejected.
 fn set_search_pattern(area: &mut TextArea<'_>, pattern: &str) -> Result<Answer, AllocError>
-    ensures answer { IfOk result (λ answer. IsPatternAnswer area.old pattern.now (said answer)) }
+    ensures answer { IfOk result
+        (λ answer. IsPatternAnswer area.old pattern.now (call_result answer)) }
     ensures ok { IfOk result
-        (λ answer. area.new ≡ behind_pattern area.old pattern.now (said answer)) }
+        (λ answer. area.new ≡ after_pattern area.old pattern.now (call_result answer)) }
     ensures err { OnErr result (area.new ≡ area.old) }
     ensures may { OnErr result (IsNewPattern area.old pattern.now) }
 {
@@ -81,7 +84,7 @@ fn set_search_pattern(area: &mut TextArea<'_>, pattern: &str) -> Result<Answer, 
 
 // The result of setting a pattern: done, rejected with an error of `regex`, or out of memory.
 fn pattern_answer(outcome: Result<(), SearchError>) -> Result<Answer, AllocError>
-    ensures { IsToldAs outcome result }
+    ensures { IsPatternResult outcome result }
 {
     match outcome {
         Ok(()) => Ok(Answer::Done),

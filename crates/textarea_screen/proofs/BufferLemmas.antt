@@ -10,7 +10,7 @@ use Rattle.std.proofs.lemmas.List.Elements.{All-tail}
 use Rattle.std.proofs.lemmas.Nat.{mul-add-lt, div-mul-add, mod-mul-add}
 use Rattle.std.proofs.lemmas.Option.{slice_get-get_or}
 use Rattle.textarea_screen.specs.Buffer.{place_in, cell_at, Changes}
-use Rattle.textarea_screen.specs.Cell.{ShownCell, shown_cell, fresh_cell}
+use Rattle.textarea_screen.specs.Cell.{CellView, cell_view, fresh_cell}
 use Rattle.textarea_screen.specs.Rect.{contains, is_in_row}
 use Rattle.textarea_screen.specs.declared.screen.buffer.Buffer.{Buffer}
 use Rattle.textarea_screen.specs.declared.screen.cell.Cell.{Cell}
@@ -46,35 +46,35 @@ slice_get-set_other (x ∷ xs) (suc i) zero w h = refl
 slice_get-set_other (x ∷ xs) (suc i) (suc j) w h = slice_get-set_other xs i j w (λ e. h (ap suc e))
 
 -- a cell is changed where a test passes, and unchanged elsewhere
-changed_where : (inside here : Bool) (was is : Option ShownCell) (f : ShownCell → ShownCell) → (inside ≡ true → here ≡ true → is ≡ option_map f was) →
+changed_where : (inside here : Bool) (was is : Option CellView) (f : CellView → CellView) → (inside ≡ true → here ≡ true → is ≡ option_map f was) →
     (inside ≡ true → here ≡ false → is ≡ was) → cond inside is None ≡ option_map (λ c. cond here (f c) c) (cond inside was None)
 changed_where true true was is f changed kept = changed refl refl
 changed_where true false was is f changed kept = kept refl refl ∙ sym (option_map_id was)
 changed_where false here was is f changed kept = refl
 
 -- the cell at (u, v), in the list of all cells
-abbrev cell_in : Rect → List Cell → ℕ → ℕ → Option ShownCell
-cell_in area cells u v = cond (contains area u v) (option_map shown_cell (slice_get cells (place_in area u v))) None
+abbrev cell_in : Rect → List Cell → ℕ → ℕ → Option CellView
+cell_in area cells u v = cond (contains area u v) (option_map cell_view (slice_get cells (place_in area u v))) None
 
-cell_in-set : (area : Rect) (cells : List Cell) (x y u v : ℕ) (f : ShownCell → ShownCell) (d cell : Cell) → contains area x y ≡ true → area.height * area.width ≤ length cells →
-    shown_cell cell ≡ f (shown_cell (get_or cells (place_in area x y) d)) →
+cell_in-set : (area : Rect) (cells : List Cell) (x y u v : ℕ) (f : CellView → CellView) (d cell : Cell) → contains area x y ≡ true → area.height * area.width ≤ length cells →
+    cell_view cell ≡ f (cell_view (get_or cells (place_in area x y) d)) →
     cell_in area (set cells (place_in area x y) cell) u v ≡ option_map (λ c. cond (eqb u x && eqb v y) (f c) c) (cell_in area cells u v)
 cell_in-set area cells x y u v f d cell h room is =
     grind (arith, common_steps, changed_where, nat_tests, place_in-below area x y h, slice_get-set_same, slice_get-get_or, slice_get-set_other, place_in-same)
 
-pub Changes-set : (old new : Buffer) (x y place : ℕ) (f : ShownCell → ShownCell) (d cell : Cell) → contains old.area x y ≡ true → place ≡ place_in old.area x y →
+pub Changes-set : (old new : Buffer) (x y place : ℕ) (f : CellView → CellView) (d cell : Cell) → contains old.area x y ≡ true → place ≡ place_in old.area x y →
     length old.cells.items ≡ old.area.height * old.area.width → new.area ≡ old.area → new.cells.items ≡ set old.cells.items place cell →
-    shown_cell cell ≡ f (shown_cell (get_or old.cells.items place d)) →
+    cell_view cell ≡ f (cell_view (get_or old.cells.items place d)) →
     Changes old new (λ u v c. cond (eqb u x && eqb v y) (f c) c)
 unfolding cell_at
 Changes-set old new x y place f d cell h at full area items is = record {
   area = area;
   cells = λ u v. ap₂ (λ a cs. cell_in a cs u v) area (items ∙ ap (λ n. set old.cells.items n cell) at)
-      ∙ cell_in-set old.area old.cells.items x y u v f d cell h (omega (arith, full)) (is ∙ ap (λ n. f (shown_cell (get_or old.cells.items n d))) at);
+      ∙ cell_in-set old.area old.cells.items x y u v f d cell h (omega (arith, full)) (is ∙ ap (λ n. f (cell_view (get_or old.cells.items n d))) at);
 }
 
 -- a write outside of the buffer's area changes no cell
-pub Changes-outside : (buffer : Buffer) (x y : ℕ) (f : ShownCell → ShownCell) → contains buffer.area x y ≡ false →
+pub Changes-outside : (buffer : Buffer) (x y : ℕ) (f : CellView → CellView) → contains buffer.area x y ≡ false →
     Changes buffer buffer (λ u v c. cond (eqb u x && eqb v y) (f c) c)
 unfolding cell_at
 Changes-outside buffer x y f outside = record {
@@ -85,23 +85,23 @@ Changes-outside buffer x y f outside = record {
 
 -- the cell that the list has at the index of (x, y)
 pub cell_at-inside : (buffer : Buffer) (x y place : ℕ) (cell : Cell) → contains buffer.area x y ≡ true → place ≡ place_in buffer.area x y → place < length buffer.cells.items →
-    cell ≡ get_or buffer.cells.items place cell → Some (shown_cell cell) ≡ cell_at buffer x y
+    cell ≡ get_or buffer.cells.items place cell → Some (cell_view cell) ≡ cell_at buffer x y
 unfolding cell_at
 cell_at-inside buffer x y place cell in_area at within is =
-    ap (λ c. Some (shown_cell c)) is
-    ∙ sym (ap (option_map shown_cell) (slice_get-get_or buffer.cells.items place cell within))
-    ∙ ap (λ n. option_map shown_cell (slice_get buffer.cells.items n)) at
+    ap (λ c. Some (cell_view c)) is
+    ∙ sym (ap (option_map cell_view) (slice_get-get_or buffer.cells.items place cell within))
+    ∙ ap (λ n. option_map cell_view (slice_get buffer.cells.items n)) at
     ∙ sym (cond-true (contains buffer.area x y) _ _ in_area)
 
 -- ---- fresh cells
 
-slice_get-fresh : (cells : List Cell) (n : ℕ) → n < length cells → All (λ cell. shown_cell cell ≡ fresh_cell) cells → option_map shown_cell (slice_get cells n) ≡ Some fresh_cell
+slice_get-fresh : (cells : List Cell) (n : ℕ) → n < length cells → All (λ cell. cell_view cell ≡ fresh_cell) cells → option_map cell_view (slice_get cells n) ≡ Some fresh_cell
 slice_get-fresh [] n below fresh = absurd (omega arith)
 slice_get-fresh (cell ∷ cells) zero below fresh = ap Some (fresh 0 cell (omega arith))
 slice_get-fresh (cell ∷ cells) (suc n) below fresh =
-    slice_get-fresh cells n (omega arith) (All-tail (λ c. shown_cell c ≡ fresh_cell) cell cells fresh)
+    slice_get-fresh cells n (omega arith) (All-tail (λ c. cell_view c ≡ fresh_cell) cell cells fresh)
 
-pub cell_at-fresh : (buffer : Buffer) (x y : ℕ) → buffer.area.height * buffer.area.width ≤ length buffer.cells.items → All (λ cell. shown_cell cell ≡ fresh_cell) buffer.cells.items →
+pub cell_at-fresh : (buffer : Buffer) (x y : ℕ) → buffer.area.height * buffer.area.width ≤ length buffer.cells.items → All (λ cell. cell_view cell ≡ fresh_cell) buffer.cells.items →
     cell_at buffer x y ≡ cond (contains buffer.area x y) (Some fresh_cell) None
 unfolding cell_at
 cell_at-fresh buffer x y room fresh = grind (arith, common_steps, slice_get-fresh, place_in-below, cases_Bool (contains buffer.area x y))

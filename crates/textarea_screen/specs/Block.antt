@@ -4,7 +4,7 @@ use Rattle.std.specs.Int.RustNames.{bit_and}
 use Rattle.std.specs.Option.{option_map}
 use Rattle.textarea_screen.specs.Inset.{inset_of}
 use Rattle.textarea_screen.specs.Style.{empty_style}
-use Rattle.textarea_screen.specs.Text.{ShownLine, shown_line}
+use Rattle.textarea_screen.specs.Text.{LineView, line_view}
 use Rattle.textarea_screen.specs.declared.screen.block.Block.{Block}
 use Rattle.textarea_screen.specs.declared.screen.block.Borders.{Borders}
 use Rattle.textarea_screen.specs.declared.screen.rect.Padding.{Padding}
@@ -38,39 +38,39 @@ abbrev pub has_border : Borders → ℕ → Bool
 has_border borders side = bit_and borders.0 side == side
 
 -- a block whose title is compared by its text and styles
-pub record ShownBlock : Type 0 where
+pub record BlockView : Type 0 where
   pub borders : Borders
   pub padding : Padding
-  pub title : Option ShownLine
+  pub title : Option LineView
   pub style : Style
   pub border_style : Style
 
-abbrev pub shown_block : Block → ShownBlock
-shown_block block = record {
+abbrev pub block_view : Block → BlockView
+block_view block = record {
   borders = block.borders;
   padding = block.padding;
-  title = option_map shown_line block.title;
+  title = option_map line_view block.title;
   style = block.style;
   border_style = block.border_style;
 }
 
 -- the columns at the left and the right, and the rows at the top and the bottom, that a block
 -- takes; a title takes the top row, with a top border or without
-abbrev pub left_inset : ShownBlock → ℕ
+abbrev pub left_inset : BlockView → ℕ
 left_inset block = inset_of (has_border block.borders left_side) block.padding.left
 
-abbrev pub right_inset : ShownBlock → ℕ
+abbrev pub right_inset : BlockView → ℕ
 right_inset block = inset_of (has_border block.borders right_side) block.padding.right
 
-abbrev pub top_inset : ShownBlock → ℕ
+abbrev pub top_inset : BlockView → ℕ
 top_inset block = inset_of (has_border block.borders top_side || is_some block.title) block.padding.top
 
-abbrev pub bottom_inset : ShownBlock → ℕ
+abbrev pub bottom_inset : BlockView → ℕ
 bottom_inset block = inset_of (has_border block.borders bottom_side) block.padding.bottom
 
 -- the columns inside a block of this width, and the rows inside one of this height; at least 0
-abbrev pub inner_width : ShownBlock → ℕ → ℕ
+abbrev pub inner_width : BlockView → ℕ → ℕ
 inner_width block width = width - left_inset block - right_inset block
 
-abbrev pub inner_height : ShownBlock → ℕ → ℕ
+abbrev pub inner_height : BlockView → ℕ → ℕ
 inner_height block height = height - top_inset block - bottom_inset block

@@ -2,7 +2,7 @@
 -- two facts: each new cell is a function of its position and old cell, or some cells are unchanged.
 use Rattle.std.specs.Prelude.{◌≡◌, ℕ, ◌+◌, ◌-◌, ◌*◌, Bool, true, false, slice_get, Option, None, if◌then◌else◌}
 use Rattle.std.specs.Option.{option_map}
-use Rattle.textarea_screen.specs.Cell.{ShownCell, shown_cell}
+use Rattle.textarea_screen.specs.Cell.{CellView, cell_view}
 use Rattle.textarea_screen.specs.Rect.{contains}
 use Rattle.textarea_screen.specs.declared.screen.buffer.Buffer.{Buffer}
 use Rattle.textarea_screen.specs.declared.screen.rect.Rect.{Rect}
@@ -16,13 +16,13 @@ abbrev pub place_in : Rect → ℕ → ℕ → ℕ
 place_in area x y = (y - area.y) * area.width + (x - area.x)
 
 -- the cell in column x and row y, if the buffer has it
-unfoldable pub cell_at : Buffer → ℕ → ℕ → Option ShownCell
+unfoldable pub cell_at : Buffer → ℕ → ℕ → Option CellView
 cell_at buffer x y = if contains (area_of buffer) x y
-    then option_map shown_cell (slice_get buffer.cells.items (place_in (area_of buffer) x y)) else None
+    then option_map cell_view (slice_get buffer.cells.items (place_in (area_of buffer) x y)) else None
 
 -- a change of cells: the new cell by its column, its row and the old cell
 abbrev pub Change : Type 0
-Change = ℕ → ℕ → ShownCell → ShownCell
+Change = ℕ → ℕ → CellView → CellView
 
 -- the buffer has the same area, and each of its cells is changed by the change
 pub record Changes (old new : Buffer) (change : Change) : Type 0 where

@@ -10,7 +10,7 @@ use Rattle.textarea_screen.specs.declared.screen.modifier.Modifier.{Modifier}
 use Rattle.textarea_screen.specs.declared.screen.style.Style.{Style}
 
 -- a cell: the bytes of its text, its colours and its modifiers
-pub record ShownCell : Type 0 where
+pub record CellView : Type 0 where
   pub symbol : List ℕ
   pub fg : Color
   pub bg : Color
@@ -21,15 +21,15 @@ abbrev pub cell_text : CellText → List ℕ
 cell_text (Inline text) = text.bytes
 cell_text (Owned text) = string_bytes text
 
-abbrev pub shown_cell : Cell → ShownCell
-shown_cell cell = record { symbol = cell_text cell.text; fg = cell.fg; bg = cell.bg; modifier = cell.modifier }
+abbrev pub cell_view : Cell → CellView
+cell_view cell = record { symbol = cell_text cell.text; fg = cell.fg; bg = cell.bg; modifier = cell.modifier }
 
 -- a fresh cell: a blank in the terminal's own colours
-abbrev pub fresh_cell : ShownCell
+abbrev pub fresh_cell : CellView
 fresh_cell = record { symbol = 32 ∷ []; fg = Reset; bg = Reset; modifier = record { 0 = 0 } }
 
 -- the cell with a style applied: colours that are set, then modifiers added, then removed
-abbrev pub styled : Style → ShownCell → ShownCell
+abbrev pub styled : Style → CellView → CellView
 styled style cell = record cell {
   fg = unwrap_or style.fg cell.fg;
   bg = unwrap_or style.bg cell.bg;
@@ -37,9 +37,9 @@ styled style cell = record cell {
 }
 
 -- the cell with a style applied and another text
-abbrev pub with_symbol : List ℕ → Style → ShownCell → ShownCell
+abbrev pub with_symbol : List ℕ → Style → CellView → CellView
 with_symbol text style cell = record (styled style cell) { symbol = text }
 
 -- the style that sets the cell's colours and adds its modifiers
-abbrev pub style_of : ShownCell → Style
+abbrev pub style_of : CellView → Style
 style_of cell = record { fg = Some cell.fg; bg = Some cell.bg; add_modifier = cell.modifier; sub_modifier = record { 0 = 0 } }

@@ -19,34 +19,34 @@ IsBorrowed (Borrowed text) = Unit {0}
 IsBorrowed (Owned text) = ⊥
 
 -- the bytes of a text, and whether it is borrowed or owned
-pub data ShownContent : Type 0 where
-  Lent : List ℕ → ShownContent
-  Held : List ℕ → ShownContent
+pub data ContentView : Type 0 where
+  BorrowedBytes : List ℕ → ContentView
+  OwnedBytes : List ℕ → ContentView
 
-abbrev pub shown_content : SpanText → ShownContent
-shown_content (Borrowed text) = Lent text.now
-shown_content (Owned text) = Held (string_bytes text)
+abbrev pub content_view : SpanText → ContentView
+content_view (Borrowed text) = BorrowedBytes text.now
+content_view (Owned text) = OwnedBytes (string_bytes text)
 
 -- a span: its text and its style
-pub record ShownSpan : Type 0 where
-  pub content : ShownContent
+pub record SpanView : Type 0 where
+  pub content : ContentView
   pub style : Style
 
-abbrev pub shown_span : Span → ShownSpan
-shown_span span = record { content = shown_content span.content; style = span.style }
+abbrev pub span_view : Span → SpanView
+span_view span = record { content = content_view span.content; style = span.style }
 
 -- a line: its spans in order, and its style
-pub record ShownLine : Type 0 where
-  pub spans : List ShownSpan
+pub record LineView : Type 0 where
+  pub spans : List SpanView
   pub style : Style
 
-abbrev pub shown_line : Line → ShownLine
-shown_line line = record { spans = map shown_span line.spans.items; style = line.style }
+abbrev pub line_view : Line → LineView
+line_view line = record { spans = map span_view line.spans.items; style = line.style }
 
 -- a text: its lines in order, and its style
-pub record ShownText : Type 0 where
-  pub lines : List ShownLine
+pub record TextView : Type 0 where
+  pub lines : List LineView
   pub style : Style
 
-abbrev pub shown_text : Text → ShownText
-shown_text text = record { lines = map shown_line text.lines.items; style = text.style }
+abbrev pub text_view : Text → TextView
+text_view text = record { lines = map line_view text.lines.items; style = text.style }

@@ -6,16 +6,16 @@ use Rattle.std.proofs.lemmas.List.{append_assoc, drop_at, length-append, length-
 use Rattle.std.specs.List.{concat}
 use Rattle.std.specs.Str.{IsUtf8, chars}
 use Rattle.textarea_wrap.specs.Columns.{end_column}
-use Rattle.textarea_wrap.specs.Cutting.{ranges_from}
+use Rattle.textarea_wrap.specs.WrapRules.{ranges_from}
 use Rattle.textarea_wrap.specs.Fitting.{HasFittingClusters, HaveFittingClusters}
 use Rattle.textarea_wrap.specs.RowsView.{RowsView}
 use Rattle.textarea_wrap.specs.declared.wrap.WrapMode.TheVariants as mode
 use Rattle.textarea_wrap.proofs.FewestRowLemmas.{length-ranges_from}
 use Rattle.textarea_wrap.proofs.FittingLemmas.{end_column-few, last_within, row_within, rows_within}
 use Rattle.textarea_screen_map.specs.declared.layout.Wrapping.{Wrapping}
-use Rattle.textarea_screen_map.specs.Layout.{AreRowsOf}
+use Rattle.textarea_screen_map.specs.LineRows.{AreRowsOf}
 use Rattle.textarea_blocks.specs.Sums.{range_at, ranges_at, row_total}
-use Rattle.textarea_screen_map.specs.Rows.{VisualRow, column_at, greatest_column, row_at, row_width}
+use Rattle.textarea_screen_map.specs.VisualRows.{VisualRow, column_at, greatest_column, row_at, row_width}
 use Rattle.textarea_screen_map.proofs.Holding.{all_at, cut_at, rows_at}
 use Rattle.textarea_screen_map.proofs.Layouts.{length-AreRowsOf}
 use Rattle.textarea_screen_map.proofs.VisualRows.{IsNumbered, line_of, row_count, row_numbered, row_of}

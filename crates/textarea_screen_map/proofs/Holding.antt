@@ -10,12 +10,12 @@ use Rattle.textarea_text.specs.Text.{lines_of}
 use Rattle.textarea_text.proofs.Columns.{length_cut}
 use Rattle.textarea_text.proofs.StringRows.{line_at}
 use Rattle.textarea_wrap.specs.RowsView.{RowsView}
-use Rattle.textarea_wrap.specs.Cutting.{ranges_from}
-use Rattle.textarea_wrap.specs.Wrapped.{IsWrapped, IsRowRange, AreRowTexts}
+use Rattle.textarea_wrap.specs.WrapRules.{ranges_from}
+use Rattle.textarea_wrap.specs.WrapResult.{IsWrapped, IsRowRange, AreRowTexts}
 use Rattle.textarea_wrap.specs.declared.wrap.WrapMode.{WrapMode}
 use Rattle.textarea_wrap.proofs.FewestRowLemmas.{length-ranges_from}
 use Rattle.textarea_screen_map.specs.declared.layout.Wrapping.{Wrapping}
-use Rattle.textarea_screen_map.specs.Layout.{AreRowsOf, AreRowsOfLine}
+use Rattle.textarea_screen_map.specs.LineRows.{AreRowsOf, AreRowsOfLine}
 use Rattle.textarea_blocks.specs.Sums.{ranges_at, range_at}
 
 -- a row begins where the one before it ends

@@ -9,11 +9,11 @@ use Rattle.textarea_util.specs.Limit.{size_limit}
 use Rattle.textarea_text.specs.Text.{characters_of, lines_of}
 use Rattle.textarea_text.proofs.StringRows.{line_at}
 use Rattle.textarea_wrap.specs.RowsView.{RowsView}
-use Rattle.textarea_wrap.specs.Wrapped.{IsWrapped}
+use Rattle.textarea_wrap.specs.WrapResult.{IsWrapped}
 use Rattle.textarea_wrap.specs.declared.wrap.WrapMode.TheVariants as mode
 use Rattle.textarea_screen_map.specs.declared.layout.Wrapping.{Wrapping}
 use Rattle.textarea_screen_map.proofs.Holding.{bytes_of_line}
-use Rattle.textarea_screen_map.specs.Layout.{AreRowsOf, AreRowsOfLine, ticks_behind, ticks_of}
+use Rattle.textarea_screen_map.specs.LineRows.{AreRowsOf, AreRowsOfLine, ticks_after, ticks_of}
 use Rattle.textarea_util.specs.Replaced.{replaced}
 
 pub AreRowsOf-append : (w : Wrapping) (lines more : List (List ℕ)) (rows others : List RowsView) → AreRowsOf w lines rows → AreRowsOf w more others → AreRowsOf w (lines ++ more) (rows ++ others)
@@ -69,12 +69,12 @@ range_append first (suc size) more =
     rw (start, sum, range_append (first + 1) size more)
 
 -- some more calls
-pub ticks_append : (count size more : ℕ) → ticks_behind count size ++ ticks_behind (count + size) more ≡ ticks_behind count (size + more)
+pub ticks_append : (count size more : ℕ) → ticks_after count size ++ ticks_after (count + size) more ≡ ticks_after count (size + more)
 ticks_append count size more =
     let start : count + size + 1 ≡ count + 1 + size = omega arith in rw (start, range_append (count + 1) size more)
 
 -- one line more
-pub ticks_more : (before after : List RowsView) (cut : RowsView) (ticks : List ℕ) (count i : ℕ) → after ≡ before ++ cut ∷ [] → ticks_of before ≡ ticks ++ ticks_behind count i → cut.tick ≡ count + i + 1 → ticks_of after ≡ ticks ++ ticks_behind count (i + 1)
+pub ticks_more : (before after : List RowsView) (cut : RowsView) (ticks : List ℕ) (count i : ℕ) → after ≡ before ++ cut ∷ [] → ticks_of before ≡ ticks ++ ticks_after count i → cut.tick ≡ count + i + 1 → ticks_of after ≡ ticks ++ ticks_after count (i + 1)
 ticks_more before after cut ticks count i is e tick =
     rw (is, map-append (λ (r : RowsView). r.tick) before (cut ∷ []), e, append_assoc, tick, ticks_append count i 1)
 

@@ -3,14 +3,14 @@ use Rattle.std.proofs.Common.{ap₂, ◌≡◌, ℕ, zero, suc, ◌+◌, ◌<◌
 use Rattle.std.proofs.lemmas.Bool.{cases_lt}
 use Rattle.textarea_text.specs.Place.{Place}
 use Rattle.textarea_text.proofs.Columns.{offset_in}
-use Rattle.textarea_wrap.specs.Cutting.{ranges_from}
+use Rattle.textarea_wrap.specs.WrapRules.{ranges_from}
 use Rattle.textarea_wrap.specs.RowsView.{RowsView}
 use Rattle.textarea_screen_map.specs.declared.layout.VisualPosition.{VisualPosition}
 use Rattle.textarea_screen_map.specs.declared.layout.Wrapping.{Wrapping}
-use Rattle.textarea_screen_map.specs.Layout.{AreRowsOf}
+use Rattle.textarea_screen_map.specs.LineRows.{AreRowsOf}
 use Rattle.textarea_blocks.specs.Sums.{ranges_at, range_at, row_total}
-use Rattle.textarea_screen_map.specs.Rows.{row_at}
-use Rattle.textarea_screen_map.specs.Seen.{IsAbove, IsBelow, IsVisualPosition}
+use Rattle.textarea_screen_map.specs.VisualRows.{row_at}
+use Rattle.textarea_screen_map.specs.VisualPositions.{IsAbove, IsBelow, IsVisualPosition}
 use Rattle.textarea_screen_map.proofs.Holding.{cut_at}
 use Rattle.textarea_screen_map.proofs.Parts.{offset_less, row_within}
 use Rattle.textarea_screen_map.proofs.ThereAndBack.{one_place}
@@ -52,8 +52,8 @@ not_before w lines rows t place a b p q h s u less =
     let parted = apart w lines rows a.row b.row p q h same less in
     omega (arith, parted.0, s.holds.before_next parted.1, u.holds.from)
 
-pub seen_once : (w : Wrapping) (lines : List (List ℕ)) (rows : List RowsView) (place : Place) (a b : VisualPosition) → AreRowsOf w lines rows → IsVisualPosition w.tab_len lines rows place a → IsVisualPosition w.tab_len lines rows place b → a ≡ b
-seen_once w lines rows place a b h s u =
+pub one_visual_position : (w : Wrapping) (lines : List (List ℕ)) (rows : List RowsView) (place : Place) (a b : VisualPosition) → AreRowsOf w lines rows → IsVisualPosition w.tab_len lines rows place a → IsVisualPosition w.tab_len lines rows place b → a ≡ b
+one_visual_position w lines rows place a b h s u =
     let p = cut_out w lines rows a.row h s.row in
     let q = cut_out w lines rows b.row h u.row in
     let line : p.line ≡ q.line = sym p.line_is ∙ sym s.holds.line ∙ u.holds.line ∙ q.line_is in
@@ -67,8 +67,8 @@ seen_once w lines rows place a b h s u =
 
 pub one_above : (w : Wrapping) (lines : List (List ℕ)) (rows : List RowsView) (place target other : Place) → AreRowsOf w lines rows → IsAbove w.tab_len lines rows place target → IsAbove w.tab_len lines rows place other → target ≡ other
 one_above w lines rows place target other h p q =
-    one_place w.tab_len lines rows _ target other (rw (seen_once w lines rows place p.visual q.visual h p.visual_position q.visual_position) at p.near) q.near
+    one_place w.tab_len lines rows _ target other (rw (one_visual_position w lines rows place p.visual q.visual h p.visual_position q.visual_position) at p.near) q.near
 
 pub one_below : (w : Wrapping) (lines : List (List ℕ)) (rows : List RowsView) (place target other : Place) → AreRowsOf w lines rows → IsBelow w.tab_len lines rows place target → IsBelow w.tab_len lines rows place other → target ≡ other
 one_below w lines rows place target other h p q =
-    one_place w.tab_len lines rows _ target other (rw (seen_once w lines rows place p.visual q.visual h p.visual_position q.visual_position) at p.near) q.near
+    one_place w.tab_len lines rows _ target other (rw (one_visual_position w lines rows place p.visual q.visual h p.visual_position q.visual_position) at p.near) q.near

@@ -6,7 +6,7 @@ use Rattle.std.proofs.lemmas.Bool.{cases_lt}
 use Rattle.std.proofs.lemmas.Str.{IsUtf8-between, IsUtf8-drop, IsUtf8-take, encodes-append, encodes-chars, encodes_same, length-le-encodes}
 use Rattle.std.specs.Str.{IsUtf8, all_scalars, chars}
 use Rattle.textarea_text.proofs.Columns.{chars_from_bytes, encodes_cut, offset_in, offsets_ordered}
-use Rattle.textarea_wrap.specs.Wrapped.{IsRowRange}
+use Rattle.textarea_wrap.specs.WrapResult.{IsRowRange}
 
 pub record Parts (line : List ℕ) (range : ℕ × ℕ) : Type 0 where
   pub front : List ℕ

@@ -8,8 +8,8 @@ use Rattle.std.proofs.lemmas.List.{drop_more, length-drop, take_more}
 use Rattle.std.proofs.lemmas.Nat.{mod_below}
 use Rattle.textarea_wrap.specs.Columns.{plain_width, next_stop, column_after, end_column}
 use Rattle.textarea_wrap.proofs.ColumnLemmas.{end_column-append, end_column-after}
-use Rattle.textarea_screen_map.specs.Rows.{column_at}
-use Rattle.textarea_screen_map.specs.Seen.{HasNoZeroWidth, LeadsTo}
+use Rattle.textarea_screen_map.specs.VisualRows.{column_at}
+use Rattle.textarea_screen_map.specs.VisualPositions.{HasNoZeroWidth, LeadsTo}
 use Rattle.textarea_screen_map.proofs.Holding.{all_at}
 
 -- columns never decrease along a row

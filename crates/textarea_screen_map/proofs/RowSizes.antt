@@ -7,12 +7,12 @@ use Rattle.std.specs.List.{concat, AllByRecursion}
 use Rattle.textarea_text.specs.Size.{size_of, weight}
 use Rattle.textarea_text.specs.Text.{characters, following, lines_of}
 use Rattle.textarea_text.proofs.Sizes.{size_of-append, weight-append, weight-characters, weight_of_following}
-use Rattle.textarea_wrap.specs.Cutting.{ranges_from}
+use Rattle.textarea_wrap.specs.WrapRules.{ranges_from}
 use Rattle.textarea_wrap.specs.RowsView.{RowsView}
-use Rattle.textarea_wrap.specs.Wrapped.{AreRowTexts, IsRowRange, IsWrapped}
+use Rattle.textarea_wrap.specs.WrapResult.{AreRowTexts, IsRowRange, IsWrapped}
 use Rattle.textarea_wrap.specs.declared.wrap.WrapMode.{WrapMode}
 use Rattle.textarea_screen_map.specs.declared.layout.Wrapping.{Wrapping}
-use Rattle.textarea_screen_map.specs.Layout.{AreRowsOf}
+use Rattle.textarea_screen_map.specs.LineRows.{AreRowsOf}
 use Rattle.textarea_blocks.specs.Sums.{line_bytes, row_total, size_total}
 use Rattle.textarea_wrap.proofs.FewestRowLemmas.{length-ranges_from}
 use Rattle.textarea_screen_map.proofs.Holding.{last_range, some_rows}

@@ -9,10 +9,10 @@ use Rattle.textarea_wrap.specs.Columns.{display_end_column}
 use Rattle.textarea_wrap.specs.RowsView.{RowsView}
 use Rattle.textarea_screen_map.specs.declared.layout.VisualPosition.{VisualPosition}
 use Rattle.textarea_screen_map.specs.declared.layout.Wrapping.{Wrapping}
-use Rattle.textarea_screen_map.specs.Layout.{AreRowsOf}
+use Rattle.textarea_screen_map.specs.LineRows.{AreRowsOf}
 use Rattle.textarea_blocks.specs.Sums.{row_total}
-use Rattle.textarea_screen_map.specs.Rows.{VisualRow, visual_rows, row_at, column_at, greatest_column}
-use Rattle.textarea_screen_map.specs.Seen.{HasNoZeroWidth, IsPlaceAt, IsPlaceNear, IsVisualPosition, LeadsTo}
+use Rattle.textarea_screen_map.specs.VisualRows.{VisualRow, visual_rows, row_at, column_at, greatest_column}
+use Rattle.textarea_screen_map.specs.VisualPositions.{HasNoZeroWidth, IsPlaceAt, IsPlaceNear, IsVisualPosition, LeadsTo}
 use Rattle.textarea_screen_map.proofs.RowColumns.{column_at-le, column_at-less}
 use Rattle.textarea_screen_map.proofs.VisualRows.{row_count, row_of}
 
@@ -55,8 +55,8 @@ same_place : (a b : Place) (first : ℕ) → a.0 ≡ b.0 → first ≤ a.1 → f
 same_place a b first rows from from' e =
     ap₂ (λ (m n : ℕ). (m, n)) rows (omega arith)
 
-pub found_again : (t : ℕ) (lines : List (List ℕ)) (rows : List RowsView) (place : Place) (visual : VisualPosition) (found : Place) → IsVisualPosition t lines rows place visual → HasNoZeroWidth (row_at lines rows visual.row).text → IsPlaceAt t lines rows visual found → found ≡ place
-found_again t lines rows place visual found s all f =
+pub visual_round_trip : (t : ℕ) (lines : List (List ℕ)) (rows : List RowsView) (place : Place) (visual : VisualPosition) (found : Place) → IsVisualPosition t lines rows place visual → HasNoZeroWidth (row_at lines rows visual.row).text → IsPlaceAt t lines rows visual found → found ≡ place
+visual_round_trip t lines rows place visual found s all f =
     let row = row_at lines rows visual.row in
     let back : LeadsTo t row.text visual.column (place.1 - row.first) = rw s.column (leads_back t row.text (place.1 - row.first) all (omega (arith, s.holds.to))) in
     same_place found place row.first (f.line ∙ sym s.holds.line) f.from s.holds.from (leads_to_one t row.text visual.column (found.1 - row.first) (place.1 - row.first) f.leads back)

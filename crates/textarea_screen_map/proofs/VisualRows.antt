@@ -11,12 +11,12 @@ use Rattle.textarea_text.specs.Text.{characters_of, lines_of}
 use Rattle.textarea_text.proofs.Columns.{offset_in}
 use Rattle.textarea_wrap.specs.Columns.{display_end_column}
 use Rattle.textarea_wrap.specs.RowsView.{RowsView}
-use Rattle.textarea_wrap.specs.Wrapped.{IsRowRange}
+use Rattle.textarea_wrap.specs.WrapResult.{IsRowRange}
 use Rattle.textarea_screen_map.specs.declared.layout.Wrapping.{Wrapping}
-use Rattle.textarea_screen_map.specs.Layout.{AreRowsOf}
+use Rattle.textarea_screen_map.specs.LineRows.{AreRowsOf}
 use Rattle.textarea_blocks.specs.Sums.{ranges_at, range_at, row_total}
-use Rattle.textarea_screen_map.specs.Rows.{VisualRow, rows_of_line, rows_from, visual_rows, row_at}
-use Rattle.textarea_screen_map.specs.Seen.{IsVisualPosition}
+use Rattle.textarea_screen_map.specs.VisualRows.{VisualRow, rows_of_line, rows_from, visual_rows, row_at}
+use Rattle.textarea_screen_map.specs.VisualPositions.{IsVisualPosition}
 use Rattle.textarea_screen_map.proofs.Holding.{bytes_of_line, cut_at, holds_offset, range_is, rows_at, some_bytes}
 use Rattle.textarea_screen_map.proofs.Layouts.{length-AreRowsOf}
 use Rattle.textarea_screen_map.proofs.Parts.{Parts, characters_between, column_before, column_from, column_to, parts_of, row_within}

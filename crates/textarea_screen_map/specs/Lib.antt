@@ -1,7 +1,7 @@
-pub mod Layout
-pub mod Lent
+pub mod LineRows
+pub mod BorrowedLines
 pub mod Map
 pub mod Prepared
-pub mod Rows
-pub mod Seen
-pub mod Shown
+pub mod VisualRows
+pub mod VisualPositions
+pub mod RowTexts

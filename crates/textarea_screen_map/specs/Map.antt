@@ -4,7 +4,7 @@ use Rattle.textarea_wrap.specs.RowsView.{RowsView}
 use Rattle.textarea_blocks.specs.Blocks.{BlocksView}
 use Rattle.textarea_blocks.specs.Sums.{IsWithinLimit, row_total, size_total}
 use Rattle.textarea_screen_map.specs.declared.layout.Wrapping.{Wrapping}
-use Rattle.textarea_screen_map.specs.Layout.{AreRowsOf}
+use Rattle.textarea_screen_map.specs.LineRows.{AreRowsOf}
 
 -- the rows of each line, how the lines are wrapped, and the blocks of the rows with their room for
 -- more, which needs no allocation

@@ -27,7 +27,7 @@ HasRoom all blocks row count (new.Many rows) = IsEdge blocks.blocks row × (leng
 
 -- The rows can be put into the map without allocation: the replaced lines exist, there is room, the
 -- numbers are right, and the map is within the limit afterwards.
-pub record IsReady (map : MapView) (prepared : PreparedRows) : Type 0 where
+pub record CanPutRows (map : MapView) (prepared : PreparedRows) : Type 0 where
   pub within : prepared.row + prepared.count ≤ length map.rows
   pub room : HasRoom map.rows map.room prepared.row prepared.count prepared.rows
   pub total : prepared.total ≡ row_total (rows_in prepared.rows)

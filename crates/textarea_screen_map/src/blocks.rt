@@ -2,7 +2,7 @@
 ghost use Rattle.std.specs.Prelude.{◌≡◌, ◌+◌, ◌≤◌, ◌++◌, ℕ, List, length, OnOk};
 ghost use Rattle.textarea_text.specs.Text.{lines_of};
 ghost use Rattle.textarea_blocks.specs.Blocks.{all_rows};
-ghost use Rattle.textarea_screen_map.specs.Layout.{AreRowsOf, ticks_behind, ticks_of};
+ghost use Rattle.textarea_screen_map.specs.LineRows.{AreRowsOf, ticks_after, ticks_of};
 
 use crate::layout::{Wrapping, rows_of};
 use std::alloc::{AllocError, Global};
@@ -28,7 +28,7 @@ pub fn push_lines(
         OnOk result (AreRowsOf wrapping (before ++ lines_of lines.now)
         (all_rows blocks.new.blocks)) }
     ensures ticks { OnOk result (ticks_of (all_rows blocks.new.blocks)
-        ≡ ticks_of (all_rows blocks.old.blocks) ++ ticks_behind count.old (length lines.now)) }
+        ≡ ticks_of (all_rows blocks.old.blocks) ++ ticks_after count.old (length lines.now)) }
 {
     let mut from = 0;
     'cutting: while from < lines.len() {

@@ -2,11 +2,11 @@
 ghost use Rattle.std.specs.Prelude.{◌≡◌, ◌-◌, ◌<◌, chars, length, if◌then◌else◌};
 ghost use Rattle.textarea_util.specs.Limit.{size_limit};
 ghost use Rattle.textarea_wrap.specs.Columns.{display_end_column};
-ghost use Rattle.textarea_screen_map.specs.Rows.{column_at};
-ghost use Rattle.textarea_screen_map.specs.Seen.{LeadsTo};
+ghost use Rattle.textarea_screen_map.specs.VisualRows.{column_at};
+ghost use Rattle.textarea_screen_map.specs.VisualPositions.{LeadsTo};
 
 use textarea_text::rows::{byte_offset, column_count};
-use textarea_wrap::wrap::columns::{display_column_behind, display_column_behind_text};
+use textarea_wrap::wrap::columns::{display_column_after, display_column_after_text};
 
 /// Returns the display column at which the last character of a row begins; 0 for an empty row.
 pub fn last_character_column(text: &str, tab_len: u8) -> usize
@@ -14,7 +14,7 @@ pub fn last_character_column(text: &str, tab_len: u8) -> usize
     ensures { result ≡ column_at tab_len (chars text.now) (length (chars text.now) - 1) }
 {
     let last = column_count(text).saturating_sub(1);
-    display_column_behind_text(&text[..byte_offset(text, last)], 0, tab_len)
+    display_column_after_text(&text[..byte_offset(text, last)], 0, tab_len)
 }
 
 /// Returns the greatest display column of a row at which a cursor can be: the row's width in the
@@ -25,7 +25,7 @@ pub fn greatest_cursor_column(text: &str, is_last: bool, tab_len: u8) -> usize
         else column_at tab_len (chars text.now) (length (chars text.now) - 1)) }
 {
     if is_last {
-        display_column_behind_text(text, 0, tab_len)
+        display_column_after_text(text, 0, tab_len)
     } else {
         last_character_column(text, tab_len)
     }
@@ -40,7 +40,7 @@ pub fn character_at_column(text: &str, column: usize, tab_len: u8) -> usize
     let mut index = 0;
     let mut at = 0;
     for c in text.chars() {
-        let next = display_column_behind(c, at, tab_len);
+        let next = display_column_after(c, at, tab_len);
         if column <= at || column < next {
             return index;
         }

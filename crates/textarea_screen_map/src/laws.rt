@@ -8,16 +8,16 @@ ghost use Rattle.textarea_wrap.specs.RowsView.{RowsView};
 ghost use Rattle.textarea_wrap.specs.declared.wrap.WrapMode.TheVariants as mode;
 ghost use Rattle.textarea_screen_map.specs.declared.layout.VisualPosition.{VisualPosition};
 ghost use Rattle.textarea_screen_map.specs.declared.layout.Wrapping.{Wrapping};
-ghost use Rattle.textarea_screen_map.specs.Layout.{AreRowsOf};
+ghost use Rattle.textarea_screen_map.specs.LineRows.{AreRowsOf};
 ghost use Rattle.textarea_blocks.specs.Sums.{row_total, size_total};
 ghost use Rattle.textarea_screen_map.specs.Map.{IsRowCount};
-ghost use Rattle.textarea_screen_map.specs.Rows.{greatest_column, row_at};
-ghost use Rattle.textarea_screen_map.specs.Seen.{HasNoZeroWidth, IsAbove, IsBelow, IsPlaceAt, IsPlaceNear, IsSeenUpTo, IsVisualPosition};
+ghost use Rattle.textarea_screen_map.specs.VisualRows.{greatest_column, row_at};
+ghost use Rattle.textarea_screen_map.specs.VisualPositions.{HasNoZeroWidth, IsAbove, IsBelow, IsPlaceAt, IsPlaceNear, IsVisualUpTo, IsVisualPosition};
 
-use textarea_wrap::laws::one_cutting;
+use textarea_wrap::laws::one_wrapping;
 
 /// A position's visual row and column lead back to it, if the row has no zero-width characters.
-pub fn found_again()
+pub fn visual_round_trip()
     ensures { (tab_len : ℕ) (lines : List (List ℕ)) (rows : List RowsView)
         (place : Place) (visual : VisualPosition) (found : Place) →
         IsVisualPosition tab_len lines rows place visual →
@@ -27,7 +27,7 @@ pub fn found_again()
 
 /// A visual row and a display column lead to a position of the lines. If the column is at most the
 /// row's greatest cursor column, that position is in that visual row, at or before that column.
-pub fn seen_where_looked_up()
+pub fn look_up_leads_back()
     ensures place { (wrapping : Wrapping) (lines : List (List ℕ)) (rows : List RowsView)
         (visual : VisualPosition) (place : Place) →
         AreRowsOf wrapping lines rows → IsPlaceAt wrapping.tab_len lines rows visual place →
@@ -36,16 +36,16 @@ pub fn seen_where_looked_up()
         (visual : VisualPosition) (place : Place) →
         AreRowsOf wrapping lines rows → IsPlaceAt wrapping.tab_len lines rows visual place →
         visual.column ≤ greatest_column wrapping.tab_len (row_at lines rows visual.row) →
-        IsSeenUpTo wrapping.tab_len lines rows visual place }
+        IsVisualUpTo wrapping.tab_len lines rows visual place }
     ensures near { (wrapping : Wrapping) (lines : List (List ℕ)) (rows : List RowsView)
         (visual : VisualPosition) (place : Place) →
         AreRowsOf wrapping lines rows → IsPlaceNear wrapping.tab_len lines rows visual place →
-        IsSeenUpTo wrapping.tab_len lines rows visual place }
+        IsVisualUpTo wrapping.tab_len lines rows visual place }
 {}
 
 /// The visual row of a position is less than the number of visual rows of all lines. Its display
 /// column is one at which a cursor can be: at most the row's greatest cursor column.
-pub fn seen_within()
+pub fn visual_position_within()
     ensures row { (wrapping : Wrapping) (lines : List (List ℕ)) (rows : List RowsView)
         (place : Place) (visual : VisualPosition) →
         AreRowsOf wrapping lines rows → IsVisualPosition wrapping.tab_len lines rows place visual →
@@ -65,7 +65,7 @@ pub fn one_place()
 {}
 
 /// A position has one visual position. A cursor moves from it to one position up and one down.
-pub fn seen_once()
+pub fn one_visual_position()
     ensures visual { (wrapping : Wrapping) (lines : List (List ℕ)) (rows : List RowsView)
         (place : Place) (visual other : VisualPosition) →
         AreRowsOf wrapping lines rows → IsVisualPosition wrapping.tab_len lines rows place visual →
@@ -86,7 +86,7 @@ pub fn one_map()
         AreRowsOf wrapping lines rows → AreRowsOf wrapping lines others →
         map (λ (r : RowsView). r.ranges) rows ≡ map (λ (r : RowsView). r.ranges) others }
 {
-    one_cutting();
+    one_wrapping();
 }
 
 /// Lines at one wrapping have only one number of visual rows.
@@ -94,7 +94,7 @@ pub fn one_row_count()
     ensures { (wrapping : Wrapping) (lines : List (List ℕ)) (count other : ℕ) →
         IsRowCount wrapping lines count → IsRowCount wrapping lines other → count ≡ other }
 {
-    one_cutting();
+    one_wrapping();
 }
 
 /// Lines have no more visual rows than bytes and lines together, and the map computes their

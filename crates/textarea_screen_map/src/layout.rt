@@ -3,7 +3,7 @@ ghost use Rattle.std.specs.Prelude.{◌≡◌, ◌+◌, ◌≤◌, ◌++◌, ℕ
 ghost use Rattle.textarea_util.specs.Limit.{size_limit};
 ghost use Rattle.textarea_text.specs.Size.{size_of};
 ghost use Rattle.textarea_text.specs.Text.{lines_of};
-ghost use Rattle.textarea_screen_map.specs.Layout.{AreRowsOf, ticks_behind, ticks_of};
+ghost use Rattle.textarea_screen_map.specs.LineRows.{AreRowsOf, ticks_after, ticks_of};
 ghost use Rattle.textarea_screen_map.specs.Map.{IsRowCount};
 
 use std::alloc::{AllocError, Global};
@@ -39,7 +39,7 @@ pub fn push_rows(
     ensures rows { (before : List (List ℕ)) → AreRowsOf wrapping before rows.old.items
         → OnOk result (AreRowsOf wrapping (before ++ lines_of lines.now) rows.new.items) }
     ensures ticks { OnOk result (ticks_of rows.new.items
-        ≡ ticks_of rows.old.items ++ ticks_behind count.old (length lines.now)) }
+        ≡ ticks_of rows.old.items ++ ticks_after count.old (length lines.now)) }
 {
     for i in 0..lines.len() {
         let cut = line_ranges(
@@ -66,7 +66,7 @@ pub fn rows_of(
     ensures never_less { count.old ≤ count.new }
     ensures rows { IfOk result (λ rows. AreRowsOf wrapping (lines_of lines.now) rows.items) }
     ensures ticks { IfOk result (λ rows.
-        ticks_of rows.items ≡ ticks_behind count.old (length lines.now)) }
+        ticks_of rows.items ≡ ticks_after count.old (length lines.now)) }
 {
     let mut rows = Vec::with_capacity(alloc, lines.len())?;
     push_rows(alloc, &mut rows, lines, wrapping, count)?;

@@ -5,10 +5,10 @@ ghost use Rattle.textarea_util.specs.Replaced.{replaced};
 ghost use Rattle.textarea_text.specs.Size.{size_of};
 ghost use Rattle.textarea_text.specs.Text.{lines_of};
 ghost use Rattle.textarea_wrap.specs.declared.wrap.WrapMode.TheVariants as mode;
-ghost use Rattle.textarea_screen_map.specs.Layout.{AreRowsOf, ticks_behind, ticks_of, with_tab_len};
+ghost use Rattle.textarea_screen_map.specs.LineRows.{AreRowsOf, ticks_after, ticks_of, with_tab_len};
 ghost use Rattle.textarea_blocks.specs.Blocks.{IsEdge, all_rows};
 ghost use Rattle.textarea_blocks.specs.Sums.{IsWithinLimit, ranges_at, row_total, size_total};
-ghost use Rattle.textarea_screen_map.specs.Prepared.{HasRoom, IsReady, rows_in, rows_with};
+ghost use Rattle.textarea_screen_map.specs.Prepared.{HasRoom, CanPutRows, rows_in, rows_with};
 
 use crate::blocks::{BLOCK, push_lines};
 use crate::layout::{Wrapping, rows_of};
@@ -96,7 +96,7 @@ pub fn new_rows(
     ensures never_less { count.old ≤ count.new }
     ensures rows { IfOk result (λ rows. AreRowsOf wrapping (lines_of lines.now) (rows_in rows)) }
     ensures ticks { IfOk result (λ rows.
-        ticks_of (rows_in rows) ≡ ticks_behind count.old (length lines.now)) }
+        ticks_of (rows_in rows) ≡ ticks_after count.old (length lines.now)) }
 {
     if lines.len() <= BLOCK {
         let rows = rows_of(alloc, lines, wrapping, count)?;
@@ -167,7 +167,7 @@ impl ScreenMap {
         ensures rows { IfOk result (λ map. AreRowsOf map.wrapping (lines_of lines.now) map.rows) }
         ensures wrapping { IfOk result (λ map. map.wrapping ≡ wrapping) }
         ensures ticks { IfOk result (λ map.
-            ticks_of map.rows ≡ ticks_behind counter.old (length lines.now)) }
+            ticks_of map.rows ≡ ticks_after counter.old (length lines.now)) }
         ensures counted { OnOk result (counter.new ≡ counter.old + length lines.now) }
         ensures never_less { counter.old ≤ counter.new }
         ensures limit { OnOk result (size_of lines.now ≤ size_limit) }
@@ -197,14 +197,14 @@ impl ScreenMap {
         requires { row + count ≤ length self.old.rows }
         ensures same { self.new.rows ≡ self.old.rows }
         ensures same_wrapping { self.new.wrapping ≡ self.old.wrapping }
-        ensures ready { IfOk result (λ prepared. IsReady self.new prepared) }
+        ensures ready { IfOk result (λ prepared. CanPutRows self.new prepared) }
         ensures row { IfOk result (λ prepared. prepared.row ≡ row) }
         ensures count { IfOk result (λ prepared. prepared.count ≡ count) }
         ensures wrapping { IfOk result (λ prepared. prepared.wrapping ≡ wrapping) }
         ensures rows { IfOk result (λ prepared.
             AreRowsOf wrapping (lines_of lines.now) (rows_in prepared.rows)) }
         ensures ticks { IfOk result (λ prepared.
-            ticks_of (rows_in prepared.rows) ≡ ticks_behind counter.old (length lines.now)) }
+            ticks_of (rows_in prepared.rows) ≡ ticks_after counter.old (length lines.now)) }
         ensures counted { OnOk result (counter.new ≡ counter.old + length lines.now) }
         ensures never_less { counter.old ≤ counter.new }
     {
@@ -224,7 +224,7 @@ impl ScreenMap {
         requires { row + count ≤ length self.old.rows }
         ensures same { self.new.rows ≡ self.old.rows }
         ensures same_wrapping { self.new.wrapping ≡ self.old.wrapping }
-        ensures ready { IfOk result (λ prepared. IsReady self.new prepared) }
+        ensures ready { IfOk result (λ prepared. CanPutRows self.new prepared) }
         ensures row { IfOk result (λ prepared. prepared.row ≡ row) }
         ensures count { IfOk result (λ prepared. prepared.count ≡ count) }
         ensures wrapping { IfOk result (λ prepared. prepared.wrapping ≡ wrapping) }
@@ -318,7 +318,7 @@ impl ScreenMap {
     /// Replaces the prepared rows. Allocates nothing and wraps no line. In other blocks, only the
     /// numbers of lines and rows before each block change.
     pub fn replace(&mut self, prepared: PreparedRows)
-        requires { IsReady self.old prepared }
+        requires { CanPutRows self.old prepared }
         ensures rows { self.new.rows ≡ rows_with self.old.rows prepared }
         ensures wrapping { self.new.wrapping ≡ prepared.wrapping }
     {

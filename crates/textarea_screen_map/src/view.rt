@@ -4,12 +4,12 @@ ghost use Rattle.textarea_util.specs.Limit.{size_limit};
 ghost use Rattle.textarea_text.specs.Place.{IsPlaceOf};
 ghost use Rattle.textarea_text.specs.Size.{size_of};
 ghost use Rattle.textarea_text.specs.Text.{lines_of};
-ghost use Rattle.textarea_screen_map.specs.Layout.{AreRowsOf};
+ghost use Rattle.textarea_screen_map.specs.LineRows.{AreRowsOf};
 ghost use Rattle.textarea_blocks.specs.Sums.{row_total};
-ghost use Rattle.textarea_screen_map.specs.Rows.{greatest_column, row_at};
-ghost use Rattle.textarea_screen_map.specs.Seen.{IsPlaceNear, IsVisualPosition};
-ghost use Rattle.textarea_screen_map.specs.Shown.{HasFrontOfLine, shown_row};
-ghost use Rattle.textarea_screen_map.specs.Lent.{IsLent, lent_rows};
+ghost use Rattle.textarea_screen_map.specs.VisualRows.{greatest_column, row_at};
+ghost use Rattle.textarea_screen_map.specs.VisualPositions.{IsPlaceNear, IsVisualPosition};
+ghost use Rattle.textarea_screen_map.specs.RowTexts.{HasFrontOfLine, row_of_texts};
+ghost use Rattle.textarea_screen_map.specs.BorrowedLines.{AreRowsRight, borrowed_rows};
 
 use crate::layout::VisualPosition;
 use crate::screen_map::{RowText, ScreenMap};
@@ -18,28 +18,28 @@ use std::marker::Model;
 /// A borrow of lines and of their visual rows: those of the current text, or those at a prepared
 /// width. Visual rows count from 0 over all lines.
 #[derive(Drop)]
-pub struct LaidOutView<'a> {
+pub struct TextLayoutView<'a> {
     lines: &'a [String],
     map: &'a ScreenMap,
 }
 
-impl<'a> Model for LaidOutView<'a> {
-    ghost use Rattle.textarea_screen_map.specs.Lent.{IsLent, LentRows, lent_rows};
+impl<'a> Model for TextLayoutView<'a> {
+    ghost use Rattle.textarea_screen_map.specs.BorrowedLines.{AreRowsRight, BorrowedRows, borrowed_rows};
 
-    ghost Value = { LentRows };
+    ghost Value = { BorrowedRows };
 
-    ghost view = { λ view. lent_rows view.lines.now view.map.now };
+    ghost view = { λ view. borrowed_rows view.lines.now view.map.now };
 
-    ghost invariant = { λ view. IsLent view.lines.now view.map.now };
+    ghost invariant = { λ view. AreRowsRight view.lines.now view.map.now };
 }
 
-impl<'a> LaidOutView<'a> {
+impl<'a> TextLayoutView<'a> {
     /// Borrows the lines, at least one, with a map of these lines.
-    pub fn new(lines: &'a [String], map: &'a ScreenMap) -> LaidOutView<'a>
-        requires { IsLent lines.now map.now }
-        ensures { result ≡ lent_rows lines.now map.now }
+    pub fn new(lines: &'a [String], map: &'a ScreenMap) -> TextLayoutView<'a>
+        requires { AreRowsRight lines.now map.now }
+        ensures { result ≡ borrowed_rows lines.now map.now }
     {
-        LaidOutView { lines, map }
+        TextLayoutView { lines, map }
     }
 
     /// Returns the lines, at least one. Their bytes and their number together are at most 2^48.
@@ -71,7 +71,7 @@ impl<'a> LaidOutView<'a> {
     /// Returns a visual row, as slices of the lines.
     pub fn row_at(&self, row: usize) -> RowText<'a>
         requires { row < row_total self.now.rows }
-        ensures shown { shown_row result ≡ row_at self.now.lines self.now.rows row }
+        ensures shown { row_of_texts result ≡ row_at self.now.lines self.now.rows row }
         ensures number { row_total (take result.line self.now.rows) + result.number ≡ row }
         ensures line { result.line < length self.now.lines }
         ensures front { HasFrontOfLine self.now.lines result }

@@ -31,7 +31,7 @@ const ROW_UP: Scrolling = Scrolling::Delta { rows: -1, cols: 0 };
 /// A key, and its action without Shift. With Shift, only the action's field for it differs.
 type Asked = (Key, Action);
 
-const ALONE: [Asked; 14] = [
+const NO_MODIFIERS: [Asked; 14] = [
     (Key::Char('a'), Write(InsertChar('a'))),
     (Key::Char('m'), Write(InsertChar('m'))),
     (Key::Char(' '), Write(InsertChar(' '))),
@@ -129,7 +129,7 @@ const WITH_CTRL_AND_ALT: [Asked; 16] = [
     (Key::Delete, Nothing),
 ];
 
-const WHATEVER_IS_HELD: [Asked; 13] = [
+const ANY_MODIFIERS: [Asked; 13] = [
     (Key::Enter, Write(InsertNewline)),
     (Key::Home, MoveWithShift(Head, false)),
     (Key::End, MoveWithShift(End, false)),
@@ -145,21 +145,21 @@ const WHATEVER_IS_HELD: [Asked; 13] = [
     (Key::Null, Nothing),
 ];
 
-const ALONE_WITHOUT_SHORTCUTS: [Asked; 4] = [
+const NO_MODIFIERS_WITHOUT_SHORTCUTS: [Asked; 4] = [
     (Key::Char('a'), Write(InsertChar('a'))),
     (Key::Char('\n'), Write(InsertChar('\n'))),
     (Key::Char('\r'), Write(InsertChar('\r'))),
     (Key::Tab, Edit(InsertTab)),
 ];
 
-const HELD_WITHOUT_SHORTCUTS: [Asked; 4] = [
+const MODIFIERS_WITHOUT_SHORTCUTS: [Asked; 4] = [
     (Key::Char('a'), Nothing),
     (Key::Char('\n'), Nothing),
     (Key::Char('\r'), Nothing),
     (Key::Tab, Nothing),
 ];
 
-const WHATEVER_IS_HELD_WITHOUT_SHORTCUTS: [Asked; 11] = [
+const ANY_MODIFIERS_WITHOUT_SHORTCUTS: [Asked; 11] = [
     (Key::Backspace, Edit(DeleteChar)),
     (Key::Delete, Edit(DeleteNextChar)),
     (Key::Enter, Write(InsertNewline)),
@@ -177,17 +177,17 @@ const WHATEVER_IS_HELD_WITHOUT_SHORTCUTS: [Asked; 11] = [
 type Keys = (bool, &'static [Held], &'static [Asked]);
 
 static KEYS: [Keys; 8] = [
-    (true, &[PLAIN], &ALONE),
+    (true, &[PLAIN], &NO_MODIFIERS),
     (true, &[CTRL], &WITH_CTRL),
     (true, &[ALT], &WITH_ALT),
     (true, &[BOTH], &WITH_CTRL_AND_ALT),
-    (true, &[PLAIN, CTRL, ALT, BOTH], &WHATEVER_IS_HELD),
-    (false, &[PLAIN], &ALONE_WITHOUT_SHORTCUTS),
-    (false, &[CTRL, ALT, BOTH], &HELD_WITHOUT_SHORTCUTS),
+    (true, &[PLAIN, CTRL, ALT, BOTH], &ANY_MODIFIERS),
+    (false, &[PLAIN], &NO_MODIFIERS_WITHOUT_SHORTCUTS),
+    (false, &[CTRL, ALT, BOTH], &MODIFIERS_WITHOUT_SHORTCUTS),
     (
         false,
         &[PLAIN, CTRL, ALT, BOTH],
-        &WHATEVER_IS_HELD_WITHOUT_SHORTCUTS,
+        &ANY_MODIFIERS_WITHOUT_SHORTCUTS,
     ),
 ];
 

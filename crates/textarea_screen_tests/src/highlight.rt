@@ -193,7 +193,7 @@ fn shows(line: &Line<'_>, wanted: &[(&str, u8)]) -> bool {
     true
 }
 
-fn is_lent(line: &Line<'_>) -> bool {
+fn is_borrowed(line: &Line<'_>) -> bool {
     for span in &line.spans {
         if matches!(span.content, SpanText::Owned(_)) {
             return false;
@@ -205,12 +205,12 @@ fn is_lent(line: &Line<'_>) -> bool {
 /// Returns whether the row has its spans, and whether they are all borrowed as expected.
 fn is_met(alloc: Global, case: &Case, lends_all: bool) -> Result<bool, AllocError> {
     let line = shown(alloc, case)?;
-    let is_met = shows(&line, case.3) && is_lent(&line) == lends_all;
+    let is_met = shows(&line, case.3) && is_borrowed(&line) == lends_all;
     drop(line);
     Ok(is_met)
 }
 
-fn is_lent_so(alloc: Global, case: &Case) -> Result<bool, AllocError> {
+fn is_borrowed_so(alloc: Global, case: &Case) -> Result<bool, AllocError> {
     is_met(alloc, case, true)
 }
 
@@ -220,7 +220,7 @@ fn is_owned_so(alloc: Global, case: &Case) -> Result<bool, AllocError> {
 
 #[test]
 fn rows_with_their_spans(rt: HostRuntime) -> Result<(), Fail> {
-    check_each(&rt, &LENT, is_lent_so)?;
+    check_each(&rt, &LENT, is_borrowed_so)?;
     check_each(&rt, &OWNED, is_owned_so)
 }
 
@@ -249,7 +249,7 @@ fn shows_rows(alloc: Global) -> Result<bool, AllocError> {
 }
 
 #[test]
-fn one_row_behind_another(rt: HostRuntime) -> Result<(), Fail> {
+fn one_row_after_another(rt: HostRuntime) -> Result<(), Fail> {
     assert!(rt; shows_rows(rt.alloc())?);
     Ok(())
 }

@@ -1,6 +1,6 @@
 // The written forms of keys and inputs.
 use crate::cases::check_each;
-use crate::written::{check_forms, check_refused, is_form};
+use crate::written::{check_forms, check_rejected, is_form};
 use std::process::Abort;
 use std::test::Fail;
 use textarea_data::input::{Input, Key};
@@ -96,7 +96,7 @@ static NO_INPUTS: [&str; 5] = [
 
 pub fn check(rt: &(impl Abort + AllocGlobal)) -> Result<(), Fail> {
     check_forms(rt, &KEYS, &NO_KEYS);
-    check_refused::<Input>(rt, &NO_INPUTS);
+    check_rejected::<Input>(rt, &NO_INPUTS);
     check_each(rt, &INPUTS, |alloc, (key, held, form)| {
         Ok(is_form(alloc, &pressed(*key, *held), form))
     })

@@ -1,5 +1,5 @@
 // The written forms of atomic ranges and of their errors.
-use crate::written::{check_forms, check_refused, is_form};
+use crate::written::{check_forms, check_rejected, is_form};
 use std::process::Abort;
 use std::test::Fail;
 use textarea_data::range::AtomicRangeRejectReason::*;
@@ -56,15 +56,15 @@ static REASONS: [(AtomicRangeRejectReason, &str); 4] = [
 
 static NO_REASONS: [&str; 3] = [r#""Overlaps""#, r#""empty""#, "null"];
 
-const REFUSED: RejectedAtomicRange = RejectedAtomicRange {
+const REJECTED: RejectedAtomicRange = RejectedAtomicRange {
     range: RANGE,
     reason: RowOutOfBounds,
 };
 
-const REFUSED_FORM: &str =
+const REJECTED_FORM: &str =
     r#"{"range":{"row":1,"start_col":2,"end_col":5},"reason":"RowOutOfBounds"}"#;
 
-static REFUSED_RANGES: [(RejectedAtomicRange, &str); 1] = [(REFUSED, REFUSED_FORM)];
+static REFUSED_RANGES: [(RejectedAtomicRange, &str); 1] = [(REJECTED, REJECTED_FORM)];
 
 static NO_REFUSED: [&str; 2] = [
     r#"{"row":1,"start_col":2,"end_col":5}"#,
@@ -73,7 +73,7 @@ static NO_REFUSED: [&str; 2] = [
 
 static NO_ERRORS: [&str; 3] = ["{}", r#"{"rejected":{}}"#, r#"{"rejected":[1]}"#];
 
-const REFUSED_TWICE_FORM: &str = "{\"rejected\":[\
+const REJECTED_TWICE_FORM: &str = "{\"rejected\":[\
     {\"range\":{\"row\":1,\"start_col\":2,\"end_col\":5},\"reason\":\"RowOutOfBounds\"},\
     {\"range\":{\"row\":1,\"start_col\":2,\"end_col\":5},\"reason\":\"RowOutOfBounds\"}]}";
 
@@ -84,9 +84,9 @@ pub fn check(rt: &(impl Abort + AllocGlobal)) -> Result<(), Fail> {
     check_forms(rt, &DIRECTIONS, &NO_SIDES);
     check_forms(rt, &REASONS, &NO_REASONS);
     check_forms(rt, &REFUSED_RANGES, &NO_REFUSED);
-    check_refused::<AtomicRangeError>(rt, &NO_ERRORS);
+    check_rejected::<AtomicRangeError>(rt, &NO_ERRORS);
     check_error(rt, &[], r#"{"rejected":[]}"#)?;
-    check_error(rt, &[REFUSED, REFUSED], REFUSED_TWICE_FORM)
+    check_error(rt, &[REJECTED, REJECTED], REJECTED_TWICE_FORM)
 }
 
 // Checks that the error has this form and that a copy is equal to it.

@@ -237,7 +237,7 @@ fn is_copied(alloc: Global) -> Result<bool, AllocError> {
 }
 
 #[test]
-fn told_behind_calls_and_by_copies(rt: HostRuntime) -> Result<(), Fail> {
+fn reported_after_calls_and_by_copies(rt: HostRuntime) -> Result<(), Fail> {
     check_each(&rt, &RUNS, |alloc, steps| {
         take_all(alloc, &mut Surround::new(alloc), steps)
     })?;

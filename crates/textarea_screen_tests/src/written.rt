@@ -21,7 +21,7 @@ where
     }
 }
 
-fn is_refused<'a, T>(alloc: Global, form: &'a str) -> bool
+fn is_rejected<'a, T>(alloc: Global, form: &'a str) -> bool
 where
     T: Deserialize<'a> + Drop,
 {
@@ -30,12 +30,12 @@ where
 }
 
 /// Checks that none of these is read as a value.
-pub fn check_refused<'a, T>(rt: &(impl Abort + AllocGlobal), others: &[&'a str])
+pub fn check_rejected<'a, T>(rt: &(impl Abort + AllocGlobal), others: &[&'a str])
 where
     T: Deserialize<'a> + Drop,
 {
     for form in others {
-        assert!(rt; is_refused::<T>(rt.alloc(), form), "{form}");
+        assert!(rt; is_rejected::<T>(rt.alloc(), form), "{form}");
     }
 }
 
@@ -52,7 +52,7 @@ where
     for (value, form) in forms {
         assert!(rt; is_form(rt.alloc(), value, form), "{form}");
     }
-    check_refused::<T>(rt, others);
+    check_rejected::<T>(rt, others);
 }
 
 #[test]

@@ -7,7 +7,7 @@ use Rattle.std.specs.Io.KnownBytes.{Appends}
 use Rattle.std.specs.Prelude.{IfOk, IfSome, IsUtf8, OnOk, Option, Result, is_err}
 use Rattle.textarea_data.specs.declared.input.Input.{Input}
 use Rattle.tui_textarea.specs.State.{State, new_state}
-use Rattle.textarea_script.specs.Session.{IsPrinted, IsWritten, inputs_of}
+use Rattle.textarea_script.specs.Session.{IsPrinted, IsSessionWritten, inputs_of_text}
 
 -- equal states and equal inputs have the same printed text
 pub printed_same : {T E : Type 0} {old new : State} {inputs others : List Input} (r : Result T E) (bytes : T → List ℕ) → old ≡ new → inputs ≡ others → IfOk r (λ printed. IsPrinted old inputs (bytes printed)) → IfOk r (λ printed. IsPrinted new others (bytes printed))
@@ -17,12 +17,12 @@ printed_same {T} {E} {old} {new} {inputs} {others} r bytes same_state same_input
 
 -- the printed text of all the bytes is written
 pub session_written : {T E : Type 0} (r : Result T E) (all old new : Option (List ℕ)) (bytes read printed text : List ℕ)
-    → bytes ≡ read → IfSome all (λ whole. read ≡ whole) → IsUtf8 bytes → text ≡ printed → IsPrinted (new_state []) (inputs_of bytes) printed
-    → OnOk r (Appends old new text) → OnOk r (IfSome all (IsWritten old new))
+    → bytes ≡ read → IfSome all (λ whole. read ≡ whole) → IsUtf8 bytes → text ≡ printed → IsPrinted (new_state []) (inputs_of_text bytes) printed
+    → OnOk r (Appends old new text) → OnOk r (IfSome all (IsSessionWritten old new))
 session_written r all old new bytes read printed text lent read_is valid shown session written =
     on_ok_weaker r
-    (λ appended. IfSome_then all read_is (λ whole same. subst (IsWritten old new) (lent ∙ same)
-    (record { text = valid; printed = text; session = subst (IsPrinted (new_state []) (inputs_of bytes)) (sym shown) session; written = appended })))
+    (λ appended. IfSome_then all read_is (λ whole same. subst (IsSessionWritten old new) (lent ∙ same)
+    (record { text = valid; printed = text; session = subst (IsPrinted (new_state []) (inputs_of_text bytes)) (sym shown) session; written = appended })))
     written
 
 -- bytes that are appended to no bytes are all the bytes

@@ -1,7 +1,7 @@
 -- What an exit status means.
 use Rattle.std.proofs.Common.{◌≡◌, ◌≢◌, ◌<◌, ◌≤◌, ◌∙◌, ℕ, Result, Ok, Err, ap, arith}
 use Rattle.std.specs.Result.{IfErr, OnOk}
-use Rattle.textarea_script.specs.Failures.{IsUnread, status_of}
+use Rattle.textarea_script.specs.Failures.{IsUnparsed, status_of}
 use Rattle.textarea_script.specs.declared.streams.Failure.{Failure}
 use Rattle.textarea_script.specs.declared.streams.Failure.TheVariants.{Stream, Line, NotRead, Memory}
 
@@ -27,7 +27,7 @@ done (Err NotRead) status is h none = absurd (omega (arith, is, none))
 done (Err Memory) status is h none = absurd (omega (arith, is, none))
 
 -- with status 2 the input or the arguments are unread
-pub unread : {T P : Type 0} (outcome : Result T Failure) (status : ℕ) → status ≡ status_of outcome → IfErr outcome (λ failure. IsUnread failure → P) → status ≡ 2 → P
+pub unread : {T P : Type 0} (outcome : Result T Failure) (status : ℕ) → status ≡ status_of outcome → IfErr outcome (λ failure. IsUnparsed failure → P) → status ≡ 2 → P
 unread (Ok value) status is h two = absurd (omega (arith, is, two))
 unread (Err Stream) status is h two = absurd (omega (arith, is, two))
 unread (Err (Line number)) status is h two = h tt

@@ -12,7 +12,7 @@ status_of (Err NotRead) = 2
 status_of (Err Memory) = 3
 
 -- the input or the arguments are unread
-abbrev pub IsUnread : Failure → Type 0
-IsUnread (Line number) = Unit {0}
-IsUnread NotRead = Unit {0}
-IsUnread failure = ⊥
+abbrev pub IsUnparsed : Failure → Type 0
+IsUnparsed (Line number) = Unit {0}
+IsUnparsed NotRead = Unit {0}
+IsUnparsed failure = ⊥

@@ -1,3 +1,3 @@
 pub mod Failures
 pub mod Session
-pub mod Words
+pub mod ProgramArguments

@@ -16,16 +16,16 @@ use Rattle.textarea_modal.specs.declared.mode.Mode.TheVariants.{Normal, Insert, 
 -- ---- ---- the input
 
 -- the key of a character: 27 is Esc, a line feed Enter, a tab Tab, and any other character itself
-abbrev pub key_of : ℕ → Key
-key_of character = if character == 27 then Esc else (if character == 10 then Enter else (if character == 9 then Tab else Char character))
+abbrev pub key_of_character : ℕ → Key
+key_of_character character = if character == 27 then Esc else (if character == 10 then Enter else (if character == 9 then Tab else Char character))
 
 -- the input of a character: its key, without modifiers
-abbrev pub input_of : ℕ → Input
-input_of character = record { key = key_of character; ctrl = false; alt = false; shift = false }
+abbrev pub input_of_character : ℕ → Input
+input_of_character character = record { key = key_of_character character; ctrl = false; alt = false; shift = false }
 
 -- the inputs of a text
-abbrev pub inputs_of : List ℕ → List Input
-inputs_of text = map input_of (chars text)
+abbrev pub inputs_of_text : List ℕ → List Input
+inputs_of_text text = map input_of_character (chars text)
 
 -- ---- ---- the output
 
@@ -62,10 +62,10 @@ pub record IsPrinted (old : State) (inputs : List Input) (printed : List ℕ) : 
   pub first : StartsWith printed (head mode taken stop)
 
 -- the bytes are UTF-8, and the printed text of their session is appended to a known output
-pub record IsWritten (old new : Option (List ℕ)) (bytes : List ℕ) : Type 0 where
+pub record IsSessionWritten (old new : Option (List ℕ)) (bytes : List ℕ) : Type 0 where
   pub text : IsUtf8 bytes
   pub printed : List ℕ
-  pub session : IsPrinted (new_state []) (inputs_of bytes) printed
+  pub session : IsPrinted (new_state []) (inputs_of_text bytes) printed
   pub written : Appends old new printed
 
 -- the bytes are not UTF-8

@@ -2,6 +2,6 @@
 #![tactic(auto)]
 
 pub mod modal;
+pub mod program_arguments;
 pub mod script;
 pub mod streams;
-pub mod words;

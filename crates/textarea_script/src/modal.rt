@@ -1,10 +1,10 @@
 //! Sessions of the modal editor. Each character of the input is a key.
 ghost use Rattle.std.specs.Prelude.{[], ◌≡◌, ◌≤◌, ◌<◌, ◌≢◌, IfErr, IfOk, IfSome, IsUtf8, OnOk, string_bytes};
 ghost use Rattle.std.specs.Io.{StartsWith};
-ghost use Rattle.textarea_script.specs.Failures.{IsUnread};
-ghost use Rattle.textarea_script.specs.declared.streams.TheConstants.{DONE, NOT_READ, OUT_OF_MEMORY, STREAM_FAILED};
+ghost use Rattle.textarea_script.specs.Failures.{IsUnparsed};
+ghost use Rattle.textarea_script.specs.declared.streams.TheConstants.{DONE, UNPARSED, OUT_OF_MEMORY, STREAM_FAILED};
 ghost use Rattle.tui_textarea.specs.State.{new_state};
-ghost use Rattle.textarea_script.specs.Session.{IsNoText, IsPrinted, IsWritten, input_of, inputs_of};
+ghost use Rattle.textarea_script.specs.Session.{IsNoText, IsPrinted, IsSessionWritten, input_of_character, inputs_of_text};
 
 mod head;
 
@@ -21,7 +21,7 @@ use tui_textarea::TextArea;
 
 /// Reads a text, takes its characters as inputs of a modal editor on an empty text area, and prints
 /// to `output` the mode, the number of used inputs, why the session ended, and the text area. The
-/// result is the exit status: `DONE`, `STREAM_FAILED`, `NOT_READ` or `OUT_OF_MEMORY`.
+/// result is the exit status: `DONE`, `STREAM_FAILED`, `UNPARSED` or `OUT_OF_MEMORY`.
 ///
 /// If the text isn't UTF-8 or memory runs out, `output` gets nothing, and `errors` gets one line
 /// with the reason; otherwise `errors` gets nothing. A failure of `errors` is ignored. If `output`
@@ -37,8 +37,9 @@ pub fn serve<R: Read, W: Write, E: Write>(
     ensures silent { STREAM_FAILED < result → output.new ≡ output.old }
     ensures quiet { result ≤ STREAM_FAILED → errors.new ≡ errors.old }
     ensures done { result ≡ DONE →
-        IfSome (R.remaining reader.old) (IsWritten (W.contents output.old) (W.contents output.new)) }
-    ensures not_read { result ≡ NOT_READ → IfSome (R.remaining reader.old) IsNoText }
+        IfSome (R.remaining reader.old)
+        (IsSessionWritten (W.contents output.old) (W.contents output.new)) }
+    ensures not_read { result ≡ UNPARSED → IfSome (R.remaining reader.old) IsNoText }
 {
     status(run_session(alloc, reader, output), errors)
 }
@@ -50,8 +51,8 @@ fn run_session<R: Read, W: Write>(
     output: &mut W,
 ) -> Result<(), Failure>
     ensures done { OnOk result (IfSome (R.remaining reader.old)
-        (IsWritten (W.contents output.old) (W.contents output.new))) }
-    ensures not_read { IfErr result (λ failure. IsUnread failure →
+        (IsSessionWritten (W.contents output.old) (W.contents output.new))) }
+    ensures not_read { IfErr result (λ failure. IsUnparsed failure →
         IfSome (R.remaining reader.old) IsNoText) }
     ensures silent { IfErr result (λ failure. failure ≢ Failure.Stream → output.new ≡ output.old) }
 {
@@ -64,8 +65,8 @@ fn run_session<R: Read, W: Write>(
 fn printed_of(alloc: Global, bytes: &[u8]) -> Result<String, Failure>
     ensures text { OnOk result (IsUtf8 bytes.now) }
     ensures printed { IfOk result
-        (λ printed. IsPrinted (new_state []) (inputs_of bytes.now) (string_bytes printed)) }
-    ensures not_read { IfErr result (λ failure. IsUnread failure → IsNoText bytes.now) }
+        (λ printed. IsPrinted (new_state []) (inputs_of_text bytes.now) (string_bytes printed)) }
+    ensures not_read { IfErr result (λ failure. IsUnparsed failure → IsNoText bytes.now) }
 {
     let Ok(text) = from_utf8(bytes) else {
         return Err(Failure::NotRead);
@@ -76,9 +77,9 @@ fn printed_of(alloc: Global, bytes: &[u8]) -> Result<String, Failure>
 // The printed text of the session of a text.
 fn printed_of_text(alloc: Global, text: &str) -> Result<String, AllocError>
     ensures { IfOk result
-        (λ printed. IsPrinted (new_state []) (inputs_of text.now) (string_bytes printed)) }
+        (λ printed. IsPrinted (new_state []) (inputs_of_text text.now) (string_bytes printed)) }
 {
-    let inputs = inputs_of(alloc, text)?;
+    let inputs = inputs_of_text(alloc, text)?;
     printed_of_inputs(alloc, inputs.as_slice())
 }
 
@@ -88,13 +89,13 @@ fn printed_of_inputs(alloc: Global, inputs: &[Input]) -> Result<String, AllocErr
         (λ printed. IsPrinted (new_state []) inputs.now (string_bytes printed)) }
 {
     let mut area = TextArea::try_default(alloc)?;
-    let printed = printed_behind(alloc, &mut area, inputs);
+    let printed = printed_run(alloc, &mut area, inputs);
     drop(area);
     printed
 }
 
 // The printed text of a run of the inputs on a text area.
-fn printed_behind(
+fn printed_run(
     alloc: Global,
     area: &mut TextArea<'_>,
     inputs: &[Input],
@@ -130,14 +131,14 @@ fn report_of(alloc: Global, area: &TextArea<'_>) -> Result<String, AllocError> {
 }
 
 // The inputs of a text, one for each character.
-fn inputs_of(alloc: Global, text: &str) -> Result<Vec<Input>, AllocError>
-    ensures { IfOk result (λ inputs. inputs.items ≡ inputs_of text.now) }
+fn inputs_of_text(alloc: Global, text: &str) -> Result<Vec<Input>, AllocError>
+    ensures { IfOk result (λ inputs. inputs.items ≡ inputs_of_text text.now) }
 {
-    text.chars().map(input_of).collect(alloc)
+    text.chars().map(input_of_character).collect(alloc)
 }
 
-fn input_of(character: char) -> Input
-    ensures { result ≡ input_of character }
+fn input_of_character(character: char) -> Input
+    ensures { result ≡ input_of_character character }
 {
     let key = match character {
         '\u{1b}' => Key::Esc,

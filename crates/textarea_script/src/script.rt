@@ -1,6 +1,6 @@
 //! Scripts: calls on a text area, one command per line.
 ghost use Rattle.std.specs.Prelude.{◌≡◌, ◌≤◌, ◌<◌, ◌≢◌, All, IfErr};
-ghost use Rattle.textarea_calls.specs.Made.{CanBeMade};
+ghost use Rattle.textarea_calls.specs.Possible.{CanBeMade};
 ghost use Rattle.textarea_script.specs.declared.streams.TheConstants.{OUT_OF_MEMORY, STREAM_FAILED};
 
 use crate::streams::{Failure, read_whole, status, write_whole};
@@ -23,7 +23,7 @@ pub const ROWS: u16 = 24;
 
 /// Reads a script, runs its calls on an empty text area and a buffer of `COLUMNS` by `ROWS` cells,
 /// and prints to `output` the results, the text area and, if anything was drawn, the cells of the
-/// area that was drawn last. The result is the exit status: `DONE`, `STREAM_FAILED`, `NOT_READ` or
+/// area that was drawn last. The result is the exit status: `DONE`, `STREAM_FAILED`, `UNPARSED` or
 /// `OUT_OF_MEMORY`.
 ///
 /// If a line is unparsed or memory runs out, `output` gets nothing, and `errors` gets one line with
@@ -81,7 +81,7 @@ fn printed_of(alloc: Global, commands: Vec<Command>) -> Result<String, Failure> 
 // What a run leaves beside the text area: the answers of the calls, and the area that was drawn
 // last, if any.
 #[derive(Drop)]
-struct Ran {
+struct RunOutput {
     answers: Vec<Answer>,
     drawn: Option<Rect>,
 }
@@ -92,18 +92,18 @@ fn run_commands(
     area: &mut TextArea<'_>,
     commands: Vec<Command>,
     buffer: &mut Buffer,
-) -> Result<Ran, Failure> {
+) -> Result<RunOutput, Failure> {
     let calls = commands::calls(alloc, commands.as_slice())?;
     run_calls(area, calls.as_slice(), buffer)
 }
 
 // Makes the calls, which borrow from the commands.
-fn run_lent(
+fn run_borrowed(
     alloc: Global,
     area: &mut TextArea<'_>,
     commands: &[Command],
     buffer: &mut Buffer,
-) -> Result<Ran, Failure> {
+) -> Result<RunOutput, Failure> {
     let calls = commands::calls(alloc, commands)?;
     run_calls(area, calls.as_slice(), buffer)
 }
@@ -112,14 +112,14 @@ fn run_calls(
     area: &mut TextArea<'_>,
     calls: &[Call<'_>],
     buffer: &mut Buffer,
-) -> Result<Ran, Failure>
+) -> Result<RunOutput, Failure>
     requires { All CanBeMade calls.now }
 {
     let end = run(area, calls, buffer);
     if end.refused.is_some() {
         return Err(Failure::Memory);
     }
-    Ok(Ran {
+    Ok(RunOutput {
         answers: end.answers,
         drawn: last_drawn(calls),
     })

@@ -14,7 +14,7 @@ pub const DONE: u8 = 0;
 pub const STREAM_FAILED: u8 = 1;
 
 /// A line of a script is no command; the input isn't UTF-8; or the arguments are unknown.
-pub const NOT_READ: u8 = 2;
+pub const UNPARSED: u8 = 2;
 
 /// Out of memory.
 pub const OUT_OF_MEMORY: u8 = 3;
@@ -61,11 +61,11 @@ pub fn status<E: Write>(outcome: Result<(), Failure>, errors: &mut E) -> u8
         Err(Failure::Stream) => STREAM_FAILED,
         Err(Failure::Line(number)) => {
             let _ = writeln!(errors, "line {number}: not read");
-            NOT_READ
+            UNPARSED
         }
         Err(Failure::NotRead) => {
             let _ = writeln!(errors, "not read");
-            NOT_READ
+            UNPARSED
         }
         Err(Failure::Memory) => {
             let _ = writeln!(errors, "no memory");

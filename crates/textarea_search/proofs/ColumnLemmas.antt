@@ -10,7 +10,7 @@ use Rattle.std.proofs.lemmas.List.{take-append-drop, take_at, length-append, len
 use Rattle.std.proofs.lemmas.List.Elements.{All-weaker}
 use Rattle.std.proofs.lemmas.Option.{slice_get-map}
 use Rattle.std.proofs.lemmas.Str.{chars-append, encodes-chars, IsUtf8-take, length-encode, len_utf8_bounds}
-use Rattle.textarea_search.specs.Columns.{column_at}
+use Rattle.textarea_search.specs.Columns.{column_of_byte}
 use Rattle.textarea_search.specs.Starts.{along, is_ahead_in_line}
 use Rattle.textarea_search.specs.declared.search.direction.Direction.{Direction}
 use Rattle.textarea_search.specs.declared.search.direction.Direction.TheVariants.{Forward, Back}
@@ -24,7 +24,7 @@ byte_at cs column = length (encode_utf8_all (take column cs))
 -- ---- a byte offset between characters as a column
 
 pub column_at_cut : (line : List ℕ) (byte : ℕ) → IsUtf8 line → IsCharBoundary line byte →
-    (column_at line byte ≤ length (chars line)) × (byte_at (chars line) (column_at line byte) ≡ byte)
+    (column_of_byte line byte ≤ length (chars line)) × (byte_at (chars line) (column_of_byte line byte) ≡ byte)
 column_at_cut line byte text cut =
     let front = take byte line in
     let is_text : IsUtf8 front = IsUtf8-take line byte text cut in
@@ -56,10 +56,10 @@ record SameOrder (x y m n : ℕ) : Type 0 where
   more : n < m → y < x
 
 module _ (line : List ℕ) (column byte : ℕ) (text : IsUtf8 line) (stands : StandsFor line column byte) (start : ℕ) (cut : IsCharBoundary line start) where
-  in_order : SameOrder start byte (column_at line start) column
+  in_order : SameOrder start byte (column_of_byte line start) column
   in_order =
       let cs = chars line in
-      let k = column_at line start in
+      let k = column_of_byte line start in
       let at = column_at_cut line start text cut in
       ⊎_elim
       (λ (beyond : length cs < column). let far = stands.past beyond in record { less = λ _. omega (arith, cut.0); same = λ e. absurd (omega arith); more = λ lt. absurd (omega arith) })
@@ -86,7 +86,7 @@ map_along f Back xs = map_reverse f xs
 -- ---- from a search by byte offsets to one by columns
 
 abbrev pub column_of_span : List ℕ → ℕ × ℕ → ℕ
-column_of_span line s = column_at line s.0
+column_of_span line s = column_of_byte line s.0
 
 module _ (line : List ℕ) (spans : List (ℕ × ℕ)) (lie : All (LiesFrom line 0) spans) (direction : Direction) where
   pub find_ahead : (column byte : ℕ) (at : Bool) → IsUtf8 line → StandsFor line column byte →

@@ -19,7 +19,7 @@ use Rattle.textarea_search.specs.declared.error.SearchError.TheVariants.{Memory,
 use Rattle.textarea_search.specs.declared.error.SearchError.{SearchError}
 use Rattle.regex.specs.Strings.{IsDefaultFailure, IsReadFromSource, regex_source, regex_config}
 use Rattle.regex.specs.declared.string.regex.Regex.{Regex}
-use Rattle.textarea_search.specs.Failures.{IsNoPattern, IsPatternFailure, IsCarried, IsOwnFailure}
+use Rattle.textarea_search.specs.PatternErrors.{IsNoPattern, IsPatternFailure, IsErrorFor, IsOwnFailure}
 
 no_pattern : (text : List ℕ) (e : parser.Error) → Refuses default_config text e.kind → e.kind ≢ OutOfMemory → IsNoPattern text
 unfolding Refuses
@@ -32,8 +32,8 @@ IsPatternFailure-of_regex text error refused right e given =
     let P : Error → Type 0 = IsRightKind default_config text in
     no_pattern text e (refused e same) (subst P same right)
 
-pub IsCarried-of_regex : (text : List ℕ) (error : Error) → IsDefaultFailure text error → error ≢ Internal → IsCarried text (Pattern error)
-IsCarried-of_regex text error failure sound e given =
+pub IsErrorFor-of_regex : (text : List ℕ) (error : Error) → IsDefaultFailure text error → error ≢ Internal → IsErrorFor text (Pattern error)
+IsErrorFor-of_regex text error failure sound e given =
     let same : error ≡ e = cc in
     subst (λ x. IsDefaultFailure text x × (x ≢ Internal)) same (failure, sound)
 
@@ -56,10 +56,10 @@ pub carried_of_built : {P : Type 0} (text : List ℕ) (built : Result Regex Erro
     IfErr built (IsRefusal default_config text) → IfErr built (IsRightKind default_config text) → IfErr built (HasSpanIn text) →
     IfErr built (λ error. error ≢ Internal) →
     IfOk built (λ _. IfErr result (λ e. e ≡ Memory alloc_error)) → IfErr built (λ error. result ≡ Err (Pattern error)) →
-    IfErr result (IsCarried text)
-carried_of_built text (Ok regex) result refused right span sound own carried = own_error (IsCarried text) (λ e is. cc) result own
+    IfErr result (IsErrorFor text)
+carried_of_built text (Ok regex) result refused right span sound own carried = own_error (IsErrorFor text) (λ e is. cc) result own
 carried_of_built text (Err error) result refused right span sound own carried =
-    subst (λ r. IfErr r (IsCarried text)) (sym carried) (IsCarried-of_regex text error (refused, right, span) sound)
+    subst (λ r. IfErr r (IsErrorFor text)) (sym carried) (IsErrorFor-of_regex text error (refused, right, span) sound)
 
 -- a text that was read is a pattern
 no_failure : (o : Option (Nested Re × Names)) (most : ℕ) (tree : Re) (names : Names) →

@@ -20,7 +20,7 @@ use Rattle.regex.specs.Strings.{regex_pattern, regex_source, regex_config, IsRea
 use Rattle.regex.specs.declared.string.regex.Regex.{Regex}
 use Rattle.regex.proofs.ForCallers.{spans_alike}
 use Rattle.regex.proofs.SearchLemmas.{matches_after_text}
-use Rattle.textarea_search.specs.Columns.{column_at}
+use Rattle.textarea_search.specs.Columns.{column_of_byte}
 use Rattle.textarea_search.specs.Matches.{match_spans, match_columns}
 use Rattle.textarea_search.specs.Spans.{columns_in, spans_after}
 use Rattle.textarea_search.specs.Starts.{starts_from}
@@ -68,7 +68,7 @@ module _ (r : Regex) (by_default : regex_config r ≡ default_config) (is_read :
   listed_as_written line bytes = ap (map span) (matches_after_text (regex_pattern r) line) ∙ spans_as_written line bytes
 
   columns_as_written : (line : List ℕ) → AreBytes line → columns_in (regex_pattern r) line ≡ match_columns (regex_source r) line
-  columns_as_written line bytes = ap (map (λ (s : ℕ × ℕ). column_at line s.0)) (listed_as_written line bytes)
+  columns_as_written line bytes = ap (map (λ (s : ℕ × ℕ). column_of_byte line s.0)) (listed_as_written line bytes)
 
   starts_same : (f g : List ℕ → List ℕ) (row : ℕ) (lines : List (String Global)) → ((line : String Global) → f (string_bytes line) ≡ g (string_bytes line)) →
       starts_from f row (map string_bytes lines) ≡ starts_from g row (map string_bytes lines)

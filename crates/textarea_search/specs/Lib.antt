@@ -1,5 +1,5 @@
 pub mod Columns
-pub mod Failures
+pub mod PatternErrors
 pub mod Matches
 pub mod Spans
 pub mod Starts

@@ -4,7 +4,7 @@ use Rattle.std.specs.Option.{option_map_or}
 use Rattle.std.specs.Str.{chars}
 use Rattle.regex_syntax.specs.Grammar.{read}
 use Rattle.regex.specs.Patterns.{default_config, span, find_all_str}
-use Rattle.textarea_search.specs.Columns.{column_at}
+use Rattle.textarea_search.specs.Columns.{column_of_byte}
 
 -- For each match that `regex` lists for the line, the byte offsets of its start and its end
 -- (exclusive). The list is `find_all_str`, in which each match is the leftmost one after the match
@@ -16,4 +16,4 @@ match_spans pattern line =
 
 -- the column at which each match starts
 abbrev pub match_columns : List ℕ → List ℕ → List ℕ
-match_columns pattern line = map (λ s. column_at line s.0) (match_spans pattern line)
+match_columns pattern line = map (λ s. column_of_byte line s.0) (match_spans pattern line)

@@ -2,7 +2,7 @@
 use Rattle.std.specs.Prelude.{◌≡◌, ℕ, true, IsUtf8, List, map}
 use Rattle.regex.specs.Patterns.{Re, span}
 use Rattle.regex.specs.Search.{matches_after}
-use Rattle.textarea_search.specs.Columns.{column_at}
+use Rattle.textarea_search.specs.Columns.{column_of_byte}
 use Rattle.textarea_search.specs.Matches.{match_spans}
 
 -- the spans of the matches after the one that ended at `after - 1`, or of all if `after` is 0
@@ -11,7 +11,7 @@ spans_after tree line after = map span (matches_after true tree line after)
 
 -- the columns at which matches start
 abbrev pub columns_in : Re → List ℕ → List ℕ
-columns_in tree line = map (λ s. column_at line s.0) (spans_after tree line 0)
+columns_in tree line = map (λ s. column_of_byte line s.0) (spans_after tree line 0)
 
 -- the tree lists the matches of this pattern for each line
 abbrev pub ListsMatchesOf : List ℕ → Re → Type 0

@@ -1,6 +1,6 @@
 ghost use Rattle.std.specs.Prelude.{◌≡◌, IfOk, IfErr, alloc_error};
 ghost use Rattle.regex.specs.Strings.{matcher_pattern, regex_source};
-ghost use Rattle.textarea_search.specs.Failures.{IsPatternFailure, IsCarried, IsOwnFailure, IsBuiltByDefault};
+ghost use Rattle.textarea_search.specs.PatternErrors.{IsPatternFailure, IsErrorFor, IsOwnFailure, IsBuiltByDefault};
 ghost use Rattle.textarea_search.specs.Spans.{ListsMatchesOf};
 ghost use Rattle.textarea_search.specs.Starts.{IsTreeOf};
 
@@ -35,7 +35,7 @@ impl Pattern {
     pub fn new(alloc: Global, pattern: &str) -> Result<Pattern, SearchError>
         ensures ok { IfOk result (λ built. built ≡ pattern.now) }
         ensures refused { IfErr result (IsPatternFailure pattern.now) }
-        ensures carried { IfErr result (IsCarried pattern.now) }
+        ensures carried { IfErr result (IsErrorFor pattern.now) }
         ensures own { IfErr result (IsOwnFailure pattern.now) }
     {
         Pattern::of_built(alloc, Regex::new(alloc, pattern))

@@ -4,7 +4,7 @@ use Rattle.std.proofs.lemmas.List.{append-nil}
 use Rattle.textarea_terminal.specs.Control.{Control, control_bytes, bytes_of}
 use Rattle.textarea_terminal.specs.Control.Control.{Print, MoveTo, SetPen, EraseAll, ShowCursor, HideCursor, BeginUpdate, EndUpdate}
 use Rattle.textarea_terminal.specs.Paint.{Wrote, prints_of, moves_of, pens_of}
-use Rattle.textarea_terminal.specs.Screen.{Terminal, step, run}
+use Rattle.textarea_terminal.specs.Screen.{Terminal, apply_control, run}
 
 pub bytes_of-append : (xs ys : List Control) → bytes_of (xs ++ ys) ≡ bytes_of xs ++ bytes_of ys
 bytes_of-append [] ys = refl
@@ -12,7 +12,7 @@ bytes_of-append (x ∷ xs) ys = ap (λ bytes. control_bytes x ++ bytes) (bytes_o
 
 pub run-append : (xs ys : List Control) (terminal : Terminal) → run (xs ++ ys) terminal ≡ run ys (run xs terminal)
 run-append [] ys terminal = refl
-run-append (x ∷ xs) ys terminal = run-append xs ys (step x terminal)
+run-append (x ∷ xs) ys terminal = run-append xs ys (apply_control x terminal)
 
 pub prints_of-append : (xs ys : List Control) → prints_of (xs ++ ys) ≡ prints_of xs ++ prints_of ys
 prints_of-append [] ys = refl
@@ -49,15 +49,15 @@ pens_of-append (EndUpdate ∷ xs) ys = pens_of-append xs ys
 
 -- one control was written
 pub Wrote-one : {before after : List ℕ} {holds : List Control → Type 0} (control : Control) → after ≡ before ++ control_bytes control → holds (control ∷ []) → Wrote before after holds
-Wrote-one {before} control bytes holding = record {
+Wrote-one {before} control bytes with_ranges = record {
   controls = control ∷ [];
   bytes = bytes ∙ ap (λ more. before ++ more) (sym (append-nil (control_bytes control)));
-  holding = holding;
+  with_ranges = with_ranges;
 }
 
 -- nothing was written
 pub Wrote-none : {bytes : List ℕ} {holds : List Control → Type 0} → holds [] → Wrote bytes bytes holds
-Wrote-none {bytes} holding = record { controls = []; bytes = sym (append-nil bytes); holding = holding }
+Wrote-none {bytes} with_ranges = record { controls = []; bytes = sym (append-nil bytes); with_ranges = with_ranges }
 
 -- some were, and then others
 pub Wrote-then : {a b c : List ℕ} {P Q : List Control → Type 0} (R : List Control → Type 0) → Wrote a b P → Wrote b c Q →
@@ -68,8 +68,8 @@ Wrote-then {a} {b} {c} R first second both = record {
       second.bytes ∙ ap (λ bytes. bytes ++ bytes_of second.controls) first.bytes
       ∙ append_assoc a (bytes_of first.controls) (bytes_of second.controls)
       ∙ ap (λ more. a ++ more) (sym (bytes_of-append first.controls second.controls));
-  holding = both first.controls second.controls first.holding second.holding;
+  with_ranges = both first.controls second.controls first.with_ranges second.with_ranges;
 }
 
 pub Wrote-as : {a b : List ℕ} {P : List Control → Type 0} (R : List Control → Type 0) → Wrote a b P → ((xs : List Control) → P xs → R xs) → Wrote a b R
-Wrote-as R wrote same = record { controls = wrote.controls; bytes = wrote.bytes; holding = same wrote.controls wrote.holding }
+Wrote-as R wrote same = record { controls = wrote.controls; bytes = wrote.bytes; with_ranges = same wrote.controls wrote.with_ranges }

@@ -6,7 +6,7 @@ use Rattle.std.specs.Prelude.{◌&&◌, ◌⊎◌, is_some, option_map}
 use Rattle.memchr.specs.Find.{OccursAt, FindsNeedle}
 use lib.Pointwise.{pointwise}
 use Rattle.textarea_terminal.specs.InputReading.{Reads}
-use Rattle.textarea_terminal.specs.InputUnit.{after_mark, index_of}
+use Rattle.textarea_terminal.specs.InputUnit.{after_mark, mark_index}
 
 -- a test of both, that chooses
 both : {A : Type 0} (s t : Bool) (a b : A) → cond s (cond t a b) b ≡ cond (s && t) a b
@@ -81,16 +81,16 @@ true_or_false true h = absurd (h refl)
 true_or_false false h = refl
 
 -- the first place where it occurs
-pub index_of-first : (mark bytes : List ℕ) (k : ℕ) → 0 < length mark → IsAt bytes mark k → ((i : ℕ) → i < k → IsAt bytes mark i → ⊥) → index_of mark bytes ≡ Some k
-unfolding index_of
+pub index_of-first : (mark bytes : List ℕ) (k : ℕ) → 0 < length mark → IsAt bytes mark k → ((i : ℕ) → i < k → IsAt bytes mark i → ⊥) → mark_index mark bytes ≡ Some k
+unfolding mark_index
 index_of-first mark [] k some at before = absurd (omega (arith, at.fits))
 index_of-first mark (b ∷ bytes) zero some at before = rw (IsAt-begins mark (b ∷ bytes) at) refl
 index_of-first mark (b ∷ bytes) (suc k) some at before =
     let here = true_or_false (is_some (after_mark mark (b ∷ bytes))) (λ h. before 0 (omega arith) (IsAt-from_begins mark (b ∷ bytes) h)) in
     rw here (ap (option_map suc) (index_of-first mark bytes k some (IsAt-tail b bytes mark k at) (λ i h a. before (suc i) (omega arith) (IsAt-cons b bytes mark i a))))
 
-index_of-nowhere : (mark bytes : List ℕ) → ((i : ℕ) → IsAt bytes mark i → ⊥) → index_of mark bytes ≡ None
-unfolding index_of
+index_of-nowhere : (mark bytes : List ℕ) → ((i : ℕ) → IsAt bytes mark i → ⊥) → mark_index mark bytes ≡ None
+unfolding mark_index
 index_of-nowhere mark [] nowhere = refl
 index_of-nowhere mark (b ∷ bytes) nowhere =
     let here = true_or_false (is_some (after_mark mark (b ∷ bytes))) (λ h. nowhere 0 (IsAt-from_begins mark (b ∷ bytes) h)) in
@@ -102,15 +102,15 @@ no_place false None h = (refl, refl)
 no_place false (Some k) h = (cc)
 
 -- where it has no place, it does not occur
-pub nowhere-index_of : (mark bytes : List ℕ) → 0 < length mark → index_of mark bytes ≡ None → (i : ℕ) → IsAt bytes mark i → ⊥
-unfolding index_of
+pub nowhere-index_of : (mark bytes : List ℕ) → 0 < length mark → mark_index mark bytes ≡ None → (i : ℕ) → IsAt bytes mark i → ⊥
+unfolding mark_index
 nowhere-index_of mark [] some none i at = absurd (omega (arith, at.fits))
 nowhere-index_of mark (b ∷ bytes) some none zero at =
-    let parts = no_place (is_some (after_mark mark (b ∷ bytes))) (index_of mark bytes) none in
+    let parts = no_place (is_some (after_mark mark (b ∷ bytes))) (mark_index mark bytes) none in
     let here = IsAt-begins mark (b ∷ bytes) at in
     let both : false ≡ true = sym parts.0 ∙ here in (cc)
 nowhere-index_of mark (b ∷ bytes) some none (suc i) at =
-    nowhere-index_of mark bytes some (no_place (is_some (after_mark mark (b ∷ bytes))) (index_of mark bytes) none).1 i (IsAt-tail b bytes mark i at)
+    nowhere-index_of mark bytes some (no_place (is_some (after_mark mark (b ∷ bytes))) (mark_index mark bytes) none).1 i (IsAt-tail b bytes mark i at)
 
 -- ---- a search from a place on, where none is before
 
@@ -135,10 +135,10 @@ IsAt-from_drop bytes mark from i h at = record {
 abbrev MayBegin : (mark : List ℕ) (n from : ℕ) → Type 0
 MayBegin mark n from = (i : ℕ) → i < from → i + length mark ≤ n
 
-nothing_before : (mark bytes : List ℕ) (n from i : ℕ) → 0 < length mark → n ≤ length bytes → index_of mark (take n bytes) ≡ None → MayBegin mark n from → i < from → IsAt bytes mark i → ⊥
+nothing_before : (mark bytes : List ℕ) (n from i : ℕ) → 0 < length mark → n ≤ length bytes → mark_index mark (take n bytes) ≡ None → MayBegin mark n from → i < from → IsAt bytes mark i → ⊥
 nothing_before mark bytes n from i some h none may below at = nowhere-index_of mark (take n bytes) some none i (IsAt-take bytes mark n i h (may i below) at)
 
-pub index_of-found : (mark bytes : List ℕ) (n from k : ℕ) → 0 < length mark → n ≤ length bytes → from ≤ length bytes → index_of mark (take n bytes) ≡ None → MayBegin mark n from → FindsNeedle (drop from bytes) mark 0 (Some k) → index_of mark bytes ≡ Some (from + k)
+pub index_of-found : (mark bytes : List ℕ) (n from k : ℕ) → 0 < length mark → n ≤ length bytes → from ≤ length bytes → mark_index mark (take n bytes) ≡ None → MayBegin mark n from → FindsNeedle (drop from bytes) mark 0 (Some k) → mark_index mark bytes ≡ Some (from + k)
 index_of-found mark bytes n from k some h in_bytes none may found =
     index_of-first mark bytes (from + k) some (IsAt-from_drop bytes mark from k in_bytes found.1)
     (λ i below at. ⊎_elim
@@ -146,7 +146,7 @@ index_of-found mark bytes n from k some h in_bytes none may found =
     (λ (late : from ≤ i). let e : i ≡ from + (i - from) = omega arith in found.0.before (i - from) (omega arith) (omega arith) (OccursAt-drop bytes mark from (i - from) i e at))
     (cases_lt i from))
 
-pub index_of-not_found : (mark bytes : List ℕ) (n from : ℕ) → 0 < length mark → n ≤ length bytes → from ≤ length bytes → index_of mark (take n bytes) ≡ None → MayBegin mark n from → FindsNeedle (drop from bytes) mark 0 None → index_of mark bytes ≡ None
+pub index_of-not_found : (mark bytes : List ℕ) (n from : ℕ) → 0 < length mark → n ≤ length bytes → from ≤ length bytes → mark_index mark (take n bytes) ≡ None → MayBegin mark n from → FindsNeedle (drop from bytes) mark 0 None → mark_index mark bytes ≡ None
 index_of-not_found mark bytes n from some h in_bytes none may found =
     index_of-nowhere mark bytes
     (λ i at. ⊎_elim
@@ -210,13 +210,13 @@ placed false None k e = inl (cc)
 placed false (Some j) k e = inr (refl, (j, cc, refl))
 
 -- a mark fits at its place
-pub index_of-fits : (mark bytes : List ℕ) (k : ℕ) → index_of mark bytes ≡ Some k → k + length mark ≤ length bytes
-unfolding index_of
+pub index_of-fits : (mark bytes : List ℕ) (k : ℕ) → mark_index mark bytes ≡ Some k → k + length mark ≤ length bytes
+unfolding mark_index
 index_of-fits mark [] k e = (cc)
 index_of-fits mark (b ∷ bytes) k e = ⊎_elim
     (λ (here : (is_some (after_mark mark (b ∷ bytes)) ≡ true) × (k ≡ 0)). let fits = begins-fits mark (b ∷ bytes) here.0 in omega (arith, here.1))
-    (λ (later : (is_some (after_mark mark (b ∷ bytes)) ≡ false) × ((j : ℕ) × (k ≡ suc j) × (index_of mark bytes ≡ Some j))). let fits = index_of-fits mark bytes later.1.0 later.1.2 in omega (arith, later.1.1))
-    (placed (is_some (after_mark mark (b ∷ bytes))) (index_of mark bytes) k e)
+    (λ (later : (is_some (after_mark mark (b ∷ bytes)) ≡ false) × ((j : ℕ) × (k ≡ suc j) × (mark_index mark bytes ≡ Some j))). let fits = index_of-fits mark bytes later.1.0 later.1.2 in omega (arith, later.1.1))
+    (placed (is_some (after_mark mark (b ∷ bytes))) (mark_index mark bytes) k e)
 
 still_none : (mark bytes more : List ℕ) → length mark ≤ length bytes → is_some (after_mark mark bytes) ≡ false → is_some (after_mark mark (bytes ++ more)) ≡ false
 unfolding after_mark
@@ -237,12 +237,12 @@ still_some (m ∷ mark) (b ∷ bytes) more e =
     rw parts.0 (still_some mark bytes more parts.1)
 
 -- with more bytes a mark's first place stays
-pub index_of-more : (mark bytes more : List ℕ) (k : ℕ) → index_of mark bytes ≡ Some k → index_of mark (bytes ++ more) ≡ Some k
-unfolding index_of
+pub index_of-more : (mark bytes more : List ℕ) (k : ℕ) → mark_index mark bytes ≡ Some k → mark_index mark (bytes ++ more) ≡ Some k
+unfolding mark_index
 index_of-more mark [] more k e = (cc)
 index_of-more mark (b ∷ bytes) more k e = ⊎_elim
     (λ (here : (is_some (after_mark mark (b ∷ bytes)) ≡ true) × (k ≡ 0)). rw (still_some mark (b ∷ bytes) more here.0) (ap Some (sym here.1)))
-    (λ (later : (is_some (after_mark mark (b ∷ bytes)) ≡ false) × ((j : ℕ) × (k ≡ suc j) × (index_of mark bytes ≡ Some j))).
+    (λ (later : (is_some (after_mark mark (b ∷ bytes)) ≡ false) × ((j : ℕ) × (k ≡ suc j) × (mark_index mark bytes ≡ Some j))).
     let fits = index_of-fits mark bytes later.1.0 later.1.2 in
     rw (still_none mark (b ∷ bytes) more (omega arith) later.0) (ap (option_map suc) (index_of-more mark bytes more later.1.0 later.1.2) ∙ ap Some (sym later.1.1)))
-    (placed (is_some (after_mark mark (b ∷ bytes))) (index_of mark bytes) k e)
+    (placed (is_some (after_mark mark (b ∷ bytes))) (mark_index mark bytes) k e)

@@ -18,14 +18,14 @@ use Rattle.std.specs.Char.{IsScalar, encode_utf8}
 use Rattle.std.proofs.Math.Dec.{eqb, ltb}
 use Rattle.std.proofs.lemmas.Bool.Decides.{nat_tests}
 use Rattle.std.proofs.lemmas.Bool.{lt-ltb, le-ltb, ne_eqb, cases_lt, cases_Bool, cond-true, cond-false, eqb-true}
-use Rattle.textarea_terminal.specs.InputCharacter.{character, is_second, code_of_two, code_of_three, code_of_four}
+use Rattle.textarea_terminal.specs.InputCharacter.{utf8_character, is_second, code_of_two, code_of_three, code_of_four}
 use Rattle.std.specs.Prelude.{◌⊎◌}
 use Rattle.textarea_terminal.specs.InputKey.{with_alt, input_of_key, byte_input, entry, letter_keys}
 use Rattle.textarea_data.specs.declared.input.Key.{Key}
-use Rattle.textarea_terminal.specs.InputUnit.{unit_at, paste_start, paste_end, index_of, paste_at, paste_before, after_mark, key_or_sequence, escape_at, second_escape_at, single_at, key_at}
+use Rattle.textarea_terminal.specs.InputUnit.{unit_at, paste_start, paste_end, mark_index, paste_at, paste_before, after_mark, key_or_sequence, escape_at, second_escape_at, single_at, key_at}
 use Rattle.textarea_terminal.specs.InputSequence.{bracket_at, shift_key_at, shift_key_after_one, shift_key_after_two, control_at, count_front, after_inner, final_at, console_at, sequence_event, event_of_one, event_of_two}
 use Rattle.textarea_terminal.specs.InputParameter.{parameters_of, number_from}
-use Rattle.textarea_terminal.specs.InputRow.{KeyRow, byte_rows, letter_rows, numbered_rows, other_rows, key_rows, IsWritten, key_row, alt_key_row, character_row, alt_character_row, paste_row, mouse_row, wheel_up_row, wheel_down_row, size_row, cursor_row, focus_gained_row, focus_lost_row, bytes_of_rows}
+use Rattle.textarea_terminal.specs.InputRow.{KeyRow, byte_rows, letter_rows, numbered_rows, other_rows, key_rows, IsSentFor, key_row, alt_key_row, character_row, alt_character_row, paste_row, mouse_row, wheel_up_row, wheel_down_row, size_row, cursor_row, focus_gained_row, focus_lost_row, bytes_of_rows}
 
 -- what is read of a row's bytes, and of them after one ESC more; and what they are
 abbrev read_row : KeyRow → EventAndRest
@@ -133,26 +133,26 @@ unit_at-letter_key bytes rest letter k e found =
     ∙ entry-each (λ n x. unit_at (27 ∷ 91 ∷ n ∷ rest) ≡ Some (input (input_of_key x), rest)) letter_keys
     (refl, (refl, (refl, (refl, (refl, (refl, (refl, (refl, (refl, (refl, tt)))))))))) letter k found
 
-key_at-character : (a c : ℕ) (bytes rest : List ℕ) → 128 ≤ a → character a bytes ≡ Some (c, rest) → key_at a bytes ≡ Some (input_of_key (key.Char c), rest)
+key_at-character : (a c : ℕ) (bytes rest : List ℕ) → 128 ≤ a → utf8_character a bytes ≡ Some (c, rest) → key_at a bytes ≡ Some (input_of_key (key.Char c), rest)
 unfolding key_at
 key_at-character a c bytes rest h e =
     let great : ltb a 128 ≡ false = le-ltb a 128 h in
     rw (great, e) refl
 
-two-read : (a b : ℕ) (rest : List ℕ) → 0xC2 ≤ a → a < 0xE0 → 0x80 ≤ b → b ≤ 0xBF → character a (b ∷ rest) ≡ Some (code_of_two a b, rest)
+two-read : (a b : ℕ) (rest : List ℕ) → 0xC2 ≤ a → a < 0xE0 → 0x80 ≤ b → b ≤ 0xBF → utf8_character a (b ∷ rest) ≡ Some (code_of_two a b, rest)
 two-read a b rest h k l m = grind (arith, nat_tests)
 
-three-read : (a b c : ℕ) (rest : List ℕ) → 0xE0 ≤ a → a < 0xF0 → is_second a b ≡ true → 0x80 ≤ c → c ≤ 0xBF → character a (b ∷ c ∷ rest) ≡ Some (code_of_three a b c, rest)
+three-read : (a b c : ℕ) (rest : List ℕ) → 0xE0 ≤ a → a < 0xF0 → is_second a b ≡ true → 0x80 ≤ c → c ≤ 0xBF → utf8_character a (b ∷ c ∷ rest) ≡ Some (code_of_three a b c, rest)
 three-read a b c rest h k l m n = grind (arith, nat_tests)
 
-four-read : (a b c d : ℕ) (rest : List ℕ) → 0xF0 ≤ a → a ≤ 0xF4 → is_second a b ≡ true → 0x80 ≤ c → c ≤ 0xBF → 0x80 ≤ d → d ≤ 0xBF → character a (b ∷ c ∷ d ∷ rest) ≡ Some (code_of_four a b c d, rest)
+four-read : (a b c d : ℕ) (rest : List ℕ) → 0xF0 ≤ a → a ≤ 0xF4 → is_second a b ≡ true → 0x80 ≤ c → c ≤ 0xBF → 0x80 ≤ d → d ≤ 0xBF → utf8_character a (b ∷ c ∷ d ∷ rest) ≡ Some (code_of_four a b c d, rest)
 four-read a b c d rest h k l m n o p = grind (arith, nat_tests)
 
 -- a first byte from 128 on
-character_first : (a c : ℕ) (bytes : List ℕ) → 128 ≤ a → character a bytes ≡ Some (c, []) → unit_at (a ∷ bytes) ≡ Some (input (input_of_key (key.Char c)), [])
+character_first : (a c : ℕ) (bytes : List ℕ) → 128 ≤ a → utf8_character a bytes ≡ Some (c, []) → unit_at (a ∷ bytes) ≡ Some (input (input_of_key (key.Char c)), [])
 character_first a c bytes h e = unit_at-key a bytes (λ e. omega arith) ∙ ap (option_map (λ x. (input x.0, x.1))) (key_at-character a c bytes [] h e)
 
-character_after_escape : (a c : ℕ) (bytes : List ℕ) → 128 ≤ a → character a bytes ≡ Some (c, []) → unit_at (27 ∷ a ∷ bytes) ≡ Some (input (with_alt (input_of_key (key.Char c))), [])
+character_after_escape : (a c : ℕ) (bytes : List ℕ) → 128 ≤ a → utf8_character a bytes ≡ Some (c, []) → unit_at (27 ∷ a ∷ bytes) ≡ Some (input (with_alt (input_of_key (key.Char c))), [])
 character_after_escape a c bytes h e = after_escape a bytes (omega arith) (λ k. omega arith) (λ k. omega arith) ∙ ap (option_map (λ x. (input (with_alt x.0), x.1))) (key_at-character a c bytes [] h e)
 
 -- a first byte of at least 128 and those after it, that are a character
@@ -161,7 +161,7 @@ pub record IsLong (c : ℕ) (bytes : List ℕ) : Type 0 where
   pub others : List ℕ
   pub whole : bytes ≡ first ∷ others
   pub high : 128 ≤ first
-  pub read : character first others ≡ Some (c, [])
+  pub read : utf8_character first others ≡ Some (c, [])
 
 long_two : (c : ℕ) → 128 ≤ c → c < 2048 → IsLong c ((192 + c / 64) ∷ (128 + c % 64) ∷ [])
 long_two c h k =
@@ -246,7 +246,7 @@ not_first (suc (suc (suc (suc (suc zero))))) h k e = absurd (omega (arith, e))
 not_first (suc (suc (suc (suc (suc (suc j)))))) h k e = absurd (omega arith)
 
 -- the first mark of the end is the one that is written
-index_of-written : (text : List ℕ) → index_of paste_end text ≡ None → index_of paste_end (text ++ paste_end) ≡ Some (length text)
+index_of-written : (text : List ℕ) → mark_index paste_end text ≡ None → mark_index paste_end (text ++ paste_end) ≡ Some (length text)
 index_of-written text none = index_of-first paste_end (text ++ paste_end) (length text) (omega arith) here before
   where
     here : IsAt (text ++ paste_end) paste_end (length text)
@@ -268,14 +268,14 @@ index_of-written text none = index_of-first paste_end (text ++ paste_end) (lengt
         }))
         (cases_lt (length text) (i + 6))
 
-paste_at-written : (text : List ℕ) → index_of paste_end text ≡ None → paste_at (text ++ paste_end) ≡ Some (paste (utf8_lossy text), [])
+paste_at-written : (text : List ℕ) → mark_index paste_end text ≡ None → paste_at (text ++ paste_end) ≡ Some (paste (utf8_lossy text), [])
 unfolding paste_at
 paste_at-written text none =
     ap (option_map (paste_before (text ++ paste_end))) (index_of-written text none)
     ∙ ap (λ (xs : List ℕ). Some (paste (utf8_lossy xs), drop (length text + 6) (text ++ paste_end))) (take-append_seam text paste_end)
     ∙ ap (λ (xs : List ℕ). Some (paste (utf8_lossy text), xs)) (drop-append-add text paste_end 6)
 
-pub paste-read : (text : List ℕ) → index_of paste_end text ≡ None → unit_at (paste_start ++ text ++ paste_end) ≡ Some (paste (utf8_lossy text), [])
+pub paste-read : (text : List ℕ) → mark_index paste_end text ≡ None → unit_at (paste_start ++ text ++ paste_end) ≡ Some (paste (utf8_lossy text), [])
 paste-read text none = ap unit_at (append_assoc paste_start text paste_end) ∙ unit-paste_at (paste_start ++ (text ++ paste_end)) (text ++ paste_end) (after_mark-written paste_start (text ++ paste_end)) ∙ paste_at-written text none
 
 focus_gained-read : unit_at (27 ∷ 91 ∷ 73 ∷ []) ≡ Some (focus_gained, [])
@@ -288,7 +288,7 @@ focus_lost-read = refl
 
 -- ---- all rows
 
-pub written-read : (bytes : List ℕ) (value : EventValue) → IsWritten bytes value → unit_at bytes ≡ Some (value, [])
+pub written-read : (bytes : List ℕ) (value : EventValue) → IsSentFor bytes value → unit_at bytes ≡ Some (value, [])
 written-read bytes value (key_row row h) = key_row-read row h
 written-read bytes value (alt_key_row row h) = alt_key_row-read row h
 written-read bytes value (character_row c s h k) = character-read c s h k
@@ -303,13 +303,13 @@ written-read bytes value focus_gained_row = focus_gained-read
 written-read bytes value focus_lost_row = focus_lost-read
 
 -- a row is read, whatever comes after it
-pub written-read_before : (bytes : List ℕ) (value : EventValue) (more : List ℕ) → IsWritten bytes value → unit_at (bytes ++ more) ≡ Some (value, more)
+pub written-read_before : (bytes : List ℕ) (value : EventValue) (more : List ℕ) → IsSentFor bytes value → unit_at (bytes ++ more) ≡ Some (value, more)
 written-read_before bytes value more h = (unit_at-taken bytes (value, []) (written-read bytes value h)).same more
 
 decoding-nil : decoding [] ≡ ([], [])
 decoding-nil = decoding-none [] unit_at-nil
 
-pub rows-read : (rows : List (List ℕ × EventValue)) → AllByRecursion (λ r. IsWritten r.0 r.1) rows → decoding (bytes_of_rows rows) ≡ (map (λ r. r.1) rows, [])
+pub rows-read : (rows : List (List ℕ × EventValue)) → AllByRecursion (λ r. IsSentFor r.0 r.1) rows → decoding (bytes_of_rows rows) ≡ (map (λ r. r.1) rows, [])
 rows-read [] h = decoding-nil
 rows-read (r ∷ rows) h =
     decoding-some (r.0 ++ bytes_of_rows rows) (r.1, bytes_of_rows rows) (written-read_before r.0 r.1 (bytes_of_rows rows) h.0)

@@ -5,7 +5,7 @@ use Rattle.std.proofs.Math.Seq.{drop-append_seam, take-append_seam}
 use Rattle.std.proofs.lemmas.Bool.{eq-eqb, ne_eqb, lt-ltb, le-ltb, cases_lt}
 use Rattle.std.proofs.lemmas.Bool.Decides.{nat_tests}
 use Rattle.textarea_terminal.specs.InputEvent.{EventAndRest, unknown}
-use Rattle.textarea_terminal.specs.InputParameter.{is_digit, digit_at, number_from, number, parameters_of, after_first, after_second, after_third}
+use Rattle.textarea_terminal.specs.InputParameter.{is_digit, digit_at, number_from, number_at, parameters_of, after_first, after_second, after_third}
 use Rattle.textarea_terminal.specs.declared.input.parameter.Parameters.TheVariants as parameters
 use Rattle.textarea_terminal.specs.InputSequence.{is_inner, is_final, count_front, inner_limit, final_at, after_inner, control_at, shift_key_at, shift_key_after_one, shift_key_after_two, bracket_at, or_else, sequence_event}
 use Rattle.textarea_terminal.specs.InputUnit.{unit_at, after_mark, paste_start, key_or_sequence, escape_at}
@@ -204,7 +204,7 @@ two_digits : (m a b : ℕ) (rest : List ℕ) → a < 10 → b < 10 → 10 * (10 
 two_digits m a b rest h k bound = digit-more m a ((48 + b) ∷ rest) h (omega arith) ∙ digit-more (10 * m + a) b rest k bound
 
 -- a number's digits, at the front of what begins with none
-pub number-decimal : (n : ℕ) (rest : List ℕ) → n < 65536 → digit_at rest ≡ None → number (decimal n ++ rest) ≡ (n, rest)
+pub number-decimal : (n : ℕ) (rest : List ℕ) → n < 65536 → digit_at rest ≡ None → number_at (decimal n ++ rest) ≡ (n, rest)
 number-decimal n rest h stop = ⊎_elim
     (λ (k : n < 10). rw (lt-ltb n 10 k) (digit-more 0 (n % 10) rest (omega arith) (omega arith) ∙ stopped (10 * 0 + n % 10) n rest (omega arith) stop))
     (λ (k : 10 ≤ n). ⊎_elim
@@ -287,8 +287,8 @@ no_digit_semicolon : (bytes : List ℕ) → digit_at (59 ∷ bytes) ≡ None
 unfolding digit_at
 no_digit_semicolon bytes = refl
 
-number-last : (n : ℕ) → n < 65536 → number (decimal n) ≡ (n, [])
-number-last n h = ap number (sym (append-nil (decimal n))) ∙ number-decimal n [] h no_digit_nil
+number-last : (n : ℕ) → n < 65536 → number_at (decimal n) ≡ (n, [])
+number-last n h = ap number_at (sym (append-nil (decimal n))) ∙ number-decimal n [] h no_digit_nil
 
 pub parameters-two : (a b : ℕ) → a < 65536 → b < 65536 → parameters_of (two_numbers a b) ≡ parameters.Two a b
 unfolding parameters_of

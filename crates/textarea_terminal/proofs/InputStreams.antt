@@ -7,7 +7,7 @@ use Rattle.textarea_terminal.specs.InputEvent.{EventValue, EventAndRest, value_o
 use Rattle.textarea_terminal.specs.InputUnit.{unit_at}
 use Rattle.std.specs.List.{concat}
 use Rattle.textarea_terminal.specs.InputRow.{feeding}
-use Rattle.textarea_terminal.specs.InputStream.{Adds, AddsUpTo, EndsIn, Decoding, with_event, decoding_within, decoding, events_of, rest_of}
+use Rattle.textarea_terminal.specs.InputStream.{Adds, AddsUpTo, EndsIn, Decoding, with_event, decoding_within, decoding, events_of, begun_bytes}
 use Rattle.textarea_terminal.proofs.InputUnits.{unit_at-taken, unit_at-nil}
 
 -- an event takes a byte at least
@@ -65,18 +65,18 @@ pub by_units : (P : List ℕ → Type 0) → ((bytes : List ℕ) → unit_at byt
 by_units P none some bytes = by_length P none some (suc (length bytes)) bytes (omega arith)
 
 -- an event is begun in what is left
-pub rest_of-begun : (bytes : List ℕ) → unit_at (rest_of bytes) ≡ None
-rest_of-begun = by_units (λ bytes. unit_at (rest_of bytes) ≡ None)
+pub rest_of-begun : (bytes : List ℕ) → unit_at (begun_bytes bytes) ≡ None
+rest_of-begun = by_units (λ bytes. unit_at (begun_bytes bytes) ≡ None)
     (λ bytes e. ap (λ (d : Decoding). unit_at d.1) (decoding-none bytes e) ∙ e)
     (λ bytes x e h. ap (λ (d : Decoding). unit_at d.1) (decoding-some bytes x e) ∙ h)
 
 -- what is left is the end of the bytes
-pub rest_of-ends : (bytes : List ℕ) → EndsIn bytes (rest_of bytes)
-rest_of-ends = by_units (λ bytes. EndsIn bytes (rest_of bytes))
+pub rest_of-ends : (bytes : List ℕ) → EndsIn bytes (begun_bytes bytes)
+rest_of-ends = by_units (λ bytes. EndsIn bytes (begun_bytes bytes))
     (λ bytes e. record { front = []; whole = sym (ap (λ (d : Decoding). d.1) (decoding-none bytes e)) })
     (λ bytes x e h. let taken = unit_at-taken bytes x e in record {
       front = taken.front ++ h.front;
-      whole = taken.whole ∙ ap (λ xs. taken.front ++ xs) (h.whole ∙ ap (λ xs. h.front ++ xs) (sym (ap (λ (d : Decoding). d.1) (decoding-some bytes x e)))) ∙ sym (append_assoc taken.front h.front (rest_of bytes));
+      whole = taken.whole ∙ ap (λ xs. taken.front ++ xs) (h.whole ∙ ap (λ xs. h.front ++ xs) (sym (ap (λ (d : Decoding). d.1) (decoding-some bytes x e)))) ∙ sym (append_assoc taken.front h.front (begun_bytes bytes));
     })
 
 drop_front : (front rest : List ℕ) → drop (length (front ++ rest) - length rest) (front ++ rest) ≡ rest
@@ -84,20 +84,20 @@ drop_front front rest =
     let n : length (front ++ rest) - length rest ≡ length front = omega (arith, length-append front rest) in
     ap (λ (k : ℕ). drop k (front ++ rest)) n ∙ drop-append_seam front rest
 
-pub rest_of-drop : (bytes : List ℕ) → drop (length bytes - length (rest_of bytes)) bytes ≡ rest_of bytes
+pub rest_of-drop : (bytes : List ℕ) → drop (length bytes - length (begun_bytes bytes)) bytes ≡ begun_bytes bytes
 rest_of-drop bytes =
     let ends = rest_of-ends bytes in
-    ap (λ (xs : List ℕ). drop (length xs - length (rest_of bytes)) xs) ends.whole ∙ drop_front ends.front (rest_of bytes)
+    ap (λ (xs : List ℕ). drop (length xs - length (begun_bytes bytes)) xs) ends.whole ∙ drop_front ends.front (begun_bytes bytes)
 
-pub rest_of-le : (bytes : List ℕ) → length (rest_of bytes) ≤ length bytes
-rest_of-le bytes = let ends = rest_of-ends bytes in omega (arith, ap length ends.whole ∙ length-append ends.front (rest_of bytes))
+pub rest_of-le : (bytes : List ℕ) → length (begun_bytes bytes) ≤ length bytes
+rest_of-le bytes = let ends = rest_of-ends bytes in omega (arith, ap length ends.whole ∙ length-append ends.front (begun_bytes bytes))
 
 -- bytes and more bytes: the events of the first, and what is made of what they leave, and of the others
 abbrev joined : List EventValue → Decoding → Decoding
 joined values d = (values ++ d.0, d.1)
 
-pub decoding-append : (bytes more : List ℕ) → decoding (bytes ++ more) ≡ (events_of bytes ++ events_of (rest_of bytes ++ more), rest_of (rest_of bytes ++ more))
-decoding-append bytes more = by_units (λ bytes. decoding (bytes ++ more) ≡ joined (events_of bytes) (decoding (rest_of bytes ++ more)))
+pub decoding-append : (bytes more : List ℕ) → decoding (bytes ++ more) ≡ (events_of bytes ++ events_of (begun_bytes bytes ++ more), begun_bytes (begun_bytes bytes ++ more))
+decoding-append bytes more = by_units (λ bytes. decoding (bytes ++ more) ≡ joined (events_of bytes) (decoding (begun_bytes bytes ++ more)))
     (λ bytes e. sym (ap (λ (d : Decoding). joined d.0 (decoding (d.1 ++ more))) (decoding-none bytes e)))
     (λ bytes x e h.
     decoding-some (bytes ++ more) (x.0, x.1 ++ more) ((unit_at-taken bytes x e).same more) ∙ ap (with_event x.0) h
@@ -147,17 +147,17 @@ AddsUpTo-begun old new all bytes e h =
     AddsUpTo-all old new all (subst P (ap (λ (d : Decoding). d.0) (decoding-none bytes e)) h)
 
 -- what is left after the front is removed
-pub rest_of-removed : (items all new rest : List ℕ) (n left : ℕ) → items ≡ all → new ≡ drop (n - left) items → n ≡ length items → left ≡ length rest → rest ≡ rest_of items → new ≡ rest_of all
+pub rest_of-removed : (items all new rest : List ℕ) (n left : ℕ) → items ≡ all → new ≡ drop (n - left) items → n ≡ length items → left ≡ length rest → rest ≡ begun_bytes items → new ≡ begun_bytes all
 rest_of-removed items all new rest n left same removed count kept is =
-    let cut : n - left ≡ length items - length (rest_of items) = omega (arith, ap length is) in
-    removed ∙ ap (λ (k : ℕ). drop k items) cut ∙ rest_of-drop items ∙ ap (λ (xs : List ℕ). rest_of xs) same
+    let cut : n - left ≡ length items - length (begun_bytes items) = omega (arith, ap length is) in
+    removed ∙ ap (λ (k : ℕ). drop k items) cut ∙ rest_of-drop items ∙ ap (λ (xs : List ℕ). begun_bytes xs) same
 
 -- ---- pieces
 
 pub feeding-concat : (pending : List ℕ) (pieces : List (List ℕ)) → unit_at pending ≡ None → feeding pending pieces ≡ decoding (pending ++ concat pieces)
 feeding-concat pending [] begun = sym (ap decoding (append-nil pending) ∙ decoding-none pending begun)
 feeding-concat pending (piece ∷ pieces) begun =
-    ap (λ (d : Decoding). (events_of (pending ++ piece) ++ d.0, d.1)) (feeding-concat (rest_of (pending ++ piece)) pieces (rest_of-begun (pending ++ piece)))
+    ap (λ (d : Decoding). (events_of (pending ++ piece) ++ d.0, d.1)) (feeding-concat (begun_bytes (pending ++ piece)) pieces (rest_of-begun (pending ++ piece)))
     ∙ sym (decoding-append (pending ++ piece) (concat pieces)) ∙ ap decoding (append_assoc pending piece (concat pieces))
 
 -- what stays at the front of some events, and of those that are added to them

@@ -8,10 +8,10 @@ use Rattle.textarea_data.specs.declared.input.Key.TheVariants as key
 use Rattle.std.specs.Prelude.{option_map, ◌⊎◌}
 use Rattle.textarea_terminal.specs.InputEvent.{EventValue, EventAndRest, input, paste, unknown}
 use Rattle.textarea_terminal.specs.InputKey.{input_of_key, entry, numbered_keys}
-use Rattle.textarea_terminal.specs.InputCharacter.{character, second_byte, third_byte, fourth_byte, is_second, is_continuation}
+use Rattle.textarea_terminal.specs.InputCharacter.{utf8_character, second_byte, third_byte, fourth_byte, is_second, is_continuation}
 use Rattle.textarea_terminal.specs.InputSequence.{is_inner, count_front, inner_limit, console_at, final_at, after_inner, control_at, shift_key, shift_key_after_two, shift_key_after_one, shift_key_at, or_else, bracket_at}
 use Rattle.textarea_terminal.specs.InputParameter.{is_digit}
-use Rattle.textarea_terminal.specs.InputUnit.{key_at, single_at, with_escape, second_escape_at, escape_at, key_or_sequence, paste_start, paste_end, after_mark, index_of, paste_at, paste_before, paste_or, unit_at}
+use Rattle.textarea_terminal.specs.InputUnit.{key_at, single_at, with_escape, second_escape_at, escape_at, key_or_sequence, paste_start, paste_end, after_mark, mark_index, paste_at, paste_before, paste_or, unit_at}
 use Rattle.std.specs.Str.Lossy.{utf8_lossy}
 use Rattle.textarea_terminal.specs.InputStream.{Takes}
 use Rattle.textarea_terminal.proofs.InputMarks.{after_mark-whole, after_mark-more, after_mark-part, index_of-fits, index_of-more}
@@ -37,12 +37,12 @@ keeps_second a (b ∷ bytes) =
     (keeps_if _ (b ∷ bytes) _ _ _ _ (keeps_one _ b bytes) (keeps_byte b bytes _ _ (keeps_third a b bytes)))
     (keeps_here _ (b ∷ bytes))
 
-keeps_character : (a : ℕ) (bytes : List ℕ) → Keeps bytes (character a bytes) (λ more. character a (bytes ++ more))
+keeps_character : (a : ℕ) (bytes : List ℕ) → Keeps bytes (utf8_character a bytes) (λ more. utf8_character a (bytes ++ more))
 keeps_character a bytes = keeps_if _ bytes _ _ _ _ (keeps_second a bytes) (keeps_here _ bytes)
 
 keeps_key : (a : ℕ) (bytes : List ℕ) → Keeps bytes (key_at a bytes) (λ more. key_at a (bytes ++ more))
 unfolding key_at
-keeps_key a bytes = keeps_if _ bytes _ _ _ _ (keeps_here _ bytes) (keeps_map _ bytes (character a bytes) _ (keeps_character a bytes))
+keeps_key a bytes = keeps_if _ bytes _ _ _ _ (keeps_here _ bytes) (keeps_map _ bytes (utf8_character a bytes) _ (keeps_character a bytes))
 
 -- ---- control sequences
 
@@ -269,7 +269,7 @@ keeps_key_or_sequence b bytes = keeps_if _ bytes _ _ _ _ (keeps_escaped bytes) (
 
 -- ---- pasted texts
 
-pasted_kept : (bytes : List ℕ) (x : EventValue × List ℕ) (o : Option ℕ) → index_of paste_end bytes ≡ o → option_map (paste_before bytes) o ≡ Some x → Kept bytes x (λ more. paste_at (bytes ++ more))
+pasted_kept : (bytes : List ℕ) (x : EventValue × List ℕ) (o : Option ℕ) → mark_index paste_end bytes ≡ o → option_map (paste_before bytes) o ≡ Some x → Kept bytes x (λ more. paste_at (bytes ++ more))
 unfolding paste_at
 pasted_kept bytes x None place e = (cc)
 pasted_kept bytes x (Some k) place e =
@@ -287,14 +287,14 @@ pasted_kept bytes x (Some k) place e =
 
 paste_at-kept : (bytes : List ℕ) (x : EventValue × List ℕ) → paste_at bytes ≡ Some x → Kept bytes x (λ more. paste_at (bytes ++ more))
 unfolding paste_at
-paste_at-kept bytes x e = pasted_kept bytes x (index_of paste_end bytes) refl e
+paste_at-kept bytes x e = pasted_kept bytes x (mark_index paste_end bytes) refl e
 
 unmapped : {A B : Type 0} (f : A → B) (o : Option A) → option_map f o ≡ None → o ≡ None
 unmapped f None e = refl
 unmapped f (Some x) e = (cc)
 
-begun_text : (text : List ℕ) (n : ℕ) → unit_at (take n (paste_start ++ text)) ≡ None → index_of paste_end (take (n - 6) text) ≡ None
-unfolding unit_at after_mark paste_at index_of
+begun_text : (text : List ℕ) (n : ℕ) → unit_at (take n (paste_start ++ text)) ≡ None → mark_index paste_end (take (n - 6) text) ≡ None
+unfolding unit_at after_mark paste_at mark_index
 begun_text text zero e = refl
 begun_text text (suc zero) e = refl
 begun_text text (suc (suc zero)) e = refl
@@ -303,10 +303,10 @@ begun_text text (suc (suc (suc (suc zero)))) e = refl
 begun_text text (suc (suc (suc (suc (suc zero))))) e = refl
 begun_text text (suc (suc (suc (suc (suc (suc n)))))) e =
     let left : suc (suc (suc (suc (suc (suc n))))) - 6 ≡ n = omega arith in
-    ap (λ (k : ℕ). index_of paste_end (take k text)) left ∙ unmapped (paste_before (take n text)) (index_of paste_end (take n text)) e
+    ap (λ (k : ℕ). mark_index paste_end (take k text)) left ∙ unmapped (paste_before (take n text)) (mark_index paste_end (take n text)) e
 
 -- where the front of a pasted text is begun, it is without the mark of its end
-pub index_of-begun : (bytes text : List ℕ) (n : ℕ) → after_mark paste_start bytes ≡ Some text → unit_at (take n bytes) ≡ None → index_of paste_end (take (n - 6) text) ≡ None
+pub index_of-begun : (bytes text : List ℕ) (n : ℕ) → after_mark paste_start bytes ≡ Some text → unit_at (take n bytes) ≡ None → mark_index paste_end (take (n - 6) text) ≡ None
 index_of-begun bytes text n e none = begun_text text n (ap (λ (xs : List ℕ). unit_at (take n xs)) (sym (after_mark-whole paste_start bytes text e)) ∙ none)
 
 -- ---- all
@@ -418,7 +418,7 @@ waits_second a (b ∷ bytes) =
 
 waits_key : (a : ℕ) (bytes : List ℕ) → Waits 2 bytes (key_at a bytes)
 unfolding key_at
-waits_key a bytes = waits_if _ 2 bytes _ _ (waits_some 2 bytes _) (waits_map _ 2 bytes (character a bytes) (waits_if _ 2 bytes _ _ (waits_second a bytes) (waits_some 2 bytes _)))
+waits_key a bytes = waits_if _ 2 bytes _ _ (waits_some 2 bytes _) (waits_map _ 2 bytes (utf8_character a bytes) (waits_if _ 2 bytes _ _ (waits_second a bytes) (waits_some 2 bytes _)))
 
 waits_console : (bytes : List ℕ) → Waits 0 bytes (console_at bytes)
 unfolding console_at

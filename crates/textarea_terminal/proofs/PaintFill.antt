@@ -6,12 +6,12 @@ use Rattle.std.proofs.Math.Seq.{take-length, drop-length}
 use Rattle.std.proofs.lemmas.List.{append-nil, take_more_set, map-append, replicate_more}
 use Rattle.std.proofs.lemmas.Bool.{cases_Bool, cond-true, cond-false, and_parts, lt-ltb, le-leb}
 use Rattle.std.proofs.lemmas.Nat.{and_le_r}
-use Rattle.textarea_screen.specs.Cell.{ShownCell, fresh_cell, shown_cell}
+use Rattle.textarea_screen.specs.Cell.{CellView, fresh_cell, cell_view}
 use Rattle.textarea_screen.specs.declared.screen.cell.Cell.{Cell}
 use Rattle.textarea_screen.specs.declared.screen.buffer.Buffer.{Buffer}
 use Rattle.textarea_screen.specs.declared.screen.rect.Rect.{Rect}
 use Rattle.textarea_terminal.specs.Pen.{look_of}
-use Rattle.textarea_terminal.specs.PaintCells.{cluster_columns, half, is_half, nine_of, shown_alike, blanked, begins_empty, fits, displayed, cell_in, cells_from, frame_of, can_begin, are_whole}
+use Rattle.textarea_terminal.specs.PaintCells.{cluster_columns, half, is_half, nine_of, shown_alike, blanked, begins_empty, fits_in_row, displayed, cell_in, cells_from, frame_of_buffer, can_begin, are_whole}
 use Rattle.textarea_terminal.proofs.ScreenPlain.{cluster_columns-blank}
 
 -- ---- from one place to the next
@@ -41,7 +41,7 @@ displayed-half area buffer place halves size within some =
     ∙ ap (λ count. displayed area.width place count (cell_in area buffer place ∷ cells_from area buffer (place + 1) (size - (place + 1)))) more
 
 pub displayed-shown : (area : Rect) (buffer : Buffer) (place halves size : ℕ) → place < size → halves ≡ 0 →
-    fits area.width place (cell_in area buffer place) (cells_from area buffer (place + 1) (size - (place + 1))) ≡ true →
+    fits_in_row area.width place (cell_in area buffer place) (cells_from area buffer (place + 1) (size - (place + 1))) ≡ true →
     displayed area.width place halves (cells_from area buffer place (size - place))
     ≡ shown_alike (cell_in area buffer place) ∷ displayed area.width (place + 1) (cluster_columns (cell_in area buffer place).symbol - 1) (cells_from area buffer (place + 1) (size - (place + 1)))
 displayed-shown area buffer place halves size within none fit =
@@ -49,11 +49,11 @@ displayed-shown area buffer place halves size within none fit =
     let cells = cells_from area buffer (place + 1) (size - (place + 1)) in
     ap (displayed area.width place halves) (cells_from-next area buffer place size within)
     ∙ ap (λ count. displayed area.width place count (cell ∷ cells)) none
-    ∙ cond-true (fits area.width place cell cells) (shown_alike cell ∷ displayed area.width (place + 1) (cluster_columns cell.symbol - 1) cells)
+    ∙ cond-true (fits_in_row area.width place cell cells) (shown_alike cell ∷ displayed area.width (place + 1) (cluster_columns cell.symbol - 1) cells)
     (blanked cell ∷ displayed area.width (place + 1) 0 cells) fit
 
 pub displayed-blank : (area : Rect) (buffer : Buffer) (place halves size : ℕ) → place < size → halves ≡ 0 →
-    fits area.width place (cell_in area buffer place) (cells_from area buffer (place + 1) (size - (place + 1))) ≡ false →
+    fits_in_row area.width place (cell_in area buffer place) (cells_from area buffer (place + 1) (size - (place + 1))) ≡ false →
     displayed area.width place halves (cells_from area buffer place (size - place))
     ≡ blanked (cell_in area buffer place) ∷ displayed area.width (place + 1) 0 (cells_from area buffer (place + 1) (size - (place + 1)))
 displayed-blank area buffer place halves size within none fit =
@@ -61,31 +61,31 @@ displayed-blank area buffer place halves size within none fit =
     let cells = cells_from area buffer (place + 1) (size - (place + 1)) in
     ap (displayed area.width place halves) (cells_from-next area buffer place size within)
     ∙ ap (λ count. displayed area.width place count (cell ∷ cells)) none
-    ∙ cond-false (fits area.width place cell cells) (shown_alike cell ∷ displayed area.width (place + 1) (cluster_columns cell.symbol - 1) cells)
+    ∙ cond-false (fits_in_row area.width place cell cells) (shown_alike cell ∷ displayed area.width (place + 1) (cluster_columns cell.symbol - 1) cells)
     (blanked cell ∷ displayed area.width (place + 1) 0 cells) fit
 
 -- ---- whole clusters
 
-begins_empty-long : (count : ℕ) (cells : List ShownCell) → begins_empty count cells ≡ true → count ≤ length cells
+begins_empty-long : (count : ℕ) (cells : List CellView) → begins_empty count cells ≡ true → count ≤ length cells
 begins_empty-long zero cells empty = omega arith
 begins_empty-long (suc count) [] empty = cc empty
 begins_empty-long (suc count) (cell ∷ cells) empty = omega (arith, begins_empty-long count cells (and_parts (is_half cell) (begins_empty count cells) empty).1)
 
-shown-bits : (cell : ShownCell) → ltb (nine_of (look_of cell)).modifier.0 512 ≡ true
+shown-bits : (cell : CellView) → ltb (nine_of (look_of cell)).modifier.0 512 ≡ true
 shown-bits cell = lt-ltb _ _ (omega (arith, and_le_r cell.modifier.0 511))
 
-shown-begins : (columns place : ℕ) (cell : ShownCell) (cells : List ShownCell) → fits columns place cell cells ≡ true → can_begin columns place (shown_alike cell) ≡ true
+shown-begins : (columns place : ℕ) (cell : CellView) (cells : List CellView) → fits_in_row columns place cell cells ≡ true → can_begin columns place (shown_alike cell) ≡ true
 shown-begins columns place cell cells fit =
     let width = cluster_columns cell.symbol in
     let room = (and_parts (ltb 0 width && leb (place % columns + width) columns) (begins_empty (width - 1) cells) fit).0 in
     rw room (shown-bits cell)
 
-blank-begins : (columns place : ℕ) (cell : ShownCell) → 0 < columns → can_begin columns place (blanked cell) ≡ true
+blank-begins : (columns place : ℕ) (cell : CellView) → 0 < columns → can_begin columns place (blanked cell) ≡ true
 blank-begins columns place cell some =
     let room : place % columns + 1 ≤ columns = omega (arith, mod-lt place some) in
     rw (cluster_columns-blank, shown-bits cell, le-leb (place % columns + 1) columns room) refl
 
-pub displayed-whole : (columns place halves : ℕ) (cells : List ShownCell) → 0 < columns → halves ≤ length cells → are_whole columns place halves (displayed columns place halves cells) ≡ true
+pub displayed-whole : (columns place halves : ℕ) (cells : List CellView) → 0 < columns → halves ≤ length cells → are_whole columns place halves (displayed columns place halves cells) ≡ true
 displayed-whole columns place zero [] some long = refl
 displayed-whole columns place (suc halves) [] some long = absurd (omega arith)
 displayed-whole columns place (suc halves) (cell ∷ cells) some long = displayed-whole columns (place + 1) halves cells some (omega arith)
@@ -97,7 +97,7 @@ displayed-whole columns place zero (cell ∷ cells) some long =
     rw fit (rw (shown-begins columns place cell cells fit) (displayed-whole columns (place + 1) (width - 1) cells some (begins_empty-long (width - 1) cells empty))))
     (λ other.
     rw other (rw (blank-begins columns place cell some, cluster_columns-blank) (displayed-whole columns (place + 1) 0 cells some (omega arith))))
-    (cases_Bool (fits columns place cell cells))
+    (cases_Bool (fits_in_row columns place cell cells))
 
 -- the cells of an erased terminal
 pub fresh-whole : (columns place size : ℕ) → 0 < columns → are_whole columns place 0 (replicate size fresh_cell) ≡ true
@@ -119,47 +119,47 @@ row-fits place columns height (suc less) within some fit =
 
 -- ---- all cells
 
-pub fill-start : (area : Rect) (buffer : Buffer) → displayed area.width 0 0 (cells_from area buffer 0 (area.height * area.width - 0)) ≡ frame_of area buffer
+pub fill-start : (area : Rect) (buffer : Buffer) → displayed area.width 0 0 (cells_from area buffer 0 (area.height * area.width - 0)) ≡ frame_of_buffer area buffer
 fill-start area buffer =
     let all : area.height * area.width - 0 ≡ area.height * area.width = omega arith in
     ap (λ count. displayed area.width 0 0 (cells_from area buffer 0 count)) all
 
-pub fill-step : (area : Rect) (buffer : Buffer) (cells : List Cell) (place halves left : ℕ) (cell : Cell) (after frame : List ShownCell) → place < length cells →
-    displayed area.width place halves (cells_from area buffer place (area.height * area.width - place)) ≡ shown_cell cell ∷ after →
-    map shown_cell (take place cells) ++ displayed area.width place halves (cells_from area buffer place (area.height * area.width - place)) ≡ frame →
-    map shown_cell (take (place + 1) (set cells place cell)) ++ after ≡ frame
+pub fill-step : (area : Rect) (buffer : Buffer) (cells : List Cell) (place halves left : ℕ) (cell : Cell) (after frame : List CellView) → place < length cells →
+    displayed area.width place halves (cells_from area buffer place (area.height * area.width - place)) ≡ cell_view cell ∷ after →
+    map cell_view (take place cells) ++ displayed area.width place halves (cells_from area buffer place (area.height * area.width - place)) ≡ frame →
+    map cell_view (take (place + 1) (set cells place cell)) ++ after ≡ frame
 fill-step area buffer cells place halves left cell after frame within next before =
-    ap (λ items. map shown_cell items ++ after) (take_more_set cells place cell within)
-    ∙ ap (λ shown. shown ++ after) (map-append shown_cell (take place cells) (cell ∷ []))
-    ∙ append_assoc (map shown_cell (take place cells)) (shown_cell cell ∷ []) after
-    ∙ ap (λ more. map shown_cell (take place cells) ++ more) (sym next)
+    ap (λ items. map cell_view items ++ after) (take_more_set cells place cell within)
+    ∙ ap (λ shown. shown ++ after) (map-append cell_view (take place cells) (cell ∷ []))
+    ∙ append_assoc (map cell_view (take place cells)) (cell_view cell ∷ []) after
+    ∙ ap (λ more. map cell_view (take place cells) ++ more) (sym next)
     ∙ before
 
-pub fill-end : (area : Rect) (buffer : Buffer) (cells : List Cell) (place halves : ℕ) (frame : List ShownCell) → place ≡ length cells → length cells ≡ area.height * area.width →
-    map shown_cell (take place cells) ++ displayed area.width place halves (cells_from area buffer place (area.height * area.width - place)) ≡ frame → map shown_cell cells ≡ frame
+pub fill-end : (area : Rect) (buffer : Buffer) (cells : List Cell) (place halves : ℕ) (frame : List CellView) → place ≡ length cells → length cells ≡ area.height * area.width →
+    map cell_view (take place cells) ++ displayed area.width place halves (cells_from area buffer place (area.height * area.width - place)) ≡ frame → map cell_view cells ≡ frame
 fill-end area buffer cells place halves frame at full before =
     let none : area.height * area.width - place ≡ 0 = omega arith in
     let all : take place cells ≡ cells = ap (λ k. take k cells) at ∙ take-length cells in
-    sym (append-nil (map shown_cell cells))
-    ∙ ap (λ items. map shown_cell items ++ []) (sym all)
-    ∙ ap (λ count. map shown_cell (take place cells) ++ displayed area.width place halves (cells_from area buffer place count)) (sym none)
+    sym (append-nil (map cell_view cells))
+    ∙ ap (λ items. map cell_view items ++ []) (sym all)
+    ∙ ap (λ count. map cell_view (take place cells) ++ displayed area.width place halves (cells_from area buffer place count)) (sym none)
     ∙ before
 
 -- ---- fresh cells
 
-pub fresh-more : (cells : List Cell) (cell : Cell) (count : ℕ) → shown_cell cell ≡ fresh_cell → map shown_cell cells ≡ replicate count fresh_cell →
-    map shown_cell (cells ++ cell ∷ []) ≡ replicate (count + 1) fresh_cell
+pub fresh-more : (cells : List Cell) (cell : Cell) (count : ℕ) → cell_view cell ≡ fresh_cell → map cell_view cells ≡ replicate count fresh_cell →
+    map cell_view (cells ++ cell ∷ []) ≡ replicate (count + 1) fresh_cell
 fresh-more cells cell count is all =
-    map-append shown_cell cells (cell ∷ []) ∙ ap (λ shown. map shown_cell cells ++ shown ∷ []) is ∙ ap (λ shown. shown ++ fresh_cell ∷ []) all ∙ replicate_more count fresh_cell
+    map-append cell_view cells (cell ∷ []) ∙ ap (λ shown. map cell_view cells ++ shown ∷ []) is ∙ ap (λ shown. shown ++ fresh_cell ∷ []) all ∙ replicate_more count fresh_cell
 
-pub fresh-set : (cells : List Cell) (place : ℕ) (cell : Cell) → place < length cells → shown_cell cell ≡ fresh_cell → map shown_cell (take place cells) ≡ replicate place fresh_cell →
-    map shown_cell (take (place + 1) (set cells place cell)) ≡ replicate (place + 1) fresh_cell
-fresh-set cells place cell within is all = ap (map shown_cell) (take_more_set cells place cell within) ∙ fresh-more (take place cells) cell place is all
+pub fresh-set : (cells : List Cell) (place : ℕ) (cell : Cell) → place < length cells → cell_view cell ≡ fresh_cell → map cell_view (take place cells) ≡ replicate place fresh_cell →
+    map cell_view (take (place + 1) (set cells place cell)) ≡ replicate (place + 1) fresh_cell
+fresh-set cells place cell within is all = ap (map cell_view) (take_more_set cells place cell within) ∙ fresh-more (take place cells) cell place is all
 
-pub fresh-all : (cells : List Cell) (place count : ℕ) → place ≡ length cells → length cells ≡ count → map shown_cell (take place cells) ≡ replicate place fresh_cell →
-    map shown_cell cells ≡ replicate count fresh_cell
+pub fresh-all : (cells : List Cell) (place count : ℕ) → place ≡ length cells → length cells ≡ count → map cell_view (take place cells) ≡ replicate place fresh_cell →
+    map cell_view cells ≡ replicate count fresh_cell
 fresh-all cells place count at full all =
-    ap (map shown_cell) (sym (take-length cells) ∙ ap (λ k. take k cells) (sym at)) ∙ all ∙ ap (λ k. replicate k fresh_cell) (at ∙ full)
+    ap (map cell_view) (sym (take-length cells) ∙ ap (λ k. take k cells) (sym at)) ∙ all ∙ ap (λ k. replicate k fresh_cell) (at ∙ full)
 
 -- ---- whole clusters of an area, which may have no column
 
@@ -167,7 +167,7 @@ zero_or : (n : ℕ) → (n ≡ 0) ⊎ (0 < n)
 zero_or zero = inl refl
 zero_or (suc n) = inr (omega arith)
 
-pub frame-whole : (area : Rect) (buffer : Buffer) → are_whole area.width 0 0 (frame_of area buffer) ≡ true
+pub frame-whole : (area : Rect) (buffer : Buffer) → are_whole area.width 0 0 (frame_of_buffer area buffer) ≡ true
 frame-whole area buffer =
     ⊎_elim
     (λ none.
@@ -187,11 +187,11 @@ erased-whole height width =
 
 -- the same where the cells are those of a vector, of which all were erased
 pub erased-back : (height width : ℕ) (items cells : List Cell) (len : ℕ) → length cells ≡ length items → len ≡ length items → len ≡ height * width →
-    map shown_cell cells ≡ replicate (length items) fresh_cell → are_whole width 0 0 (map shown_cell (take len (cells ++ drop (length cells) items))) ≡ true
+    map cell_view cells ≡ replicate (length items) fresh_cell → are_whole width 0 0 (map cell_view (take len (cells ++ drop (length cells) items))) ≡ true
 erased-back height width items cells len same all full erased =
     let none : drop (length cells) items ≡ [] = ap (λ k. drop k items) same ∙ drop-length items in
     let back : take len (cells ++ drop (length cells) items) ≡ cells =
     ap (λ rest. take len (cells ++ rest)) none ∙ ap (take len) (append-nil cells) ∙ ap (λ k. take k cells) (all ∙ sym same) ∙ take-length cells in
-    ap (λ shown. are_whole width 0 0 (map shown_cell shown)) back
+    ap (λ shown. are_whole width 0 0 (map cell_view shown)) back
     ∙ ap (are_whole width 0 0) (erased ∙ ap (λ k. replicate k fresh_cell) (sym all ∙ full))
     ∙ erased-whole height width

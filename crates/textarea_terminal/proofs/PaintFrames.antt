@@ -4,7 +4,7 @@ use Rattle.std.proofs.Common.{◌≡◌, ℕ, zero, suc, ◌+◌, ◌-◌, ◌%�
 use Rattle.std.specs.Bool.{MatchBool}
 use Rattle.std.proofs.lemmas.Bool.{cases_Bool, and_parts, eqb-true, ltb-true}
 use Rattle.std.proofs.lemmas.List.{nil_from_length}
-use Rattle.textarea_screen.specs.Cell.{ShownCell}
+use Rattle.textarea_screen.specs.Cell.{CellView}
 use Rattle.textarea_screen.specs.declared.screen.color.Color.{Color}
 use Rattle.textarea_screen.specs.declared.screen.color.Color.TheVariants.{Reset}
 use Rattle.textarea_terminal.specs.PaintCells.{cluster_columns, half, is_half, is_own, is_plain_half, can_begin, are_whole}
@@ -17,7 +17,7 @@ own-is : (color : Color) → is_own color ≡ true → color ≡ Reset
 own-is Reset own = refl
 own-is color own = cc
 
-half-is : (cell : ShownCell) → is_plain_half cell ≡ true → cell ≡ half
+half-is : (cell : CellView) → is_plain_half cell ≡ true → cell ≡ half
 half-is cell plain =
     let symbol_bg = and_parts (is_half cell && is_own cell.fg && is_own cell.bg) (cell.modifier.0 == 0) plain in
     let symbol_fg = and_parts (is_half cell && is_own cell.fg) (is_own cell.bg) symbol_bg.0 in
@@ -28,7 +28,7 @@ half-is cell plain =
     let none : cell.modifier.0 ≡ 0 = eqb-true cell.modifier.0 0 symbol_bg.1 in
     λ i. record { symbol = empty i; fg = fg i; bg = bg i; modifier = record { 0 = none i } }
 
-pub plain_half-half : (cell : ShownCell) → is_plain_half cell ≡ true → is_half cell ≡ true
+pub plain_half-half : (cell : CellView) → is_plain_half cell ≡ true → is_half cell ≡ true
 plain_half-half cell plain = ap is_half (half-is cell plain)
 
 -- the empty text is no cluster
@@ -36,7 +36,7 @@ cluster_columns-nil : cluster_columns [] ≡ 0
 unfolding unicode_segmentation cluster_columns
 cluster_columns-nil = refl
 
-pub begins-whole : (columns place : ℕ) (cell : ShownCell) → can_begin columns place cell ≡ true → is_half cell ≡ false
+pub begins-whole : (columns place : ℕ) (cell : CellView) → can_begin columns place cell ≡ true → is_half cell ≡ false
 begins-whole columns place cell begins =
     let width = cluster_columns cell.symbol in
     let parts = and_parts (ltb 0 width) (leb (place % columns + width) columns) (and_parts (ltb 0 width && leb (place % columns + width) columns) (ltb cell.modifier.0 512) begins).0 in
@@ -51,7 +51,7 @@ begins-whole columns place cell begins =
 -- ---- whole clusters
 
 -- a cell that is no half begins a cluster, and whole clusters come after it
-pub whole-unit : (columns place halves : ℕ) (cell : ShownCell) (cells : List ShownCell) → is_half cell ≡ false → are_whole columns place halves (cell ∷ cells) ≡ true →
+pub whole-unit : (columns place halves : ℕ) (cell : CellView) (cells : List CellView) → is_half cell ≡ false → are_whole columns place halves (cell ∷ cells) ≡ true →
     (can_begin columns place cell ≡ true) × (are_whole columns (place + 1) (cluster_columns cell.symbol - 1) cells ≡ true)
 whole-unit columns place zero cell cells not_half whole = and_parts (can_begin columns place cell) (are_whole columns (place + 1) (cluster_columns cell.symbol - 1) cells) whole
 whole-unit columns place (suc halves) cell cells not_half whole =
@@ -59,7 +59,7 @@ whole-unit columns place (suc halves) cell cells not_half whole =
     let other = plain_half-half cell parts.0 in
     absurd (cc (other, not_half))
 
-pub whole-drop : (columns : ℕ) (count place halves : ℕ) (cells : List ShownCell) → are_whole columns place halves cells ≡ true → count ≤ length cells →
+pub whole-drop : (columns : ℕ) (count place halves : ℕ) (cells : List CellView) → are_whole columns place halves cells ≡ true → count ≤ length cells →
     (left : ℕ) × (are_whole columns (place + count) left (drop count cells) ≡ true)
 whole-drop columns zero place halves cells whole within = (halves, subst (λ p. are_whole columns p halves cells ≡ true) (omega arith) whole)
 whole-drop columns (suc count) place halves [] whole within = absurd (omega arith)
@@ -77,25 +77,25 @@ whole-drop columns (suc count) place zero (cell ∷ cells) whole within =
 -- ---- what is left of the old cells
 
 -- the cells are the old ones, but that halves at their beginning have lost their cluster
-abbrev pub Damaged : List ShownCell → List ShownCell → Type 0
+abbrev pub Damaged : List CellView → List CellView → Type 0
 Damaged [] [] = Unit {0}
 Damaged (cell ∷ cells) (old ∷ olds) = MatchBool (is_half old) ((is_half cell ≡ false) × Damaged cells olds) ((cell ∷ cells) ≡ (old ∷ olds))
 Damaged cells olds = ⊥
 
 -- the halves of a new cluster at their beginning are there, and the others are the old ones, damaged
-abbrev pub Ahead : List ShownCell → List ShownCell → List ShownCell → Type 0
+abbrev pub Ahead : List CellView → List CellView → List CellView → Type 0
 Ahead [] [] [] = Unit {0}
 Ahead (cell ∷ cells) (old ∷ olds) (new ∷ news) = MatchBool (is_half new) ((cell ≡ new) × Ahead cells olds news) (Damaged (cell ∷ cells) (old ∷ olds))
 Ahead cells olds news = ⊥
 
-pub first-same : {a b : ShownCell} {xs ys : List ShownCell} → (a ∷ xs) ≡ (b ∷ ys) → a ≡ b
+pub first-same : {a b : CellView} {xs ys : List CellView} → (a ∷ xs) ≡ (b ∷ ys) → a ≡ b
 first-same same = cc
 
-pub rest-same : {a b : ShownCell} {xs ys : List ShownCell} → (a ∷ xs) ≡ (b ∷ ys) → xs ≡ ys
+pub rest-same : {a b : CellView} {xs ys : List CellView} → (a ∷ xs) ≡ (b ∷ ys) → xs ≡ ys
 rest-same same = cc
 
-module _ (rest : ShownCell → ShownCell) (blank : (cell : ShownCell) → is_half (rest cell) ≡ false) where
-  mended-Damaged : (cells : List ShownCell) → Damaged (mended rest cells) cells
+module _ (rest : CellView → CellView) (blank : (cell : CellView) → is_half (rest cell) ≡ false) where
+  mended-Damaged : (cells : List CellView) → Damaged (mended rest cells) cells
   mended-Damaged [] = tt
   mended-Damaged (cell ∷ cells) =
       ⊎_elim
@@ -104,33 +104,33 @@ module _ (rest : ShownCell → ShownCell) (blank : (cell : ShownCell) → is_hal
       (cases_Bool (is_half cell))
 
   -- a cell that is there where an old one was is no half
-  pub Damaged-first : (cell old : ShownCell) (cells olds : List ShownCell) → Damaged (cell ∷ cells) (old ∷ olds) → is_half cell ≡ false
+  pub Damaged-first : (cell old : CellView) (cells olds : List CellView) → Damaged (cell ∷ cells) (old ∷ olds) → is_half cell ≡ false
   Damaged-first cell old cells olds damaged =
       ⊎_elim
       (λ is. (rw is at damaged).0)
       (λ is. ap is_half (first-same (rw is at damaged)) ∙ is)
       (cases_Bool (is_half old))
 
-  pub Damaged-rest : (cell old : ShownCell) (cells olds : List ShownCell) → Damaged (cell ∷ cells) (old ∷ olds) → Damaged cells olds ⊎ (cells ≡ olds)
+  pub Damaged-rest : (cell old : CellView) (cells olds : List CellView) → Damaged (cell ∷ cells) (old ∷ olds) → Damaged cells olds ⊎ (cells ≡ olds)
   Damaged-rest cell old cells olds damaged =
       ⊎_elim
       (λ is. inl (rw is at damaged).1)
       (λ is. inr (rest-same (rw is at damaged)))
       (cases_Bool (is_half old))
 
-  mended-again : (cells olds : List ShownCell) → Damaged cells olds ⊎ (cells ≡ olds) → Damaged (mended rest cells) olds
+  mended-again : (cells olds : List CellView) → Damaged cells olds ⊎ (cells ≡ olds) → Damaged (mended rest cells) olds
   mended-again cells olds (inr same) = subst (λ xs. Damaged (mended rest cells) xs) same (mended-Damaged cells)
   mended-again [] [] (inl damaged) = tt
   mended-again [] (old ∷ olds) (inl damaged) = absurd damaged
   mended-again (cell ∷ cells) [] (inl damaged) = absurd damaged
   mended-again (cell ∷ cells) (old ∷ olds) (inl damaged) = rw (Damaged-first cell old cells olds damaged) damaged
 
-  Ahead-start : (cells : List ShownCell) (old new : ShownCell) (olds news : List ShownCell) → is_half new ≡ false → Damaged cells (old ∷ olds) → Ahead cells (old ∷ olds) (new ∷ news)
+  Ahead-start : (cells : List CellView) (old new : CellView) (olds news : List CellView) → is_half new ≡ false → Damaged cells (old ∷ olds) → Ahead cells (old ∷ olds) (new ∷ news)
   Ahead-start [] old new olds news is damaged = absurd damaged
   Ahead-start (cell ∷ cells) old new olds news is damaged = rw is damaged
 
   -- the halves of a cluster are printed over what was there
-  pub Ahead-printed : (columns place halves : ℕ) (cells olds news : List ShownCell) → are_whole columns place halves news ≡ true → length olds ≡ length news →
+  pub Ahead-printed : (columns place halves : ℕ) (cells olds news : List CellView) → are_whole columns place halves news ≡ true → length olds ≡ length news →
       Damaged cells olds ⊎ (cells ≡ olds) → Ahead (replicate halves half ++ mended rest (drop halves cells)) olds news
   Ahead-printed columns place zero [] [] [] whole long left = tt
   Ahead-printed columns place zero (cell ∷ cells) [] [] whole long (inl damaged) = absurd damaged
@@ -151,7 +151,7 @@ module _ (rest : ShownCell → ShownCell) (blank : (cell : ShownCell) → is_hal
       rw is (sym (half-is new parts.0), Ahead-printed columns (place + 1) halves cells olds news parts.1 (omega arith) after)
 
 -- where the old cells are there, and a cluster of both frames has the same halves
-pub Ahead-same : (columns place halves : ℕ) (olds news : List ShownCell) → are_whole columns place halves olds ≡ true → are_whole columns place halves news ≡ true →
+pub Ahead-same : (columns place halves : ℕ) (olds news : List CellView) → are_whole columns place halves olds ≡ true → are_whole columns place halves news ≡ true →
     length olds ≡ length news → Ahead olds olds news
 Ahead-same columns place halves [] [] old_whole new_whole long = tt
 Ahead-same columns place halves (old ∷ olds) [] old_whole new_whole long = absurd (omega arith)

@@ -5,10 +5,10 @@ use Rattle.std.proofs.lemmas.Bool.{cond-true, cond-false, and_parts, ltb-true, l
 use Rattle.std.proofs.lemmas.Bool.Decides.{nat_tests}
 use Rattle.std.proofs.lemmas.Nat.{div-mul-add, mod-mul-add}
 use Rattle.textarea_terminal.specs.PaintSpot.{IsSpot}
-use Rattle.textarea_screen.specs.Cell.{ShownCell}
+use Rattle.textarea_screen.specs.Cell.{CellView}
 use Rattle.textarea_terminal.specs.Control.Control.{MoveTo}
 use Rattle.textarea_terminal.specs.PaintCells.{cluster_columns, can_begin}
-use Rattle.textarea_terminal.specs.Screen.{Terminal, step, cursor_after}
+use Rattle.textarea_terminal.specs.Screen.{Terminal, apply_control, cursor_after}
 use Rattle.textarea_terminal.proofs.ScreenMoves.{move-there}
 use Rattle.textarea_terminal.specs.declared.output.spot.Spot.{Spot}
 
@@ -29,10 +29,10 @@ row-below height width spot within is =
     omega (arith, below, row-of width spot some is)
 
 pub move-to-spot : (terminal : Terminal) (columns : ℕ) (spot : Spot) → 0 < columns → IsSpot columns spot → terminal.columns ≡ columns → spot.place < length terminal.cells →
-    step (MoveTo spot.row spot.column) terminal ≡ record terminal { cursor = Some spot.place }
+    apply_control (MoveTo spot.row spot.column) terminal ≡ record terminal { cursor = Some spot.place }
 move-to-spot terminal columns spot some is same within =
-    let M : ℕ → Type 0 = λ row. step (MoveTo row spot.column) terminal ≡ record terminal { cursor = Some spot.place } in
-    let N : ℕ → Type 0 = λ column. step (MoveTo (spot.place / columns) column) terminal ≡ record terminal { cursor = Some spot.place } in
+    let M : ℕ → Type 0 = λ row. apply_control (MoveTo row spot.column) terminal ≡ record terminal { cursor = Some spot.place } in
+    let N : ℕ → Type 0 = λ column. apply_control (MoveTo (spot.place / columns) column) terminal ≡ record terminal { cursor = Some spot.place } in
     subst M (row-of columns spot some is) (subst N (column-of columns spot some is) (move-there terminal columns spot.place some same within))
 
 pub cursor-at-end : (columns : ℕ) (spot : Spot) (width : ℕ) → 0 < width → IsSpot columns spot → spot.column + width ≡ columns → cursor_after columns (spot.place + width) ≡ None
@@ -49,7 +49,7 @@ cursor-inside columns spot width some is inside =
     cond-false ((spot.place + width) % columns == 0) None (Some (spot.place + width)) not_first
 
 -- a cluster that can begin at a spot ends in its row
-pub begins-room : (columns : ℕ) (spot : Spot) (cell : ShownCell) → 0 < columns → IsSpot columns spot → can_begin columns spot.place cell ≡ true →
+pub begins-room : (columns : ℕ) (spot : Spot) (cell : CellView) → 0 < columns → IsSpot columns spot → can_begin columns spot.place cell ≡ true →
     (0 < cluster_columns cell.symbol) × (spot.column + cluster_columns cell.symbol ≤ columns)
 begins-room columns spot cell some is begins =
     let width = cluster_columns cell.symbol in

@@ -4,7 +4,7 @@ use Rattle.std.proofs.lemmas.Bool.{cases_Bool, cond-false, and_parts, ltb-true}
 use Rattle.std.specs.Bool.{MatchBool}
 use Rattle.std.proofs.lemmas.List.{take_more, get_or-map, drop-map, length-map, length-take-le, length-drop, append-nil}
 use Rattle.std.proofs.Math.Seq.{drop-cons, take-append_seam, drop-append_seam, take-length, drop-length}
-use Rattle.textarea_screen.specs.Cell.{ShownCell, shown_cell}
+use Rattle.textarea_screen.specs.Cell.{CellView, cell_view}
 use Rattle.textarea_screen.specs.declared.screen.cell.Cell.{Cell}
 use Rattle.textarea_terminal.specs.Control.{Control}
 use Rattle.textarea_terminal.specs.Paint.{prints_of, moves_of, pens_of, AreChanges, HasRuns, HasLooks, Knows, Shows, Repaints, KeepsCell, ChangesCell, with_cell}
@@ -18,51 +18,51 @@ use Rattle.textarea_terminal.proofs.PaintFrames.{begins-whole, plain_half-half, 
 -- ---- one cell of a list
 
 -- the cell at a place, and those after it
-pub record Split (place : ℕ) (cells : List ShownCell) (cell : ShownCell) (after : List ShownCell) : Type 0 where
+pub record Split (place : ℕ) (cells : List CellView) (cell : CellView) (after : List CellView) : Type 0 where
   pub here : drop place cells ≡ cell ∷ after
   pub next : drop (place + 1) cells ≡ after
   pub done : take (place + 1) cells ≡ take place cells ++ cell ∷ []
 
 pub Split-at : (items : List Cell) (place : ℕ) (item : Cell) → item ≡ get_or items place item → place < length items →
-    Split place (map shown_cell items) (shown_cell item) (map shown_cell (drop (place + 1) items))
+    Split place (map cell_view items) (cell_view item) (map cell_view (drop (place + 1) items))
 Split-at items place item is within = record {
   here =
-      drop-map shown_cell place items ∙ ap (map shown_cell) (drop-cons items place item within)
-      ∙ ap (λ (cell : Cell). shown_cell cell ∷ map shown_cell (drop (suc place) items)) (sym is)
-      ∙ ap (λ p. shown_cell item ∷ map shown_cell (drop p items)) (sym (add-one place));
-  next = drop-map shown_cell (place + 1) items;
+      drop-map cell_view place items ∙ ap (map cell_view) (drop-cons items place item within)
+      ∙ ap (λ (cell : Cell). cell_view cell ∷ map cell_view (drop (suc place) items)) (sym is)
+      ∙ ap (λ p. cell_view item ∷ map cell_view (drop p items)) (sym (add-one place));
+  next = drop-map cell_view (place + 1) items;
   done =
-      take_more (map shown_cell items) place (shown_cell item) (omega (arith, length-map items shown_cell))
-      ∙ ap (λ cell. take place (map shown_cell items) ++ cell ∷ []) (get_or-map shown_cell items place item (shown_cell item) within ∙ ap shown_cell (sym is));
+      take_more (map cell_view items) place (cell_view item) (omega (arith, length-map items cell_view))
+      ∙ ap (λ cell. take place (map cell_view items) ++ cell ∷ []) (get_or-map cell_view items place item (cell_view item) within ∙ ap cell_view (sym is));
 }
 
 -- ---- the cells of the terminal
 
 -- they are the new ones up to a place, and what is ahead
-pub record Between (place : ℕ) (old new cells : List ShownCell) : Type 0 where
-  pub rest : List ShownCell
+pub record Between (place : ℕ) (old new cells : List CellView) : Type 0 where
+  pub rest : List CellView
   pub cells_are : cells ≡ take place new ++ rest
   pub ahead : Ahead rest (drop place old) (drop place new)
 
-Ahead-nil : (rest : List ShownCell) → Ahead rest [] [] → rest ≡ []
+Ahead-nil : (rest : List CellView) → Ahead rest [] [] → rest ≡ []
 Ahead-nil [] ahead = refl
 Ahead-nil (cell ∷ rest) ahead = absurd ahead
 
-Ahead-some : (rest : List ShownCell) (o n : ShownCell) (os ns : List ShownCell) → Ahead rest (o ∷ os) (n ∷ ns) → 0 < length rest
+Ahead-some : (rest : List CellView) (o n : CellView) (os ns : List CellView) → Ahead rest (o ∷ os) (n ∷ ns) → 0 < length rest
 Ahead-some [] o n os ns ahead = absurd ahead
 Ahead-some (t ∷ ts) o n os ns ahead = omega arith
 
-pub Between-start : (columns : ℕ) (old new : List ShownCell) → are_whole columns 0 0 old ≡ true → are_whole columns 0 0 new ≡ true → length old ≡ length new → Between 0 old new old
+pub Between-start : (columns : ℕ) (old new : List CellView) → are_whole columns 0 0 old ≡ true → are_whole columns 0 0 new ≡ true → length old ≡ length new → Between 0 old new old
 Between-start columns old new old_whole new_whole long = record { rest = old; cells_are = refl; ahead = Ahead-same columns 0 0 old new old_whole new_whole long }
 
-pub Between-end : (place : ℕ) (old new cells : List ShownCell) → place ≡ length new → length old ≡ length new → Between place old new cells → cells ≡ new
+pub Between-end : (place : ℕ) (old new cells : List CellView) → place ≡ length new → length old ≡ length new → Between place old new cells → cells ≡ new
 Between-end place old new cells at long between =
     let no_old : drop place old ≡ [] = ap (λ p. drop p old) (at ∙ sym long) ∙ drop-length old in
     let no_new : drop place new ≡ [] = ap (λ p. drop p new) at ∙ drop-length new in
     let none = Ahead-nil between.rest (rw (no_old, no_new) at between.ahead) in
     between.cells_are ∙ ap (λ rest. take place new ++ rest) none ∙ append-nil (take place new) ∙ ap (λ p. take p new) at ∙ take-length new
 
-Between-next : (place : ℕ) (old new cells ts : List ShownCell) (o n : ShownCell) (os ns : List ShownCell) → Split place old o os → Split place new n ns →
+Between-next : (place : ℕ) (old new cells ts : List CellView) (o n : CellView) (os ns : List CellView) → Split place old o os → Split place new n ns →
     cells ≡ take place new ++ n ∷ ts → Ahead ts os ns → Between (place + 1) old new cells
 Between-next place old new cells ts o n os ns old_at new_at is ahead = record {
   rest = ts;
@@ -71,8 +71,8 @@ Between-next place old new cells ts o n os ns old_at new_at is ahead = record {
 }
 
 -- the cell is shown already
-kept : (rest : List ShownCell) (o n : ShownCell) (os ns : List ShownCell) → Ahead rest (o ∷ os) (n ∷ ns) → (is_half n ≡ true) ⊎ (o ≡ n) →
-    (is_half n ≡ false → Ahead os os ns) → (ts : List ShownCell) × (rest ≡ n ∷ ts) × Ahead ts os ns
+kept : (rest : List CellView) (o n : CellView) (os ns : List CellView) → Ahead rest (o ∷ os) (n ∷ ns) → (is_half n ≡ true) ⊎ (o ≡ n) →
+    (is_half n ≡ false → Ahead os os ns) → (ts : List CellView) × (rest ≡ n ∷ ts) × Ahead ts os ns
 kept [] o n os ns ahead same like = absurd ahead
 kept (t ∷ ts) o n os ns ahead same like =
     ⊎_elim
@@ -85,9 +85,9 @@ kept (t ∷ ts) o n os ns ahead same like =
     (cases_Bool (is_half n))
 
 -- its cluster is printed
-covered : (rest : ShownCell → ShownCell) → ((cell : ShownCell) → is_half (rest cell) ≡ false) → (columns place : ℕ) (front left : List ShownCell) (o n : ShownCell) (os ns : List ShownCell) →
+covered : (rest : CellView → CellView) → ((cell : CellView) → is_half (rest cell) ≡ false) → (columns place : ℕ) (front left : List CellView) (o n : CellView) (os ns : List CellView) →
     Ahead left (o ∷ os) (n ∷ ns) → is_half n ≡ false → 0 < cluster_columns n.symbol → are_whole columns place (cluster_columns n.symbol - 1) ns ≡ true → length os ≡ length ns →
-    (ts : List ShownCell) × (printed rest n (cluster_columns n.symbol) front left ≡ front ++ n ∷ ts) × Ahead ts os ns
+    (ts : List CellView) × (printed rest n (cluster_columns n.symbol) front left ≡ front ++ n ∷ ts) × Ahead ts os ns
 covered rest blank columns place front [] o n os ns ahead is some whole long = absurd ahead
 covered rest blank columns place front (t ∷ ts) o n os ns ahead is some whole long =
     let width = cluster_columns n.symbol in
@@ -101,11 +101,11 @@ covered rest blank columns place front (t ∷ ts) o n os ns ahead is some whole 
       Ahead-printed rest blank columns place (width - 1) ts os ns whole long (Damaged-rest rest blank t o ts os damaged),
     )
 
-lengths : (place : ℕ) (old new : List ShownCell) (o n : ShownCell) (os ns : List ShownCell) → Split place old o os → Split place new n ns → length old ≡ length new → length os ≡ length ns
+lengths : (place : ℕ) (old new : List CellView) (o n : CellView) (os ns : List CellView) → Split place old o os → Split place new n ns → length old ≡ length new → length os ≡ length ns
 lengths place old new o n os ns old_at new_at long =
     ap length (sym old_at.next) ∙ length-drop (place + 1) old ∙ ap (λ k. k - (place + 1)) long ∙ sym (length-drop (place + 1) new) ∙ ap length new_at.next
 
-pub whole-at : (columns place : ℕ) (cells : List ShownCell) (cell : ShownCell) (after : List ShownCell) → Split place cells cell after → are_whole columns 0 0 cells ≡ true → place ≤ length cells →
+pub whole-at : (columns place : ℕ) (cells : List CellView) (cell : CellView) (after : List CellView) → Split place cells cell after → are_whole columns 0 0 cells ≡ true → place ≤ length cells →
     is_half cell ≡ false → (can_begin columns place cell ≡ true) × (are_whole columns (place + 1) (cluster_columns cell.symbol - 1) after ≡ true)
 whole-at columns place cells cell after at whole within is =
     let dropped = whole-drop columns place 0 0 cells whole within in
@@ -113,14 +113,14 @@ whole-at columns place cells cell after at whole within is =
     let here : are_whole columns place dropped.0 (cell ∷ after) ≡ true = rw at.here at (subst (λ p. are_whole columns p dropped.0 (drop place cells) ≡ true) from dropped.1) in
     whole-unit columns place dropped.0 cell after is here
 
-columns-some : (columns place : ℕ) (cell : ShownCell) → can_begin columns place cell ≡ true → 0 < cluster_columns cell.symbol
+columns-some : (columns place : ℕ) (cell : CellView) → can_begin columns place cell ≡ true → 0 < cluster_columns cell.symbol
 columns-some columns place cell begins =
     let width = cluster_columns cell.symbol in
     let room = (and_parts (ltb 0 width && leb (place % columns + width) columns) (ltb cell.modifier.0 512) begins).0 in
     ltb-true 0 width (and_parts (ltb 0 width) (leb (place % columns + width) columns) room).0
 
 -- there is a cell at the place
-on-screen : (place : ℕ) (old new cells : List ShownCell) (o n : ShownCell) (os ns : List ShownCell) → Split place old o os → Split place new n ns → place < length new →
+on-screen : (place : ℕ) (old new cells : List CellView) (o n : CellView) (os ns : List CellView) → Split place old o os → Split place new n ns → place < length new →
     Between place old new cells → place < length cells
 on-screen place old new cells o n os ns old_at new_at within between =
     let ahead : Ahead between.rest (o ∷ os) (n ∷ ns) = rw (old_at.here, new_at.here) at between.ahead in
@@ -129,7 +129,7 @@ on-screen place old new cells o n os ns old_at new_at within between =
     omega (arith, some, full, ap length between.cells_are, length-append (take place new) between.rest)
 
 -- the cells after a cell that is as it was
-Between-kept : (columns place : ℕ) (old new cells : List ShownCell) (o n : ShownCell) (os ns : List ShownCell) → Split place old o os → Split place new n ns →
+Between-kept : (columns place : ℕ) (old new cells : List CellView) (o n : CellView) (os ns : List CellView) → Split place old o os → Split place new n ns →
     are_whole columns 0 0 old ≡ true → are_whole columns 0 0 new ≡ true → length old ≡ length new → place < length new → (is_half n ≡ true) ⊎ (o ≡ n) →
     Between place old new cells → Between (place + 1) old new cells
 Between-kept columns place old new cells o n os ns old_at new_at old_whole new_whole long within same between =
@@ -139,14 +139,14 @@ Between-kept columns place old new cells o n os ns old_at new_at old_whole new_w
     let as_old : o ≡ n = ⊎_elim (λ other. absurd (cc (other, whole))) (λ e. e) same in
     let olds = whole-at columns place old o os old_at old_whole (omega arith) (ap is_half as_old ∙ whole) in
     let news = whole-at columns place new n ns new_at new_whole (omega arith) whole in
-    let olds' : are_whole columns (place + 1) (cluster_columns n.symbol - 1) os ≡ true = subst (λ (cell : ShownCell). are_whole columns (place + 1) (cluster_columns cell.symbol - 1) os ≡ true) as_old olds.1 in
+    let olds' : are_whole columns (place + 1) (cluster_columns n.symbol - 1) os ≡ true = subst (λ (cell : CellView). are_whole columns (place + 1) (cluster_columns cell.symbol - 1) os ≡ true) as_old olds.1 in
     Ahead-same columns (place + 1) (cluster_columns n.symbol - 1) os ns olds' news.1 long' in
     let step = kept between.rest o n os ns ahead same like in
     Between-next place old new cells step.0 o n os ns old_at new_at (between.cells_are ∙ ap (λ rest. take place new ++ rest) step.1) step.2
 
 -- the cells after a cell whose cluster is printed
-Between-changed : (columns place : ℕ) (old new cells : List ShownCell) (o n : ShownCell) (os ns : List ShownCell) (rest : ShownCell → ShownCell) →
-    ((cell : ShownCell) → is_half (rest cell) ≡ false) → Split place old o os → Split place new n ns →
+Between-changed : (columns place : ℕ) (old new cells : List CellView) (o n : CellView) (os ns : List CellView) (rest : CellView → CellView) →
+    ((cell : CellView) → is_half (rest cell) ≡ false) → Split place old o os → Split place new n ns →
     are_whole columns 0 0 new ≡ true → length old ≡ length new → place < length new → is_half n ≡ false →
     Between place old new cells → Between (place + 1) old new (printed rest n (cluster_columns n.symbol) (take place cells) (drop place cells))
 Between-changed columns place old new cells o n os ns rest blank old_at new_at new_whole long within whole between =
@@ -164,19 +164,19 @@ Between-changed columns place old new cells o n os ns rest blank old_at new_at n
 
 -- ---- the terminal
 
-pub record Midway (brush : Brush) (width place : ℕ) (old new : List ShownCell) (is_caret_shown : Bool) (terminal : Terminal) : Type 0 where
+pub record Midway (brush : Brush) (width place : ℕ) (old new : List CellView) (is_caret_shown : Bool) (terminal : Terminal) : Type 0 where
   pub knows : Knows brush terminal
   pub columns : terminal.columns ≡ width
   pub caret : terminal.has_cursor_shown ≡ is_caret_shown
   pub between : Between place old new terminal.cells
 
 -- the cursor is known to be at the cell where the next cluster begins, unless that is the first of a row
-abbrev pub Tracks : ℕ → ℕ → Option ℕ → List ShownCell → Type 0
+abbrev pub Tracks : ℕ → ℕ → Option ℕ → List CellView → Type 0
 Tracks columns place at [] = Unit {0}
 Tracks columns place at (cell ∷ cells) = MatchBool (is_half cell) (Tracks columns (place + 1) at cells) ((place % columns == 0) ≡ false → at ≡ Some place)
 
 -- it is after a cluster was printed
-Tracks-after : (columns place halves end : ℕ) (cells : List ShownCell) → are_whole columns place halves cells ≡ true → end ≡ place + halves → Tracks columns place (cursor_after columns end) cells
+Tracks-after : (columns place halves end : ℕ) (cells : List CellView) → are_whole columns place halves cells ≡ true → end ≡ place + halves → Tracks columns place (cursor_after columns end) cells
 Tracks-after columns place halves end [] whole at = tt
 Tracks-after columns place zero end (cell ∷ cells) whole at =
     let begins = (and_parts (can_begin columns place cell) (are_whole columns (place + 1) (cluster_columns cell.symbol - 1) cells) whole).0 in
@@ -187,7 +187,7 @@ Tracks-after columns place (suc halves) end (cell ∷ cells) whole at =
     rw (plain_half-half cell parts.0) (Tracks-after columns (place + 1) halves end cells parts.1 (omega arith))
 
 -- the controls so far bring a terminal from showing the old cells to this place, and print what has changed up to it
-pub record Reaches (start brush : Brush) (columns place : ℕ) (old new : List ShownCell) (controls : List Control) : Type 0 where
+pub record Reaches (start brush : Brush) (columns place : ℕ) (old new : List CellView) (controls : List Control) : Type 0 where
   pub brings : (terminal : Terminal) (is_caret_shown : Bool) → Shows start columns old is_caret_shown terminal → Midway brush columns place old new is_caret_shown (run controls terminal)
   pub prints : (later : List (List ℕ)) → AreChanges (drop place old) (drop place new) later → AreChanges old new (prints_of controls ++ later)
   pub follows : Bool
@@ -196,7 +196,7 @@ pub record Reaches (start brush : Brush) (columns place : ℕ) (old new : List S
   pub pens : (later : ℕ) → HasLooks brush.pen (drop place old) (drop place new) later → (total : ℕ) × (HasLooks start.pen old new total × (pens_of controls + later ≤ total))
   pub still : old ≡ new → (controls ≡ []) × (brush ≡ start)
 
-pub Reaches-start : (start : Brush) (columns : ℕ) (old new : List ShownCell) → are_whole columns 0 0 old ≡ true → are_whole columns 0 0 new ≡ true → length old ≡ length new →
+pub Reaches-start : (start : Brush) (columns : ℕ) (old new : List CellView) → are_whole columns 0 0 old ≡ true → are_whole columns 0 0 new ≡ true → length old ≡ length new →
     Reaches start start columns 0 old new []
 Reaches-start start columns old new old_whole new_whole long = record {
   brings = λ terminal is_caret_shown shows. record {
@@ -213,10 +213,10 @@ Reaches-start start columns old new old_whole new_whole long = record {
   still = λ same. (refl, refl);
 }
 
-no-cells : (cells : List ShownCell) (place : ℕ) → place ≡ length cells → drop place cells ≡ []
+no-cells : (cells : List CellView) (place : ℕ) → place ≡ length cells → drop place cells ≡ []
 no-cells cells place at = ap (λ p. drop p cells) at ∙ drop-length cells
 
-pub Reaches-end : (start brush : Brush) (columns place : ℕ) (old new : List ShownCell) (controls : List Control) → place ≡ length new → length old ≡ length new →
+pub Reaches-end : (start brush : Brush) (columns place : ℕ) (old new : List CellView) (controls : List Control) → place ≡ length new → length old ≡ length new →
     Reaches start brush columns place old new controls → Repaints columns old new start brush controls
 Reaches-end start brush columns place old new controls at long reaches = record {
   brings = λ terminal is_caret_shown shows.
@@ -240,12 +240,12 @@ cursor-known None = tt
 cursor-known (Some place) = refl
 
 -- what is known of runs after a cell
-record Moved (columns place : ℕ) (old new : List ShownCell) (at : Option ℕ) (count : ℕ) : Type 0 where
+record Moved (columns place : ℕ) (old new : List CellView) (at : Option ℕ) (count : ℕ) : Type 0 where
   follows : Bool
   tracks : follows ≡ true → Tracks columns (place + 1) at (drop (place + 1) new)
   moves : (later : ℕ) → HasRuns columns (place + 1) follows (drop (place + 1) old) (drop (place + 1) new) later → (total : ℕ) × (HasRuns columns 0 false old new total × (count + later ≤ total))
 
-kept-moves : (columns place : ℕ) (old new : List ShownCell) (o n : ShownCell) (os ns : List ShownCell) (at : Option ℕ) (count : ℕ) (follows : Bool) →
+kept-moves : (columns place : ℕ) (old new : List CellView) (o n : CellView) (os ns : List CellView) (at : Option ℕ) (count : ℕ) (follows : Bool) →
     Split place old o os → Split place new n ns → (is_half n ≡ true) ⊎ (o ≡ n) → (follows ≡ true → Tracks columns place at (drop place new)) →
     ((later : ℕ) → HasRuns columns place follows (drop place old) (drop place new) later → (total : ℕ) × (HasRuns columns 0 false old new total × (count + later ≤ total))) →
     Moved columns place old new at count
@@ -266,7 +266,7 @@ kept-moves columns place old new o n os ns at count follows old_at new_at same t
     (cases_Bool (is_half n))
 
 -- a half of a cluster, or a cluster that is as it was
-pub Reaches-kept : (start before after : Brush) (columns place : ℕ) (old new : List ShownCell) (o n : ShownCell) (os ns : List ShownCell) (xs ys : List Control) →
+pub Reaches-kept : (start before after : Brush) (columns place : ℕ) (old new : List CellView) (o n : CellView) (os ns : List CellView) (xs ys : List Control) →
     Split place old o os → Split place new n ns → are_whole columns 0 0 old ≡ true → are_whole columns 0 0 new ≡ true → length old ≡ length new → place < length new →
     (is_half n ≡ true) ⊎ (o ≡ n) → KeepsCell before after o n ys → Reaches start before columns place old new xs → Reaches start after columns (place + 1) old new (xs ++ ys)
 Reaches-kept start before after columns place old new o n os ns xs ys old_at new_at old_whole new_whole long within same keeps reaches =
@@ -298,7 +298,7 @@ moved-once true false moves later most none = omega (arith, none refl refl)
 moved-once true true moves later most none = omega (arith, most)
 moved-once false first moves later most none = omega (arith, most)
 
-pub Reaches-changed : (start before after : Brush) (columns place : ℕ) (old new : List ShownCell) (o n : ShownCell) (os ns : List ShownCell) (xs ys : List Control) →
+pub Reaches-changed : (start before after : Brush) (columns place : ℕ) (old new : List CellView) (o n : CellView) (os ns : List CellView) (xs ys : List Control) →
     Split place old o os → Split place new n ns → are_whole columns 0 0 old ≡ true → are_whole columns 0 0 new ≡ true → length old ≡ length new → place < length new →
     ChangesCell before after columns place o n ys → Reaches start before columns place old new xs → Reaches start after columns (place + 1) old new (xs ++ ys)
 Reaches-changed start before after columns place old new o n os ns xs ys old_at new_at old_whole new_whole long within changes reaches = record {
@@ -342,26 +342,26 @@ Reaches-changed start before after columns place old new o n os ns xs ys old_at 
 -- the next cell, kept or changed
 pub Reaches-step : (start before after : Brush) (columns place : ℕ) (olds news : List Cell) (old new : Cell) (xs ys : List Control) →
     old ≡ get_or olds place old → new ≡ get_or news place new → length olds ≡ length news → place < length news →
-    are_whole columns 0 0 (map shown_cell olds) ≡ true → are_whole columns 0 0 (map shown_cell news) ≡ true →
-    (((is_half (shown_cell new) ≡ true) ⊎ (shown_cell old ≡ shown_cell new)) × KeepsCell before after (shown_cell old) (shown_cell new) ys)
-    ⊎ ChangesCell before after columns place (shown_cell old) (shown_cell new) ys →
-    Reaches start before columns place (map shown_cell olds) (map shown_cell news) xs →
-    Reaches start after columns (place + 1) (map shown_cell olds) (map shown_cell news) (xs ++ ys)
+    are_whole columns 0 0 (map cell_view olds) ≡ true → are_whole columns 0 0 (map cell_view news) ≡ true →
+    (((is_half (cell_view new) ≡ true) ⊎ (cell_view old ≡ cell_view new)) × KeepsCell before after (cell_view old) (cell_view new) ys)
+    ⊎ ChangesCell before after columns place (cell_view old) (cell_view new) ys →
+    Reaches start before columns place (map cell_view olds) (map cell_view news) xs →
+    Reaches start after columns (place + 1) (map cell_view olds) (map cell_view news) (xs ++ ys)
 Reaches-step start before after columns place olds news old new xs ys old_is new_is long within old_whole new_whole change reaches =
     let old_at = Split-at olds place old old_is (omega arith) in
     let new_at = Split-at news place new new_is within in
-    let os = map shown_cell (drop (place + 1) olds) in
-    let ns = map shown_cell (drop (place + 1) news) in
-    let long' : length (map shown_cell olds) ≡ length (map shown_cell news) = length-map olds shown_cell ∙ long ∙ sym (length-map news shown_cell) in
-    let within' : place < length (map shown_cell news) = omega (arith, length-map news shown_cell) in
+    let os = map cell_view (drop (place + 1) olds) in
+    let ns = map cell_view (drop (place + 1) news) in
+    let long' : length (map cell_view olds) ≡ length (map cell_view news) = length-map olds cell_view ∙ long ∙ sym (length-map news cell_view) in
+    let within' : place < length (map cell_view news) = omega (arith, length-map news cell_view) in
     ⊎_elim
-    (λ kept. Reaches-kept start before after columns place (map shown_cell olds) (map shown_cell news) (shown_cell old) (shown_cell new) os ns xs ys old_at new_at old_whole new_whole long' within' kept.0 kept.1 reaches)
-    (λ changed. Reaches-changed start before after columns place (map shown_cell olds) (map shown_cell news) (shown_cell old) (shown_cell new) os ns xs ys old_at new_at old_whole new_whole long' within' changed reaches)
+    (λ kept. Reaches-kept start before after columns place (map cell_view olds) (map cell_view news) (cell_view old) (cell_view new) os ns xs ys old_at new_at old_whole new_whole long' within' kept.0 kept.1 reaches)
+    (λ changed. Reaches-changed start before after columns place (map cell_view olds) (map cell_view news) (cell_view old) (cell_view new) os ns xs ys old_at new_at old_whole new_whole long' within' changed reaches)
     change
 
 -- a cluster that begins in a cell of whole clusters can be shown
-pub begins-at : (columns place : ℕ) (items : List Cell) (item : Cell) → item ≡ get_or items place item → place < length items → are_whole columns 0 0 (map shown_cell items) ≡ true →
-    is_half (shown_cell item) ≡ false → can_begin columns place (shown_cell item) ≡ true
+pub begins-at : (columns place : ℕ) (items : List Cell) (item : Cell) → item ≡ get_or items place item → place < length items → are_whole columns 0 0 (map cell_view items) ≡ true →
+    is_half (cell_view item) ≡ false → can_begin columns place (cell_view item) ≡ true
 begins-at columns place items item is within whole not_half =
-    (whole-at columns place (map shown_cell items) (shown_cell item) (map shown_cell (drop (place + 1) items)) (Split-at items place item is within) whole
-    (omega (arith, length-map items shown_cell)) not_half).0
+    (whole-at columns place (map cell_view items) (cell_view item) (map cell_view (drop (place + 1) items)) (Split-at items place item is within) whole
+    (omega (arith, length-map items cell_view)) not_half).0

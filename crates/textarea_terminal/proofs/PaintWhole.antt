@@ -5,9 +5,9 @@ use Rattle.std.proofs.lemmas.List.{append-nil}
 use Rattle.std.proofs.Common.{map}
 use Rattle.std.proofs.lemmas.List.{length-map}
 use Rattle.textarea_screen.specs.declared.screen.cell.Cell.{Cell}
-use Rattle.textarea_screen.specs.Cell.{ShownCell, fresh_cell, shown_cell}
+use Rattle.textarea_screen.specs.Cell.{CellView, fresh_cell, cell_view}
 use Rattle.textarea_terminal.specs.Control.{Control}
-use Rattle.textarea_terminal.specs.Paint.{Wrote, prints_of, HasRuns, HasLooks, AreChanges, Repaints, Frame, IsCaret, ShowsFrame, Paints, MovesTo, Clears, SetsCursor, EndsUpdate, PutsCaret, Finishes}
+use Rattle.textarea_terminal.specs.Paint.{Wrote, prints_of, HasRuns, HasLooks, AreChanges, Repaints, PaintedFrame, IsCaret, ShowsFrame, Paints, MovesTo, Clears, SetsCursor, EndsUpdate, PutsCaret, PaintsFrame}
 use Rattle.textarea_terminal.specs.Pen.{plain_look}
 use Rattle.textarea_terminal.specs.Screen.{Terminal, run}
 use Rattle.textarea_terminal.specs.declared.output.brush.Brush.{Brush}
@@ -37,7 +37,7 @@ still-known : (known : Option Bool) (before after : Bool) → after ≡ before �
 still-known None before after same is_shown = tt
 still-known (Some b) before after same is_shown = same ∙ is_shown
 
-within-cells : (caret : Option ℕ) (cells new : List ShownCell) → cells ≡ new → IfSome caret (λ place. place < length new) → IfSome caret (λ place. place < length cells)
+within-cells : (caret : Option ℕ) (cells new : List CellView) → cells ≡ new → IfSome caret (λ place. place < length new) → IfSome caret (λ place. place < length cells)
 within-cells None cells new same within = tt
 within-cells (Some place) cells new same within = omega (arith, ap length same)
 
@@ -61,9 +61,9 @@ caret-there : (caret : Option ℕ) (terminal : Terminal) → IsCaret caret (reco
 caret-there None terminal = refl
 caret-there (Some place) terminal = (refl, refl)
 
-pub finishes : (start brush : Brush) (known : Option Bool) (columns : ℕ) (old new : List ShownCell) (caret : Option ℕ) (xs ys zs : List Control) →
+pub finishes : (start brush : Brush) (known : Option Bool) (columns : ℕ) (old new : List CellView) (caret : Option ℕ) (xs ys zs : List Control) →
     IfSome caret (λ place. place < length new) → Repaints columns old new start brush xs → PutsCaret brush.at known columns caret ys → EndsUpdate brush.is_updating zs →
-    Finishes start known columns old (record { cells = new; caret = caret }) (xs ++ (ys ++ zs))
+    PaintsFrame start known columns old (record { cells = new; caret = caret }) (xs ++ (ys ++ zs))
 finishes start brush known columns old new caret xs ys zs within repaints puts ends = record {
   brings = λ terminal knows is_shown same cells.
       let one = run xs terminal in
@@ -73,7 +73,7 @@ finishes start brush known columns old new caret xs ys zs within repaints puts e
       let put : run ys one ≡ two = puts.brings one shows.knows.cursor (still-known known terminal.has_cursor_shown one.has_cursor_shown shows.caret is_shown) shows.columns (within-cells caret one.cells new shows.cells within) in
       let ran : run (xs ++ (ys ++ zs)) terminal ≡ three =
       run-append xs (ys ++ zs) terminal ∙ run-append ys zs one ∙ ap (run zs) put ∙ ends.1 two shows.knows.updating in
-      let F : Frame = record { cells = new; caret = caret } in
+      let F : PaintedFrame = record { cells = new; caret = caret } in
       subst (ShowsFrame columns F) (sym ran) (record { columns = shows.columns; cells = shows.cells; caret = caret-there caret one; updating = refl });
   prints =
       let texts : prints_of (xs ++ (ys ++ zs)) ≡ prints_of xs = rw (prints_of-append xs (ys ++ zs), prints_of-append ys zs, puts.prints, ends.0) (append-nil (prints_of xs)) in
@@ -87,7 +87,7 @@ finishes start brush known columns old new caret xs ys zs within repaints puts e
 }
 
 -- from a terminal that shows the frame painted last
-pub paints-known : (columns size : ℕ) (old new : Frame) (xs : List Control) → Finishes (record { at = old.caret; pen = None; is_updating = false }) (Some (is_some old.caret)) columns old.cells new xs →
+pub paints-known : (columns size : ℕ) (old new : PaintedFrame) (xs : List Control) → PaintsFrame (record { at = old.caret; pen = None; is_updating = false }) (Some (is_some old.caret)) columns old.cells new xs →
     Paints columns size (Some old) new xs
 paints-known columns size old new xs finish = record {
   brings = λ terminal shown.
@@ -97,12 +97,12 @@ paints-known columns size old new xs finish = record {
   pens = (finish.pens.0, (finish.pens.1.0, omega (arith, finish.pens.1.1)));
   still = λ same.
       let frames : old ≡ new = cc same in
-      finish.still (ap (λ (f : Frame). f.cells) frames) (ap (λ (f : Frame). Some (is_some f.caret)) frames) (caret-same old.caret new.caret (ap (λ (f : Frame). f.caret) frames)) refl;
+      finish.still (ap (λ (f : PaintedFrame). f.cells) frames) (ap (λ (f : PaintedFrame). Some (is_some f.caret)) frames) (caret-same old.caret new.caret (ap (λ (f : PaintedFrame). f.caret) frames)) refl;
 }
 
 -- from a terminal that was erased
-pub paints-unknown : (columns size : ℕ) (old : List ShownCell) (new : Frame) (xs ys : List Control) → old ≡ replicate size fresh_cell → Clears xs →
-    Finishes (record { at = None; pen = Some plain_look; is_updating = true }) None columns old new ys → Paints columns size None new (xs ++ ys)
+pub paints-unknown : (columns size : ℕ) (old : List CellView) (new : PaintedFrame) (xs ys : List Control) → old ≡ replicate size fresh_cell → Clears xs →
+    PaintsFrame (record { at = None; pen = Some plain_look; is_updating = true }) None columns old new ys → Paints columns size None new (xs ++ ys)
 paints-unknown columns size old new xs ys erased clears finish = record {
   brings = λ terminal shown.
       let one : Terminal = record terminal { cells = replicate (length terminal.cells) fresh_cell; pen = plain_look; is_updating = true } in
@@ -125,12 +125,12 @@ paints-unknown columns size old new xs ys erased clears finish = record {
 
 -- ---- as bytes
 
-pub Wrote-frame : (start brush : Brush) (known : Option Bool) (columns : ℕ) (old new : List ShownCell) (caret : Option ℕ) {a b c d : List ℕ} →
+pub Wrote-frame : (start brush : Brush) (known : Option Bool) (columns : ℕ) (old new : List CellView) (caret : Option ℕ) {a b c d : List ℕ} →
     IfSome caret (λ place. place < length new) → Wrote a b (Repaints columns old new start brush) → Wrote b c (PutsCaret brush.at known columns caret) →
-    Wrote c d (EndsUpdate brush.is_updating) → Wrote a d (Finishes start known columns old (record { cells = new; caret = caret }))
+    Wrote c d (EndsUpdate brush.is_updating) → Wrote a d (PaintsFrame start known columns old (record { cells = new; caret = caret }))
 Wrote-frame start brush known columns old new caret within first second third =
     let Q : List Control → Type 0 = λ rest. (ys : List Control) × ((zs : List Control) × ((rest ≡ ys ++ zs) × (PutsCaret brush.at known columns caret ys × EndsUpdate brush.is_updating zs))) in
-    let R : List Control → Type 0 = Finishes start known columns old (record { cells = new; caret = caret }) in
+    let R : List Control → Type 0 = PaintsFrame start known columns old (record { cells = new; caret = caret }) in
     Wrote-then R first (Wrote-then Q second third (λ ys zs puts ends. (ys, (zs, (refl, (puts, ends))))))
     (λ xs rest repaints parts.
     let ys = parts.0 in
@@ -138,6 +138,6 @@ Wrote-frame start brush known columns old new caret within first second third =
     let same : xs ++ rest ≡ xs ++ (ys ++ zs) = ap (λ more. xs ++ more) parts.1.1.0 in
     subst R (sym same) (finishes start brush known columns old new caret xs ys zs within repaints parts.1.1.1.0 parts.1.1.1.1))
 
-pub within-shown : (caret : Option ℕ) (items : List Cell) → IfSome caret (λ place. place < length items) → IfSome caret (λ place. place < length (map shown_cell items))
+pub within-shown : (caret : Option ℕ) (items : List Cell) → IfSome caret (λ place. place < length items) → IfSome caret (λ place. place < length (map cell_view items))
 within-shown None items within = tt
-within-shown (Some place) items within = omega (arith, length-map items shown_cell)
+within-shown (Some place) items within = omega (arith, length-map items cell_view)

@@ -2,7 +2,7 @@
 use Rattle.std.proofs.Common.{◌≡◌, cond, ◌==◌, refl, sym, ap, ◌∙◌}
 use Rattle.textarea_screen.specs.declared.screen.color.Color.{Color}
 use Rattle.textarea_screen.specs.declared.screen.color.Color.TheVariants.{Reset, Black, Red, Green, Yellow, Blue, Magenta, Cyan, Gray, DarkGray, LightRed, LightGreen, LightYellow, LightBlue, LightMagenta, LightCyan, White, Rgb, Indexed}
-use Rattle.textarea_terminal.specs.PenColors.{parts_of}
+use Rattle.textarea_terminal.specs.PenColors.{color_parts}
 use Rattle.textarea_terminal.specs.declared.output.look.ColorParts.{ColorParts}
 
 color_of : ColorParts → Color
@@ -26,7 +26,7 @@ color_of parts =
     cond (parts.kind == 16) White (
     cond (parts.kind == 17) (Rgb parts.first parts.second parts.third) (Indexed parts.first))))))))))))))))))
 
-color_of-parts : (color : Color) → color_of (parts_of color) ≡ color
+color_of-parts : (color : Color) → color_of (color_parts color) ≡ color
 unfolding color_of
 color_of-parts Reset = refl
 color_of-parts Black = refl
@@ -48,5 +48,5 @@ color_of-parts White = refl
 color_of-parts (Rgb red green blue) = refl
 color_of-parts (Indexed number) = refl
 
-pub same-color : (a b : Color) → parts_of a ≡ parts_of b → a ≡ b
+pub same-color : (a b : Color) → color_parts a ≡ color_parts b → a ≡ b
 same-color a b same = sym (color_of-parts a) ∙ ap color_of same ∙ color_of-parts b

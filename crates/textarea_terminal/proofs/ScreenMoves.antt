@@ -8,19 +8,19 @@ use Rattle.std.specs.Option.{option_eq}
 use mathlib.Core.Bool.{beq}
 use Rattle.std.proofs.lemmas.Bool.{cond-true, and_parts}
 use Rattle.std.proofs.lemmas.Bool.Decides.{nat_tests}
-use Rattle.textarea_screen.specs.Cell.{ShownCell}
+use Rattle.textarea_screen.specs.Cell.{CellView}
 use Rattle.textarea_terminal.specs.Control.{Control}
 use Rattle.textarea_terminal.specs.Control.Control.{MoveTo, Print}
 use Rattle.textarea_terminal.specs.Paint.{Wrote, IsNeeded, moves_of, pens_of, BeginsUpdate, MovesTo, TakesLook, PrintsCell, with_cell}
 use Rattle.textarea_terminal.specs.PaintCells.{can_begin, cluster_columns}
 use Rattle.textarea_terminal.specs.Pen.{look_of}
-use Rattle.textarea_terminal.specs.Screen.{Terminal, step, run, unknown}
+use Rattle.textarea_terminal.specs.Screen.{Terminal, apply_control, run, unknown}
 use Rattle.textarea_terminal.specs.declared.output.brush.Brush.{Brush}
 use Rattle.textarea_terminal.specs.declared.output.look.Look.{Look}
 use Rattle.textarea_terminal.proofs.ControlLemmas.{run-append, bytes_of-append, prints_of-append, moves_of-append, pens_of-append}
 
 pub move-there : (terminal : Terminal) (columns place : ℕ) → 0 < columns → terminal.columns ≡ columns → place < length terminal.cells →
-    step (MoveTo (place / columns) (place % columns)) terminal ≡ record terminal { cursor = Some place }
+    apply_control (MoveTo (place / columns) (place % columns)) terminal ≡ record terminal { cursor = Some place }
 move-there terminal columns place some same within =
     let there : place / columns * terminal.columns + place % columns ≡ place = rw same (omega arith) in
     let in_row : place % columns < terminal.columns = rw same (omega arith) in
@@ -30,11 +30,11 @@ move-there terminal columns place some same within =
     (Some (place / columns * terminal.columns + place % columns)) None (grind (arith, nat_tests, in_row, on_screen))
     ∙ ap Some there)
 
-print-there : (terminal : Terminal) (columns place : ℕ) (cell : ShownCell) → terminal.columns ≡ columns → can_begin columns place cell ≡ true →
-    step (Print cell.symbol) (record terminal { is_updating = true; cursor = Some place; pen = look_of cell }) ≡ with_cell columns place cell terminal
+print-there : (terminal : Terminal) (columns place : ℕ) (cell : CellView) → terminal.columns ≡ columns → can_begin columns place cell ≡ true →
+    apply_control (Print cell.symbol) (record terminal { is_updating = true; cursor = Some place; pen = look_of cell }) ≡ with_cell columns place cell terminal
 print-there terminal columns place cell same begins =
     let C : ℕ → Type 0 = λ n. can_begin n place cell ≡ true →
-    step (Print cell.symbol) (record terminal { is_updating = true; cursor = Some place; pen = look_of cell }) ≡ with_cell n place cell terminal in
+    apply_control (Print cell.symbol) (record terminal { is_updating = true; cursor = Some place; pen = look_of cell }) ≡ with_cell n place cell terminal in
     let width = cluster_columns cell.symbol in
     let room = ltb 0 width && leb (place % terminal.columns + width) terminal.columns in
     let three : Terminal = record terminal { is_updating = true; cursor = Some place; pen = look_of cell } in
@@ -45,7 +45,7 @@ needed-once pen look one all (inl known) same = inl (known.0, same ∙ known.1)
 needed-once pen look one all (inr other) same = inr (other.0, same ∙ other.1)
 
 -- an update is begun, the cursor is moved, the pen is changed, and the cluster is printed
-pub prints-cell : (brush : Brush) (columns place : ℕ) (cell : ShownCell) → can_begin columns place cell ≡ true → (begin move take : List Control) →
+pub prints-cell : (brush : Brush) (columns place : ℕ) (cell : CellView) → can_begin columns place cell ≡ true → (begin move take : List Control) →
     BeginsUpdate brush.is_updating begin → MovesTo brush.at columns place move → TakesLook brush.pen (look_of cell) take →
     PrintsCell brush columns place cell (begin ++ (move ++ (take ++ Print cell.symbol ∷ [])))
 prints-cell brush columns place cell begins begin move take begun moved taken = (
@@ -81,7 +81,7 @@ written-four a b c d e xs ys zs symbol first second third fourth =
     rw (fourth, third, second, first) (simp (bytes_of-append, append_assoc, append-nil))
 
 -- the same as bytes
-pub Wrote-cell : (brush : Brush) (columns place : ℕ) (cell : ShownCell) (look : Look) → can_begin columns place cell ≡ true → look ≡ look_of cell →
+pub Wrote-cell : (brush : Brush) (columns place : ℕ) (cell : CellView) (look : Look) → can_begin columns place cell ≡ true → look ≡ look_of cell →
     {a b c d e : List ℕ} → Wrote a b (BeginsUpdate brush.is_updating) → Wrote b c (MovesTo brush.at columns place) → Wrote c d (TakesLook brush.pen look) →
     e ≡ d ++ cell.symbol → Wrote a e (PrintsCell brush columns place cell)
 Wrote-cell brush columns place cell look begins is_look {a} {b} {c} {d} {e} begun moved taken printed =
@@ -90,7 +90,7 @@ Wrote-cell brush columns place cell look begins is_look {a} {b} {c} {d} {e} begu
     record {
       controls = begun.controls ++ (moved.controls ++ (taken.controls ++ last));
       bytes = written-four a b c d e begun.controls moved.controls taken.controls cell.symbol begun.bytes moved.bytes taken.bytes printed;
-      holding = prints-cell brush columns place cell begins begun.controls moved.controls taken.controls begun.holding moved.holding (subst Takes is_look taken.holding);
+      with_ranges = prints-cell brush columns place cell begins begun.controls moved.controls taken.controls begun.with_ranges moved.with_ranges (subst Takes is_look taken.with_ranges);
     }
 
 -- ---- tests of what is known

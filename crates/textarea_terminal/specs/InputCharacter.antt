@@ -46,5 +46,5 @@ second_byte a (b ∷ rest) =
     else Some (replacement, b ∷ rest)
 
 -- the character whose first byte is a, at least 128
-abbrev pub character : ℕ → List ℕ → Option (ℕ × List ℕ)
-character a bytes = if is_in_range 0xC2 0xF4 a then second_byte a bytes else Some (replacement, bytes)
+abbrev pub utf8_character : ℕ → List ℕ → Option (ℕ × List ℕ)
+utf8_character a bytes = if is_in_range 0xC2 0xF4 a then second_byte a bytes else Some (replacement, bytes)

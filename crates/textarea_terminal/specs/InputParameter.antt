@@ -18,8 +18,8 @@ number_from n [] = (n, [])
 number_from n (b ∷ bytes) = if is_digit b then number_from (min 65535 (10 * n + (b - 48))) bytes else (n, b ∷ bytes)
 
 -- the number at the front, 0 where no digit is there, and the bytes after it
-abbrev pub number : List ℕ → ℕ × List ℕ
-number bytes = number_from 0 bytes
+abbrev pub number_at : List ℕ → ℕ × List ℕ
+number_at bytes = number_from 0 bytes
 
 -- what the bytes after three numbers, two and one make of them
 abbrev pub after_third : ℕ → ℕ → ℕ × List ℕ → Parameters
@@ -28,12 +28,12 @@ after_third first second (third, b ∷ bytes) = parameters.Other
 
 abbrev pub after_second : ℕ → ℕ × List ℕ → Parameters
 after_second first (second, []) = parameters.Two first second
-after_second first (second, b ∷ bytes) = if b == 59 then after_third first second (number bytes) else parameters.Other
+after_second first (second, b ∷ bytes) = if b == 59 then after_third first second (number_at bytes) else parameters.Other
 
 abbrev pub after_first : ℕ × List ℕ → Parameters
 after_first (first, []) = parameters.One first
-after_first (first, b ∷ bytes) = if b == 59 then after_second first (number bytes) else parameters.Other
+after_first (first, b ∷ bytes) = if b == 59 then after_second first (number_at bytes) else parameters.Other
 
 -- up to three parameters; no row has more
 unfoldable pub parameters_of : List ℕ → Parameters
-parameters_of bytes = after_first (number bytes)
+parameters_of bytes = after_first (number_at bytes)

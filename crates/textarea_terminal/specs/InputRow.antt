@@ -12,7 +12,7 @@ use Rattle.textarea_terminal.specs.declared.input.event.MouseButton.{MouseButton
 use Rattle.textarea_terminal.specs.declared.input.event.MouseButton.TheVariants as button
 use Rattle.textarea_terminal.specs.InputEvent.{EventValue, input, paste, mouse, size, cursor, focus_gained, focus_lost}
 use Rattle.textarea_terminal.specs.InputKey.{input_of_key, ctrl_input, with_alt, input_with, letter_keys, numbered_keys, small_letter_keys, console_keys}
-use Rattle.textarea_terminal.specs.InputUnit.{paste_start, paste_end, index_of}
+use Rattle.textarea_terminal.specs.InputUnit.{paste_start, paste_end, mark_index}
 use Rattle.textarea_terminal.specs.InputSequence.{is_inner, is_final, inner_limit}
 use Rattle.textarea_terminal.specs.InputStream.{Decoding, decoding}
 
@@ -36,8 +36,8 @@ abbrev pub bracket : List ℕ → List ℕ
 bracket bytes = 27 ∷ 91 ∷ bytes
 
 -- the parameters of each choice of Shift, Alt and Ctrl but none
-abbrev pub modifiers : List ℕ
-modifiers = 2 ∷ 3 ∷ 4 ∷ 5 ∷ 6 ∷ 7 ∷ 8 ∷ []
+abbrev pub modifier_parameters : List ℕ
+modifier_parameters = 2 ∷ 3 ∷ 4 ∷ 5 ∷ 6 ∷ 7 ∷ 8 ∷ []
 
 -- bytes, and the input that they are
 abbrev pub KeyRow : Type 0
@@ -55,14 +55,14 @@ byte_rows =
 unfoldable pub letter_rows : List KeyRow
 letter_rows = flat_map (λ r.
     (bracket (r.0 ∷ []), input_of_key r.1) ∷ (27 ∷ 79 ∷ r.0 ∷ [], input_of_key r.1)
-    ∷ map (λ m. (bracket (49 ∷ 59 ∷ digit m ∷ r.0 ∷ []), input_with r.1 m)) modifiers) letter_keys
+    ∷ map (λ m. (bracket (49 ∷ 59 ∷ digit m ∷ r.0 ∷ []), input_with r.1 m)) modifier_parameters) letter_keys
 
 -- numbered keys: ESC [ number ~, ESC [ number ; modifiers ~, and rxvt's: $ with Shift, ^ with Ctrl, @ with both
 unfoldable pub numbered_rows : List KeyRow
 numbered_rows = flat_map (λ r.
     (bracket (decimal r.0 ++ 126 ∷ []), input_of_key r.1) ∷ (bracket (decimal r.0 ++ 36 ∷ []), input_with r.1 2)
     ∷ (bracket (decimal r.0 ++ 94 ∷ []), input_with r.1 5) ∷ (bracket (decimal r.0 ++ 64 ∷ []), input_with r.1 6)
-    ∷ map (λ m. (bracket (decimal r.0 ++ 59 ∷ digit m ∷ 126 ∷ []), input_with r.1 m)) modifiers) numbered_keys
+    ∷ map (λ m. (bracket (decimal r.0 ++ 59 ∷ digit m ∷ 126 ∷ []), input_with r.1 m)) modifier_parameters) numbered_keys
 
 -- rxvt's arrows with Shift and Ctrl, the Linux console's F1 to F5, Tab with Shift, and the keypad's Enter
 unfoldable pub other_rows : List KeyRow
@@ -112,23 +112,23 @@ cursor_report column row = bracket (decimal (row + 1) ++ 59 ∷ (decimal (column
 -- ---- all rows
 
 -- these bytes are what terminals send for this event
-pub data IsWritten : List ℕ → EventValue → Type 0 where
-  key_row : (row : KeyRow) → Contains key_rows row → IsWritten row.0 (input row.1)
-  alt_key_row : (row : KeyRow) → Contains key_rows row → IsWritten (27 ∷ row.0) (input (with_alt row.1))
-  character_row : (c : ℕ) → IsScalar c → 32 ≤ c → c ≢ 127 → IsWritten (encode_utf8 c) (input (input_of_key (key.Char c)))
-  alt_character_row : (c : ℕ) → IsScalar c → 32 ≤ c → c ≢ 127 → c ≢ 91 → c ≢ 79 → IsWritten (27 ∷ encode_utf8 c) (input (with_alt (input_of_key (key.Char c))))
-  paste_row : (text : List ℕ) → index_of paste_end text ≡ None → IsWritten (paste_start ++ text ++ paste_end) (paste (utf8_lossy text))
+pub data IsSentFor : List ℕ → EventValue → Type 0 where
+  key_row : (row : KeyRow) → Contains key_rows row → IsSentFor row.0 (input row.1)
+  alt_key_row : (row : KeyRow) → Contains key_rows row → IsSentFor (27 ∷ row.0) (input (with_alt row.1))
+  character_row : (c : ℕ) → IsScalar c → 32 ≤ c → c ≢ 127 → IsSentFor (encode_utf8 c) (input (input_of_key (key.Char c)))
+  alt_character_row : (c : ℕ) → IsScalar c → 32 ≤ c → c ≢ 127 → c ≢ 91 → c ≢ 79 → IsSentFor (27 ∷ encode_utf8 c) (input (with_alt (input_of_key (key.Char c))))
+  paste_row : (text : List ℕ) → mark_index paste_end text ≡ None → IsSentFor (paste_start ++ text ++ paste_end) (paste (utf8_lossy text))
   mouse_row : (m : Mouse) → m.column + 1 < 65536 → m.row + 1 < 65536
-      → IsWritten (mouse_report (with_modifiers (code_of_kind m.kind) m.ctrl m.alt m.shift) m.column m.row (last_of_kind m.kind)) (mouse m)
+      → IsSentFor (mouse_report (with_modifiers (code_of_kind m.kind) m.ctrl m.alt m.shift) m.column m.row (last_of_kind m.kind)) (mouse m)
   wheel_up_row : (column row : ℕ) (ctrl alt shift : Bool) → column + 1 < 65536 → row + 1 < 65536
-      → IsWritten (mouse_report (with_modifiers 64 ctrl alt shift) column row 77) (input (record { key = key.MouseScrollUp; ctrl = ctrl; alt = alt; shift = shift }))
+      → IsSentFor (mouse_report (with_modifiers 64 ctrl alt shift) column row 77) (input (record { key = key.MouseScrollUp; ctrl = ctrl; alt = alt; shift = shift }))
   wheel_down_row : (column row : ℕ) (ctrl alt shift : Bool) → column + 1 < 65536 → row + 1 < 65536
-      → IsWritten (mouse_report (with_modifiers 65 ctrl alt shift) column row 77) (input (record { key = key.MouseScrollDown; ctrl = ctrl; alt = alt; shift = shift }))
-  size_row : (columns rows : ℕ) → columns < 65536 → rows < 65536 → IsWritten (size_report columns rows) (size columns rows)
+      → IsSentFor (mouse_report (with_modifiers 65 ctrl alt shift) column row 77) (input (record { key = key.MouseScrollDown; ctrl = ctrl; alt = alt; shift = shift }))
+  size_row : (columns rows : ℕ) → columns < 65536 → rows < 65536 → IsSentFor (size_report columns rows) (size columns rows)
   cursor_row : (column row : ℕ) → column + 1 < 65536 → row + 1 < 65536 → (row ≡ 0 → 1 ≤ column → column ≤ 7 → ⊥)
-      → IsWritten (cursor_report column row) (cursor column row)
-  focus_gained_row : IsWritten (bracket (73 ∷ [])) focus_gained
-  focus_lost_row : IsWritten (bracket (79 ∷ [])) focus_lost
+      → IsSentFor (cursor_report column row) (cursor column row)
+  focus_gained_row : IsSentFor (bracket (73 ∷ [])) focus_gained
+  focus_lost_row : IsSentFor (bracket (79 ∷ [])) focus_lost
 
 -- rows, one after another
 abbrev pub bytes_of_rows : List (List ℕ × EventValue) → List ℕ

@@ -27,8 +27,8 @@ abbrev pub events_of : List ℕ → List EventValue
 events_of bytes = (decoding bytes).0
 
 -- the bytes of an event that is begun
-abbrev pub rest_of : List ℕ → List ℕ
-rest_of bytes = (decoding bytes).1
+abbrev pub begun_bytes : List ℕ → List ℕ
+begun_bytes bytes = (decoding bytes).1
 
 -- the bytes end in these
 pub record EndsIn (bytes rest : List ℕ) : Type 0 where
@@ -57,17 +57,17 @@ pub record AddsUpTo (old new : List Event) (to_come all : List EventValue) : Typ
 -- ---- where nothing more comes for now
 
 -- the key that begins a sequence, which the bytes after its ESC begin
-unfoldable pub key_alone : List ℕ → Option Input
-key_alone [] = Some (input_of_key key.Esc)
-key_alone (b ∷ []) =
+unfoldable pub leading_key : List ℕ → Option Input
+leading_key [] = Some (input_of_key key.Esc)
+leading_key (b ∷ []) =
     if b == 91 then Some (with_alt (input_of_key (key.Char 91))) else (if b == 79 then Some (with_alt (input_of_key (key.Char 79))) else None)
-key_alone (b ∷ c ∷ bytes) = None
+leading_key (b ∷ c ∷ bytes) = None
 
 -- the same with one ESC more before it, which is Esc
 unfoldable pub keys_after_escape : List ℕ → Option (Bool × Input)
 keys_after_escape [] = Some (false, input_of_key key.Esc)
 keys_after_escape (b ∷ bytes) =
-    if b == 27 then option_map (λ i. (true, i)) (key_alone bytes) else option_map (λ i. (false, i)) (key_alone (b ∷ bytes))
+    if b == 27 then option_map (λ i. (true, i)) (leading_key bytes) else option_map (λ i. (false, i)) (leading_key (b ∷ bytes))
 
 -- The keys that bytes which begin a sequence are where nothing more comes: whether Esc is first, and the key after it. Longer
 -- sequences stay begun.

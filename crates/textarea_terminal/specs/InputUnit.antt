@@ -6,7 +6,7 @@ use Rattle.textarea_data.specs.declared.input.Input.{Input}
 use Rattle.textarea_data.specs.declared.input.Key.TheVariants as key
 use Rattle.textarea_terminal.specs.InputEvent.{EventValue, EventAndRest, input, paste}
 use Rattle.textarea_terminal.specs.InputKey.{input_of_key, with_alt, byte_input, single_event}
-use Rattle.textarea_terminal.specs.InputCharacter.{character}
+use Rattle.textarea_terminal.specs.InputCharacter.{utf8_character}
 use Rattle.textarea_terminal.specs.InputSequence.{bracket_at}
 
 -- ---- keys with a character, and sequences
@@ -14,7 +14,7 @@ use Rattle.textarea_terminal.specs.InputSequence.{bracket_at}
 -- the input of a first byte that isn't ESC, and of those after it
 unfoldable pub key_at : ℕ → List ℕ → Option (Input × List ℕ)
 key_at a bytes =
-    if nat_lt a 128 then Some (byte_input a, bytes) else option_map (λ x. (input_of_key (key.Char x.0), x.1)) (character a bytes)
+    if nat_lt a 128 then Some (byte_input a, bytes) else option_map (λ x. (input_of_key (key.Char x.0), x.1)) (utf8_character a bytes)
 
 -- what is after ESC O: a byte from 32 to 126, or it is Alt and O
 unfoldable pub single_at : List ℕ → EventAndRest
@@ -65,16 +65,16 @@ after_mark (m ∷ mark) [] = None
 after_mark (m ∷ mark) (b ∷ bytes) = if b == m then after_mark mark bytes else None
 
 -- the index of the first mark
-unfoldable pub index_of : List ℕ → List ℕ → Option ℕ
-index_of mark [] = None
-index_of mark (b ∷ bytes) = if is_some (after_mark mark (b ∷ bytes)) then Some 0 else option_map suc (index_of mark bytes)
+unfoldable pub mark_index : List ℕ → List ℕ → Option ℕ
+mark_index mark [] = None
+mark_index mark (b ∷ bytes) = if is_some (after_mark mark (b ∷ bytes)) then Some 0 else option_map suc (mark_index mark bytes)
 
 -- a pasted text ends at the first mark of an end, whatever its bytes are
 abbrev pub paste_before : List ℕ → ℕ → EventValue × List ℕ
 paste_before bytes index = (paste (utf8_lossy (take index bytes)), drop (index + 6) bytes)
 
 unfoldable pub paste_at : List ℕ → EventAndRest
-paste_at bytes = option_map (paste_before bytes) (index_of paste_end bytes)
+paste_at bytes = option_map (paste_before bytes) (mark_index paste_end bytes)
 
 -- ---- all
 

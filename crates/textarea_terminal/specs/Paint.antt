@@ -1,7 +1,7 @@
 -- What painting does to a terminal, and how the bytes say it.
 use Rattle.std.specs.Prelude.{◌≡◌, ℕ, ◌+◌, ◌%◌, ◌<◌, ◌≤◌, true, false, Bool, not, ◌&&◌, ◌==◌, List, [], ◌∷◌, ◌++◌, ◌⊎◌, ◌≢◌, length, take, drop, replicate, Option, None, Some, IfSome, is_some, if◌then◌else◌}
 use Rattle.std.specs.Option.{option_or}
-use Rattle.textarea_screen.specs.Cell.{ShownCell, fresh_cell}
+use Rattle.textarea_screen.specs.Cell.{CellView, fresh_cell}
 use Rattle.textarea_terminal.specs.Control.{Control, bytes_of}
 use Rattle.textarea_terminal.specs.Control.Control.{Print, MoveTo, SetPen, EraseAll, ShowCursor, HideCursor, BeginUpdate, EndUpdate}
 use Rattle.textarea_terminal.specs.PaintCells.{cluster_columns, is_half}
@@ -14,7 +14,7 @@ use Rattle.textarea_terminal.specs.declared.output.look.Look.{Look}
 pub record Wrote (before after : List ℕ) (holds : List Control → Type 0) : Type 0 where
   pub controls : List Control
   pub bytes : after ≡ before ++ bytes_of controls
-  pub holding : holds controls
+  pub with_ranges : holds controls
 
 -- the texts that controls print, in order
 abbrev pub prints_of : List Control → List (List ℕ)
@@ -88,7 +88,7 @@ pub record Knows (brush : Brush) (terminal : Terminal) : Type 0 where
   pub updating : terminal.is_updating ≡ brush.is_updating
 
 -- the terminal with the cell's cluster printed at a place
-abbrev pub with_cell : ℕ → ℕ → ShownCell → Terminal → Terminal
+abbrev pub with_cell : ℕ → ℕ → CellView → Terminal → Terminal
 with_cell columns place cell terminal = record terminal {
   cells = printed (rest_of terminal.rest_look (look_of cell)) cell (cluster_columns cell.symbol) (take place terminal.cells) (drop place terminal.cells);
   cursor = cursor_after columns (place + cluster_columns cell.symbol);
@@ -97,7 +97,7 @@ with_cell columns place cell terminal = record terminal {
 }
 
 -- what is known after that
-abbrev pub brush_after : ℕ → ℕ → ShownCell → Brush
+abbrev pub brush_after : ℕ → ℕ → CellView → Brush
 brush_after columns place cell = record {
   at = cursor_after columns (place + cluster_columns cell.symbol);
   pen = Some (look_of cell);
@@ -105,7 +105,7 @@ brush_after columns place cell = record {
 }
 
 -- the controls print the cell's cluster at a place
-abbrev pub PrintsCell : Brush → ℕ → ℕ → ShownCell → List Control → Type 0
+abbrev pub PrintsCell : Brush → ℕ → ℕ → CellView → List Control → Type 0
 PrintsCell brush columns place cell controls =
     (prints_of controls ≡ cell.symbol ∷ [])
     × ((terminal : Terminal) → Knows brush terminal → terminal.columns ≡ columns → place < length terminal.cells →
@@ -113,12 +113,12 @@ PrintsCell brush columns place cell controls =
     × (moves_of controls ≤ 1) × (brush.at ≡ Some place → moves_of controls ≡ 0) × IsNeeded brush.pen (look_of cell) (pens_of controls)
 
 -- the cell is as it was, or its cluster begins before it: nothing is written
-pub record KeepsCell (before after : Brush) (old new : ShownCell) (controls : List Control) : Type 0 where
+pub record KeepsCell (before after : Brush) (old new : CellView) (controls : List Control) : Type 0 where
   pub none : controls ≡ []
   pub brush : after ≡ before
 
 -- the cell is another one: it is printed
-pub record ChangesCell (before after : Brush) (columns place : ℕ) (old new : ShownCell) (controls : List Control) : Type 0 where
+pub record ChangesCell (before after : Brush) (columns place : ℕ) (old new : CellView) (controls : List Control) : Type 0 where
   pub whole : is_half new ≡ false
   pub changed : old ≢ new
   pub prints : PrintsCell before columns place new controls
@@ -127,14 +127,14 @@ pub record ChangesCell (before after : Brush) (columns place : ℕ) (old new : S
 -- ---- a frame
 
 -- the terminal is as the brush knows it, and shows these cells, and its cursor or not
-pub record Shows (brush : Brush) (width : ℕ) (frame : List ShownCell) (is_caret_shown : Bool) (terminal : Terminal) : Type 0 where
+pub record Shows (brush : Brush) (width : ℕ) (frame : List CellView) (is_caret_shown : Bool) (terminal : Terminal) : Type 0 where
   pub knows : Knows brush terminal
   pub columns : terminal.columns ≡ width
   pub cells : terminal.cells ≡ frame
   pub caret : terminal.has_cursor_shown ≡ is_caret_shown
 
 -- these texts, in order, are those of the clusters of the new cells that begin in a cell which is not as it was
-abbrev pub AreChanges : List ShownCell → List ShownCell → List (List ℕ) → Type 0
+abbrev pub AreChanges : List CellView → List CellView → List (List ℕ) → Type 0
 AreChanges [] [] texts = texts ≡ []
 AreChanges (old ∷ olds) (new ∷ news) texts =
     (((is_half new ≡ true) ⊎ (old ≡ new)) × AreChanges olds news texts)
@@ -142,7 +142,7 @@ AreChanges (old ∷ olds) (new ∷ news) texts =
 AreChanges olds news texts = ⊥
 
 -- so many runs of changed clusters, each run in one row; `follows` where the cluster before these cells has changed
-abbrev pub HasRuns : ℕ → ℕ → Bool → List ShownCell → List ShownCell → ℕ → Type 0
+abbrev pub HasRuns : ℕ → ℕ → Bool → List CellView → List CellView → ℕ → Type 0
 HasRuns columns place follows [] [] runs = runs ≡ 0
 HasRuns columns place follows (old ∷ olds) (new ∷ news) runs =
     ((is_half new ≡ true) × HasRuns columns (place + 1) follows olds news runs)
@@ -152,7 +152,7 @@ HasRuns columns place follows (old ∷ olds) (new ∷ news) runs =
 HasRuns columns place follows olds news runs = ⊥
 
 -- so many changes of the look among changed clusters, from the look of the pen
-abbrev pub HasLooks : Option Look → List ShownCell → List ShownCell → ℕ → Type 0
+abbrev pub HasLooks : Option Look → List CellView → List CellView → ℕ → Type 0
 HasLooks pen [] [] looks = looks ≡ 0
 HasLooks pen (old ∷ olds) (new ∷ news) looks =
     (((is_half new ≡ true) ⊎ (old ≡ new)) × HasLooks pen olds news looks)
@@ -163,7 +163,7 @@ HasLooks pen olds news looks = ⊥
 -- the controls bring a terminal from showing the old cells to showing the new ones, and leave its cursor as visible as it was; they
 -- print what has changed and nothing else, with one move for each run at most, and a change of the pen only where the look changes; and
 -- where nothing has changed there are none
-pub record Repaints (columns : ℕ) (old new : List ShownCell) (before after : Brush) (controls : List Control) : Type 0 where
+pub record Repaints (columns : ℕ) (old new : List CellView) (before after : Brush) (controls : List Control) : Type 0 where
   pub brings : (terminal : Terminal) (is_caret_shown : Bool) → Shows before columns old is_caret_shown terminal →
       Shows after columns new is_caret_shown (run controls terminal)
   pub prints : AreChanges old new (prints_of controls)
@@ -174,8 +174,8 @@ pub record Repaints (columns : ℕ) (old new : List ShownCell) (before after : B
 -- ---- what a painter promises
 
 -- what was painted last: the cells, row after row, and the place of the caret among them, if it is shown
-pub record Frame : Type 0 where
-  pub cells : List ShownCell
+pub record PaintedFrame : Type 0 where
+  pub cells : List CellView
   pub caret : Option ℕ
 
 -- the cursor is shown at this place, or not shown
@@ -184,24 +184,24 @@ IsCaret None terminal = terminal.has_cursor_shown ≡ false
 IsCaret (Some place) terminal = (terminal.has_cursor_shown ≡ true) × (terminal.cursor ≡ Some place)
 
 -- the terminal shows exactly these cells and this caret, and holds nothing back
-pub record ShowsFrame (width : ℕ) (frame : Frame) (terminal : Terminal) : Type 0 where
+pub record ShowsFrame (width : ℕ) (frame : PaintedFrame) (terminal : Terminal) : Type 0 where
   pub columns : terminal.columns ≡ width
   pub cells : terminal.cells ≡ frame.cells
   pub caret : IsCaret frame.caret terminal
   pub updating : terminal.is_updating ≡ false
 
 -- the terminal has so many columns and cells; and where a frame is known it shows that
-abbrev pub IsShown : ℕ → ℕ → Option Frame → Terminal → Type 0
-IsShown columns size None terminal = (terminal.columns ≡ columns) × (length terminal.cells ≡ size)
-IsShown columns size (Some frame) terminal = ShowsFrame columns frame terminal
+abbrev pub ShowsKnown : ℕ → ℕ → Option PaintedFrame → Terminal → Type 0
+ShowsKnown columns size None terminal = (terminal.columns ≡ columns) × (length terminal.cells ≡ size)
+ShowsKnown columns size (Some frame) terminal = ShowsFrame columns frame terminal
 
 -- the cells from which the next frame starts: where nothing is known, those of an erased terminal
-abbrev pub first_cells : ℕ → Option Frame → List ShownCell
+abbrev pub first_cells : ℕ → Option PaintedFrame → List CellView
 first_cells size None = replicate size fresh_cell
 first_cells size (Some frame) = frame.cells
 
 -- the look of the pen before the first cell, where it is known: that of an erased terminal
-abbrev pub first_pen : Option Frame → Option Look
+abbrev pub first_pen : Option PaintedFrame → Option Look
 first_pen None = Some plain_look
 first_pen (Some frame) = None
 
@@ -209,8 +209,8 @@ first_pen (Some frame) = None
 -- known of it; they print each cluster that begins in a cell which has changed once, and nothing else, with one move for each run of such
 -- clusters and one for the caret at most, and a change of the pen where the look changes and one more at most; and where neither a cell
 -- nor the caret has changed there are none
-pub record Paints (columns size : ℕ) (before : Option Frame) (frame : Frame) (controls : List Control) : Type 0 where
-  pub brings : (terminal : Terminal) → IsShown columns size before terminal → ShowsFrame columns frame (run controls terminal)
+pub record Paints (columns size : ℕ) (before : Option PaintedFrame) (frame : PaintedFrame) (controls : List Control) : Type 0 where
+  pub brings : (terminal : Terminal) → ShowsKnown columns size before terminal → ShowsFrame columns frame (run controls terminal)
   pub prints : AreChanges (first_cells size before) frame.cells (prints_of controls)
   pub moves : (runs : ℕ) × (HasRuns columns 0 false (first_cells size before) frame.cells runs × (moves_of controls ≤ runs + 1))
   pub pens : (looks : ℕ) × (HasLooks (first_pen before) (first_cells size before) frame.cells looks × (pens_of controls ≤ looks + 1))
@@ -253,7 +253,7 @@ pub record PutsCaret (at : Option ℕ) (known : Option Bool) (width : ℕ) (care
   pub still : known ≡ Some (is_some caret) → IfSome caret (λ place. at ≡ Some place) → controls ≡ []
 
 -- the cells and then the caret are brought from what is known to the frame
-pub record Finishes (brush : Brush) (known : Option Bool) (width : ℕ) (old : List ShownCell) (frame : Frame) (controls : List Control) : Type 0 where
+pub record PaintsFrame (brush : Brush) (known : Option Bool) (width : ℕ) (old : List CellView) (frame : PaintedFrame) (controls : List Control) : Type 0 where
   pub brings : (terminal : Terminal) → Knows brush terminal → IfSome known (λ is_shown. terminal.has_cursor_shown ≡ is_shown) → terminal.columns ≡ width →
       terminal.cells ≡ old → ShowsFrame width frame (run controls terminal)
   pub prints : AreChanges old frame.cells (prints_of controls)

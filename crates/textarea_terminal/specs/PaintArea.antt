@@ -5,12 +5,12 @@ use Rattle.textarea_screen.specs.Rect.{contains}
 use Rattle.textarea_screen.specs.declared.screen.buffer.Buffer.{Buffer}
 use Rattle.textarea_screen.specs.declared.screen.rect.Position.{Position}
 use Rattle.textarea_screen.specs.declared.screen.rect.Rect.{Rect}
-use Rattle.textarea_terminal.specs.Paint.{Frame}
-use Rattle.textarea_terminal.specs.PaintCells.{frame_of}
+use Rattle.textarea_terminal.specs.Paint.{PaintedFrame}
+use Rattle.textarea_terminal.specs.PaintCells.{frame_of_buffer}
 
 -- the number of cells
-abbrev pub size_of : Rect → ℕ
-size_of area = area.height * area.width
+abbrev pub cell_count : Rect → ℕ
+cell_count area = area.height * area.width
 
 -- the place of the caret among the cells of the area; one outside of it isn't shown
 abbrev pub caret_in : Rect → Option Position → Option ℕ
@@ -18,5 +18,5 @@ caret_in area None = None
 caret_in area (Some position) = if contains area position.x position.y then Some (place_in area position.x position.y) else None
 
 -- what a terminal of the area is to show
-abbrev pub frame_in : Rect → Buffer → Option Position → Frame
-frame_in area buffer caret = record { cells = frame_of area buffer; caret = caret_in area caret }
+abbrev pub frame_in : Rect → Buffer → Option Position → PaintedFrame
+frame_in area buffer caret = record { cells = frame_of_buffer area buffer; caret = caret_in area caret }

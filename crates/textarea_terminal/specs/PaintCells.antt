@@ -3,7 +3,7 @@ use Rattle.std.specs.Prelude.{ℕ, zero, suc, ◌+◌, ◌-◌, ◌*◌, ◌/◌
 use Rattle.std.specs.Int.RustNames.{bit_and}
 use Rattle.textarea_paint.specs.Columns.{columns_of}
 use Rattle.textarea_screen.specs.Buffer.{cell_at}
-use Rattle.textarea_screen.specs.Cell.{ShownCell, fresh_cell}
+use Rattle.textarea_screen.specs.Cell.{CellView, fresh_cell}
 use Rattle.textarea_screen.specs.declared.screen.buffer.Buffer.{Buffer}
 use Rattle.textarea_screen.specs.declared.screen.color.Color.{Color}
 use Rattle.textarea_screen.specs.declared.screen.color.Color.TheVariants.{Reset}
@@ -17,58 +17,58 @@ unfoldable pub cluster_columns : List ℕ → ℕ
 cluster_columns text = if length (graphemes true text) == 1 then columns_of text else 0
 
 -- a cell that a cluster takes which begins in a cell before it: that one has the look of both
-abbrev pub half : ShownCell
+abbrev pub half : CellView
 half = record { symbol = []; fg = Reset; bg = Reset; modifier = record { 0 = 0 } }
 
-abbrev pub is_half : ShownCell → Bool
+abbrev pub is_half : CellView → Bool
 is_half cell = length cell.symbol == 0
 
 -- the look as a terminal shows it, which has nine modifiers
 abbrev pub nine_of : Look → Look
 nine_of look = record look { modifier = record { 0 = bit_and look.modifier.0 511 } }
 
-abbrev pub shown_alike : ShownCell → ShownCell
+abbrev pub shown_alike : CellView → CellView
 shown_alike cell = in_look (nine_of (look_of cell)) cell.symbol
 
 -- the cell with a blank in the place of what can't be shown
-abbrev pub blanked : ShownCell → ShownCell
+abbrev pub blanked : CellView → CellView
 blanked cell = in_look (nine_of (look_of cell)) (32 ∷ [])
 
 -- so many of the cells, from the first on, hold the empty text
-abbrev pub begins_empty : ℕ → List ShownCell → Bool
+abbrev pub begins_empty : ℕ → List CellView → Bool
 begins_empty zero cells = true
 begins_empty (suc count) [] = false
 begins_empty (suc count) (cell ∷ cells) = is_half cell && begins_empty count cells
 
 -- a terminal of so many columns can show the text in the cell at this place, before these cells: the text is a cluster that
 -- doesn't reach past the row's end, and the cells that it takes after its own hold the empty text
-abbrev pub fits : ℕ → ℕ → ShownCell → List ShownCell → Bool
-fits columns place cell cells =
+abbrev pub fits_in_row : ℕ → ℕ → CellView → List CellView → Bool
+fits_in_row columns place cell cells =
     nat_lt 0 (cluster_columns cell.symbol)
     && nat_le (place % columns + cluster_columns cell.symbol) columns && begins_empty (cluster_columns cell.symbol - 1) cells
 
 -- cells, row after row, as a terminal shows them, from left to right: the next `halves` of them belong to a cluster that began
 -- before them
-abbrev pub displayed : ℕ → ℕ → ℕ → List ShownCell → List ShownCell
+abbrev pub displayed : ℕ → ℕ → ℕ → List CellView → List CellView
 displayed columns place halves [] = []
 displayed columns place (suc halves) (cell ∷ cells) = half ∷ displayed columns (place + 1) halves cells
 displayed columns place zero (cell ∷ cells) =
-    if fits columns place cell cells
+    if fits_in_row columns place cell cells
     then shown_alike cell ∷ displayed columns (place + 1) (cluster_columns cell.symbol - 1) cells
     else blanked cell ∷ displayed columns (place + 1) 0 cells
 
 -- the cell of the buffer at a place of an area, row after row; where the buffer has none, a fresh one
-abbrev pub cell_in : Rect → Buffer → ℕ → ShownCell
+abbrev pub cell_in : Rect → Buffer → ℕ → CellView
 cell_in area buffer place = unwrap_or (cell_at buffer (area.x + place % area.width) (area.y + place / area.width)) fresh_cell
 
 -- so many cells from a place on
-abbrev pub cells_from : Rect → Buffer → ℕ → ℕ → List ShownCell
+abbrev pub cells_from : Rect → Buffer → ℕ → ℕ → List CellView
 cells_from area buffer place zero = []
 cells_from area buffer place (suc count) = cell_in area buffer place ∷ cells_from area buffer (place + 1) count
 
 -- what a terminal of this area is to show of a buffer
-abbrev pub frame_of : Rect → Buffer → List ShownCell
-frame_of area buffer = displayed area.width 0 0 (cells_from area buffer 0 (area.height * area.width))
+abbrev pub frame_of_buffer : Rect → Buffer → List CellView
+frame_of_buffer area buffer = displayed area.width 0 0 (cells_from area buffer 0 (area.height * area.width))
 
 -- the color is the terminal's own
 abbrev pub is_own : Color → Bool
@@ -76,17 +76,17 @@ is_own Reset = true
 is_own color = false
 
 -- the cell is `half`
-abbrev pub is_plain_half : ShownCell → Bool
+abbrev pub is_plain_half : CellView → Bool
 is_plain_half cell = is_half cell && is_own cell.fg && is_own cell.bg && (cell.modifier.0 == 0)
 
 -- a terminal of so many columns can show the cluster that begins in this cell: it ends in its row
-abbrev pub can_begin : ℕ → ℕ → ShownCell → Bool
+abbrev pub can_begin : ℕ → ℕ → CellView → Bool
 can_begin columns place cell =
     nat_lt 0 (cluster_columns cell.symbol) && nat_le (place % columns + cluster_columns cell.symbol) columns && nat_lt cell.modifier.0 512
 
 -- the cells are those of clusters that a terminal of so many columns can show, each whole in its row; the first `halves` of them
 -- belong to a cluster that began before them
-abbrev pub are_whole : ℕ → ℕ → ℕ → List ShownCell → Bool
+abbrev pub are_whole : ℕ → ℕ → ℕ → List CellView → Bool
 are_whole columns place halves [] = halves == 0
 are_whole columns place (suc halves) (cell ∷ cells) = is_plain_half cell && are_whole columns (place + 1) halves cells
 are_whole columns place zero (cell ∷ cells) =

@@ -1,7 +1,7 @@
 -- The pen of a terminal: the look of what it prints next. A terminal changes it by Select Graphic Rendition.
 use Rattle.std.specs.Prelude.{ℕ, ◌+◌, ◌-◌, ◌^◌, Bool, ◌==◌, List, [], ◌∷◌, ◌++◌, codes, decimal, if◌then◌else◌}
 use Rattle.std.specs.Int.RustNames.{bit_and}
-use Rattle.textarea_screen.specs.Cell.{ShownCell}
+use Rattle.textarea_screen.specs.Cell.{CellView}
 use Rattle.textarea_screen.specs.Modifier.{union_of}
 use Rattle.textarea_screen.specs.declared.screen.color.Color.{Color}
 use Rattle.textarea_screen.specs.declared.screen.color.Color.TheVariants.{Reset, Black, Red, Green, Yellow, Blue, Magenta, Cyan, Gray, DarkGray, LightRed, LightGreen, LightYellow, LightBlue, LightMagenta, LightCyan, White, Rgb, Indexed}
@@ -13,11 +13,11 @@ abbrev pub plain_look : Look
 plain_look = record { fg = Reset; bg = Reset; modifier = record { 0 = 0 } }
 
 -- the colours and modifiers of a cell
-abbrev pub look_of : ShownCell → Look
+abbrev pub look_of : CellView → Look
 look_of cell = record { fg = cell.fg; bg = cell.bg; modifier = cell.modifier }
 
 -- a cell of this text in this look
-abbrev pub in_look : Look → List ℕ → ShownCell
+abbrev pub in_look : Look → List ℕ → CellView
 in_look look symbol = record { symbol = symbol; fg = look.fg; bg = look.bg; modifier = look.modifier }
 
 -- ---- what a rendition changes

@@ -1,6 +1,6 @@
 -- A terminal, and what each control does to it.
 use Rattle.std.specs.Prelude.{ℕ, ◌+◌, ◌-◌, ◌*◌, ◌%◌, Bool, true, false, ◌&&◌, ◌==◌, nat_lt, nat_le, List, [], ◌∷◌, ◌++◌, length, take, drop, reverse, replicate, Option, None, Some, if◌then◌else◌}
-use Rattle.textarea_screen.specs.Cell.{ShownCell}
+use Rattle.textarea_screen.specs.Cell.{CellView}
 use Rattle.textarea_terminal.specs.Control.{Control}
 use Rattle.textarea_terminal.specs.Control.Control.{Print, MoveTo, SetPen, EraseAll, ShowCursor, HideCursor, BeginUpdate, EndUpdate}
 use Rattle.textarea_terminal.specs.PaintCells.{cluster_columns, half, is_half}
@@ -10,7 +10,7 @@ use Rattle.textarea_terminal.specs.declared.output.look.Look.{Look}
 pub record Terminal : Type 0 where
   pub columns : ℕ
   -- what each cell shows, row after row, where no cluster reaches past its row's end; a terminal of which nothing is known has none
-  pub cells : List ShownCell
+  pub cells : List CellView
   -- the place of the cursor among the cells, where it is known
   pub cursor : Option ℕ
   pub has_cursor_shown : Bool
@@ -20,29 +20,29 @@ pub record Terminal : Type 0 where
   pub is_updating : Bool
   -- the look of the blank that stays of a cluster of which a part is printed over, by the look of the pen and by what was there:
   -- terminals differ in it
-  pub rest_look : Look → ShownCell → Look
+  pub rest_look : Look → CellView → Look
 
 -- ---- printing
 
-abbrev pub rest_of : (Look → ShownCell → Look) → Look → ShownCell → ShownCell
+abbrev pub rest_of : (Look → CellView → Look) → Look → CellView → CellView
 rest_of rest_look pen cell = in_look (rest_look pen cell) (32 ∷ [])
 
 -- the cells whose cluster has lost its beginning become blanks
-abbrev pub mended : (ShownCell → ShownCell) → List ShownCell → List ShownCell
+abbrev pub mended : (CellView → CellView) → List CellView → List CellView
 mended rest [] = []
 mended rest (cell ∷ cells) = if is_half cell then rest cell ∷ mended rest cells else cell ∷ cells
 
 -- the same of the cells, from the last to the first, whose cluster has lost its end
-abbrev pub mended_back : (ShownCell → ShownCell) → List ShownCell → List ShownCell
+abbrev pub mended_back : (CellView → CellView) → List CellView → List CellView
 mended_back rest [] = []
 mended_back rest (cell ∷ cells) = rest cell ∷ (if is_half cell then mended_back rest cells else cells)
 
-abbrev pub begins_half : List ShownCell → Bool
+abbrev pub begins_half : List CellView → Bool
 begins_half [] = false
 begins_half (cell ∷ cells) = is_half cell
 
 -- the cells before and from the cursor on, with a cluster of so many columns printed there
-abbrev pub printed : (ShownCell → ShownCell) → ShownCell → ℕ → List ShownCell → List ShownCell → List ShownCell
+abbrev pub printed : (CellView → CellView) → CellView → ℕ → List CellView → List CellView → List CellView
 printed rest cell width before after =
     (if begins_half after then reverse (mended_back rest (reverse before)) else before)
     ++ cell ∷ replicate (width - 1) half ++ mended rest (drop width after)
@@ -68,20 +68,20 @@ print_at text width (Some place) terminal =
 
 -- ---- the steps
 
-abbrev pub step : Control → Terminal → Terminal
-step (Print text) terminal = print_at text (cluster_columns text) terminal.cursor terminal
-step (MoveTo row column) terminal = record terminal {
+abbrev pub apply_control : Control → Terminal → Terminal
+apply_control (Print text) terminal = print_at text (cluster_columns text) terminal.cursor terminal
+apply_control (MoveTo row column) terminal = record terminal {
   cursor = if nat_lt column terminal.columns && nat_lt (row * terminal.columns + column) (length terminal.cells)
       then Some (row * terminal.columns + column) else None;
 }
-step (SetPen renditions) terminal = record terminal { pen = rendered_all plain_look renditions }
-step EraseAll terminal = record terminal { cells = replicate (length terminal.cells) (in_look terminal.pen (32 ∷ [])) }
-step ShowCursor terminal = record terminal { has_cursor_shown = true }
-step HideCursor terminal = record terminal { has_cursor_shown = false }
-step BeginUpdate terminal = record terminal { is_updating = true }
-step EndUpdate terminal = record terminal { is_updating = false }
+apply_control (SetPen renditions) terminal = record terminal { pen = rendered_all plain_look renditions }
+apply_control EraseAll terminal = record terminal { cells = replicate (length terminal.cells) (in_look terminal.pen (32 ∷ [])) }
+apply_control ShowCursor terminal = record terminal { has_cursor_shown = true }
+apply_control HideCursor terminal = record terminal { has_cursor_shown = false }
+apply_control BeginUpdate terminal = record terminal { is_updating = true }
+apply_control EndUpdate terminal = record terminal { is_updating = false }
 
 -- controls one after another
 abbrev pub run : List Control → Terminal → Terminal
 run [] terminal = terminal
-run (control ∷ controls) terminal = run controls (step control terminal)
+run (control ∷ controls) terminal = run controls (apply_control control terminal)

@@ -4,7 +4,7 @@
 #[cfg(test)]
 mod broken;
 #[cfg(test)]
-mod given;
+mod fragment_copies;
 #[cfg(test)]
 mod many_lines;
 #[cfg(test)]

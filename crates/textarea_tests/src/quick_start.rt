@@ -11,9 +11,9 @@ fn quick_start(rt: HostRuntime) -> Result<(), Fail> {
 }
 
 /// Returns whether each call has the result and leaves the state that the README states.
-pub fn is_as_told(area: &mut TextArea<'_>) -> Result<bool, AllocError> {
+pub fn is_as_described(area: &mut TextArea<'_>) -> Result<bool, AllocError> {
     area.insert_str("one two\nthree")?;
-    let is_edited = is_removed_and_back(area)? && is_cut(area)?;
+    let is_edited = is_removed_and_back(area)? && is_cut_out(area)?;
     Ok(is_edited && is_measured_and_pasted(area)?)
 }
 
@@ -23,7 +23,7 @@ fn is_removed_and_back(area: &mut TextArea<'_>) -> Result<bool, AllocError> {
     Ok(is_removed && is_back)
 }
 
-fn is_cut(area: &mut TextArea<'_>) -> Result<bool, AllocError> {
+fn is_cut_out(area: &mut TextArea<'_>) -> Result<bool, AllocError> {
     area.move_cursor(CursorMove::WordBack);
     area.start_selection();
     area.move_cursor(CursorMove::End);

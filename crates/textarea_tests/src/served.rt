@@ -4,8 +4,8 @@ use std::io;
 use std::io::ErrorKind;
 use std::process::Abort;
 use std::test::Fail;
-use textarea_script::streams::{DONE, NOT_READ, OUT_OF_MEMORY};
-use textarea_script::words::{serve_no_words, serve_words};
+use textarea_script::program_arguments::{serve_arguments, serve_bad_arguments};
+use textarea_script::streams::{DONE, OUT_OF_MEMORY, UNPARSED};
 
 /// The exit status, the output, the error output, and the unread input.
 #[derive(Clone, Copy, Debug, PartialEq, Eq)]
@@ -24,7 +24,7 @@ const EMPTY_TEXT: End<'static> = End {
 };
 
 const LINE_1: End<'static> = End {
-    status: NOT_READ,
+    status: UNPARSED,
     output: "",
     errors: "line 1: not read\n",
     left: "",
@@ -41,7 +41,7 @@ const LINE_3: End<'static> = End {
 };
 
 const NO_TEXT: End<'static> = End {
-    status: NOT_READ,
+    status: UNPARSED,
     output: "",
     errors: "not read\n",
     left: "",
@@ -177,29 +177,29 @@ fn what_is_read(rt: HostRuntime) -> Result<(), Fail> {
 }
 
 fn check(rt: &(impl Abort + AllocGlobal), row: &Row, words: &[String]) {
-    let (about, _, given, end) = row;
-    let mut reader = *given;
+    let (about, _, fragment_copies, end) = row;
+    let mut reader = *fragment_copies;
     let mut output = Vec::new(rt.alloc());
     let mut errors = Vec::new(rt.alloc());
-    let status = serve_words(rt.alloc(), words, &mut reader, &mut output, &mut errors);
+    let status = serve_arguments(rt.alloc(), words, &mut reader, &mut output, &mut errors);
     let found = End {
         status,
         output: text_of(output.as_slice()),
         errors: text_of(errors.as_slice()),
         left: text_of(reader),
     };
-    assert_eq!(rt; found, *end, "{about}: {}", text_of(given));
+    assert_eq!(rt; found, *end, "{about}: {}", text_of(fragment_copies));
 }
 
 #[test]
 fn no_words(rt: HostRuntime) -> Result<(), Fail> {
     let mut told = Vec::new(rt.alloc());
     let refused = io::Error::from(ErrorKind::OutOfMemory);
-    assert!(rt; serve_no_words(&refused, &mut told) == OUT_OF_MEMORY);
+    assert!(rt; serve_bad_arguments(&refused, &mut told) == OUT_OF_MEMORY);
     assert!(rt; told.as_slice() == b"no memory\n".as_slice());
     let mut told = Vec::new(rt.alloc());
     let no_text = io::Error::from(ErrorKind::InvalidData);
-    assert!(rt; serve_no_words(&no_text, &mut told) == NOT_READ);
+    assert!(rt; serve_bad_arguments(&no_text, &mut told) == UNPARSED);
     assert!(rt; told.as_slice() == b"not read\n".as_slice());
     Ok(())
 }

@@ -3,8 +3,8 @@ use crate::broken::{BrokenReader, BrokenWriter};
 use crate::texts::{strings, text_of};
 use std::process::Abort;
 use std::test::Fail;
-use textarea_script::streams::{DONE, NOT_READ, STREAM_FAILED};
-use textarea_script::words::serve_words;
+use textarea_script::program_arguments::serve_arguments;
+use textarea_script::streams::{DONE, STREAM_FAILED, UNPARSED};
 
 const SCRIPT: &[u8] = b"insert_char a
 insert_newline
@@ -55,7 +55,7 @@ selection 0 0 0 1
 /// The arguments, the input, the status, the output and the error output.
 struct Row {
     words: &'static [&'static str],
-    given: &'static [u8],
+    fragment_copies: &'static [u8],
     status: u8,
     printed: &'static str,
     told: &'static str,
@@ -64,29 +64,29 @@ struct Row {
 static ROWS: [Row; 4] = [
     Row {
         words: &[],
-        given: SCRIPT,
+        fragment_copies: SCRIPT,
         status: DONE,
         printed: SCRIPT_PRINTED,
         told: "",
     },
     Row {
         words: &["modal"],
-        given: KEYS,
+        fragment_copies: KEYS,
         status: DONE,
         printed: KEYS_PRINTED,
         told: "",
     },
     Row {
         words: &[],
-        given: b"nothing",
-        status: NOT_READ,
+        fragment_copies: b"nothing",
+        status: UNPARSED,
         printed: "",
         told: "line 1: not read\n",
     },
     Row {
         words: &["modal"],
-        given: b"i\xff",
-        status: NOT_READ,
+        fragment_copies: b"i\xff",
+        status: UNPARSED,
         printed: "",
         told: "not read\n",
     },
@@ -105,13 +105,13 @@ fn streams_that_fail(rt: HostRuntime) -> Result<(), Fail> {
 
 // Tries readers that fail at each read in turn, and one that never fails.
 fn read_in_pieces(rt: &(impl Abort + AllocGlobal), words: &[String], row: &Row) {
-    let given = row.given;
+    let fragment_copies = row.fragment_copies;
     for (piece, is_interrupted) in [(1, false), (1, true), (7, false), (64, true)] {
-        for reads in 0..given.len() + 2 {
-            let mut reader = BrokenReader::new(given, piece, is_interrupted, reads);
+        for reads in 0..fragment_copies.len() + 2 {
+            let mut reader = BrokenReader::new(fragment_copies, piece, is_interrupted, reads);
             read_from(rt, words, &mut reader, row);
             // One read for each byte, and one that reports the end.
-            assert!(rt; piece != 1 || reader.has_failed() == (reads <= given.len()));
+            assert!(rt; piece != 1 || reader.has_failed() == (reads <= fragment_copies.len()));
         }
     }
 }
@@ -125,7 +125,7 @@ fn read_from(
 ) {
     let mut output = Vec::new(rt.alloc());
     let mut errors = Vec::new(rt.alloc());
-    let status = serve_words(rt.alloc(), words, reader, &mut output, &mut errors);
+    let status = serve_arguments(rt.alloc(), words, reader, &mut output, &mut errors);
     let found = (
         status,
         text_of(output.as_slice()),
@@ -192,10 +192,10 @@ fn write_to(
         writes,
         told,
     } = limits;
-    let mut reader = row.given;
+    let mut reader = row.fragment_copies;
     let mut output = BrokenWriter::new(rt.alloc(), piece, writes);
     let mut errors = BrokenWriter::new(rt.alloc(), 1, told);
-    let ended = serve_words(rt.alloc(), words, &mut reader, &mut output, &mut errors);
+    let ended = serve_arguments(rt.alloc(), words, &mut reader, &mut output, &mut errors);
     let found = (ended, output.text(), errors.text());
     let wanted = (
         status,

@@ -1,7 +1,7 @@
 // Trials with a text area. One function owns each text area, and the others borrow it.
-use crate::given::copy_stands_alone;
+use crate::fragment_copies::copy_is_independent;
 use crate::many_lines::{are_shown_and_scrolled, lines_of_x};
-use crate::quick_start::is_as_told;
+use crate::quick_start::is_as_described;
 use std::alloc::{AllocError, Global};
 use tui_textarea::TextArea;
 
@@ -27,9 +27,9 @@ impl Trial {
     // Returns whether the trial succeeds.
     fn is_right(self, alloc: Global, area: &mut TextArea<'_>) -> Result<bool, AllocError> {
         match self {
-            Trial::Copy => copy_stands_alone(area),
+            Trial::Copy => copy_is_independent(area),
             Trial::ManyLines => are_shown_and_scrolled(alloc, area),
-            Trial::QuickStart => is_as_told(area),
+            Trial::QuickStart => is_as_described(area),
         }
     }
 }

@@ -8,9 +8,9 @@ use Rattle.std.specs.Char.{IsScalar}
 use Rattle.std.specs.Str.{chars, IsUtf8}
 use Rattle.textarea_text.proofs.Columns.{offset_in, take_offset, length-offset, chars-take, chars_from_bytes}
 use Rattle.textarea_text.specs.Text.{Character, Break, characters, characters_of, joined, lines_of, text_of}
-use Rattle.textarea_text.specs.Place.{Place, IsPlace, IsPlaceOf, IsSymbolBefore, StandsAt}
+use Rattle.textarea_text.specs.Place.{Place, IsPlace, IsPlaceOf, IsSymbolBefore, OccursAt}
 use Rattle.textarea_text.proofs.Splices.{lines-joined}
-use Rattle.textarea_text.proofs.RowEdits.{rows_around, cut_line, rows_stand}
+use Rattle.textarea_text.proofs.RowEdits.{rows_around, wrap_line, rows_stand}
 use Rattle.textarea_text.proofs.StringRows.{line_at}
 use Rattle.textarea_text.proofs.TextPlaces.{is_before}
 
@@ -19,18 +19,18 @@ pub text_place : {Z : Type 0} (items : List (String Z)) (place : Place) → IsPl
 text_place items place h =
     subst (λ (rows : List (List ℕ)). IsPlaceOf rows place) (sym (lines-joined (lines_of items) (omega (arith, h.0)))) h
 
-pub character_stands : (rows : List (List ℕ)) (row column c : ℕ) → row < length rows → column ≤ length (get_or rows row []) → drop column (get_or rows row []) ≡ c ∷ drop (column + 1) (get_or rows row []) → StandsAt (joined rows) (row, column) (Character c ∷ [])
+pub character_stands : (rows : List (List ℕ)) (row column c : ℕ) → row < length rows → column ≤ length (get_or rows row []) → drop column (get_or rows row []) ≡ c ∷ drop (column + 1) (get_or rows row []) → OccursAt (joined rows) (row, column) (Character c ∷ [])
 character_stands rows row column c within inside found =
     let here = get_or rows row [] in
     let was : joined (here ∷ []) ≡ characters (take column here) ++ (Character c ∷ characters (drop (column + 1) here)) =
-    cut_line here column ∙ ap (λ t. characters (take column here) ++ characters t) found in
+    wrap_line here column ∙ ap (λ t. characters (take column here) ++ characters t) found in
     rows_stand rows (here ∷ []) (drop (row + 1) rows) (take column here) row column (Character c ∷ []) (characters (drop (column + 1) here)) within (rows_around rows row within) (length-take-le column here inside) (omega arith) was
 
 rows_around_two : (rows : List (List ℕ)) (row : ℕ) → row + 1 < length rows → rows ≡ take row rows ++ ((get_or rows row [] ∷ get_or rows (row + 1) [] ∷ []) ++ drop (row + 2) rows)
 rows_around_two rows row within =
     grind (arith, common_steps, take-append-drop row rows, drop_more)
 
-pub break_stands : (rows : List (List ℕ)) (row : ℕ) → row + 1 < length rows → StandsAt (joined rows) (row, length (get_or rows row [])) (Break ∷ [])
+pub break_stands : (rows : List (List ℕ)) (row : ℕ) → row + 1 < length rows → OccursAt (joined rows) (row, length (get_or rows row [])) (Break ∷ [])
 break_stands rows row within =
     let here = get_or rows row [] in
     let next = get_or rows (row + 1) [] in
@@ -56,8 +56,8 @@ break_before items place line column h none some read e =
     let rows = lines_of items in
     let here : get_or rows (place.0 - 1) [] ≡ characters_of line = line_at items (place.0 - 1) line (omega (arith, h.0, length-map items characters_of)) read in
     let at : length (get_or rows (place.0 - 1) []) ≡ column = ap length here ∙ sym e in
-    let stands : StandsAt (text_of items) (place.0 - 1, column) (Break ∷ []) =
-    subst (λ (n : ℕ). StandsAt (text_of items) (place.0 - 1, n) (Break ∷ [])) at (break_stands rows (place.0 - 1) (omega (arith, h.0))) in
+    let stands : OccursAt (text_of items) (place.0 - 1, column) (Break ∷ []) =
+    subst (λ (n : ℕ). OccursAt (text_of items) (place.0 - 1, n) (Break ∷ [])) at (break_stands rows (place.0 - 1) (omega (arith, h.0))) in
     is_before (text_of items) (place.0 - 1, column) Break place (text_place items (place.0 - 1, column) (omega (arith, h.0), omega (arith, at))) stands
     (pair_is place (place.0 - 1 + 1) 0 (omega arith) none)
 

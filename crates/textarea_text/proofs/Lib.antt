@@ -9,9 +9,9 @@ pub mod Insides
 pub mod Touching
 pub mod EmptyTexts
 pub mod Copies
-pub mod Carrying
-pub mod GivenLemmas
-pub mod PartLemmas
+pub mod PlacesAfterSplice
+pub mod FragmentLemmas
+pub mod BetweenLemmas
 pub mod PlaceLemmas
 pub mod TabLemmas
 pub mod Cases

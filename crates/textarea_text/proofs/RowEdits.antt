@@ -3,7 +3,7 @@ use Rattle.std.proofs.Common.{◌≡◌, ℕ, ◌+◌, ◌<◌, List, [], ◌∷
 use Rattle.std.proofs.lemmas.Grind.{common_steps}
 use Rattle.std.proofs.lemmas.List.{append-nil, take-append-drop, drop_more, length-take-le}
 use Rattle.textarea_text.specs.Text.{Symbol, characters, joined}
-use Rattle.textarea_text.specs.Place.{Place, StandsAt, index_of}
+use Rattle.textarea_text.specs.Place.{Place, OccursAt, index_of}
 use Rattle.textarea_text.proofs.Splices.{characters-append, spliced_stands}
 
 -- the lines around a row
@@ -11,14 +11,14 @@ pub rows_around : (rows : List (List ℕ)) (row : ℕ) → row < length rows →
 rows_around rows row within = sym (take-append-drop row rows) ∙ ap (λ t. take row rows ++ t) (drop_more rows row [] within)
 
 -- a line, split at a column
-pub cut_line : (line : List ℕ) (column : ℕ) → joined (line ∷ []) ≡ characters (take column line) ++ characters (drop column line)
-cut_line line column =
+pub wrap_line : (line : List ℕ) (column : ℕ) → joined (line ∷ []) ≡ characters (take column line) ++ characters (drop column line)
+wrap_line line column =
     grind (arith, common_steps, append-nil (characters line), take-append-drop column line, characters-append (take column line) (drop column line))
 
 -- the text at a position, with the length of the symbols
 abbrev StandsAt_part : List Symbol → Place → List Symbol → List Symbol
 StandsAt_part text place symbols = take (length symbols) (drop (index_of text place) text)
 
-pub rows_stand : (rows middle below : List (List ℕ)) (start : List ℕ) (row column : ℕ) (symbols rest : List Symbol) → row < length rows → rows ≡ take row rows ++ (middle ++ below) → length start ≡ column → 0 < length middle → joined middle ≡ characters start ++ (symbols ++ rest) → StandsAt (joined rows) (row, column) symbols
+pub rows_stand : (rows middle below : List (List ℕ)) (start : List ℕ) (row column : ℕ) (symbols rest : List Symbol) → row < length rows → rows ≡ take row rows ++ (middle ++ below) → length start ≡ column → 0 < length middle → joined middle ≡ characters start ++ (symbols ++ rest) → OccursAt (joined rows) (row, column) symbols
 rows_stand rows middle below start row column symbols rest within parts at some was =
     grind (arith, common_steps, length-take-le, spliced_stands)

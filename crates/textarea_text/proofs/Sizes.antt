@@ -4,7 +4,7 @@ use Rattle.std.proofs.lemmas.Grind.{common_steps}
 use Rattle.std.proofs.lemmas.List.{take-append-drop, take_more, drop-drop, length-append, reverse-append}
 use Rattle.std.proofs.lemmas.Str.{encodes-chars, IsUtf8-string_bytes}
 use Rattle.textarea_text.specs.Text.{Symbol, Character, Break, characters, characters_of, following, lines_of, text_of}
-use Rattle.textarea_text.specs.Place.{Place, StandsAt, index_of, inserted, removed}
+use Rattle.textarea_text.specs.Place.{Place, OccursAt, index_of, inserted, removed}
 use Rattle.textarea_text.specs.Size.{size_of, weight}
 use Rattle.textarea_text.proofs.Splices.{characters-append}
 
@@ -63,7 +63,7 @@ weight_inserted text place symbols =
     let whole = sym (weight-append (take i text) (drop i text)) ∙ ap weight (take-append-drop i text) in
     omega (arith, whole, weight-append (take i text) (symbols ++ drop i text), weight-append symbols (drop i text))
 
-pub weight_removed : (text : List Symbol) (place : Place) (symbols : List Symbol) → StandsAt text place symbols → weight (removed text place symbols) + weight symbols ≡ weight text
+pub weight_removed : (text : List Symbol) (place : Place) (symbols : List Symbol) → OccursAt text place symbols → weight (removed text place symbols) + weight symbols ≡ weight text
 weight_removed text place symbols stands =
     let i = index_of text place in
     let rest = drop (i + length symbols) text in

@@ -3,7 +3,7 @@ use Rattle.std.proofs.Common.{◌≡◌, ℕ, suc, ◌+◌, ◌<◌, List, [], �
 use Rattle.std.proofs.lemmas.Grind.{common_steps}
 use Rattle.std.proofs.lemmas.List.{take_at, drop_at, append_assoc, length-append}
 use Rattle.textarea_text.specs.Text.{Symbol, Character, Break, characters, following, leading, joined, lines, on_first}
-use Rattle.textarea_text.specs.Place.{Place, end, row_start, index_of, inserted, removed, StandsAt}
+use Rattle.textarea_text.specs.Place.{Place, end, row_start, index_of, inserted, removed, OccursAt}
 
 -- ---- lines and text
 
@@ -98,7 +98,7 @@ pub removed_at : (xs ys symbols : List Symbol) (place : Place) → index_of (xs 
 removed_at xs ys symbols place e =
     grind (arith, common_steps, take_at xs (symbols ++ ys) (length xs), append_assoc xs symbols ys, drop_at (xs ++ symbols) ys (length xs + length symbols) (length-append xs symbols), length-append xs symbols)
 
-pub stands_at : (xs ys symbols : List Symbol) (place : Place) → index_of (xs ++ (symbols ++ ys)) place ≡ length xs → StandsAt (xs ++ (symbols ++ ys)) place symbols
+pub stands_at : (xs ys symbols : List Symbol) (place : Place) → index_of (xs ++ (symbols ++ ys)) place ≡ length xs → OccursAt (xs ++ (symbols ++ ys)) place symbols
 stands_at xs ys symbols place e =
     grind (arith, common_steps, drop_at xs (symbols ++ ys) (length xs), take_at symbols ys (length symbols))
 
@@ -113,6 +113,6 @@ pub index_of_part : (above : List (List ℕ)) (start : List ℕ) (rest : List Sy
 index_of_part above start rest =
     grind (arith, common_steps, append_assoc (leading above) (characters start) rest, index_of_front above start rest)
 
-pub spliced_stands : (above middle below : List (List ℕ)) (start : List ℕ) (symbols rest : List Symbol) → 0 < length middle → joined middle ≡ characters start ++ (symbols ++ rest) → StandsAt (joined (above ++ (middle ++ below))) (length above, length start) symbols
+pub spliced_stands : (above middle below : List (List ℕ)) (start : List ℕ) (symbols rest : List Symbol) → 0 < length middle → joined middle ≡ characters start ++ (symbols ++ rest) → OccursAt (joined (above ++ (middle ++ below))) (length above, length start) symbols
 spliced_stands above middle below start symbols rest some was =
     grind (arith, common_steps, whole above middle below start (symbols ++ rest) some was, append_assoc symbols rest (following below), stands_at (leading above ++ characters start) (rest ++ following below) symbols (length above, length start) (index_of_part above start (symbols ++ (rest ++ following below))), index_of_part above start (symbols ++ (rest ++ following below)))

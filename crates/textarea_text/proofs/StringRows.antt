@@ -6,7 +6,7 @@ use Rattle.textarea_util.specs.Replaced.{replaced}
 use Rattle.std.proofs.lemmas.List.{append-nil, append_assoc, length-append, take-append-drop, map-append, get_or-map, take_all, take_more, take_at, drop_at, take-map, drop-map, length-map}
 use Rattle.std.proofs.lemmas.Str.{IsUtf8-string_bytes, encodes-chars, length-le-encodes}
 use Rattle.textarea_text.specs.Text.{Symbol, Character, Break, characters, following, leading, joined, characters_of, lines_of, text_of}
-use Rattle.textarea_text.specs.Place.{Place, IsPlaceOf, IsPlace, StandsAt, end, index_of, changed, removed, ReplacesRows}
+use Rattle.textarea_text.specs.Place.{Place, IsPlaceOf, IsPlace, OccursAt, end, index_of, changed, removed, ReplacesRows}
 use Rattle.textarea_text.proofs.Columns.{IsCharBoundary-column, offset_in}
 use Rattle.textarea_text.proofs.Splices.{joined-append, joined-append_below, characters-append, following-append, whole, lines-joined, end-append}
 use Rattle.textarea_text.proofs.TextPlaces.{part_rows, index_parted, parted, standing, place_parted}
@@ -103,7 +103,7 @@ columns_ordered place (Character c ∷ symbols) e = omega (arith, columns_ordere
 columns_ordered place (Break ∷ symbols) e = absurd (omega (arith, e, rows_ordered (place.0 + 1, 0) symbols))
 
 -- symbols at a position of a text end at a position, and its index is greater by their number
-pub stands_until : (text : List Symbol) (place : Place) (symbols : List Symbol) → IsPlace text place → StandsAt text place symbols → IsPlace text (end place symbols) × (index_of text (end place symbols) ≡ index_of text place + length symbols)
+pub stands_until : (text : List Symbol) (place : Place) (symbols : List Symbol) → IsPlace text place → OccursAt text place symbols → IsPlace text (end place symbols) × (index_of text (end place symbols) ≡ index_of text place + length symbols)
 stands_until text place symbols h stands =
     let parts = parted text place h in
     let rest = drop (length symbols) parts.back in
@@ -116,7 +116,7 @@ stands_until text place symbols h stands =
     let here : index_of text place ≡ length parts.front = ap (λ t. index_of t place) parts.is ∙ index_parted place parts.front parts.back parts.ends in
     (subst (λ t. IsPlace t (end place symbols)) (sym was) (place_parted (end place symbols) (parts.front ++ symbols) rest ends), omega (arith, length-append parts.front symbols))
 
-pub changed_by_none : (text : List Symbol) (place to : Place) (symbols first : List Symbol) → IsPlace text place → StandsAt text place symbols → to ≡ end place symbols → first ≡ [] → changed text place to first ≡ removed text place symbols
+pub changed_by_none : (text : List Symbol) (place to : Place) (symbols first : List Symbol) → IsPlace text place → OccursAt text place symbols → to ≡ end place symbols → first ≡ [] → changed text place to first ≡ removed text place symbols
 changed_by_none text place to symbols first h stands e none =
     grind (arith, common_steps, stands_until text place symbols h stands)
 

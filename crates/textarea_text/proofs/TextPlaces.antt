@@ -3,10 +3,10 @@ use Rattle.std.proofs.Common.{◌≤◌, ◌≡◌, ℕ, ◌+◌, ◌-◌, ◌<�
 use Rattle.std.proofs.lemmas.Grind.{common_steps}
 use Rattle.std.proofs.lemmas.List.{append_assoc, length-append, take-append-drop, length-take-le, take_at, drop_at, get_or_at}
 use Rattle.textarea_text.specs.Text.{Symbol, Character, Break, characters, following, leading, joined, lines, on_first}
-use Rattle.textarea_text.specs.Place.{Place, end, index_of, place_of, inserted, removed, StandsAt, IsPlaceOf, IsPlace, IsSymbolBefore}
+use Rattle.textarea_text.specs.Place.{Place, end, index_of, place_of, inserted, removed, OccursAt, IsPlaceOf, IsPlace, IsSymbolBefore}
 use Rattle.textarea_text.specs.Splice.{Splice, Fits, Allows, applied, inverse, place_after}
 use Rattle.textarea_text.proofs.Splices.{whole, index_of_part, end_of_front, end-append, inserted_at, removed_at, stands_at}
-use Rattle.textarea_text.proofs.RowEdits.{rows_around, cut_line}
+use Rattle.textarea_text.proofs.RowEdits.{rows_around, wrap_line}
 
 -- ---- each text is whole lines and the start of one more
 
@@ -77,7 +77,7 @@ part_rows rows row column place =
       front = leading (take row rows) ++ characters (take column line);
       back = characters (drop column line) ++ following (drop (row + 1) rows);
       is = ap joined (rows_around rows row place.0)
-          ∙ whole (take row rows) (line ∷ []) (drop (row + 1) rows) (take column line) (characters (drop column line)) (omega arith) (cut_line line column);
+          ∙ whole (take row rows) (line ∷ []) (drop (row + 1) rows) (take column line) (characters (drop column line)) (omega arith) (wrap_line line column);
       ends = end_of_front (take row rows) (take column line)
           ∙ ap (λ (n : ℕ). (n, length (take column line))) (length-take-le row rows (omega (arith, place.0)))
           ∙ ap (λ (n : ℕ). (row, n)) (length-take-le column line place.1);
@@ -128,7 +128,7 @@ index_within text place h =
 
 -- ---- the text at a position
 
-pub standing : (text : List Symbol) (place : Place) (symbols : List Symbol) (parts : Parted text place) → StandsAt text place symbols → take (length symbols) parts.back ≡ symbols
+pub standing : (text : List Symbol) (place : Place) (symbols : List Symbol) (parts : Parted text place) → OccursAt text place symbols → take (length symbols) parts.back ≡ symbols
 standing text place symbols parts h =
     grind (arith, common_steps, index_parted place parts.front parts.back parts.ends, drop_at parts.front parts.back (length parts.front))
 
@@ -151,20 +151,20 @@ takes_back_inserted : (text : List Symbol) (place : Place) (symbols : List Symbo
 takes_back_inserted text place symbols parts some =
     let now : inserted text place symbols ≡ parts.front ++ (symbols ++ parts.back) = inserted_parted text place symbols parts in
     let whole_place : IsPlace (parts.front ++ (symbols ++ parts.back)) place = place_parted place parts.front (symbols ++ parts.back) parts.ends in
-    let stands : StandsAt (parts.front ++ (symbols ++ parts.back)) place symbols = stands_at parts.front parts.back symbols place (index_parted place parts.front (symbols ++ parts.back) parts.ends) in
+    let stands : OccursAt (parts.front ++ (symbols ++ parts.back)) place symbols = stands_at parts.front parts.back symbols place (index_parted place parts.front (symbols ++ parts.back) parts.ends) in
     let ended : IsPlace ((parts.front ++ symbols) ++ parts.back) (end place symbols) =
     place_parted (end place symbols) (parts.front ++ symbols) parts.back (end-append (0, 0) parts.front symbols ∙ ap (λ (p : Place). end p symbols) parts.ends) in
     record {
       fits = record {
         some = some;
         is_place = subst (λ t. IsPlace t place) (sym now) whole_place;
-        allowed = subst (λ t. StandsAt t place symbols) (sym now) stands;
+        allowed = subst (λ t. OccursAt t place symbols) (sym now) stands;
       };
       back = ap (λ t. removed t place symbols) now ∙ removed_parted parts.front parts.back symbols place parts.ends ∙ sym parts.is;
       is_place = subst (λ t. IsPlace t (end place symbols)) (append_assoc parts.front symbols parts.back ∙ sym now) ended;
     }
 
-takes_back_removed : (text : List Symbol) (place : Place) (symbols : List Symbol) (parts : Parted text place) → 0 < length symbols → StandsAt text place symbols → TakesBack text (record { place = place; symbols = symbols; inserts = false })
+takes_back_removed : (text : List Symbol) (place : Place) (symbols : List Symbol) (parts : Parted text place) → 0 < length symbols → OccursAt text place symbols → TakesBack text (record { place = place; symbols = symbols; inserts = false })
 takes_back_removed text place symbols parts some stands =
     let rest = drop (length symbols) parts.back in
     let was : text ≡ parts.front ++ (symbols ++ rest) =
@@ -186,7 +186,7 @@ takes_back text splice h = takes_back_by splice.inserts text splice.place splice
 
 -- ---- the symbol before a position
 
-pub is_before : (text : List Symbol) (start : Place) (symbol : Symbol) (place : Place) → IsPlace text start → StandsAt text start (symbol ∷ []) → place ≡ end start (symbol ∷ []) → IsSymbolBefore text place start symbol
+pub is_before : (text : List Symbol) (start : Place) (symbol : Symbol) (place : Place) → IsPlace text start → OccursAt text start (symbol ∷ []) → place ≡ end start (symbol ∷ []) → IsSymbolBefore text place start symbol
 is_before text start symbol place h stands e =
     let parts = parted text start h in
     let found : take 1 parts.back ≡ symbol ∷ [] = standing text start (symbol ∷ []) parts stands in

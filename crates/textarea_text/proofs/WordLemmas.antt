@@ -9,7 +9,7 @@ use Rattle.std.proofs.lemmas.List.{length_push, get_or_default, get_or-take, len
 use Rattle.std.specs.List.{enumerate_from}
 use Rattle.std.proofs.lemmas.Bool.Decides.{nat_tests}
 use Rattle.std.proofs.lemmas.List.FromFn.{get_or-enumerate_from, length-enumerate_from}
-use Rattle.textarea_text.specs.Words.{class_of, class_at, is_space, begins, ends, is_edge, is_word_start, is_behind_word, is_word_last, is_later_edge, is_word_last_from, is_earlier_word_start, lies_between}
+use Rattle.textarea_text.specs.Words.{class_of, class_at, is_space_class, begins, ends, is_edge, is_word_start, is_past_word, is_word_last, is_later_edge, is_word_last_from, is_earlier_word_start, lies_between}
 use Rattle.textarea_text.specs.declared.word.CharKind.{CharKind}
 use Rattle.textarea_text.specs.declared.word.CharKind.TheVariants.{Space, Punct, Other}
 use Rattle.textarea_text.specs.declared.word.Edge.{Edge}
@@ -60,7 +60,7 @@ pub class_before-more : {X : Type 0} (line : List ℕ) (yielded : List X) (x : X
 class_before-more line yielded x column kind turn = rw (length_push yielded x, add-one) turn.kind_is
 
 -- at the line's start any character other than a Space begins a word
-begins_first : (kind : CharKind) → (not (is_space kind) && true) ≡ begins Space kind
+begins_first : (kind : CharKind) → (not (is_space_class kind) && true) ≡ begins Space kind
 begins_first Space = refl
 begins_first Punct = refl
 begins_first Other = refl
@@ -71,15 +71,15 @@ is_word_start-class_before line zero within =
 is_word_start-class_before line (suc e) within =
     grind (arith, common_steps)
 
-pub is_behind_word-class_before : (line : List ℕ) (e : ℕ) → e < length line → is_behind_word line e ≡ ends (class_before line e) (class_at line e)
-is_behind_word-class_before line zero within =
+pub is_past_word-class_before : (line : List ℕ) (e : ℕ) → e < length line → is_past_word line e ≡ ends (class_before line e) (class_at line e)
+is_past_word-class_before line zero within =
     grind (arith, common_steps)
-is_behind_word-class_before line (suc e) within =
+is_past_word-class_before line (suc e) within =
     grind (arith, common_steps)
 
 is_edge-class_before : (edge : Edge) (line : List ℕ) (e : ℕ) → e < length line → is_edge edge line e ≡ lies_between edge (class_before line e) (class_at line e)
 is_edge-class_before Start = is_word_start-class_before
-is_edge-class_before Behind = is_behind_word-class_before
+is_edge-class_before Behind = is_past_word-class_before
 
 -- a word's last character is followed by one of another class
 pub is_word_last-inside : (line : List ℕ) (e : ℕ) → suc e < length line → is_word_last line e ≡ ends (class_at line e) (class_at line (suc e))
@@ -87,9 +87,9 @@ is_word_last-inside line e within =
     grind (arith, common_steps, add-one)
 
 -- or it is the line's last
-pub is_word_last-last : (line : List ℕ) (e : ℕ) → suc e ≡ length line → is_word_last line e ≡ not (is_space (class_at line e))
+pub is_word_last-last : (line : List ℕ) (e : ℕ) → suc e ≡ length line → is_word_last line e ≡ not (is_space_class (class_at line e))
 is_word_last-last line e last =
-    grind (arith, common_steps, and-true (not (is_space (class_at line e))))
+    grind (arith, common_steps, and-true (not (is_space_class (class_at line e))))
 
 -- ---- the test of each search in an iteration
 
@@ -134,7 +134,7 @@ is_word_last_from-turn line start (suc m) before kind b later turn behind tells 
     rw (at, first, is_word_last-inside line m turn.within, ← behind, ← turn.kind_is) tells
 
 -- the end of the line counts as a Space
-last_before_space : (kind : CharKind) → not (is_space kind) ≡ ends kind Space
+last_before_space : (kind : CharKind) → not (is_space_class kind) ≡ ends kind Space
 last_before_space Space = refl
 last_before_space Punct = refl
 last_before_space Other = refl

@@ -3,10 +3,10 @@ pub mod Place
 pub mod Splice
 pub mod Size
 pub mod Touched
-pub mod Carried
+pub mod PlacesAfterSplice
 pub mod Offset
-pub mod Given
-pub mod Part
+pub mod Fragment
+pub mod Between
 pub mod Tab
 pub mod Nearest
 pub mod Paragraphs

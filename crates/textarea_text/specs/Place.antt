@@ -72,8 +72,8 @@ abbrev pub removed : List Symbol → Place → List Symbol → List Symbol
 removed text place symbols = take (index_of text place) text ++ drop (index_of text place + length symbols) text
 
 -- the symbols are in the text at the position
-abbrev pub StandsAt : List Symbol → Place → List Symbol → Type 0
-StandsAt text place symbols = take (length symbols) (drop (index_of text place) text) ≡ symbols
+abbrev pub OccursAt : List Symbol → Place → List Symbol → Type 0
+OccursAt text place symbols = take (length symbols) (drop (index_of text place) text) ≡ symbols
 
 -- the text with the symbols instead of those from the start to the end
 abbrev pub changed : List Symbol → Place → Place → List Symbol → List Symbol
@@ -92,5 +92,5 @@ pub record IsSymbolBefore (text : List Symbol) (place start : Place) (symbol : S
   pub start_is : place_of text (index_of text place - 1) ≡ start
   pub symbol_is : take 1 (drop (index_of text place - 1) text) ≡ symbol ∷ []
   pub is_place : IsPlace text start
-  pub stands : StandsAt text start (symbol ∷ [])
+  pub stands : OccursAt text start (symbol ∷ [])
   pub ends : place ≡ end start (symbol ∷ [])

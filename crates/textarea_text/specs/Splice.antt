@@ -1,7 +1,7 @@
 -- A splice: symbols inserted or removed at a position of a text.
 use Rattle.std.specs.Prelude.{◌≡◌, ◌<◌, Bool, true, false, not, cond, List, [], ◌∷◌, length}
 use Rattle.textarea_text.specs.Text.{Symbol}
-use Rattle.textarea_text.specs.Place.{Place, IsPlace, StandsAt, end, inserted, removed}
+use Rattle.textarea_text.specs.Place.{Place, IsPlace, OccursAt, end, inserted, removed}
 
 pub record Splice : Type 0 where
   pub place : Place
@@ -20,7 +20,7 @@ applied text splice = cond splice.inserts (inserted text splice.place splice.sym
 -- in the text at that position
 abbrev pub Allows : Bool → List Symbol → Place → List Symbol → Type 0
 Allows true text place symbols = Unit {0}
-Allows false text place symbols = StandsAt text place symbols
+Allows false text place symbols = OccursAt text place symbols
 
 pub record Fits (text : List Symbol) (splice : Splice) : Type 0 where
   pub some : 0 < length splice.symbols
@@ -40,9 +40,9 @@ CanApply text [] = Unit {0}
 CanApply text (splice ∷ rest) = Fits text splice × CanApply (applied text splice) rest
 
 -- the splices can be undone one after another, in the list's order
-abbrev pub CanTakeBack : List Symbol → List Splice → Type 0
-CanTakeBack text [] = Unit {0}
-CanTakeBack text (splice ∷ rest) = Fits text (inverse splice) × CanTakeBack (applied text (inverse splice)) rest
+abbrev pub CanUndo : List Symbol → List Splice → Type 0
+CanUndo text [] = Unit {0}
+CanUndo text (splice ∷ rest) = Fits text (inverse splice) × CanUndo (applied text (inverse splice)) rest
 
 -- the text after all the splices, in the list's order
 abbrev pub applied_all : List Symbol → List Splice → List Symbol
@@ -50,6 +50,6 @@ applied_all text [] = text
 applied_all text (splice ∷ rest) = applied_all (applied text splice) rest
 
 -- the text from which these splices, one after another, lead to the present one
-pub record StoodBefore (before text : List Symbol) (changes : List Splice) : Type 0 where
+pub record IsTextBefore (before text : List Symbol) (changes : List Splice) : Type 0 where
   pub can : CanApply before changes
   pub leads : applied_all before changes ≡ text

@@ -15,12 +15,12 @@ breaks_of (Break ∷ symbols) = breaks_of symbols + 1
 
 -- The number of lines that are replaced, from the splice's row on: one for an insertion, and for a
 -- removal those from the row where the symbols begin to the one where they end.
-abbrev pub lines_going : Splice → ℕ
-lines_going splice = cond splice.inserts 1 (breaks_of splice.symbols + 1)
+abbrev pub replaced_line_count : Splice → ℕ
+replaced_line_count splice = cond splice.inserts 1 (breaks_of splice.symbols + 1)
 
 -- the number of lines that replace them
-abbrev pub lines_coming : Splice → ℕ
-lines_coming splice = cond splice.inserts (breaks_of splice.symbols + 1) 1
+abbrev pub new_line_count : Splice → ℕ
+new_line_count splice = cond splice.inserts (breaks_of splice.symbols + 1) 1
 
 -- the replacement puts the symbols instead of the text between two positions of these lines
 pub record ReplacesPart (lines : List (String Global)) (start to : Place) (symbols : List Symbol) (replacement : Replacement) : Type 0 where
@@ -34,7 +34,7 @@ pub record ReplacesPart (lines : List (String Global)) (start to : Place) (symbo
 -- changes, and the text is then the one after the splice
 pub record IsReplacementFor (lines : List (String Global)) (splice : Splice) (replacement : Replacement) : Type 0 where
   pub row : replacement.row ≡ splice.place.0
-  pub going : replacement.count ≡ lines_going splice
-  pub coming : vec_len replacement.lines ≡ lines_coming splice
+  pub going : replacement.count ≡ replaced_line_count splice
+  pub coming : vec_len replacement.lines ≡ new_line_count splice
   pub within : replacement.row + replacement.count ≤ length lines
   pub text : text_of (replaced lines replacement.row replacement.count replacement.lines.items) ≡ applied (text_of lines) splice

@@ -3,15 +3,15 @@ ghost use Rattle.std.specs.Prelude.{List};
 ghost use Rattle.textarea_text.specs.Text.{Symbol};
 ghost use Rattle.textarea_text.specs.Place.{IsPlace, IsUpTo, Place};
 ghost use Rattle.textarea_text.specs.Splice.{Fits, Splice, place_before};
-ghost use Rattle.textarea_text.specs.Carried.{GoesAlong, Stays};
+ghost use Rattle.textarea_text.specs.PlacesAfterSplice.{FollowsText, Stays};
 
 /// A position at or before the start of a splice that fits stays, with the text before it. One at
 /// or after its end moves with the text after it. Both are positions of the text after the splice.
-pub fn places_go_with_the_text()
+pub fn places_follow_the_text()
     ensures before { (text : List Symbol) (splice : Splice) (place : Place)
         → Fits text splice → IsPlace text place → IsUpTo place splice.place
         → Stays text splice place }
     ensures behind { (text : List Symbol) (splice : Splice) (place : Place)
         → Fits text splice → IsPlace text place → IsUpTo (place_before splice) place
-        → GoesAlong text splice place }
+        → FollowsText text splice place }
 {}

@@ -4,7 +4,7 @@ ghost use Rattle.std.specs.Str.{chars};
 ghost use Rattle.textarea_text.specs.Text.{lines_of, text_of};
 ghost use Rattle.textarea_text.specs.Place.{IsPlaceOf, end, index_of, last_row, line_end, line_of, place_of};
 ghost use Rattle.textarea_text.specs.Size.{size_of};
-ghost use Rattle.textarea_text.specs.Part.{clip};
+ghost use Rattle.textarea_text.specs.Between.{clip};
 
 use crate::rows::column_count;
 

@@ -224,7 +224,7 @@ fn push_rows(
     ensures len { OnOk result (vec_len rows.new ≡ length rest.now + 1) }
 {
     let mut line = put_together(*rows.allocator(), head, first)?;
-    push_pieces(rows, &mut line, rest)?;
+    push_new_lines(rows, &mut line, rest)?;
     line.push_str(tail)?;
     rows.push(line)?;
     Ok(())
@@ -241,7 +241,11 @@ fn put_together(alloc: Global, front: &str, back: &str) -> Result<String, AllocE
 
 // Pushes to no lines: `line`, then the lines of `rest`, but for the last of all, which becomes
 // `line`.
-fn push_pieces(rows: &mut Vec<String>, line: &mut String, rest: &[String]) -> Result<(), AllocError>
+fn push_new_lines(
+    rows: &mut Vec<String>,
+    line: &mut String,
+    rest: &[String],
+) -> Result<(), AllocError>
     requires none { rows.old.items ≡ [] }
     ensures rows { OnOk result
         (joined (lines_of rows.new.items ++ chars (string_bytes line.new) ∷ [])

@@ -3,7 +3,7 @@ ghost use Rattle.std.specs.Prelude.{◌≡◌, ◌-◌, ◌%◌, ◌<◌, ◌≤
 ghost use Rattle.std.specs.Str.{chars};
 ghost use Rattle.textarea_text.specs.Tab.{width_of};
 
-use crate::part::text_before;
+use crate::text_slice::text_before;
 use unicode_width::UnicodeWidthChar;
 
 /// Returns the number of spaces from a column to the next tab stop, from 1 to the tab length: the

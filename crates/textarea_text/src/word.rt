@@ -7,7 +7,7 @@
 ghost use Rattle.std.specs.Prelude.{◌≡◌, ◌<◌, ◌≤◌, length, IfSome};
 ghost use Rattle.std.specs.Str.{chars};
 ghost use Rattle.textarea_text.specs.Nearest.{IsLeast, IsGreatest};
-ghost use Rattle.textarea_text.specs.Words.{class_of, begins, ends, lies_between, is_later_edge, next_edge, is_later_word_start, next_word_start, is_later_behind_word, next_behind_word, is_word_last_from, next_word_last, is_earlier_word_start, previous_word_start};
+ghost use Rattle.textarea_text.specs.Words.{class_of, begins, ends, lies_between, is_later_edge, next_edge, is_later_word_start, next_word_start, is_later_past_word, next_past_word, is_word_last_from, next_word_last, is_earlier_word_start, previous_word_start};
 
 /// The class of a character.
 #[derive(Clone, Copy, Debug, PartialEq, Eq)]
@@ -97,8 +97,8 @@ pub fn find_word_start_forward(line: &str, start_column: usize) -> Option<usize>
 
 /// Returns the least column after `start_column` whose character is right after a word's last.
 pub fn find_word_exclusive_end_forward(line: &str, start_column: usize) -> Option<usize>
-    ensures least { IsLeast (is_later_behind_word (chars line.now) start_column) result }
-    ensures value { result ≡ next_behind_word (chars line.now) start_column }
+    ensures least { IsLeast (is_later_past_word (chars line.now) start_column) result }
+    ensures value { result ≡ next_past_word (chars line.now) start_column }
     ensures within { IfSome result (λ e. (start_column < e) × (e < length (chars line.now))) }
 {
     find_edge_forward(line, start_column, Edge::Behind)

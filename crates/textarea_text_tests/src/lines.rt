@@ -5,7 +5,7 @@ ghost use Rattle.textarea_text.specs.Place.{IsPlace};
 ghost use Rattle.textarea_text.specs.Splice.{Fits};
 ghost use Rattle.textarea_text.specs.Text.{lines};
 ghost use Rattle.textarea_history.specs.Edit.{IsWellFormed};
-ghost use Rattle.textarea_lines.specs.Layout.{at_width, stays_cut};
+ghost use Rattle.textarea_lines.specs.TextLayout.{at_width, keeps_wrapping};
 ghost use Rattle.textarea_lines.specs.Wrappings.{is_wrapped};
 
 use crate::cases::check_each;
@@ -14,11 +14,11 @@ use crate::texts::{Place, RowAndColumn, at, is_place, strings};
 use std::alloc::{AllocError, Global};
 use std::test::Fail;
 use textarea_history::edit::{Edit, EditKind};
-use textarea_lines::laid_out::LaidOutLines;
 use textarea_lines::settings::{LayoutSettings, is_wrapped};
+use textarea_lines::text_layout::TextLayout;
 use textarea_screen_map::layout::VisualPosition;
-use textarea_screen_map::view::LaidOutView;
-use textarea_text::given::copy_pieces;
+use textarea_screen_map::view::TextLayoutView;
+use textarea_text::fragment::copy_fragment;
 use textarea_text::rows::column_count;
 use textarea_wrap::wrap::WrapMode;
 
@@ -175,33 +175,36 @@ fn settings((mode, line_numbers, inner_width): Shape) -> LayoutSettings {
 }
 
 // These lines with a layout.
-fn laid_out(alloc: Global, texts: &[&str], shape: Shape) -> Result<LaidOutLines, AllocError> {
-    LaidOutLines::new(alloc, strings(alloc, texts)?, settings(shape))
+fn text_layout(alloc: Global, texts: &[&str], shape: Shape) -> Result<TextLayout, AllocError> {
+    TextLayout::new(alloc, strings(alloc, texts)?, settings(shape))
 }
 
-fn end_of(laid: &LaidOutLines) -> Place
-    ensures { IsPlace laid.now.text result }
+fn end_of(text_layout: &TextLayout) -> Place
+    ensures { IsPlace text_layout.now.text result }
 {
-    let lines = laid.lines();
+    let lines = text_layout.lines();
     let row = lines.len() - 1;
     (row, column_count(lines[row].as_str()))
 }
 
 // The visual position of `place`, if the lines have that position.
-fn visual_of(laid: &LaidOutLines, place: Place) -> Option<VisualPosition> {
-    if is_place(laid.lines(), place) {
-        Some(laid.visual_position(place))
+fn visual_of(text_layout: &TextLayout, place: Place) -> Option<VisualPosition> {
+    if is_place(text_layout.lines(), place) {
+        Some(text_layout.visual_position(place))
     } else {
         None
     }
 }
 
 // The number of visual rows, and the visual position of the text's end.
-fn visual_end(laid: &LaidOutLines) -> (usize, VisualPosition) {
-    (laid.row_count(), laid.visual_position(end_of(laid)))
+fn visual_end(text_layout: &TextLayout) -> (usize, VisualPosition) {
+    (
+        text_layout.row_count(),
+        text_layout.visual_position(end_of(text_layout)),
+    )
 }
 
-fn has_rows(view: &LaidOutView<'_>, expected: &[&str]) -> bool {
+fn has_rows(view: &TextLayoutView<'_>, expected: &[&str]) -> bool {
     if view.row_count() != expected.len() {
         return false;
     }
@@ -214,18 +217,18 @@ fn has_rows(view: &LaidOutView<'_>, expected: &[&str]) -> bool {
 }
 
 // The same lines with a layout from scratch.
-fn laid_out_anew(laid: &LaidOutLines) -> Result<LaidOutLines, AllocError> {
-    let alloc = laid.allocator();
-    LaidOutLines::new(
+fn layout_from_scratch(text_layout: &TextLayout) -> Result<TextLayout, AllocError> {
+    let alloc = text_layout.allocator();
+    TextLayout::new(
         alloc,
-        copy_pieces(alloc, laid.lines())?,
-        laid.layout_settings(),
+        copy_fragment(alloc, text_layout.lines())?,
+        text_layout.layout_settings(),
     )
 }
 
-fn is_line_alike(laid: &LaidOutLines, anew: &LaidOutLines, row: usize, end: usize) -> bool {
+fn is_line_alike(text_layout: &TextLayout, anew: &TextLayout, row: usize, end: usize) -> bool {
     for column in 0..=end {
-        let visual = visual_of(laid, (row, column));
+        let visual = visual_of(text_layout, (row, column));
         if visual == None || visual != visual_of(anew, (row, column)) {
             return false;
         }
@@ -233,160 +236,160 @@ fn is_line_alike(laid: &LaidOutLines, anew: &LaidOutLines, row: usize, end: usiz
     true
 }
 
-fn is_alike(laid: &LaidOutLines, anew: &LaidOutLines) -> bool {
-    for (row, line) in laid.lines().iter().enumerate() {
-        if !is_line_alike(laid, anew, row, column_count(line.as_str())) {
+fn is_alike(text_layout: &TextLayout, anew: &TextLayout) -> bool {
+    for (row, line) in text_layout.lines().iter().enumerate() {
+        if !is_line_alike(text_layout, anew, row, column_count(line.as_str())) {
             return false;
         }
     }
-    laid.row_count() == anew.row_count()
+    text_layout.row_count() == anew.row_count()
 }
 
-fn is_as_anew(laid: &LaidOutLines) -> Result<bool, AllocError> {
-    Ok(is_alike(laid, &laid_out_anew(laid)?))
+fn is_as_fresh(text_layout: &TextLayout) -> Result<bool, AllocError> {
+    Ok(is_alike(text_layout, &layout_from_scratch(text_layout)?))
 }
 
 // Makes and undoes an edit. Returns the end in between; none if a layout is not as from scratch.
 fn make_and_take_back(
-    laid: &mut LaidOutLines,
+    text_layout: &mut TextLayout,
     edit: &Edit,
 ) -> Result<Option<(usize, VisualPosition)>, AllocError>
     requires well_formed { IsWellFormed edit.now }
-    requires fits { Fits laid.old.text edit.now.splice }
+    requires fits { Fits text_layout.old.text edit.now.splice }
 {
-    laid.apply(edit.change())?;
-    let end = visual_end(laid);
-    let was_as_anew = is_as_anew(laid)?;
-    laid.apply(edit.inverse())?;
-    let is_right = was_as_anew && is_as_anew(laid)?;
+    text_layout.apply(edit.change())?;
+    let end = visual_end(text_layout);
+    let was_as_anew = is_as_fresh(text_layout)?;
+    text_layout.apply(edit.inverse())?;
+    let is_right = was_as_anew && is_as_fresh(text_layout)?;
     Ok(if is_right { Some(end) } else { None })
 }
 
 fn type_and_take_back(
-    laid: &mut LaidOutLines,
+    text_layout: &mut TextLayout,
 ) -> Result<Option<(usize, VisualPosition)>, AllocError> {
-    let place = end_of(laid);
-    let _lines = laid.lines();
+    let place = end_of(text_layout);
+    let _lines = text_layout.lines();
     let edit = Edit::between(EditKind::InsertChar('x'), place, (place.0, place.1 + 1));
-    make_and_take_back(laid, &edit)
+    make_and_take_back(text_layout, &edit)
 }
 
 fn break_and_take_back(
-    laid: &mut LaidOutLines,
+    text_layout: &mut TextLayout,
 ) -> Result<Option<(usize, VisualPosition)>, AllocError> {
-    let place = end_of(laid);
-    let _lines = laid.lines();
+    let place = end_of(text_layout);
+    let _lines = text_layout.lines();
     let edit = Edit::between(EditKind::InsertNewline, place, (place.0 + 1, 0));
-    make_and_take_back(laid, &edit)
+    make_and_take_back(text_layout, &edit)
 }
 
-fn insert_break(laid: &mut LaidOutLines, place: Place) -> Result<(), AllocError>
-    requires { IsPlace laid.old.text place }
+fn insert_break(text_layout: &mut TextLayout, place: Place) -> Result<(), AllocError>
+    requires { IsPlace text_layout.old.text place }
 {
-    let _lines = laid.lines();
+    let _lines = text_layout.lines();
     let edit = Edit::between(EditKind::InsertNewline, place, (place.0 + 1, 0));
-    laid.apply(edit.change())
+    text_layout.apply(edit.change())
 }
 
 // Inserts a break at a position, if the lines have it.
-fn breaks(laid: &mut LaidOutLines, place: Place) -> Result<bool, AllocError> {
-    let is_there = is_place(laid.lines(), place);
+fn breaks(text_layout: &mut TextLayout, place: Place) -> Result<bool, AllocError> {
+    let is_there = is_place(text_layout.lines(), place);
     if is_there {
-        insert_break(laid, place)?;
+        insert_break(text_layout, place)?;
     }
     Ok(is_there)
 }
 
 // Sets a width. If the lines wrap as before none is wrapped again, else each is wrapped once.
 fn set_width(
-    laid: &mut LaidOutLines,
+    text_layout: &mut TextLayout,
     inner_width: u16,
     expected: &[&str],
 ) -> Result<bool, AllocError>
-    ensures { OnOk result (laid.new.layout.count
-        ≡ (if stays_cut laid.old (at_width laid.old inner_width) then laid.old.layout.count
-        else laid.old.layout.count + length (lines laid.old.text))) }
+    ensures { OnOk result (text_layout.new.layout.count
+        ≡ (if keeps_wrapping text_layout.old (at_width text_layout.old inner_width) then text_layout.old.layout.count
+        else text_layout.old.layout.count + length (lines text_layout.old.text))) }
 {
-    let prepared = laid.prepare_width(inner_width)?;
-    let is_prepared = has_rows(&laid.view_with(&prepared), expected);
-    laid.put_width(prepared);
-    Ok(is_prepared && has_rows(&laid.view(), expected))
+    let prepared = text_layout.prepare_width(inner_width)?;
+    let is_prepared = has_rows(&text_layout.view_with(&prepared), expected);
+    text_layout.put_width(prepared);
+    Ok(is_prepared && has_rows(&text_layout.view(), expected))
 }
 
 // The layout stays as it is until the width is set.
 fn prepares(
-    laid: &mut LaidOutLines,
+    text_layout: &mut TextLayout,
     inner_width: u16,
     rows: &[&str],
     expected: &[&str],
 ) -> Result<bool, AllocError> {
-    let prepared = laid.prepare_width(inner_width)?;
-    let is_kept = has_rows(&laid.view(), rows);
-    let is_prepared = has_rows(&laid.view_with(&prepared), expected);
+    let prepared = text_layout.prepare_width(inner_width)?;
+    let is_kept = has_rows(&text_layout.view(), rows);
+    let is_prepared = has_rows(&text_layout.view_with(&prepared), expected);
     drop(prepared);
     Ok(is_kept && is_prepared)
 }
 
 // Sets tab stops of lines that are not wrapped. No line is wrapped again.
-fn set_tab_len(laid: &mut LaidOutLines, tab_len: u8) -> Result<(), AllocError>
-    requires { is_wrapped laid.old.layout.settings ≡ false }
-    ensures { OnOk result (laid.new.layout.count ≡ laid.old.layout.count) }
+fn set_tab_len(text_layout: &mut TextLayout, tab_len: u8) -> Result<(), AllocError>
+    requires { is_wrapped text_layout.old.layout.settings ≡ false }
+    ensures { OnOk result (text_layout.new.layout.count ≡ text_layout.old.layout.count) }
 {
-    let settings = laid.layout_settings();
-    laid.set_layout_settings(LayoutSettings {
+    let settings = text_layout.layout_settings();
+    text_layout.set_layout_settings(LayoutSettings {
         tab_len,
         ..settings
     })
 }
 
 // Sets tab stops, if lines are not wrapped.
-fn sets_tab_len(laid: &mut LaidOutLines, tab_len: u8) -> Result<bool, AllocError> {
-    let is_whole = !is_wrapped(laid.layout_settings());
+fn sets_tab_len(text_layout: &mut TextLayout, tab_len: u8) -> Result<bool, AllocError> {
+    let is_whole = !is_wrapped(text_layout.layout_settings());
     if is_whole {
-        set_tab_len(laid, tab_len)?;
+        set_tab_len(text_layout, tab_len)?;
     }
     Ok(is_whole)
 }
 
 // Replaces the lines by one.
-fn put_line(laid: &mut LaidOutLines, text: &str) -> Result<(), AllocError> {
-    let line = String::from_str(laid.allocator(), text)?;
-    laid.set_lines(vec![in laid.allocator(); line]?)
+fn put_line(text_layout: &mut TextLayout, text: &str) -> Result<(), AllocError> {
+    let line = String::from_str(text_layout.allocator(), text)?;
+    text_layout.set_lines(vec![in text_layout.allocator(); line]?)
 }
 
 // Takes the step. Returns whether it leads to what it must.
-fn leads_there(laid: &mut LaidOutLines, step: Step) -> Result<bool, AllocError> {
+fn leads_there(text_layout: &mut TextLayout, step: Step) -> Result<bool, AllocError> {
     match step {
-        Empty(is_empty) => Ok(laid.is_empty() == is_empty),
-        Settings(shape) => Ok(laid.layout_settings() == settings(shape)),
-        RowCount(rows) => Ok(laid.row_count() == rows),
-        Visual(place, visual) => Ok(visual_of(laid, place) == Some(at(visual))),
-        End(rows, visual) => Ok(visual_end(laid) == (rows, at(visual))),
+        Empty(is_empty) => Ok(text_layout.is_empty() == is_empty),
+        Settings(shape) => Ok(text_layout.layout_settings() == settings(shape)),
+        RowCount(rows) => Ok(text_layout.row_count() == rows),
+        Visual(place, visual) => Ok(visual_of(text_layout, place) == Some(at(visual))),
+        End(rows, visual) => Ok(visual_end(text_layout) == (rows, at(visual))),
         Moves(place, above, below) => {
             Ok(
-                is_place(laid.lines(), place)
-                    && (laid.above(place), laid.below(place)) == (above, below),
+                is_place(text_layout.lines(), place)
+                    && (text_layout.above(place), text_layout.below(place)) == (above, below),
             )
         }
-        Count(width, rows) => Ok(laid.rows_at_width(width)? == rows),
-        Prepare(width, rows, expected) => prepares(laid, width, rows, expected),
-        PutWidth(width, expected) => set_width(laid, width, expected),
-        PutTabLength(tab_len) => sets_tab_len(laid, tab_len),
+        Count(width, rows) => Ok(text_layout.rows_at_width(width)? == rows),
+        Prepare(width, rows, expected) => prepares(text_layout, width, rows, expected),
+        PutWidth(width, expected) => set_width(text_layout, width, expected),
+        PutTabLength(tab_len) => sets_tab_len(text_layout, tab_len),
         PutLine(text) => {
-            put_line(laid, text)?;
+            put_line(text_layout, text)?;
             Ok(true)
         }
-        Break(place) => breaks(laid, place),
+        Break(place) => breaks(text_layout, place),
         BreakAndTakeBack(rows, visual) => {
-            Ok(break_and_take_back(laid)? == Some((rows, at(visual))))
+            Ok(break_and_take_back(text_layout)? == Some((rows, at(visual))))
         }
     }
 }
 
 // Whether each of the steps leads to what it must.
-fn lead_there(laid: &mut LaidOutLines, steps: &[Step]) -> Result<bool, AllocError> {
+fn lead_there(text_layout: &mut TextLayout, steps: &[Step]) -> Result<bool, AllocError> {
     for step in steps {
-        if !leads_there(laid, *step)? {
+        if !leads_there(text_layout, *step)? {
             return Ok(false);
         }
     }
@@ -396,7 +399,7 @@ fn lead_there(laid: &mut LaidOutLines, steps: &[Step]) -> Result<bool, AllocErro
 #[test]
 fn steps_over_lines(rt: HostRuntime) -> Result<(), Fail> {
     check_each(&rt, &CASES, |alloc, (texts, shape, steps)| {
-        lead_there(&mut laid_out(alloc, texts, *shape)?, steps)
+        lead_there(&mut text_layout(alloc, texts, *shape)?, steps)
     })
 }
 
@@ -404,23 +407,23 @@ fn steps_over_lines(rt: HostRuntime) -> Result<(), Fail> {
 fn are_put(alloc: Global, lines: Vec<String>, shape: Shape) -> Result<bool, AllocError>
     requires { 0 < vec_len lines }
 {
-    let mut others = laid_out(alloc, &[], shape)?;
+    let mut others = text_layout(alloc, &[], shape)?;
     others.set_lines(lines)?;
-    is_as_anew(&others)
+    is_as_fresh(&others)
 }
 
 // Whether the layout equals one from scratch, also when a character is typed and undone.
-fn is_right(laid: &mut LaidOutLines) -> Result<bool, AllocError> {
-    Ok(is_as_anew(laid)? && type_and_take_back(laid)?.is_some())
+fn is_right(text_layout: &mut TextLayout) -> Result<bool, AllocError> {
+    Ok(is_as_fresh(text_layout)? && type_and_take_back(text_layout)?.is_some())
 }
 
 // The same in a shape, there also with a break, in another one, and for lines that replace others.
 fn is_right_in(alloc: Global, (shape, other): &(Shape, Shape)) -> Result<bool, AllocError> {
-    let mut laid = laid_out(alloc, &NINE_LINES, *shape)?;
-    let was_right = is_right(&mut laid)? && break_and_take_back(&mut laid)?.is_some();
-    laid.set_layout_settings(settings(*other))?;
-    let is_right = is_right(&mut laid)? && was_right;
-    Ok(are_put(alloc, laid.into_lines(), *shape)? && is_right)
+    let mut text_layout = text_layout(alloc, &NINE_LINES, *shape)?;
+    let was_right = is_right(&mut text_layout)? && break_and_take_back(&mut text_layout)?.is_some();
+    text_layout.set_layout_settings(settings(*other))?;
+    let is_right = is_right(&mut text_layout)? && was_right;
+    Ok(are_put(alloc, text_layout.into_lines(), *shape)? && is_right)
 }
 
 static SHAPES: [(Shape, Shape); 4] = [
@@ -431,7 +434,7 @@ static SHAPES: [(Shape, Shape); 4] = [
 ];
 
 #[test]
-fn rows_are_those_of_lines_laid_out_anew(rt: HostRuntime) -> Result<(), Fail> {
+fn rows_are_those_from_scratch_in_all(rt: HostRuntime) -> Result<(), Fail> {
     check_each(&rt, &SHAPES, is_right_in)
 }
 
@@ -446,13 +449,13 @@ static HELD: [Step; 6] = [
 
 // Whether a line replaces the empty text, and is returned.
 fn is_held(alloc: Global) -> Result<bool, AllocError> {
-    let mut laid = laid_out(alloc, &[], WHOLE)?;
-    let leads_there = lead_there(&mut laid, &HELD)?;
-    let lines = laid.into_lines();
+    let mut text_layout = text_layout(alloc, &[], WHOLE)?;
+    let leads_there = lead_there(&mut text_layout, &HELD)?;
+    let lines = text_layout.into_lines();
     Ok(leads_there && lines.len() == 1 && lines[0].as_str() == "abc")
 }
 
-fn is_lent(view: &LaidOutView<'_>) -> bool {
+fn is_borrowed(view: &TextLayoutView<'_>) -> bool {
     if view.row_count() != 3 || !is_place(view.lines(), (0, 5)) {
         return false;
     }
@@ -465,15 +468,15 @@ fn is_lent(view: &LaidOutView<'_>) -> bool {
 }
 
 // Whether a view borrows the lines with their visual rows.
-fn is_view_lent(alloc: Global) -> Result<bool, AllocError> {
-    let laid = laid_out(alloc, &TWO_LINES, GLYPHS)?;
-    let view = laid.view();
-    Ok(has_rows(&view, &["abcd", "ef", "gh"]) && is_lent(&view))
+fn is_view_borrowed(alloc: Global) -> Result<bool, AllocError> {
+    let text_layout = text_layout(alloc, &TWO_LINES, GLYPHS)?;
+    let view = text_layout.view();
+    Ok(has_rows(&view, &["abcd", "ef", "gh"]) && is_borrowed(&view))
 }
 
 #[test]
-fn lines_are_held_and_lent(rt: HostRuntime) -> Result<(), Fail> {
+fn lines_are_stored_and_borrowed(rt: HostRuntime) -> Result<(), Fail> {
     assert!(rt; is_held(rt.alloc())?);
-    assert!(rt; is_view_lent(rt.alloc())?);
+    assert!(rt; is_view_borrowed(rt.alloc())?);
     Ok(())
 }

@@ -1,7 +1,7 @@
 //! Look-ups, worked by hand from the rules, and maps that follow hundreds of replacements.
 ghost use Rattle.std.specs.Prelude.{◌≡◌, ◌+◌, ◌<◌, ◌≤◌, length, vec_len, IfOk, OnOk};
 ghost use Rattle.textarea_text.specs.Text.{lines_of};
-ghost use Rattle.textarea_screen_map.specs.Layout.{AreRowsOf};
+ghost use Rattle.textarea_screen_map.specs.LineRows.{AreRowsOf};
 
 use crate::cases::check_each;
 use crate::map::Fact::*;
@@ -321,7 +321,7 @@ fn is_same(map: &ScreenMap, other: &ScreenMap, lines: &[String]) -> bool
 }
 
 // Whether the map has the visual rows of a map from scratch.
-fn is_as_anew(
+fn is_as_fresh(
     alloc: Global,
     map: &ScreenMap,
     lines: &[String],
@@ -365,7 +365,7 @@ fn follows_one(
     ensures wrapping { OnOk result (map.new.wrapping ≡ wrapping) }
 {
     replace(alloc, map, lines, change, wrapping, counter)?;
-    is_as_anew(alloc, map, lines.as_slice(), wrapping, counter)
+    is_as_fresh(alloc, map, lines.as_slice(), wrapping, counter)
 }
 
 // Random-looking replacements: the seed of their numbers, the limit of lines in each, the count.
@@ -461,7 +461,7 @@ fn follows_breaks(
         };
         replace(alloc, map, lines, change, wrapping, &mut counter)?;
     }
-    is_as_anew(alloc, map, lines.as_slice(), wrapping, &mut counter)
+    is_as_fresh(alloc, map, lines.as_slice(), wrapping, &mut counter)
 }
 
 fn follows_breaks_of(

@@ -3,11 +3,11 @@ use crate::cases::check_each;
 use crate::texts::Place;
 use std::alloc::{AllocError, Global};
 use std::test::Fail;
-use textarea_text::given::{copy_pieces, join_with_line_feeds, pieces_of};
-use textarea_text::part::between;
+use textarea_text::fragment::{copy_fragment, fragment_of, join_with_line_feeds};
 use textarea_text::places::clip;
 use textarea_text::rows::column_count;
 use textarea_text::tab::spaces_to_stop;
+use textarea_text::text_slice::between;
 
 /// What is written of a fragment.
 #[derive(Clone, Copy, Debug)]
@@ -37,10 +37,10 @@ fn is_joined(alloc: Global, pieces: &[String], joined: &str) -> Result<bool, All
 }
 
 fn is_met(alloc: Global, (given, written): &Case) -> Result<bool, AllocError> {
-    let pieces = pieces_of(alloc, given)?;
+    let pieces = fragment_of(alloc, given)?;
     match *written {
         Written::Whole(text, count) => {
-            let copy = copy_pieces(alloc, pieces.as_slice())?;
+            let copy = copy_fragment(alloc, pieces.as_slice())?;
             Ok(copy.len() == count && is_joined(alloc, copy.as_slice(), text)?)
         }
         Written::Part(place, text) => {
@@ -52,7 +52,7 @@ fn is_met(alloc: Global, (given, written): &Case) -> Result<bool, AllocError> {
 }
 
 #[test]
-fn given_and_written(rt: HostRuntime) -> Result<(), Fail> {
+fn fragments_and_texts(rt: HostRuntime) -> Result<(), Fail> {
     check_each(&rt, &CASES, is_met)
 }
 

@@ -28,7 +28,7 @@ fn accepts(alloc: Global) -> Result<bool, AllocError> {
     }
 }
 
-fn refuses(alloc: Global) -> Result<bool, AllocError> {
+fn rejects(alloc: Global) -> Result<bool, AllocError> {
     let lines = strings(alloc, &["abc"])?;
     let given = vec![in alloc;
         part(0, 2, 4),
@@ -57,6 +57,6 @@ fn accepted(rt: HostRuntime) -> Result<(), Fail> {
 
 #[test]
 fn refused(rt: HostRuntime) -> Result<(), Fail> {
-    assert!(rt; refuses(rt.alloc())?);
+    assert!(rt; rejects(rt.alloc())?);
     Ok(())
 }

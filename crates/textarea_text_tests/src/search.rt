@@ -4,7 +4,7 @@ use crate::texts::{Place, strings};
 use regex::Regex;
 use std::alloc::{AllocError, Global};
 use std::test::Fail;
-use textarea_search::search::{KeptMatches, Matches, Search, SearchError};
+use textarea_search::search::{MatchCache, Matches, Search, SearchError};
 
 /// A pattern, lines, a position, and the positions of repeated searches from it: forward, and back.
 type Led = (
@@ -84,7 +84,7 @@ fn search_for(alloc: Global, pattern: &str) -> Search {
 }
 
 // The match from a position, if there is such a line.
-fn found_from(
+fn search_result(
     search: &Search,
     lines: &[String],
     from: Place,
@@ -110,7 +110,7 @@ fn leads_along(
 ) -> Result<bool, AllocError> {
     let mut from = start;
     for place in places {
-        if found_from(search, lines, from, is_forward, false)? != Some(*place) {
+        if search_result(search, lines, from, is_forward, false)? != Some(*place) {
             return Ok(false);
         }
         from = *place;
@@ -127,21 +127,21 @@ fn is_led(alloc: Global, case: &Led) -> Result<bool, AllocError> {
 }
 
 // The matches from a column of a line, forward and back, where one at the column counts.
-fn found_around(
+fn results_around(
     alloc: Global,
     search: &Search,
     text: &str,
     column: usize,
 ) -> Result<(Option<Place>, Option<Place>), AllocError> {
     let lines = strings(alloc, &[text])?;
-    let forth = found_from(search, lines.as_slice(), (0, column), true, true)?;
-    let back = found_from(search, lines.as_slice(), (0, column), false, true)?;
+    let forth = search_result(search, lines.as_slice(), (0, column), true, true)?;
+    let back = search_result(search, lines.as_slice(), (0, column), false, true)?;
     Ok((forth, back))
 }
 
 fn is_counted(alloc: Global, case: &(usize, usize, usize)) -> Result<bool, AllocError> {
     let (column, forth, back) = *case;
-    let found = found_around(alloc, &search_for(alloc, "foo"), "foo foo", column)?;
+    let found = results_around(alloc, &search_for(alloc, "foo"), "foo foo", column)?;
     Ok(found == (Some((0, forth)), Some((0, back))))
 }
 
@@ -178,7 +178,7 @@ fn is_listed(alloc: Global, (pattern, lines): &Listed) -> Result<bool, AllocErro
 }
 
 #[test]
-fn found_in_lines(rt: HostRuntime) -> Result<(), Fail> {
+fn searches_in_lines(rt: HostRuntime) -> Result<(), Fail> {
     check_each(&rt, &LED, is_led)?;
     check_each(&rt, &COUNTED, is_counted)?;
     check_each(&rt, &LISTED, is_listed)
@@ -205,36 +205,36 @@ fn are_same(spans: &[(usize, usize)], listed: &[(usize, usize)]) -> bool {
 }
 
 // Lists the matches of a line into a vector that may have others.
-fn list_kept(
+fn list_cached(
     search: &Search,
-    kept: &mut KeptMatches,
+    kept: &mut MatchCache,
     (number, line): (usize, &str),
     spans: &mut Vec<(usize, usize)>,
 ) -> Result<(), AllocError> {
-    let mut matcher = search.keeping_matcher(kept, 1)?;
+    let mut matcher = search.caching_matcher(kept, 1)?;
     matcher.spans_into(number, line, spans)
 }
 
 // Whether the pattern is set and the line then has these matches.
-fn lists_kept(
+fn lists_cached(
     alloc: Global,
     search: &mut Search,
-    kept: &mut KeptMatches,
+    kept: &mut MatchCache,
     spans: &mut Vec<(usize, usize)>,
     (pattern, line, listed): &Kept,
 ) -> Result<bool, AllocError> {
     let is_set = search.set_pattern(alloc, pattern).is_ok();
-    list_kept(search, kept, *line, spans)?;
+    list_cached(search, kept, *line, spans)?;
     Ok(is_set && are_same(spans, listed))
 }
 
 #[test]
-fn kept_line_after_line(rt: HostRuntime) -> Result<(), Fail> {
+fn cached_line_after_line(rt: HostRuntime) -> Result<(), Fail> {
     let mut search = Search::default();
-    let mut kept = KeptMatches::new(rt.alloc());
+    let mut kept = MatchCache::new(rt.alloc());
     let mut spans = Vec::new(rt.alloc());
     check_each(&rt, &KEPT, |alloc, line| {
-        lists_kept(alloc, &mut search, &mut kept, &mut spans, line)
+        lists_cached(alloc, &mut search, &mut kept, &mut spans, line)
     })
 }
 
@@ -263,7 +263,7 @@ fn is_for(alloc: Global, search: &Search, pattern: Option<&str>) -> Result<bool,
     if search.pattern() != pattern || search.clone()?.pattern() != pattern {
         return Ok(false);
     }
-    let finds_nothing = found_around(alloc, search, "foo", 0)? == (None, None);
+    let finds_nothing = results_around(alloc, search, "foo", 0)? == (None, None);
     Ok(pattern.is_some() || finds_nothing && search.matches("foo")?.is_none())
 }
 

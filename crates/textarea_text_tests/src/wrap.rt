@@ -4,8 +4,8 @@ use std::alloc::{AllocError, Global};
 use std::test::Fail;
 use textarea_wrap::layout::LayoutMetrics;
 use textarea_wrap::wrap::columns::{
-    column_behind, column_behind_text, display_column_behind, display_column_behind_text,
-    fits_width, plain_columns,
+    column_after, column_after_text, display_column_after, display_column_after_text, fits_width,
+    plain_columns,
 };
 use textarea_wrap::wrap::{WrapCount, WrapMode, line_ranges};
 
@@ -70,14 +70,14 @@ fn are_right_columns() -> bool {
     let columns = [
         plain_columns('犬'),
         plain_columns('\n'),
-        column_behind('\t', 5, 4),
-        column_behind('\t', 8, 4),
-        column_behind('\t', 5, 0),
-        column_behind_text("a\t犬", 0, 4),
-        display_column_behind('\t', 5, 0),
-        display_column_behind('\t', 5, 4),
-        display_column_behind_text("a\t犬", 0, 0),
-        display_column_behind_text("a\t犬", 0, 4),
+        column_after('\t', 5, 4),
+        column_after('\t', 8, 4),
+        column_after('\t', 5, 0),
+        column_after_text("a\t犬", 0, 4),
+        display_column_after('\t', 5, 0),
+        display_column_after('\t', 5, 4),
+        display_column_after_text("a\t犬", 0, 0),
+        display_column_after_text("a\t犬", 0, 4),
     ];
     columns == [2, 0, 8, 12, 5, 6, 6, 8, 4, 6]
 }

@@ -18,7 +18,7 @@ pub fn replace_items<T: Drop>(items: &mut Vec<T>, start: usize, count: usize, mu
     } else if !new.is_empty() {
         let below = items.len() - (start + shared);
         let _ = items.append(&mut new);
-        move_behind(items, start + shared, below);
+        move_to_end(items, start + shared, below);
     }
 }
 
@@ -56,7 +56,7 @@ fn remove_part<T: Drop>(items: &mut Vec<T>, start: usize, end: usize)
 }
 
 // Moves the `count` items from `start` on to the end.
-fn move_behind<T>(items: &mut Vec<T>, start: usize, count: usize)
+fn move_to_end<T>(items: &mut Vec<T>, start: usize, count: usize)
     requires { start + count ≤ vec_len items.old }
     ensures items { items.new.items
         ≡ take start items.old.items

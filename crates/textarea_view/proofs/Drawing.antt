@@ -2,7 +2,7 @@
 use Rattle.std.proofs.Common.{◌≡◌, ℕ, ◌+◌, ◌==◌, ◌&&◌, Bool, true, false, List, [], ◌∷◌, ◌++◌, length, refl, sym, ap, ◌∙◌, subst, arith}
 use Rattle.std.proofs.lemmas.Bool.{cond-false}
 use Rattle.std.proofs.lemmas.List.{length-append}
-use Rattle.textarea_view.specs.Prelude.{ShowsRow, row_cell, RowArea, Changes, KeepsOutside, ShownCell, contains, is_in_row, ShownLine, Buffer, Rect, AreShown, DrawnTo, lines_change, VisualRow, row_at, highlights_of, row_highlights, SceneState}
+use Rattle.textarea_view.specs.Prelude.{ShowsRow, row_cell, RowArea, Changes, KeepsOutside, CellView, contains, is_in_row, LineView, Buffer, Rect, AreShown, DrawnTo, lines_change, VisualRow, row_at, highlights_of, row_highlights, SceneState}
 use Rattle.textarea_screen.proofs.ChangeLemmas.{Changes-none, Changes-then, KeepsOutside-from_changes, KeepsOutside-then, KeepsOutside-wider}
 
 -- the highlights of a row's text are those of the row
@@ -10,12 +10,12 @@ pub told : (scene : SceneState) (number : ℕ) (row : VisualRow) → row ≡ row
 unfolding row_highlights
 told scene number row e = ap (highlights_of scene) e
 
-AreShown-push : (scene : SceneState) (row : ℕ) (lines : List ShownLine) (line : ShownLine) → AreShown scene row lines → ShowsRow (row_highlights scene (row + length lines)) line → AreShown scene row (lines ++ line ∷ [])
+AreShown-push : (scene : SceneState) (row : ℕ) (lines : List LineView) (line : LineView) → AreShown scene row lines → ShowsRow (row_highlights scene (row + length lines)) line → AreShown scene row (lines ++ line ∷ [])
 AreShown-push scene row [] line h shows = (subst (λ n. ShowsRow (row_highlights scene n) line) (omega arith) shows, tt)
 AreShown-push scene row (first ∷ lines) line h shows =
     (h.0, AreShown-push scene (row + 1) lines line h.1 (subst (λ n. ShowsRow (row_highlights scene n) line) (omega arith) shows))
 
-pub lines_change-push : (rows : RowArea) (y : ℕ) (lines : List ShownLine) (line : ShownLine) (column row : ℕ) (cell : ShownCell) → row_cell rows (y + length lines) line column row (lines_change rows y lines column row cell) ≡ lines_change rows y (lines ++ line ∷ []) column row cell
+pub lines_change-push : (rows : RowArea) (y : ℕ) (lines : List LineView) (line : LineView) (column row : ℕ) (cell : CellView) → row_cell rows (y + length lines) line column row (lines_change rows y lines column row cell) ≡ lines_change rows y (lines ++ line ∷ []) column row cell
 lines_change-push rows y [] line column row cell = ap (λ n. row_cell rows n line column row cell) (omega arith)
 lines_change-push rows y (first ∷ lines) line column row cell =
     ap (λ n. row_cell rows n line column row (lines_change rows (y + 1) lines column row (row_cell rows y first column row cell))) (omega arith)
@@ -24,7 +24,7 @@ lines_change-push rows y (first ∷ lines) line column row cell =
 pub drawn_none : (scene : SceneState) (top : ℕ) (rows : RowArea) (buffer : Buffer) → DrawnTo scene top rows buffer buffer 0
 drawn_none scene top rows buffer = record { lines = []; many = refl; shown = tt; change = Changes-none buffer (lines_change rows rows.area.y []) (λ x y cell. refl) }
 
-pub drawn_more : (scene : SceneState) (top : ℕ) (rows : RowArea) (old now new : Buffer) (count : ℕ) (line : ShownLine) → DrawnTo scene top rows old now count → ShowsRow (row_highlights scene (top + count)) line → Changes now new (row_cell rows (rows.area.y + count) line) → DrawnTo scene top rows old new (count + 1)
+pub drawn_more : (scene : SceneState) (top : ℕ) (rows : RowArea) (old now new : Buffer) (count : ℕ) (line : LineView) → DrawnTo scene top rows old now count → ShowsRow (row_highlights scene (top + count)) line → Changes now new (row_cell rows (rows.area.y + count) line) → DrawnTo scene top rows old new (count + 1)
 drawn_more scene top rows old now new count line h shows change = record {
   lines = h.lines ++ line ∷ [];
   many = omega (arith, length-append h.lines (line ∷ []), h.many);
@@ -43,22 +43,22 @@ never false = refl
 not_in_row : (area : Rect) (y column row : ℕ) → contains area column row ≡ false → is_in_row area y column row ≡ false
 not_in_row area y column row outside = ap (λ b. (row == y) && b) outside ∙ never (row == y)
 
-row_cell-outside : (rows : RowArea) (y : ℕ) (line : ShownLine) (column row : ℕ) (cell : ShownCell) → is_in_row rows.area y column row ≡ false → row_cell rows y line column row cell ≡ cell
+row_cell-outside : (rows : RowArea) (y : ℕ) (line : LineView) (column row : ℕ) (cell : CellView) → is_in_row rows.area y column row ≡ false → row_cell rows y line column row cell ≡ cell
 unfolding row_cell
 row_cell-outside rows y line column row cell outside = cond-false (is_in_row rows.area y column row) _ _ outside
 
-outside_stays : (rows : RowArea) (y : ℕ) (lines : List ShownLine) (column row : ℕ) (cell : ShownCell) → contains rows.area column row ≡ false → lines_change rows y lines column row cell ≡ cell
+outside_stays : (rows : RowArea) (y : ℕ) (lines : List LineView) (column row : ℕ) (cell : CellView) → contains rows.area column row ≡ false → lines_change rows y lines column row cell ≡ cell
 outside_stays rows y [] column row cell outside = refl
 outside_stays rows y (line ∷ lines) column row cell outside =
     outside_stays rows (y + 1) lines column row (row_cell rows y line column row cell) outside
     ∙ row_cell-outside rows y line column row cell (not_in_row rows.area y column row outside)
 
-pub lines_inside : (rows : RowArea) (lines : List ShownLine) (old now : Buffer) → Changes old now (lines_change rows rows.area.y lines) → KeepsOutside (contains rows.area) old now
+pub lines_inside : (rows : RowArea) (lines : List LineView) (old now : Buffer) → Changes old now (lines_change rows rows.area.y lines) → KeepsOutside (contains rows.area) old now
 lines_inside rows lines old now change =
     KeepsOutside-from_changes (contains rows.area) change (λ x y cell outside. outside_stays rows rows.area.y lines x y cell outside)
 
 -- this is also so if drawing the next row fails half way
-pub lines_failed : (rows : RowArea) (lines : List ShownLine) (old now new : Buffer) (y : ℕ) → Changes old now (lines_change rows rows.area.y lines) → KeepsOutside (is_in_row rows.area y) now new → KeepsOutside (contains rows.area) old new
+pub lines_failed : (rows : RowArea) (lines : List LineView) (old now new : Buffer) (y : ℕ) → Changes old now (lines_change rows rows.area.y lines) → KeepsOutside (is_in_row rows.area y) now new → KeepsOutside (contains rows.area) old new
 lines_failed rows lines old now new y change keeps =
     KeepsOutside-then (lines_inside rows lines old now change) (KeepsOutside-wider (contains rows.area) keeps (λ column row outside. not_in_row rows.area y column row outside))
 

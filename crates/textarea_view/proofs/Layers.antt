@@ -1,7 +1,7 @@
 -- The layers of a frame, one after another, and the cells outside of them.
 use Rattle.std.proofs.Common.{◌≡◌, ℕ, Bool, true, false, IsTrue, List, Result, Ok, Err, OnOk, OnErr, IfOk, take, refl, sym, subst}
 use Rattle.std.proofs.lemmas.Bool.{cond-false}
-use Rattle.textarea_view.specs.Prelude.{AreLinesOf, AreLinesWith, block_change, frame_change, inside_change, inside_with, lines_shown, placeholder_change, rows_change, style_change, row_area, FrameState, shows_placeholder, CursorCellRender, Look, block_cell, RowArea, FillsArea, lines_change, rows_above_end, in_style, placeholder_lines, cursor_cell, SceneState, ShownBlock, Changes, KeepsOutside, area_of, ShownCell, contains, ShownLine, ShownText, Buffer, Rect, Style, ViewportState}
+use Rattle.textarea_view.specs.Prelude.{AreLinesOf, AreLinesWith, block_change, frame_change, inside_change, inside_with, drawn_lines, placeholder_change, rows_change, style_change, row_area, FrameState, shows_placeholder, CursorCellRender, Look, block_cell, RowArea, FillsArea, lines_change, rows_above_end, in_placeholder_style, placeholder_lines, cursor_cell, SceneState, BlockView, Changes, KeepsOutside, area_of, CellView, contains, LineView, TextView, Buffer, Rect, Style, ViewportState}
 use Rattle.textarea_view.proofs.Drawing.{lines_inside}
 use Rattle.textarea_screen.proofs.ChangeLemmas.{Changes-then, KeepsOutside-from_changes, KeepsOutside-then, KeepsOutside-wider}
 
@@ -12,11 +12,11 @@ also_on_err (Err e) fact = fact
 
 -- ---- the block
 
-block_outside : (block : ShownBlock) (area : Rect) (x y : ℕ) (cell : ShownCell) → contains area x y ≡ false → block_cell block area x y cell ≡ cell
+block_outside : (block : BlockView) (area : Rect) (x y : ℕ) (cell : CellView) → contains area x y ≡ false → block_cell block area x y cell ≡ cell
 unfolding block_cell
 block_outside block area x y cell outside = cond-false (contains area x y) _ _ outside
 
-pub around_outside : (block : ShownBlock) (area : Rect) (old new : Buffer) → Changes old new (block_cell block area) → KeepsOutside (contains area) old new
+pub around_outside : (block : BlockView) (area : Rect) (old new : Buffer) → Changes old new (block_cell block area) → KeepsOutside (contains area) old new
 around_outside block area old new change =
     KeepsOutside-from_changes (contains area) change (λ x y cell outside. block_outside block area x y cell outside)
 
@@ -24,25 +24,25 @@ around_outside block area old new change =
 
 -- lines of the frame are drawn, and these are the changed cells
 abbrev pub IsFilledBy : FrameState → ViewportState → Rect → Buffer → Buffer → Type 0
-IsFilledBy frame viewport inner old new = (lines : List ShownLine) × AreLinesOf frame viewport inner (area_of old) lines × Changes old new (inside_change frame viewport inner lines)
+IsFilledBy frame viewport inner old new = (lines : List LineView) × AreLinesOf frame viewport inner (area_of old) lines × Changes old new (inside_change frame viewport inner lines)
 
 abbrev FilledWith : Bool → FrameState → ViewportState → Rect → Buffer → Buffer → Type 0
-FilledWith b frame viewport inner old new = (lines : List ShownLine) × AreLinesWith b frame viewport inner (area_of old) lines × Changes old new (inside_with b frame viewport inner lines)
+FilledWith b frame viewport inner old new = (lines : List LineView) × AreLinesWith b frame viewport inner (area_of old) lines × Changes old new (inside_with b frame viewport inner lines)
 
 pub filled_by_placeholder : (frame : FrameState) (viewport : ViewportState) (inner : Rect) (old new : Buffer) → shows_placeholder frame ≡ true →
-    Changes old new (placeholder_change frame.scene.look frame.surround.placeholder.style viewport inner (lines_shown frame.scene.look frame.surround.placeholder.lines inner (area_of old))) →
+    Changes old new (placeholder_change frame.scene.look frame.surround.placeholder.style viewport inner (drawn_lines frame.scene.look frame.surround.placeholder.lines inner (area_of old))) →
     IsFilledBy frame viewport inner old new
 filled_by_placeholder frame viewport inner old new shown change =
     subst (λ b. FilledWith b frame viewport inner old new) (sym shown)
-    (lines_shown frame.scene.look frame.surround.placeholder.lines inner (area_of old), refl, change)
+    (drawn_lines frame.scene.look frame.surround.placeholder.lines inner (area_of old), refl, change)
 
 pub filled_by_rows : (frame : FrameState) (viewport : ViewportState) (inner : Rect) (old new : Buffer) → shows_placeholder frame ≡ false →
-    ((lines : List ShownLine) × FillsArea frame.scene viewport.row inner (area_of old) lines × Changes old new (rows_change frame.scene.look viewport inner lines)) →
+    ((lines : List LineView) × FillsArea frame.scene viewport.row inner (area_of old) lines × Changes old new (rows_change frame.scene.look viewport inner lines)) →
     IsFilledBy frame viewport inner old new
 filled_by_rows frame viewport inner old new shown drawn =
     subst (λ b. FilledWith b frame viewport inner old new) (sym shown) drawn
 
-style_outside : (inner : Rect) (style : Style) (x y : ℕ) (cell : ShownCell) → contains inner x y ≡ false → style_change inner style x y cell ≡ cell
+style_outside : (inner : Rect) (style : Style) (x y : ℕ) (cell : CellView) → contains inner x y ≡ false → style_change inner style x y cell ≡ cell
 style_outside inner style x y cell outside = cond-false (contains inner x y) _ _ outside
 
 pub styled_inside : (inner : Rect) (style : Style) (old now : Buffer) → Changes old now (style_change inner style) → KeepsOutside (contains inner) old now
@@ -64,7 +64,7 @@ kept_around area inner old now new within around inside =
     KeepsOutside-then around (KeepsOutside-wider (contains area) inside (outside_of area inner within))
 
 pub framed : (frame : FrameState) (viewport : ViewportState) (area inner : Rect) (old now new : Buffer) → Changes old now (block_change frame.surround.block area) → IsFilledBy frame viewport inner now new →
-    (lines : List ShownLine) × AreLinesOf frame viewport inner (area_of old) lines × Changes old new (frame_change frame viewport area inner lines)
+    (lines : List LineView) × AreLinesOf frame viewport inner (area_of old) lines × Changes old new (frame_change frame viewport area inner lines)
 framed frame viewport area inner old now new around inside = (
   inside.0,
   subst (λ (a : Rect). AreLinesOf frame viewport inner a inside.0) around.area inside.1,
@@ -87,27 +87,27 @@ if_ok (Err error) ok from_ok = ok
 
 -- ---- the contracts of the functions that draw the layers
 
-pub lines_outside : (rows : RowArea) (inner : Rect) (lines : List ShownLine) (old new : Buffer) → rows.area ≡ inner → Changes old new (lines_change rows rows.area.y lines) → KeepsOutside (contains inner) old new
+pub lines_outside : (rows : RowArea) (inner : Rect) (lines : List LineView) (old new : Buffer) → rows.area ≡ inner → Changes old new (lines_change rows rows.area.y lines) → KeepsOutside (contains inner) old new
 lines_outside rows inner lines old new same change =
     subst (λ (a : Rect). KeepsOutside (contains a) old new) same (lines_inside rows lines old new change)
 
-abbrev PlaceholderDrawn : Buffer → Buffer → RowArea → ShownText → CursorCellRender → Type 0
-PlaceholderDrawn old new rows text cell = Changes old new (lines_change (in_style rows text.style) rows.area.y (take (rows_above_end rows.area (area_of old)) (placeholder_lines cell text.lines)))
+abbrev PlaceholderDrawn : Buffer → Buffer → RowArea → TextView → CursorCellRender → Type 0
+PlaceholderDrawn old new rows text cell = Changes old new (lines_change (in_placeholder_style rows text.style) rows.area.y (take (rows_above_end rows.area (area_of old)) (placeholder_lines cell text.lines)))
 
-pub placeholder_drawn : (look : Look) (placeholder : ShownText) (viewport : ViewportState) (inner : Rect) (old new : Buffer) (rows : RowArea) (text : ShownText) (cell : CursorCellRender) →
+pub placeholder_drawn : (look : Look) (placeholder : TextView) (viewport : ViewportState) (inner : Rect) (old new : Buffer) (rows : RowArea) (text : TextView) (cell : CursorCellRender) →
     rows ≡ row_area look inner viewport.column → text ≡ placeholder → cell ≡ cursor_cell look → PlaceholderDrawn old new rows text cell →
-    Changes old new (placeholder_change look placeholder.style viewport inner (lines_shown look placeholder.lines inner (area_of old)))
+    Changes old new (placeholder_change look placeholder.style viewport inner (drawn_lines look placeholder.lines inner (area_of old)))
 placeholder_drawn look placeholder viewport inner old new rows text cell of_rows of_text of_cell change =
     subst (λ (r : RowArea). PlaceholderDrawn old new r placeholder (cursor_cell look)) of_rows
-    (subst (λ (t : ShownText). PlaceholderDrawn old new rows t (cursor_cell look)) of_text
+    (subst (λ (t : TextView). PlaceholderDrawn old new rows t (cursor_cell look)) of_text
     (subst (λ (b : CursorCellRender). PlaceholderDrawn old new rows text b) of_cell change))
 
 abbrev RowsDrawn : SceneState → ℕ → Buffer → Buffer → RowArea → Type 0
-RowsDrawn scene top now new rows = (lines : List ShownLine) × FillsArea scene top rows.area (area_of now) lines × Changes now new (lines_change rows rows.area.y lines)
+RowsDrawn scene top now new rows = (lines : List LineView) × FillsArea scene top rows.area (area_of now) lines × Changes now new (lines_change rows rows.area.y lines)
 
 pub rows_drawn : (scene : SceneState) (viewport : ViewportState) (inner : Rect) (old now new : Buffer) (rows : RowArea) (top : ℕ × ℕ) → rows ≡ row_area scene.look inner viewport.column → top ≡ (viewport.row, viewport.column) →
     Changes old now (style_change inner scene.look.style) → RowsDrawn scene top.0 now new rows →
-    (lines : List ShownLine) × FillsArea scene viewport.row inner (area_of old) lines × Changes old new (rows_change scene.look viewport inner lines)
+    (lines : List LineView) × FillsArea scene viewport.row inner (area_of old) lines × Changes old new (rows_change scene.look viewport inner lines)
 rows_drawn scene viewport inner old now new rows top of_rows of_top styling drawn =
     let there : RowsDrawn scene viewport.row now new (row_area scene.look inner viewport.column) =
     subst (λ (t : ℕ × ℕ). RowsDrawn scene t.0 now new (row_area scene.look inner viewport.column)) of_top

@@ -3,5 +3,5 @@ mod Found
 mod Holds
 mod OneFilling
 mod Placeholder
-mod Told
+mod RowSettings
 pub mod Layers

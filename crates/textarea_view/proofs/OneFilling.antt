@@ -1,9 +1,9 @@
 -- Only one list of lines shows a scene.
 use Rattle.std.proofs.Common.{◌≡◌, ℕ, ◌+◌, List, [], ◌∷◌, length, refl, sym, ap, ◌∙◌, arith}
-use Rattle.textarea_view.specs.Prelude.{Highlights, ShowsRow, row_clusters, row_start, RowArea, ShownLine, Rect, AreShown, FillsArea, IsRowStart, row_highlights, SceneState}
+use Rattle.textarea_view.specs.Prelude.{Highlights, ShowsRow, row_clusters, line_offset, RowArea, LineView, Rect, AreShown, FillsArea, IsRowStart, row_highlights, SceneState}
 
-module _ (one_line : (h : Highlights) (line other : ShownLine) → ShowsRow h line → ShowsRow h other → line ≡ other) where
-  shown_once : (scene : SceneState) (row : ℕ) (lines others : List ShownLine) → length lines ≡ length others →
+module _ (one_line : (h : Highlights) (line other : LineView) → ShowsRow h line → ShowsRow h other → line ≡ other) where
+  shown_once : (scene : SceneState) (row : ℕ) (lines others : List LineView) → length lines ≡ length others →
       AreShown scene row lines → AreShown scene row others → lines ≡ others
   shown_once scene row [] [] e shown shown' = refl
   shown_once scene row [] (other ∷ others) e shown shown' = absurd (omega (arith, e))
@@ -12,7 +12,7 @@ module _ (one_line : (h : Highlights) (line other : ShownLine) → ShowsRow h li
       ap (λ l. l ∷ lines) (one_line (row_highlights scene row) line other shown.0 shown'.0)
       ∙ ap (λ ls. other ∷ ls) (shown_once scene (row + 1) lines others (omega (arith, e)) shown.1 shown'.1)
 
-  pub filled_once : (scene : SceneState) (top : ℕ) (area buffer : Rect) (lines others : List ShownLine) →
+  pub filled_once : (scene : SceneState) (top : ℕ) (area buffer : Rect) (lines others : List LineView) →
       FillsArea scene top area buffer lines → FillsArea scene top area buffer others → lines ≡ others
   filled_once scene top area buffer lines others fills fills' =
       shown_once scene top lines others (fills.all ∙ sym fills'.all) fills.shown fills'.shown
@@ -21,6 +21,6 @@ module _ (one_line : (h : Highlights) (line other : ShownLine) → ShowsRow h li
       IsRowStart scene rows row start → IsRowStart scene rows row other → start ≡ other
   starts_once scene rows row start other begins begins' =
       begins.2
-      ∙ ap (λ line. row_start rows.alignment rows.area.width (row_clusters rows.style line))
+      ∙ ap (λ line. line_offset rows.alignment rows.area.width (row_clusters rows.style line))
       (one_line (row_highlights scene row) begins.0 begins'.0 begins.1 begins'.1)
       ∙ sym begins'.2

@@ -4,14 +4,14 @@ use Rattle.std.specs.List.{flat_map}
 use Rattle.std.proofs.lemmas.Bool.{cond-false}
 use Rattle.std.proofs.lemmas.Bool.Decides.{nat_tests}
 use Rattle.std.proofs.lemmas.List.{length-take, map-append, map_more, take_more}
-use Rattle.textarea_view.specs.Prelude.{CursorCellRender, Draw, Hidden, content_bytes, row_clusters, span_clusters, cells_of_row, placed_row, row_cell, row_change, RowArea, Changes, ShownCell, is_in_row, patched, ShownContent, ShownLine, ShownSpan, shown_content, shown_span, text_bytes, Lent, SpanText, Borrowed, Owned, Buffer, Style, Span, lines_change, behind_cursor, blank, cell_of_line, lent_line, lent_span, placeholder_lines}
-use Rattle.textarea_paint.specs.Row.{first_shown}
+use Rattle.textarea_view.specs.Prelude.{CursorCellRender, Draw, Hidden, content_bytes, row_clusters, span_clusters, cells_of_row, placed_row, row_cell, row_change, RowArea, Changes, CellView, is_in_row, patched, ContentView, LineView, SpanView, content_view, span_view, text_bytes, BorrowedBytes, SpanText, Borrowed, Owned, Buffer, Style, Span, lines_change, after_cursor, blank, cell_of_line, borrowed_line, borrowed_span, placeholder_lines}
+use Rattle.textarea_paint.specs.Row.{first_shown_column}
 use Rattle.textarea_screen.proofs.ChangeLemmas.{Changes-as, Changes-then}
 use Rattle.textarea_view.proofs.Drawing.{lines_change-push}
 
 -- ---- the lines
 
-pub length-placeholder_lines : (cursor_cell : CursorCellRender) (lines : List ShownLine) → length (placeholder_lines cursor_cell lines) ≡ length lines
+pub length-placeholder_lines : (cursor_cell : CursorCellRender) (lines : List LineView) → length (placeholder_lines cursor_cell lines) ≡ length lines
 length-placeholder_lines cursor_cell [] = refl
 length-placeholder_lines cursor_cell (line ∷ lines) = refl
 
@@ -19,70 +19,70 @@ cell_of_line-later : (cursor_cell : CursorCellRender) (line : ℕ) → 0 < line 
 cell_of_line-later cursor_cell line later = cond-false (line == 0) _ _ (grind (arith, nat_tests))
 
 -- the line of each number, with the cursor before the first
-pub line_at : (cursor_cell : CursorCellRender) (lines : List ShownLine) (i : ℕ) (d : ShownLine) → i < length lines → behind_cursor (cell_of_line cursor_cell i) (get_or lines i d) ≡ get_or (placeholder_lines cursor_cell lines) i d
+pub line_at : (cursor_cell : CursorCellRender) (lines : List LineView) (i : ℕ) (d : LineView) → i < length lines → after_cursor (cell_of_line cursor_cell i) (get_or lines i d) ≡ get_or (placeholder_lines cursor_cell lines) i d
 line_at cursor_cell [] i d within = absurd (omega (arith, within))
 line_at cursor_cell (line ∷ lines) zero d within = refl
-line_at cursor_cell (line ∷ lines) (suc i) d within = ap (λ cell. behind_cursor cell (get_or lines i d)) (cell_of_line-later cursor_cell (suc i) (omega arith))
+line_at cursor_cell (line ∷ lines) (suc i) d within = ap (λ cell. after_cursor cell (get_or lines i d)) (cell_of_line-later cursor_cell (suc i) (omega arith))
 
 pub cell_of_line-hidden : (line : ℕ) → cell_of_line Hidden line ≡ Hidden
 cell_of_line-hidden line = elim (line == 0) as (λ b. cond b Hidden Hidden ≡ Hidden) [ true ↦ refl | false ↦ refl ]
 
 -- a borrow of a span's text has the same bytes
-shown_bytes : (text : SpanText) → text_bytes text ≡ content_bytes (shown_content text)
-shown_bytes (Borrowed text) = refl
-shown_bytes (Owned text) = refl
+display_bytes : (text : SpanText) → text_bytes text ≡ content_bytes (content_view text)
+display_bytes (Borrowed text) = refl
+display_bytes (Owned text) = refl
 
-abbrev made : ShownContent → Style → ShownSpan
+abbrev made : ContentView → Style → SpanView
 made content style = record { content = content; style = style }
 
-pub lent_from : (item lent : Span) (bytes : List ℕ) → shown_content lent.content ≡ Lent bytes → lent.style ≡ item.style → bytes ≡ text_bytes item.content →
-    shown_span lent ≡ lent_span (shown_span item)
-lent_from item lent bytes content style are = ap₂ made (content ∙ ap Lent (are ∙ shown_bytes item.content)) style
+pub lent_from : (item lent : Span) (bytes : List ℕ) → content_view lent.content ≡ BorrowedBytes bytes → lent.style ≡ item.style → bytes ≡ text_bytes item.content →
+    span_view lent ≡ borrowed_span (span_view item)
+lent_from item lent bytes content style are = ap₂ made (content ∙ ap BorrowedBytes (are ∙ display_bytes item.content)) style
 
 -- one more borrowed span, after the blank
-pub lent_more : (items done more : List Span) (i : ℕ) (item lent : Span) (style : Style) → i < length items → map shown_span done ≡ blank style ∷ map lent_span (map shown_span (take i items)) →
-    item ≡ get_or items i item → shown_span lent ≡ lent_span (shown_span item) → more ≡ done ++ lent ∷ [] → map shown_span more ≡ blank style ∷ map lent_span (map shown_span (take (i + 1) items))
+pub lent_more : (items done more : List Span) (i : ℕ) (item lent : Span) (style : Style) → i < length items → map span_view done ≡ blank style ∷ map borrowed_span (map span_view (take i items)) →
+    item ≡ get_or items i item → span_view lent ≡ borrowed_span (span_view item) → more ≡ done ++ lent ∷ [] → map span_view more ≡ blank style ∷ map borrowed_span (map span_view (take (i + 1) items))
 lent_more items done more i item lent style within known is same pushed =
-    let before = map shown_span (take i items) in
-    ap (map shown_span) pushed ∙ map-append shown_span done (lent ∷ []) ∙ ap (λ (spans : List ShownSpan). spans ++ shown_span lent ∷ []) known
-    ∙ ap (λ (spans : List ShownSpan). blank style ∷ spans)
-    (ap (λ (span : ShownSpan). map lent_span before ++ span ∷ []) (same ∙ ap (λ (span : Span). lent_span (shown_span span)) is)
-    ∙ sym (map-append lent_span before (shown_span (get_or items i item) ∷ [])) ∙ ap (map lent_span) (sym (map_more shown_span items i item within)))
+    let before = map span_view (take i items) in
+    ap (map span_view) pushed ∙ map-append span_view done (lent ∷ []) ∙ ap (λ (spans : List SpanView). spans ++ span_view lent ∷ []) known
+    ∙ ap (λ (spans : List SpanView). blank style ∷ spans)
+    (ap (λ (span : SpanView). map borrowed_span before ++ span ∷ []) (same ∙ ap (λ (span : Span). borrowed_span (span_view span)) is)
+    ∙ sym (map-append borrowed_span before (span_view (get_or items i item) ∷ [])) ∙ ap (map borrowed_span) (sym (map_more span_view items i item within)))
 
 -- ---- the cells
 
 -- one line more is drawn
-pub lines_more : (rows : RowArea) (lines : List ShownLine) (old now new : Buffer) (count : ℕ) (line d : ShownLine) → count < length lines → line ≡ get_or lines count d →
+pub lines_more : (rows : RowArea) (lines : List LineView) (old now new : Buffer) (count : ℕ) (line d : LineView) → count < length lines → line ≡ get_or lines count d →
     Changes old now (lines_change rows rows.area.y (take count lines)) → Changes now new (row_cell rows (rows.area.y + count) line) →
     Changes old new (lines_change rows rows.area.y (take (count + 1) lines))
 lines_more rows lines old now new count line d within is drawn change =
-    let all : take count lines ++ line ∷ [] ≡ take (count + 1) lines = ap (λ (l : ShownLine). take count lines ++ l ∷ []) is ∙ sym (take_more lines count d within) in
+    let all : take count lines ++ line ∷ [] ≡ take (count + 1) lines = ap (λ (l : LineView). take count lines ++ l ∷ []) is ∙ sym (take_more lines count d within) in
     let many : length (take count lines) ≡ count = omega (arith, length-take count lines, within) in
     Changes-then (lines_change rows rows.area.y (take (count + 1) lines)) drawn change
     (λ x y cell.
     ap (λ n. row_cell rows (rows.area.y + n) line x y (lines_change rows rows.area.y (take count lines) x y cell)) (sym many)
     ∙ lines_change-push rows rows.area.y (take count lines) line x y cell
-    ∙ ap (λ (ls : List ShownLine). lines_change rows rows.area.y ls x y cell) all)
+    ∙ ap (λ (ls : List LineView). lines_change rows rows.area.y ls x y cell) all)
 
 -- ---- borrowed texts
 
-clusters-lent : (style : Style) (spans : List ShownSpan) → flat_map (span_clusters style) (map lent_span spans) ≡ flat_map (span_clusters style) spans
+clusters-lent : (style : Style) (spans : List SpanView) → flat_map (span_clusters style) (map borrowed_span spans) ≡ flat_map (span_clusters style) spans
 clusters-lent style [] = refl
 clusters-lent style (span ∷ spans) = ap (λ cs. span_clusters style span ++ cs) (clusters-lent style spans)
 
 -- a line after the blank has the same clusters, borrowed or owned
-clusters_behind : (style own : Style) (line : ShownLine) → row_clusters style (behind_cursor (Draw own) (lent_line line)) ≡ row_clusters style (behind_cursor (Draw own) line)
+clusters_behind : (style own : Style) (line : LineView) → row_clusters style (after_cursor (Draw own) (borrowed_line line)) ≡ row_clusters style (after_cursor (Draw own) line)
 clusters_behind style own line = ap (λ cs. span_clusters (patched style line.style) (blank own) ++ cs) (clusters-lent (patched style line.style) line.spans)
 
 -- so it puts the same into each cell
-row_cell-like : (rows : RowArea) (y : ℕ) (a b : ShownLine) → row_clusters rows.style a ≡ row_clusters rows.style b → (column row : ℕ) (cell : ShownCell) → row_cell rows y a column row cell ≡ row_cell rows y b column row cell
+row_cell-like : (rows : RowArea) (y : ℕ) (a b : LineView) → row_clusters rows.style a ≡ row_clusters rows.style b → (column row : ℕ) (cell : CellView) → row_cell rows y a column row cell ≡ row_cell rows y b column row cell
 unfolding row_cell
 row_cell-like rows y a b same column row cell =
     ap (λ cs. cond (is_in_row rows.area y column row)
-    (row_change (cells_of_row rows.area y) (first_shown rows.alignment rows.left) (placed_row rows.alignment rows.area.width cs) column row cell) cell) same
+    (row_change (cells_of_row rows.area y) (first_shown_column rows.alignment rows.left) (placed_row rows.alignment rows.area.width cs) column row cell) cell) same
 
-pub drawn_behind : (rows : RowArea) (y : ℕ) (own : Style) (line shown : ShownLine) (old new : Buffer) → shown ≡ behind_cursor (Draw own) (lent_line line) → Changes old new (row_cell rows y shown) →
-    Changes old new (row_cell rows y (behind_cursor (Draw own) line))
+pub drawn_behind : (rows : RowArea) (y : ℕ) (own : Style) (line shown : LineView) (old new : Buffer) → shown ≡ after_cursor (Draw own) (borrowed_line line) → Changes old new (row_cell rows y shown) →
+    Changes old new (row_cell rows y (after_cursor (Draw own) line))
 drawn_behind rows y own line shown old new is change =
-    Changes-as (row_cell rows y (behind_cursor (Draw own) line)) change
-    (row_cell-like rows y shown (behind_cursor (Draw own) line) (ap (row_clusters rows.style) is ∙ clusters_behind rows.style own line))
+    Changes-as (row_cell rows y (after_cursor (Draw own) line)) change
+    (row_cell-like rows y shown (after_cursor (Draw own) line) (ap (row_clusters rows.style) is ∙ clusters_behind rows.style own line))

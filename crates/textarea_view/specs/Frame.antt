@@ -1,9 +1,9 @@
 -- The data that a frame is drawn from.
 use Rattle.std.specs.Prelude.{ℕ, Bool, true, false, ◌&&◌, List, [], ◌∷◌, length}
 use Rattle.textarea_view.specs.Scene.{SceneState}
-use Rattle.textarea_screen.specs.Text.{ShownLine}
-use Rattle.textarea_view.specs.State.{SurroundState}
-use Rattle.textarea_wrap.specs.Layout.{line_number_columns}
+use Rattle.textarea_screen.specs.Text.{LineView}
+use Rattle.textarea_view.specs.SurroundState.{SurroundState}
+use Rattle.textarea_wrap.specs.Metrics.{line_number_columns}
 use Rattle.textarea_wrap.specs.declared.wrap.WrapMode.{WrapMode}
 
 -- the scene of the rows, the block and placeholder, the wrap mode, and whether the text is empty
@@ -13,7 +13,7 @@ pub record FrameState : Type 0 where
   pub mode : WrapMode
   pub is_empty : Bool
 
-abbrev pub has_lines : List ShownLine → Bool
+abbrev pub has_lines : List LineView → Bool
 has_lines [] = false
 has_lines (line ∷ lines) = true
 

@@ -1,11 +1,11 @@
 -- The position in the text that a cell of the screen shows.
 use Rattle.std.specs.Prelude.{◌≡◌, ℕ, ◌-◌, Bool, true, false, Option, None, Some}
 use Rattle.textarea_view.specs.Frame.{FrameState, shows_placeholder}
-use Rattle.textarea_view.specs.Placed.{LiesAs}
-use Rattle.textarea_screen_map.specs.Lent.{LentRows}
+use Rattle.textarea_view.specs.Placements.{HasRowView}
+use Rattle.textarea_screen_map.specs.BorrowedLines.{BorrowedRows}
 use Rattle.textarea_blocks.specs.Sums.{row_total}
-use Rattle.textarea_screen_map.specs.Rows.{greatest_column, row_at}
-use Rattle.textarea_screen_map.specs.Seen.{IsPlaceNear}
+use Rattle.textarea_screen_map.specs.VisualRows.{greatest_column, row_at}
+use Rattle.textarea_screen_map.specs.VisualPositions.{IsPlaceNear}
 use Rattle.textarea_screen_map.specs.declared.layout.VisualPosition.{VisualPosition}
 use Rattle.textarea_view.specs.Scene.{SceneState}
 use Rattle.textarea_screen.specs.Rect.{contains}
@@ -16,11 +16,11 @@ use Rattle.textarea_view.specs.Viewport.{ViewportState}
 use Rattle.textarea_view.specs.declared.row_view.RowView.{RowView}
 
 -- the greatest display column that a cursor can have in a visual row
-abbrev pub greatest_at : LentRows → ℕ → ℕ
+abbrev pub greatest_at : BorrowedRows → ℕ → ℕ
 greatest_at rows row = greatest_column rows.wrapping.tab_len (row_at rows.lines rows.rows row)
 
 -- the position of a cursor that is put to this visual position
-abbrev pub IsNear : LentRows → VisualPosition → Place → Type 0
+abbrev pub IsNear : BorrowedRows → VisualPosition → Place → Type 0
 IsNear rows visual place = IsPlaceNear rows.wrapping.tab_len rows.lines rows.rows visual place
 
 -- ---- hit tests
@@ -30,7 +30,7 @@ pub record IsHitInRows (scene : SceneState) (viewport : ViewportState) (inner : 
   pub row : ℕ
   pub row_is : hit_row viewport.row inner (row_total scene.rows.rows - 1) x y ≡ Some row
   pub view : RowView
-  pub view_is : LiesAs scene viewport inner row view
+  pub view_is : HasRowView scene viewport inner row view
   pub near : IsNear scene.rows (record { row = row; column = hit_column view (greatest_at scene.rows row) x }) place
 
 -- with a placeholder each cell shows the start

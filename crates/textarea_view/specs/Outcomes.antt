@@ -1,17 +1,17 @@
 -- The block, placeholder and heights after a call that sets one of them.
 use Rattle.std.specs.Prelude.{ℕ, max, List, [], ◌∷◌}
 use Rattle.textarea_screen.specs.Style.{empty_style}
-use Rattle.textarea_screen.specs.Text.{ShownLine}
-use Rattle.textarea_screen.specs.Text.ShownContent.{Held}
+use Rattle.textarea_screen.specs.Text.{LineView}
+use Rattle.textarea_screen.specs.Text.ContentView.{OwnedBytes}
 use Rattle.textarea_screen.specs.declared.screen.style.Style.{Style}
-use Rattle.textarea_view.specs.State.{SurroundState}
+use Rattle.textarea_view.specs.SurroundState.{SurroundState}
 
 -- a line of one span with the whole text, including any line feed, in no style of its own
-abbrev pub plain_line : List ℕ → ShownLine
-plain_line bytes = record { spans = record { content = Held bytes; style = empty_style } ∷ []; style = empty_style }
+abbrev pub plain_line : List ℕ → LineView
+plain_line bytes = record { spans = record { content = OwnedBytes bytes; style = empty_style } ∷ []; style = empty_style }
 
 -- the lines of a placeholder that is set to a text: one line, or none for the empty text
-abbrev pub plain_lines : List ℕ → List ShownLine
+abbrev pub plain_lines : List ℕ → List LineView
 plain_lines [] = []
 plain_lines (byte ∷ bytes) = plain_line (byte ∷ bytes) ∷ []
 

@@ -1,8 +1,8 @@
 -- The data that visual rows are drawn from.
 use Rattle.std.specs.Prelude.{ℕ, Bool, List, Option, IfSome}
 use Rattle.textarea_text.specs.Place.{Place, IsPlaceOf}
-use Rattle.textarea_screen_map.specs.Seen.{IsVisualPosition}
-use Rattle.textarea_screen_map.specs.Lent.{LentRows}
+use Rattle.textarea_screen_map.specs.VisualPositions.{IsVisualPosition}
+use Rattle.textarea_screen_map.specs.BorrowedLines.{BorrowedRows}
 use Rattle.textarea_view.specs.declared.look.CustomHighlight.{CustomHighlight}
 use Rattle.textarea_view.specs.declared.look.Look.{Look}
 
@@ -10,7 +10,7 @@ use Rattle.textarea_view.specs.declared.look.Look.{Look}
 -- its end; the pattern whose matches are highlighted, if there is one; the appearance; the caller's
 -- own highlights, in the order in which they were added; and whether lines are numbered
 pub record SceneState : Type 0 where
-  pub rows : LentRows
+  pub rows : BorrowedRows
   pub cursor : Place
   pub selection : Option (Place × Place)
   pub pattern : Option (List ℕ)
@@ -25,6 +25,6 @@ pub record HasPlaces (scene : SceneState) : Type 0 where
       (λ selection. IsPlaceOf scene.rows.lines selection.0 × IsPlaceOf scene.rows.lines selection.1)
 
 -- the cursor is in this visual row
-abbrev pub IsSeenIn : SceneState → ℕ → Type 0
-IsSeenIn scene row = (column : ℕ)
+abbrev pub IsCursorRow : SceneState → ℕ → Type 0
+IsCursorRow scene row = (column : ℕ)
     × IsVisualPosition scene.rows.wrapping.tab_len scene.rows.lines scene.rows.rows scene.cursor (record { row = row; column = column })

@@ -13,13 +13,13 @@ abbrev pub initial_viewport : ViewportState
 initial_viewport = record { row = 0; column = 0; width = 0; height = 0 }
 
 -- the number, but at most the greatest `usize`
-abbrev pub saturated : ℕ → ℕ
-saturated number = min number (2 ^ 64 - 1)
+abbrev pub saturated_usize : ℕ → ℕ
+saturated_usize number = min number (2 ^ 64 - 1)
 
 -- the last of `len` rows or columns from the first on: one less than their sum, and at least the
 -- first; the sum is at most the greatest `usize`, and the difference stops at 0
 abbrev pub last_shown : ℕ → ℕ → ℕ
-last_shown first len = max first (saturated (first + len) - 1)
+last_shown first len = max first (saturated_usize (first + len) - 1)
 
 -- a row or a column that is clamped to those in view, and then to at most the greatest one
 abbrev pub clamped : ℕ → ℕ → ℕ → ℕ → ℕ

@@ -1,8 +1,8 @@
 //! One frame of a text area, and the cells that it changes.
 ghost use Rattle.std.specs.Prelude.{◌≡◌, ℕ, IfOk, IsTrue, List, OnOk};
-ghost use Rattle.textarea_view.specs.Prelude.{AreLinesOf, block_change, inside_change, lines_shown, placeholder_change, rows_change, IsFrameDrawn, shows_placeholder, FillsArea, HasPlaces, Changes, KeepsOutside, area_of, contains, ShownLine};
+ghost use Rattle.textarea_view.specs.Prelude.{AreLinesOf, block_change, inside_change, drawn_lines, placeholder_change, rows_change, IsFrameDrawn, shows_placeholder, FillsArea, HasPlaces, Changes, KeepsOutside, area_of, contains, LineView};
 
-use crate::placing::{Placing, row_area};
+use crate::placement::{Placement, row_area};
 use crate::scene::Scene;
 use crate::scene::placeholder::draw_placeholder;
 use crate::{Surround, Viewport};
@@ -10,7 +10,7 @@ use std::alloc::{AllocError, Global};
 use std::marker::Model;
 use textarea_paint::paint::block::draw_block;
 use textarea_screen::screen::{Buffer, Rect};
-use textarea_search::search::KeptMatches;
+use textarea_search::search::MatchCache;
 use textarea_wrap::wrap::WrapMode;
 
 /// The borrowed parts of a text area that one frame is drawn from.
@@ -50,13 +50,13 @@ impl Frame<'_, '_> {
     fn draw_inside(
         &self,
         alloc: Global,
-        kept: &mut KeptMatches,
+        kept: &mut MatchCache,
         buffer: &mut Buffer,
         viewport: Viewport,
         inner: Rect,
     ) -> Result<(), AllocError>
         requires { HasPlaces self.now.scene }
-        ensures ok { OnOk result ((lines : List ShownLine)
+        ensures ok { OnOk result ((lines : List LineView)
             × AreLinesOf self.now viewport inner (area_of buffer.old) lines
             × Changes buffer.old buffer.new (inside_change self.now viewport inner lines)) }
         ensures outside { KeepsOutside (contains inner) buffer.old buffer.new }
@@ -92,7 +92,7 @@ fn draw_placeholder_of(
 ) -> Result<(), AllocError>
     ensures ok { OnOk result (Changes buffer.old buffer.new
         (placeholder_change scene.now.look surround.now.placeholder.style viewport inner
-        (lines_shown scene.now.look surround.now.placeholder.lines inner (area_of buffer.old)))) }
+        (drawn_lines scene.now.look surround.now.placeholder.lines inner (area_of buffer.old)))) }
     ensures outside { KeepsOutside (contains inner) buffer.old buffer.new }
 {
     let rows = row_area(scene.look, viewport, inner);
@@ -108,14 +108,14 @@ fn draw_placeholder_of(
 // Draws the visual rows over the style of the text area.
 fn draw_rows(
     alloc: Global,
-    kept: &mut KeptMatches,
+    kept: &mut MatchCache,
     buffer: &mut Buffer,
     scene: &Scene<'_>,
     viewport: Viewport,
     inner: Rect,
 ) -> Result<(), AllocError>
     requires { HasPlaces scene.now }
-    ensures ok { OnOk result ((lines : List ShownLine)
+    ensures ok { OnOk result ((lines : List LineView)
         × FillsArea scene.now viewport.row inner (area_of buffer.old) lines
         × Changes buffer.old buffer.new (rows_change scene.now.look viewport inner lines)) }
     ensures outside { KeepsOutside (contains inner) buffer.old buffer.new }
@@ -131,19 +131,19 @@ fn draw_rows(
 pub fn draw_frame(
     frame: &Frame<'_, '_>,
     alloc: Global,
-    kept: &mut KeptMatches,
+    kept: &mut MatchCache,
     buffer: &mut Buffer,
     area: Rect,
     viewport: Viewport,
     inner: Rect,
-) -> Result<Placing, AllocError>
+) -> Result<Placement, AllocError>
     requires places { HasPlaces frame.now.scene }
     requires within { (x y : ℕ) → IsTrue (contains inner x y) → IsTrue (contains area x y) }
     ensures ok { IfOk result (IsFrameDrawn frame.now viewport area inner buffer.old buffer.new) }
     ensures outside { KeepsOutside (contains area) buffer.old buffer.new }
 {
-    let placing = frame.placing(alloc, viewport, inner)?;
+    let placement = frame.placement(alloc, viewport, inner)?;
     frame.draw_around(buffer, area)?;
-    frame.draw_inside(alloc, kept, buffer, placing.viewport, inner)?;
-    Ok(placing)
+    frame.draw_inside(alloc, kept, buffer, placement.viewport, inner)?;
+    Ok(placement)
 }

@@ -4,7 +4,7 @@ ghost use Rattle.textarea_view.specs.Prelude.{IsHitInRows, IsHitOf, row_total, H
 
 use crate::Viewport;
 use crate::frame::Frame;
-use crate::placing::row_view;
+use crate::placement::row_view;
 use crate::scene::Scene;
 use std::alloc::{AllocError, Global};
 use textarea_screen::screen::{Position, Rect};

@@ -4,7 +4,7 @@
 pub mod frame;
 pub mod hit;
 pub mod look;
-pub mod placing;
+pub mod placement;
 pub mod row_view;
 pub mod scene;
 pub mod surround;

@@ -1,28 +1,28 @@
 //! The visual rows of a text, drawn below one another.
-mod frame;
 pub mod laws;
 mod matches;
 mod parts;
 pub mod placeholder;
+mod row_context;
 
 ghost use Rattle.std.specs.Prelude.{◌≡◌, ◌≢◌, ◌+◌, ◌-◌, ◌^◌, ◌<◌, ◌≤◌, min, List, IfOk, OnErr, OnOk};
-ghost use Rattle.textarea_view.specs.Prelude.{ShowsRow, row_total, area_of, Changes, KeepsOutside, contains, is_in_row, ShownLine, shown_line, row_cell, DrawnTo, FillsArea, IsRowStart, lines_change, rows_above_end, cursor_cell, row_highlights, searched, HasPlaces};
+ghost use Rattle.textarea_view.specs.Prelude.{ShowsRow, row_total, area_of, Changes, KeepsOutside, contains, is_in_row, LineView, line_view, row_cell, DrawnTo, FillsArea, IsRowStart, lines_change, rows_above_end, cursor_cell, row_highlights, searched_lines, HasPlaces};
 
 use crate::look::{CursorRenderMode, CustomHighlight, Look};
-use frame::Frame;
-use matches::FoundMatches;
+use matches::LineMatches;
+use row_context::RowContext;
 use std::alloc::{AllocError, Global};
 use std::marker::Model;
 use textarea_highlight::highlight::CursorCellRender;
 use textarea_paint::paint::row::{RowArea, draw_row, row_start};
 use textarea_screen::screen::{Alignment, Buffer, Line, Rect};
-use textarea_screen_map::view::LaidOutView;
-use textarea_search::search::{KeptMatches, Search};
+use textarea_screen_map::view::TextLayoutView;
+use textarea_search::search::{MatchCache, Search};
 
 /// The borrowed data that visual rows are drawn from.
 #[derive(Drop)]
 pub struct Scene<'a> {
-    pub rows: LaidOutView<'a>,
+    pub rows: TextLayoutView<'a>,
     pub cursor: (usize, usize),
     /// The selection from its start to its end, if there is one.
     pub selection: Option<((usize, usize), (usize, usize))>,
@@ -57,21 +57,21 @@ impl<'a> Scene<'a> {
     pub fn draw(
         &self,
         alloc: Global,
-        kept: &mut KeptMatches,
+        kept: &mut MatchCache,
         buffer: &mut Buffer,
         rows: RowArea,
         top: usize,
     ) -> Result<(), AllocError>
         requires { HasPlaces self.now }
-        ensures ok { OnOk result ((lines : List ShownLine)
+        ensures ok { OnOk result ((lines : List LineView)
             × FillsArea self.now top rows.area (area_of buffer.old) lines
             × Changes buffer.old buffer.new (lines_change rows rows.area.y lines)) }
         ensures err { OnErr result (KeepsOutside (contains rows.area) buffer.old buffer.new) }
     {
         let room = rows_above_end(rows.area, buffer.area());
-        let frame = Frame::new(self);
+        let frame = RowContext::new(self);
         let lines = self.rows.lines();
-        let mut matches = FoundMatches::new(alloc, self.search, lines, kept, usize::from(room))?;
+        let mut matches = LineMatches::new(alloc, self.search, lines, kept, usize::from(room))?;
         let left = self.rows.row_count().saturating_sub(top);
         let count = left.min(usize::from(room));
         draw_rows(alloc, &frame, &mut matches, buffer, rows, top, count)
@@ -109,12 +109,12 @@ impl<'a> Scene<'a> {
     fn row_line(&self, alloc: Global, row: usize) -> Result<Line<'a>, AllocError>
         requires places { HasPlaces self.now }
         requires row { row < row_total self.now.rows.rows }
-        ensures { IfOk result (λ line. ShowsRow (row_highlights self.now row) (shown_line line)) }
+        ensures { IfOk result (λ line. ShowsRow (row_highlights self.now row) (line_view line)) }
     {
-        let frame = Frame::new(self);
-        let mut kept = KeptMatches::new(alloc);
+        let frame = RowContext::new(self);
+        let mut kept = MatchCache::new(alloc);
         let lines = self.rows.lines();
-        let mut matches = FoundMatches::new(alloc, self.search, lines, &mut kept, 0)?;
+        let mut matches = LineMatches::new(alloc, self.search, lines, &mut kept, 0)?;
         frame.row_line(alloc, row, &mut matches)
     }
 }
@@ -122,14 +122,14 @@ impl<'a> Scene<'a> {
 // Draws `count` visual rows from `top` on, one below the other.
 fn draw_rows<'a>(
     alloc: Global,
-    frame: &Frame<'_, 'a>,
-    matches: &mut FoundMatches<'_, '_>,
+    frame: &RowContext<'_, 'a>,
+    matches: &mut LineMatches<'_, '_>,
     buffer: &mut Buffer,
     rows: RowArea,
     top: usize,
     count: usize,
 ) -> Result<(), AllocError>
-    requires matches { matches.old.searched ≡ searched frame.now }
+    requires matches { matches.old.searched ≡ searched_lines frame.now }
     requires shown { count ≤ row_total frame.now.rows.rows - top }
     requires end { top + count < 2 ^ 64 }
     requires room { count ≤ rows.area.height }
@@ -154,7 +154,7 @@ fn draw_below(
 ) -> Result<(), AllocError>
     requires { below < rows.area.height }
     ensures ok { OnOk result (Changes buffer.old buffer.new
-        (row_cell rows (rows.area.y + below) (shown_line line.now))) }
+        (row_cell rows (rows.area.y + below) (line_view line.now))) }
     ensures err { OnErr result
         (KeepsOutside (is_in_row rows.area (rows.area.y + below)) buffer.old buffer.new) }
 {

@@ -3,7 +3,7 @@ pub mod measure;
 mod placeholder;
 
 ghost use Rattle.std.specs.Prelude.{◌≡◌, IfOk, None, Some};
-ghost use Rattle.textarea_view.specs.Prelude.{option_map, shown_block, AreBounds, new_surround, with_max_rows, with_min_rows};
+ghost use Rattle.textarea_view.specs.Prelude.{option_map, block_view, AreBounds, new_surround, with_max_rows, with_min_rows};
 
 use std::alloc::{AllocError, Global};
 use std::marker::Model;
@@ -24,15 +24,15 @@ pub struct Surround<'a> {
 
 impl<'a> Model for Surround<'a> {
     ghost use Rattle.std.specs.Option.{option_map};
-    ghost use Rattle.textarea_screen.specs.Block.{shown_block};
-    ghost use Rattle.textarea_screen.specs.Text.{shown_text};
-    ghost use Rattle.textarea_view.specs.State.{AreBounds, SurroundState};
+    ghost use Rattle.textarea_screen.specs.Block.{block_view};
+    ghost use Rattle.textarea_screen.specs.Text.{text_view};
+    ghost use Rattle.textarea_view.specs.SurroundState.{AreBounds, SurroundState};
 
     ghost Value = { SurroundState };
 
     ghost view = { λ surround. record {
-      block = option_map shown_block surround.block;
-      placeholder = shown_text surround.placeholder;
+      block = option_map block_view surround.block;
+      placeholder = text_view surround.placeholder;
       min_rows = surround.min_rows;
       max_rows = surround.max_rows;
     } };
@@ -75,7 +75,7 @@ impl<'a> Surround<'a> {
 
     /// Sets the block around the rows, which replaces any other.
     pub fn set_block(&mut self, block: Block<'a>)
-        ensures { self.new ≡ record self.old { block = Some (shown_block block.entry) } }
+        ensures { self.new ≡ record self.old { block = Some (block_view block.entry) } }
     {
         self.block = Some(block);
     }
@@ -89,7 +89,7 @@ impl<'a> Surround<'a> {
 
     /// Returns the block around the rows, if there is one.
     pub fn block(&self) -> Option<&Block<'a>>
-        ensures { option_map (λ block. shown_block block.now) result ≡ self.now.block }
+        ensures { option_map (λ block. block_view block.now) result ≡ self.now.block }
     {
         self.block.as_ref()
     }

@@ -16,7 +16,7 @@ use Rattle.unicode_segmentation.specs.Segments.{prepend, cut, segments}
 use Rattle.unicode_segmentation.specs.Word.{word_bounds}
 use Rattle.unicode_segmentation.proofs.Computing.{unicode_segmentation}
 use Rattle.textarea_wrap.specs.Units.{is_blank, units_of_piece, line_units}
-use Rattle.textarea_wrap.specs.Cutting.{Stretch}
+use Rattle.textarea_wrap.specs.WrapRules.{Stretch}
 use Rattle.textarea_wrap.proofs.Alls.{all_append}
 use Rattle.textarea_wrap.proofs.FewestWordLemmas.{AreBlanksClusters, BlankIsCluster}
 

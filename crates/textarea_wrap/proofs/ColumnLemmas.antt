@@ -9,7 +9,7 @@ use Rattle.std.specs.List.{flat_map}
 use Rattle.std.proofs.lemmas.Str.{length-encode, len_utf8_bounds}
 use Rattle.std.specs.Prelude.{encode_utf8}
 use Rattle.std.specs.Str.{chars}
-use Rattle.textarea_wrap.specs.Cutting.{Stretch}
+use Rattle.textarea_wrap.specs.WrapRules.{Stretch}
 use Rattle.textarea_wrap.specs.Columns.{plain_width, next_stop, column_after, end_column, stretch_width}
 
 -- the text after a character is shorter

@@ -4,7 +4,7 @@ use Rattle.std.proofs.Common.{◌≡◌, ℕ, ◌<◌, ◌≤◌, ◌⊎◌, inl
 use Rattle.std.proofs.lemmas.List.{length-map}
 use Rattle.std.specs.List.{concat}
 use Rattle.textarea_wrap.specs.Columns.{stretch_width}
-use Rattle.textarea_wrap.specs.Cutting.{Stretch, pieces_of, IsGlyphRow, AreGlyphRows, IsGlyphCutting, AreFittingRows, HasFewestGlyphRows}
+use Rattle.textarea_wrap.specs.WrapRules.{Stretch, stretches_of, IsGlyphRow, AreGlyphRows, IsGlyphWrapping, AreFittingRows, HasFewestGlyphRows}
 use Rattle.textarea_wrap.proofs.ColumnLemmas.{stretch_width-front, stretch_width-back}
 
 -- ---- two splits of one list
@@ -33,24 +33,24 @@ ended t w stretch left rest row front back (next ∷ over) greedy row_is back_is
     absurd (not_shorter t w stretch (left ++ []) front (over ++ rest) next row greedy (append-nil left ∙ left_is) over (row_is ∙ ap (λ t. front ++ t) back_is) fits)
 
 -- the greedy rows of what remains after a prefix are no more than any fitting rows of the whole
-pub greedy_ahead : (t w : ℕ) (others greedy : List Stretch) (front : Stretch) → AreGlyphRows t w greedy [] → front ++ pieces_of greedy ≡ pieces_of others
+pub greedy_ahead : (t w : ℕ) (others greedy : List Stretch) (front : Stretch) → AreGlyphRows t w greedy [] → front ++ stretches_of greedy ≡ stretches_of others
     → AreFittingRows t w others → length greedy ≤ length others
 greedy_ahead t w others [] front cut same fit = omega arith
 greedy_ahead t w [] (stretch ∷ greedy) front cut same fit =
-    grind (arith, common_steps, length-append front (stretch ++ pieces_of greedy), length-append stretch (pieces_of greedy))
+    grind (arith, common_steps, length-append front (stretch ++ stretches_of greedy), length-append stretch (stretches_of greedy))
 greedy_ahead t w (row ∷ others) (stretch ∷ greedy) front cut same fit =
     ⊎_elim
     (λ p.
     ⊎_elim
-    (λ q. let together = ended t w stretch (pieces_of greedy) (pieces_of others) row front p.0 q.0 cut.0 p.1 q.1 q.2 fit.0 in
+    (λ q. let together = ended t w stretch (stretches_of greedy) (stretches_of others) row front p.0 q.0 cut.0 p.1 q.1 q.2 fit.0 in
     let behind = greedy_ahead t w others greedy [] cut.1 together fit.1 in omega arith)
     (λ q. let behind = greedy_ahead t w others greedy q.0 cut.1 (sym q.2) fit.1 in omega arith)
-    (fronts stretch (pieces_of greedy) p.0 (pieces_of others) p.2))
+    (fronts stretch (stretches_of greedy) p.0 (stretches_of others) p.2))
     (λ p. let behind = greedy_ahead t w others (stretch ∷ greedy) p.0 cut (sym p.2) fit.1 in omega arith)
-    (fronts front (stretch ++ pieces_of greedy) row (pieces_of others) same)
+    (fronts front (stretch ++ stretches_of greedy) row (stretches_of others) same)
 
 -- wrapping at grapheme cluster ends has the fewest rows
-pub HasFewestGlyphRows-cutting : (t w : ℕ) (text : List ℕ) (rows : List (List ℕ)) → IsGlyphCutting t w text rows → HasFewestGlyphRows t w text (length rows)
+pub HasFewestGlyphRows-cutting : (t w : ℕ) (text : List ℕ) (rows : List (List ℕ)) → IsGlyphWrapping t w text rows → HasFewestGlyphRows t w text (length rows)
 HasFewestGlyphRows-cutting t w text rows cutting = λ others whole fit.
     let count = ap length cutting.rows_are ∙ length-map cutting.stretches concat in
     let least = greedy_ahead t w others cutting.stretches [] cutting.cut (cutting.whole ∙ sym whole) fit in

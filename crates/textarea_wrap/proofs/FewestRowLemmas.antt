@@ -3,8 +3,8 @@ use Rattle.std.proofs.lemmas.Grind.{common_steps}
 use Rattle.std.proofs.Common.{◌≡◌, ℕ, suc, ◌+◌, ◌<◌, List, [], ◌∷◌, length, refl, ap, arith}
 use Rattle.textarea_wrap.specs.declared.wrap.WrapMode.{WrapMode}
 use Rattle.textarea_wrap.specs.declared.wrap.WrapMode.TheVariants as mode
-use Rattle.textarea_wrap.specs.Cutting.{ranges_from}
-use Rattle.textarea_wrap.specs.Wrapped.{IsCutting, IsWrapped, HasFewestRows}
+use Rattle.textarea_wrap.specs.WrapRules.{ranges_from}
+use Rattle.textarea_wrap.specs.WrapResult.{IsWrapping, IsWrapped, HasFewestRows}
 use Rattle.textarea_wrap.proofs.BlankLemmas.{AreBlanksClusters-line_units}
 use Rattle.textarea_wrap.proofs.FewestLemmas.{HasFewestGlyphRows-cutting}
 use Rattle.textarea_wrap.proofs.FewestWordLemmas.{HasFewestWordRows-cutting}
@@ -13,7 +13,7 @@ pub length-ranges_from : (at : ℕ) (texts : List (List ℕ)) → length (ranges
 length-ranges_from at [] = refl
 length-ranges_from at (text ∷ texts) = ap suc (length-ranges_from (at + length text) texts)
 
-HasFewestRows-cutting : (mode : WrapMode) (t w : ℕ) (line : List ℕ) (texts : List (List ℕ)) → IsCutting mode t w line texts → HasFewestRows mode t w line (length texts)
+HasFewestRows-cutting : (mode : WrapMode) (t w : ℕ) (line : List ℕ) (texts : List (List ℕ)) → IsWrapping mode t w line texts → HasFewestRows mode t w line (length texts)
 HasFewestRows-cutting mode.None t w line texts cut = ap length cut
 HasFewestRows-cutting mode.Word t w line texts cut = HasFewestWordRows-cutting t w line texts (AreBlanksClusters-line_units line) cut
 HasFewestRows-cutting mode.Glyph t w line texts cut = HasFewestGlyphRows-cutting t w line texts cut

@@ -7,7 +7,7 @@ use Rattle.std.specs.List.{concat, flat_map, AllByRecursion}
 use Rattle.unicode_segmentation.specs.Grapheme.{graphemes}
 use Rattle.textarea_wrap.specs.Columns.{stretch_width}
 use Rattle.textarea_wrap.specs.Units.{is_blank, line_units}
-use Rattle.textarea_wrap.specs.Cutting.{Stretch, Block, shared, split, pieces_of, units_of, rows_of, FitsBehind, IsFittingStretch, IsBlock, AreBlocks, IsGlyphCutting, IsWordCutting, AreFittingRows, IsFittingBlock, AreFittingBlocks, HasFewestWordRows}
+use Rattle.textarea_wrap.specs.WrapRules.{Stretch, UnitBlock, shared, split, stretches_of, units_of, rows_of, FitsAfter, IsFittingStretch, IsBlock, AreBlocks, IsGlyphWrapping, IsWordWrapping, AreFittingRows, IsFittingBlock, AreFittingBlocks, HasFewestWordRows}
 use Rattle.textarea_wrap.proofs.Alls.{all_parts}
 use Rattle.textarea_wrap.proofs.ColumnLemmas.{stretch_width-front, stretch_width-back}
 use Rattle.textarea_wrap.proofs.FewestLemmas.{fronts, greedy_ahead}
@@ -44,7 +44,7 @@ module _ (t w : ℕ) (row later : Stretch) (fit : IsFittingStretch t w row later
       grind (arith, common_steps, part_within, append_assoc front (unit ∷ []) (next ∷ back), stretch_width-back t front (unit ∷ []))
 
   -- a run that begins later in the row fits too
-  pub later_fits : (front stretch : Stretch) (next : List ℕ) (back : Stretch) → row ≡ front ++ (stretch ++ next ∷ back) → 0 < length stretch → FitsBehind t w stretch next (back ++ later)
+  pub later_fits : (front stretch : Stretch) (next : List ℕ) (back : Stretch) → row ≡ front ++ (stretch ++ next ∷ back) → 0 < length stretch → FitsAfter t w stretch next (back ++ later)
   later_fits front stretch next [] row_is some =
       let same = push-injective fit.front (front ++ stretch) fit.last next (sym fit.stretch_is ∙ row_is ∙ sym (append_assoc front stretch (next ∷ []))) in
       let wider = stretch_width-back t front (stretch ++ next ∷ []) in
@@ -61,16 +61,16 @@ module _ (t w : ℕ) (row later : Stretch) (fit : IsFittingStretch t w row later
       grind (arith, common_steps, append_assoc stretch (next ∷ []) (more ∷ back), append_assoc front (stretch ++ next ∷ []) (more ∷ back), part_within, stretch_width-back t front (stretch ++ next ∷ []))
 
 -- a unit's rows are no more than any fitting rows of its clusters
-glyph_count : (t w : ℕ) (unit : List ℕ) (rows : List (List ℕ)) (others : List Stretch) → IsGlyphCutting t w unit rows → pieces_of others ≡ graphemes true unit
+glyph_count : (t w : ℕ) (unit : List ℕ) (rows : List (List ℕ)) (others : List Stretch) → IsGlyphWrapping t w unit rows → stretches_of others ≡ graphemes true unit
     → AreFittingRows t w others → length rows ≤ length others
 glyph_count t w unit rows others cutting whole fit =
     grind (arith, common_steps, greedy_ahead t w others cutting.stretches [] cutting.cut (cutting.whole ∙ sym whole) fit, length-map cutting.stretches concat)
 
-only_cluster : (t w : ℕ) (unit : List ℕ) (rows : List (List ℕ)) → IsGlyphCutting t w unit rows → length (graphemes true unit) ≡ 1 → length rows ≤ 1
+only_cluster : (t w : ℕ) (unit : List ℕ) (rows : List (List ℕ)) → IsGlyphWrapping t w unit rows → length (graphemes true unit) ≡ 1 → length rows ≤ 1
 only_cluster t w unit rows cutting one = glyph_count t w unit rows (graphemes true unit ∷ []) cutting (append-nil (graphemes true unit)) (inr one, tt)
 
 -- a greedy block has no more rows than a fitting one that begins no later and reaches into it
-block_count : (t w : ℕ) (block other : Block) (left rest front part more : Stretch) → IsBlock t w block left → IsFittingBlock t w other rest → AreBlanksClusters (units_of block)
+block_count : (t w : ℕ) (block other : UnitBlock) (left rest front part more : Stretch) → IsBlock t w block left → IsFittingBlock t w other rest → AreBlanksClusters (units_of block)
     → units_of other ≡ front ++ part → units_of block ≡ part ++ more → 0 < length part → length (rows_of block) ≤ length (rows_of other)
 block_count t w (shared stretch) (shared row) left rest front part more is fit blanks other_is block_is some = omega arith
 block_count t w (shared stretch) (split unit rows) left rest front [] more is fit blanks other_is block_is some = absurd (omega arith)
@@ -94,7 +94,7 @@ block_count t w (split unit rows) (split wide others) left rest (f ∷ front) (x
     absurd (omega (arith, ap length other_is, length-append front (x ∷ part)))
 
 -- the rest of a fitting block does not contain a whole greedy block and more
-pub block_reaches : (t w : ℕ) (block other : Block) (left rest front : Stretch) (next : List ℕ) (over : Stretch) → IsBlock t w block (left ++ []) → IsFittingBlock t w other (rest ++ [])
+pub block_reaches : (t w : ℕ) (block other : UnitBlock) (left rest front : Stretch) (next : List ℕ) (over : Stretch) → IsBlock t w block (left ++ []) → IsFittingBlock t w other (rest ++ [])
     → units_of other ≡ front ++ (units_of block ++ next ∷ over) → left ≡ (next ∷ over) ++ rest → ⊥
 block_reaches t w (shared stretch) (shared row) left rest front next over is fit other_is left_is =
     let some : 0 < length stretch = omega (arith, ap length is.0.stretch_is, length-append is.0.front (is.0.last ∷ [])) in
@@ -107,19 +107,19 @@ block_reaches t w (split unit rows) (split wide others) left rest front next ove
     omega (arith, ap length other_is, length-append front (unit ∷ next ∷ over))
 
 -- the units that remain after two blocks: only the other block is passed, or both are
-abbrev Step : Block → Block → Stretch → Stretch → Type 0
+abbrev Step : UnitBlock → UnitBlock → Stretch → Stretch → Type 0
 Step block other left rest =
     ((front : Stretch) × (front ++ (units_of block ++ left) ≡ rest))
     ⊎ ((front : Stretch) × (front ++ left ≡ rest) × (length (rows_of block) ≤ length (rows_of other)))
 
-step_over : (t w : ℕ) (block other : Block) (left rest front part over : Stretch) → IsBlock t w block (left ++ []) → IsFittingBlock t w other (rest ++ []) → AreBlanksClusters (units_of block)
+step_over : (t w : ℕ) (block other : UnitBlock) (left rest front part over : Stretch) → IsBlock t w block (left ++ []) → IsFittingBlock t w other (rest ++ []) → AreBlanksClusters (units_of block)
     → units_of other ≡ front ++ part → 0 < length part → part ≡ units_of block ++ over → left ≡ over ++ rest → Step block other left rest
 step_over t w block other left rest front part [] is fit blanks other_is some part_is left_is =
     inr ([], left_is, block_count t w block other (left ++ []) (rest ++ []) front part [] is fit blanks other_is (sym (part_is ∙ append-nil (units_of block)) ∙ sym (append-nil part)) some)
 step_over t w block other left rest front part (next ∷ over) is fit blanks other_is some part_is left_is =
     absurd (block_reaches t w block other left rest front next over is fit (other_is ∙ ap (λ r. front ++ r) part_is) left_is)
 
-step_into : (t w : ℕ) (block other : Block) (left rest front part : Stretch) → IsBlock t w block (left ++ []) → IsFittingBlock t w other (rest ++ []) → AreBlanksClusters (units_of block)
+step_into : (t w : ℕ) (block other : UnitBlock) (left rest front part : Stretch) → IsBlock t w block (left ++ []) → IsFittingBlock t w other (rest ++ []) → AreBlanksClusters (units_of block)
     → units_of other ≡ front ++ part → units_of block ++ left ≡ part ++ rest → Step block other left rest
 step_into t w block other left rest front [] is fit blanks other_is same = inl ([], same)
 step_into t w block other left rest front (x ∷ part) is fit blanks other_is same =
@@ -128,17 +128,17 @@ step_into t w block other left rest front (x ∷ part) is fit blanks other_is sa
     (λ p. inr (p.0, sym p.2, block_count t w block other (left ++ []) (rest ++ []) front (x ∷ part) p.0 is fit blanks other_is p.1 (omega arith)))
     (fronts (units_of block) left (x ∷ part) rest same)
 
-step : (t w : ℕ) (block other : Block) (left rest front : Stretch) → IsBlock t w block (left ++ []) → IsFittingBlock t w other (rest ++ []) → AreBlanksClusters (units_of block)
+step : (t w : ℕ) (block other : UnitBlock) (left rest front : Stretch) → IsBlock t w block (left ++ []) → IsFittingBlock t w other (rest ++ []) → AreBlanksClusters (units_of block)
     → front ++ (units_of block ++ left) ≡ units_of other ++ rest → Step block other left rest
 step t w block other left rest front is fit blanks same =
     grind (arith, common_steps, step_into, fronts front (units_of block ++ left) (units_of other) rest same)
 
-pub block_some : (t w : ℕ) (block : Block) (left : Stretch) → IsBlock t w block left → 0 < length (units_of block)
+pub block_some : (t w : ℕ) (block : UnitBlock) (left : Stretch) → IsBlock t w block left → 0 < length (units_of block)
 block_some t w (shared stretch) left is = omega (arith, ap length is.0.stretch_is, length-append is.0.front (is.0.last ∷ []))
 block_some t w (split unit rows) left is = omega arith
 
 -- the greedy rows of what remains after a prefix are no more than any fitting rows of the whole
-pub words_ahead : (t w : ℕ) (others greedy : List Block) (front : Stretch) → AreBlanksClusters (flat_map units_of greedy) → AreBlocks t w greedy []
+pub words_ahead : (t w : ℕ) (others greedy : List UnitBlock) (front : Stretch) → AreBlanksClusters (flat_map units_of greedy) → AreBlocks t w greedy []
     → front ++ flat_map units_of greedy ≡ flat_map units_of others → AreFittingBlocks t w others [] → length (flat_map rows_of greedy) ≤ length (flat_map rows_of others)
 words_ahead t w others [] front blanks cut same fit = omega arith
 words_ahead t w [] (block ∷ greedy) front blanks cut same fit =
@@ -154,7 +154,7 @@ words_ahead t w (other ∷ others) (block ∷ greedy) front blanks cut same fit 
     (step t w block other (flat_map units_of greedy) (flat_map units_of others) front cut.0 fit.0 parts.0 same)
 
 -- wrapping at unit ends has the fewest rows
-pub HasFewestWordRows-cutting : (t w : ℕ) (line : List ℕ) (rows : List (List ℕ)) → AreBlanksClusters (line_units line) → IsWordCutting t w line rows
+pub HasFewestWordRows-cutting : (t w : ℕ) (line : List ℕ) (rows : List (List ℕ)) → AreBlanksClusters (line_units line) → IsWordWrapping t w line rows
     → HasFewestWordRows t w line (length rows)
 HasFewestWordRows-cutting t w line rows blanks cutting = λ others whole fit.
     let least = words_ahead t w others cutting.blocks [] (subst AreBlanksClusters (sym cutting.whole) blanks) cutting.cut (cutting.whole ∙ sym whole) fit in

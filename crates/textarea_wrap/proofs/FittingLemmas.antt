@@ -11,10 +11,10 @@ use Rattle.unicode_segmentation.specs.Grapheme.{graphemes, is_grapheme_break}
 use Rattle.unicode_segmentation.proofs.SegmentsLemmas.{concat-segments}
 use Rattle.unicode_width.proofs.Rules.{width_or_zero-le}
 use Rattle.textarea_wrap.specs.Columns.{plain_width, column_after, end_column, stretch_width}
-use Rattle.textarea_wrap.specs.Cutting.{Stretch, Block, shared, split, pieces_of, units_of, rows_of, begins_with_content, AreGlyphRows, IsGlyphCutting, HangsOver, IsBlock, AreBlocks, IsWordCutting}
+use Rattle.textarea_wrap.specs.WrapRules.{Stretch, UnitBlock, shared, split, stretches_of, units_of, rows_of, begins_with_content, AreGlyphRows, IsGlyphWrapping, HangsOver, IsBlock, AreBlocks, IsWordWrapping}
 use Rattle.textarea_wrap.specs.Fitting.{full_width, IsFittingCluster, AreFittingClusters, HasFittingClusters}
 use Rattle.textarea_wrap.specs.Units.{is_blank}
-use Rattle.textarea_wrap.specs.Wrapped.{AreRowTexts, IsCutting}
+use Rattle.textarea_wrap.specs.WrapResult.{AreRowTexts, IsWrapping}
 use Rattle.textarea_wrap.specs.declared.wrap.WrapMode.{WrapMode}
 use Rattle.textarea_wrap.specs.declared.wrap.WrapMode.TheVariants as mode
 use Rattle.textarea_wrap.proofs.Alls.{all_parts}
@@ -76,21 +76,21 @@ one_fits t w [] e all = absurd (omega (arith, e))
 one_fits t w (cluster ∷ []) e all = fits_anyhow t w cluster all.0
 one_fits t w (cluster ∷ next ∷ rest) e all = absurd (omega (arith, e))
 
-glyph_rows_within : (t w : ℕ) (stretches : List Stretch) (later : Stretch) → AreGlyphRows t w stretches later → AllByRecursion (IsFittingCluster t w) (pieces_of stretches) → ArePieces (pieces_of stretches) → AllByRecursion (λ text. end_of t text ≤ w) (map concat stretches)
+glyph_rows_within : (t w : ℕ) (stretches : List Stretch) (later : Stretch) → AreGlyphRows t w stretches later → AllByRecursion (IsFittingCluster t w) (stretches_of stretches) → ArePieces (stretches_of stretches) → AllByRecursion (λ text. end_of t text ≤ w) (map concat stretches)
 glyph_rows_within t w [] later cut all p = tt
 glyph_rows_within t w (stretch ∷ stretches) later cut all p =
-    let clusters = all_parts (IsFittingCluster t w) stretch (pieces_of stretches) all in
-    let pieces = all_parts IsPiece stretch (pieces_of stretches) p in
+    let clusters = all_parts (IsFittingCluster t w) stretch (stretches_of stretches) all in
+    let pieces = all_parts IsPiece stretch (stretches_of stretches) p in
     let fits : stretch_width t stretch ≤ w = ⊎_elim (λ h. h) (λ one. one_fits t w stretch one clusters.0) cut.0.fits in
     (subst (λ n. n ≤ w) (stretch_width-whole t (concat stretch) stretch pieces.0 refl) fits, glyph_rows_within t w stretches later cut.1 clusters.1 pieces.1)
 
-glyphs_within : (t w : ℕ) (text : List ℕ) (rows : List (List ℕ)) → IsUtf8 text → AreFittingClusters t w text → IsGlyphCutting t w text rows → AllByRecursion (λ row. end_of t row ≤ w) rows
+glyphs_within : (t w : ℕ) (text : List ℕ) (rows : List (List ℕ)) → IsUtf8 text → AreFittingClusters t w text → IsGlyphWrapping t w text rows → AllByRecursion (λ row. end_of t row ≤ w) rows
 glyphs_within t w text rows u all cut =
     grind (arith, common_steps, glyph_rows_within t w cut.stretches [] cut.cut (subst (AllByRecursion (IsFittingCluster t w)) (sym cut.whole) all) (subst ArePieces (sym cut.whole) (ArePieces-segments (is_grapheme_break true) text u)), ArePieces-segments (is_grapheme_break true) text u)
 
 -- ---- rows of units
 
-some_rows : (t w : ℕ) (blocks : List Block) (later : Stretch) → AreBlocks t w blocks later → ArePieces (flat_map units_of blocks) → begins_with_content (flat_map units_of blocks ++ []) ≡ true → 0 < length (flat_map rows_of blocks)
+some_rows : (t w : ℕ) (blocks : List UnitBlock) (later : Stretch) → AreBlocks t w blocks later → ArePieces (flat_map units_of blocks) → begins_with_content (flat_map units_of blocks ++ []) ≡ true → 0 < length (flat_map rows_of blocks)
 some_rows t w [] later cut p e = absurd cc
 some_rows t w (shared stretch ∷ blocks) later cut p e = omega arith
 some_rows t w (split unit [] ∷ blocks) later cut p e =
@@ -118,7 +118,7 @@ hangs_within : (t w : ℕ) (front : Stretch) (last : List ℕ) (later : Stretch)
 hangs_within t w front last later p fits over cluster =
     grind (arith, common_steps, stretch_width-push t front last, end_column-full t (stretch_width t front) (chars last), without_last)
 
-block_within : (t w : ℕ) (block : Block) (blocks : List Block) → IsBlock t w block (flat_map units_of blocks ++ []) → AreBlocks t w blocks [] → ArePieces (units_of block) → ArePieces (flat_map units_of blocks)
+block_within : (t w : ℕ) (block : UnitBlock) (blocks : List UnitBlock) → IsBlock t w block (flat_map units_of blocks ++ []) → AreBlocks t w blocks [] → ArePieces (units_of block) → ArePieces (flat_map units_of blocks)
     → AllByRecursion BlankIsCluster (units_of block) → AllByRecursion (AreFittingClusters t w) (units_of block) → AreWithin t w (flat_map rows_of blocks) → AreWithin t w (rows_of block ++ flat_map rows_of blocks)
 block_within t w (split unit rows) blocks is cut p later blanks all rest =
     all_before t w rows (flat_map rows_of blocks) (glyphs_within t w unit rows p.0.utf8 all.0 is.1) rest
@@ -138,7 +138,7 @@ block_within t w (shared stretch) blocks is cut p later blanks all rest =
     (subst (λ s. last_of t (concat s) ≤ w) (sym whole) (hangs_within t w front last _ pieces hangs.1 hangs.2 (blank_unit t w last utf8 blank hangs.2.1 clusters))) rest)
     is.0.fits
 
-blocks_within : (t w : ℕ) (blocks : List Block) → AreBlocks t w blocks [] → ArePieces (flat_map units_of blocks) → AllByRecursion BlankIsCluster (flat_map units_of blocks)
+blocks_within : (t w : ℕ) (blocks : List UnitBlock) → AreBlocks t w blocks [] → ArePieces (flat_map units_of blocks) → AllByRecursion BlankIsCluster (flat_map units_of blocks)
     → AllByRecursion (AreFittingClusters t w) (flat_map units_of blocks) → AreWithin t w (flat_map rows_of blocks)
 blocks_within t w [] cut p blanks all = tt
 blocks_within t w (block ∷ blocks) cut p blanks all =
@@ -147,17 +147,17 @@ blocks_within t w (block ∷ blocks) cut p blanks all =
     let clusters = all_parts (AreFittingClusters t w) (units_of block) (flat_map units_of blocks) all in
     block_within t w block blocks cut.0 cut.1 pieces.0 pieces.1 blank.0 clusters.0 (blocks_within t w blocks cut.1 pieces.1 blank.1 clusters.1)
 
-words_within : (t w : ℕ) (line : List ℕ) (rows : List (List ℕ)) → IsUtf8 line → HasFittingClusters t w line → IsWordCutting t w line rows → AreWithin t w rows
+words_within : (t w : ℕ) (line : List ℕ) (rows : List (List ℕ)) → IsUtf8 line → HasFittingClusters t w line → IsWordWrapping t w line rows → AreWithin t w rows
 words_within t w line rows u all cut =
     grind (arith, common_steps, blocks_within t w cut.blocks cut.cut (subst ArePieces (sym cut.whole) (ArePieces-line_units line u)) (subst (AllByRecursion BlankIsCluster) (sym cut.whole) (AreBlanksClusters-line_units line)) (subst (AllByRecursion (AreFittingClusters t w)) (sym cut.whole) all.of_units), ArePieces-line_units line u, AreBlanksClusters-line_units line)
 
 -- ---- in each mode that wraps
 
-clusters_within : (t w : ℕ) (line : List ℕ) (rows : List (List ℕ)) → IsUtf8 line → HasFittingClusters t w line → IsGlyphCutting t w line rows → AreWithin t w rows
+clusters_within : (t w : ℕ) (line : List ℕ) (rows : List (List ℕ)) → IsUtf8 line → HasFittingClusters t w line → IsGlyphWrapping t w line rows → AreWithin t w rows
 clusters_within t w line rows u all cut =
     subst (AreWithin t w) (append-nil rows) (all_before t w rows [] (glyphs_within t w line rows u all.of_line cut) tt)
 
-cut_within : (kind : WrapMode) (t w : ℕ) (line : List ℕ) (texts : List (List ℕ)) → kind ≢ mode.None → IsUtf8 line → HasFittingClusters t w line → IsCutting kind t w line texts → AreWithin t w texts
+cut_within : (kind : WrapMode) (t w : ℕ) (line : List ℕ) (texts : List (List ℕ)) → kind ≢ mode.None → IsUtf8 line → HasFittingClusters t w line → IsWrapping kind t w line texts → AreWithin t w texts
 cut_within mode.None t w line texts wraps u all cut = absurd (wraps refl)
 cut_within mode.Word t w line texts wraps u all cut = words_within t w line texts u all cut
 cut_within mode.Glyph t w line texts wraps u all cut = clusters_within t w line texts u all cut

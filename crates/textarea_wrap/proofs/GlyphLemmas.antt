@@ -8,19 +8,19 @@ use Rattle.std.specs.Str.{chars, IsUtf8}
 use Rattle.unicode_segmentation.specs.Grapheme.{graphemes, is_grapheme_break}
 use Rattle.unicode_segmentation.proofs.SegmentsLemmas.{AllPieces, concat-segments}
 use Rattle.textarea_wrap.specs.Columns.{end_column, stretch_width}
-use Rattle.textarea_wrap.specs.Cutting.{Stretch, pieces_of, ranges_from, IsGlyphRow, AreGlyphRows, IsGlyphCutting}
+use Rattle.textarea_wrap.specs.WrapRules.{Stretch, stretches_of, ranges_from, IsGlyphRow, AreGlyphRows, IsGlyphWrapping}
 use Rattle.textarea_wrap.proofs.ColumnLemmas.{stretch_width-one, stretch_width-push}
 
-pub pieces_of-append : (stretches others : List Stretch) → pieces_of (stretches ++ others) ≡ pieces_of stretches ++ pieces_of others
+pub pieces_of-append : (stretches others : List Stretch) → stretches_of (stretches ++ others) ≡ stretches_of stretches ++ stretches_of others
 pieces_of-append [] others = refl
-pieces_of-append (stretch ∷ stretches) others = ap (λ t. stretch ++ t) (pieces_of-append stretches others) ∙ sym (append_assoc stretch (pieces_of stretches) (pieces_of others))
+pieces_of-append (stretch ∷ stretches) others = ap (λ t. stretch ++ t) (pieces_of-append stretches others) ∙ sym (append_assoc stretch (stretches_of stretches) (stretches_of others))
 
-pub pieces_of-push : (stretches : List Stretch) (stretch later : Stretch) → pieces_of (stretches ++ stretch ∷ []) ++ later ≡ pieces_of stretches ++ (stretch ++ later)
+pub pieces_of-push : (stretches : List Stretch) (stretch later : Stretch) → stretches_of (stretches ++ stretch ∷ []) ++ later ≡ stretches_of stretches ++ (stretch ++ later)
 pieces_of-push stretches stretch later = simp (pieces_of-append, append-nil, append_assoc)
 
-pub concat-pieces_of : (stretches : List Stretch) → concat (map concat stretches) ≡ concat (pieces_of stretches)
+pub concat-pieces_of : (stretches : List Stretch) → concat (map concat stretches) ≡ concat (stretches_of stretches)
 concat-pieces_of [] = refl
-concat-pieces_of (stretch ∷ stretches) = ap (λ t. concat stretch ++ t) (concat-pieces_of stretches) ∙ sym (concat-append stretch (pieces_of stretches))
+concat-pieces_of (stretch ∷ stretches) = ap (λ t. concat stretch ++ t) (concat-pieces_of stretches) ∙ sym (concat-append stretch (stretches_of stretches))
 
 pub ranges_from-append : (at : ℕ) (texts others : List (List ℕ)) → ranges_from at (texts ++ others) ≡ ranges_from at texts ++ ranges_from (at + length (concat texts)) others
 ranges_from-append at [] others = ap (λ n. ranges_from n others) (omega arith)
@@ -37,7 +37,7 @@ AreGlyphRows-push tab_len width (first ∷ stretches) stretch later before here 
 pub record IsGlyphWalk (tab_len width start : ℕ) (clusters : Stretch) (before rows : List (ℕ × ℕ)) (left : Stretch) (row_start row_end column : ℕ) : Type 0 where
   pub full : List Stretch
   pub open_stretch : Stretch
-  pub joined : pieces_of full ++ (open_stretch ++ left) ≡ clusters
+  pub joined : stretches_of full ++ (open_stretch ++ left) ≡ clusters
   pub cut : AreGlyphRows tab_len width full (open_stretch ++ left)
   pub rows_are : rows ≡ before ++ ranges_from start (map concat full)
   pub begins : row_start ≡ start + length (concat (map concat full))
@@ -95,7 +95,7 @@ module _ (tab_len width start : ℕ) (clusters : Stretch) (before : List (ℕ ×
         record {
           full = w.full;
           open_stretch = w.open_stretch ++ cluster ∷ [];
-          joined = ap (λ t. pieces_of w.full ++ t) regroup ∙ w.joined;
+          joined = ap (λ t. stretches_of w.full ++ t) regroup ∙ w.joined;
           cut = subst (AreGlyphRows tab_len width w.full) (sym regroup) w.cut;
           rows_are = w.rows_are;
           begins = w.begins;
@@ -134,7 +134,7 @@ module _ (tab_len width start : ℕ) (clusters : Stretch) (before : List (ℕ ×
       (w : IsGlyphWalk tab_len width start clusters before rows [] row_start row_end column) where
     -- no cluster remains, and the open row is closed
     pub IsGlyphWalk-end_open : row_start < row_end
-        → (texts : List (List ℕ)) × IsGlyphCutting tab_len width text texts × (concat texts ≡ text) × (rows ++ (row_start, row_end) ∷ [] ≡ before ++ ranges_from start texts)
+        → (texts : List (List ℕ)) × IsGlyphWrapping tab_len width text texts × (concat texts ≡ text) × (rows ++ (row_start, row_end) ∷ [] ≡ before ++ ranges_from start texts)
     IsGlyphWalk-end_open started =
         let all = sym (append-nil _) ∙ pieces_of-push w.full w.open_stretch [] ∙ w.joined ∙ whole in (
           map concat (w.full ++ w.open_stretch ∷ []),
@@ -154,10 +154,10 @@ module _ (tab_len width start : ℕ) (clusters : Stretch) (before : List (ℕ ×
 
     -- no cluster remains, and no row is open
     pub IsGlyphWalk-end_closed : row_end ≤ row_start
-        → (texts : List (List ℕ)) × IsGlyphCutting tab_len width text texts × (concat texts ≡ text) × (rows ≡ before ++ ranges_from start texts)
+        → (texts : List (List ℕ)) × IsGlyphWrapping tab_len width text texts × (concat texts ≡ text) × (rows ≡ before ++ ranges_from start texts)
     IsGlyphWalk-end_closed none =
         let empty = ap (λ t. t ++ []) (w.closed none) in
-        let all = sym (append-nil _) ∙ ap (λ t. pieces_of w.full ++ t) (sym empty) ∙ w.joined ∙ whole in (
+        let all = sym (append-nil _) ∙ ap (λ t. stretches_of w.full ++ t) (sym empty) ∙ w.joined ∙ whole in (
           map concat w.full,
           record {
             stretches = w.full;

@@ -7,7 +7,7 @@ pub mod FewestRowLemmas
 pub mod FewestWordLemmas
 pub mod FittingLemmas
 pub mod GlyphLemmas
-pub mod OneCuttingLemmas
+pub mod OneWrappingLemmas
 pub mod OneRowLemmas
 pub mod RestLemmas
 pub mod RowLemmas

@@ -8,10 +8,10 @@ use Rattle.unicode_segmentation.specs.Grapheme.{graphemes, is_grapheme_break}
 use Rattle.unicode_segmentation.proofs.SegmentsLemmas.{concat-segments}
 use Rattle.textarea_wrap.specs.Columns.{end_column, stretch_width}
 use Rattle.textarea_wrap.specs.Units.{line_units}
-use Rattle.textarea_wrap.specs.Cutting.{Stretch, shared, IsFittingStretch, ranges_from}
+use Rattle.textarea_wrap.specs.WrapRules.{Stretch, shared, IsFittingStretch, ranges_from}
 use Rattle.textarea_wrap.specs.declared.wrap.WrapMode.{WrapMode}
 use Rattle.textarea_wrap.specs.declared.wrap.WrapMode.TheVariants as mode
-use Rattle.textarea_wrap.specs.Wrapped.{IsWrapped, TakesOneRow}
+use Rattle.textarea_wrap.specs.WrapResult.{IsWrapped, TakesOneRow}
 use Rattle.textarea_wrap.proofs.GlyphLemmas.{nonempty_from_bytes}
 use Rattle.textarea_wrap.proofs.RowLemmas.{ArePieces, ArePieces-segments, ArePieces-line_units, concat-line_units, IsWrapped-empty, IsWrapped-whole, IsWrapped-glyphs, IsWrapped-units}
 

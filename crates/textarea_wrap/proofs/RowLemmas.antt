@@ -11,10 +11,10 @@ use Rattle.unicode_segmentation.specs.Segments.{Rule, segments, with_offsets}
 use Rattle.unicode_segmentation.specs.Word.{word_bounds, is_word_break}
 use Rattle.unicode_segmentation.proofs.SegmentsLemmas.{AllPieces, IsPieceOf, All-IsPieceOf, segments_nonempty, concat-segments}
 use Rattle.textarea_wrap.specs.Units.{is_blank, units_of_piece, line_units}
-use Rattle.textarea_wrap.specs.Cutting.{Stretch, Block, shared, split, pieces_of, units_of, rows_of, ranges_from, AreGlyphRows, IsGlyphCutting, IsBlock, AreBlocks, IsWordCutting}
+use Rattle.textarea_wrap.specs.WrapRules.{Stretch, UnitBlock, shared, split, stretches_of, units_of, rows_of, ranges_from, AreGlyphRows, IsGlyphWrapping, IsBlock, AreBlocks, IsWordWrapping}
 use Rattle.textarea_wrap.specs.declared.wrap.WrapMode.{WrapMode}
 use Rattle.textarea_wrap.specs.declared.wrap.WrapMode.TheVariants as mode
-use Rattle.textarea_wrap.specs.Wrapped.{IsCutting, IsRowRange, IsWrapped}
+use Rattle.textarea_wrap.specs.WrapResult.{IsWrapping, IsRowRange, IsWrapped}
 use Rattle.textarea_wrap.proofs.Alls.{all_append, all_parts}
 use Rattle.textarea_wrap.proofs.GlyphLemmas.{concat-pieces_of}
 
@@ -82,22 +82,22 @@ ArePieces-line_units line u = ArePieces-units (word_bounds line) (ArePieces-segm
 
 -- ---- rows
 
-ArePieces-stretches : (tab_len width : ℕ) (stretches : List Stretch) (later : Stretch) → AreGlyphRows tab_len width stretches later → ArePieces (pieces_of stretches) → ArePieces (map concat stretches)
+ArePieces-stretches : (tab_len width : ℕ) (stretches : List Stretch) (later : Stretch) → AreGlyphRows tab_len width stretches later → ArePieces (stretches_of stretches) → ArePieces (map concat stretches)
 ArePieces-stretches tab_len width [] later rows p = tt
 ArePieces-stretches tab_len width (stretch ∷ stretches) later rows p =
-    let parts = all_parts IsPiece stretch (pieces_of stretches) p in
+    let parts = all_parts IsPiece stretch (stretches_of stretches) p in
     (IsPiece-concat stretch rows.0.nonempty parts.0, ArePieces-stretches tab_len width stretches later rows.1 parts.1)
 
-pub ArePieces-glyphs : (tab_len width : ℕ) (text : List ℕ) (rows : Stretch) → IsUtf8 text → IsGlyphCutting tab_len width text rows → ArePieces rows
+pub ArePieces-glyphs : (tab_len width : ℕ) (text : List ℕ) (rows : Stretch) → IsUtf8 text → IsGlyphWrapping tab_len width text rows → ArePieces rows
 ArePieces-glyphs tab_len width text rows u cutting =
     rw cutting.rows_are (ArePieces-stretches tab_len width cutting.stretches [] cutting.cut (rw cutting.whole (ArePieces-segments (is_grapheme_break true) text u)))
 
-pub concat-glyphs : (tab_len width : ℕ) (text : List ℕ) (rows : Stretch) → IsUtf8 text → IsGlyphCutting tab_len width text rows → concat rows ≡ text
+pub concat-glyphs : (tab_len width : ℕ) (text : List ℕ) (rows : Stretch) → IsUtf8 text → IsGlyphWrapping tab_len width text rows → concat rows ≡ text
 concat-glyphs tab_len width text rows u cutting =
     ap concat cutting.rows_are ∙ concat-pieces_of cutting.stretches ∙ ap concat cutting.whole ∙ concat-segments (is_grapheme_break true) text u
 
 -- the rows of a block are not empty, and make up its units
-ArePieces-block : (tab_len width : ℕ) (block : Block) (later : Stretch) → IsBlock tab_len width block later → ArePieces (units_of block)
+ArePieces-block : (tab_len width : ℕ) (block : UnitBlock) (later : Stretch) → IsBlock tab_len width block later → ArePieces (units_of block)
     → ArePieces (rows_of block) × (concat (rows_of block) ≡ concat (units_of block))
 ArePieces-block tab_len width (shared stretch) later is p =
     let nonempty : 0 < length stretch = omega (arith, ap length is.0.stretch_is, length-append is.0.front (is.0.last ∷ [])) in
@@ -105,7 +105,7 @@ ArePieces-block tab_len width (shared stretch) later is p =
 ArePieces-block tab_len width (split unit rows) later is p =
     (ArePieces-glyphs tab_len width unit rows p.0.utf8 is.1, concat-glyphs tab_len width unit rows p.0.utf8 is.1 ∙ sym (append-nil unit))
 
-ArePieces-blocks : (tab_len width : ℕ) (blocks : List Block) (later : Stretch) → AreBlocks tab_len width blocks later → ArePieces (flat_map units_of blocks)
+ArePieces-blocks : (tab_len width : ℕ) (blocks : List UnitBlock) (later : Stretch) → AreBlocks tab_len width blocks later → ArePieces (flat_map units_of blocks)
     → ArePieces (flat_map rows_of blocks) × (concat (flat_map rows_of blocks) ≡ concat (flat_map units_of blocks))
 ArePieces-blocks tab_len width [] later are p = (tt, refl)
 ArePieces-blocks tab_len width (block ∷ blocks) later are p =
@@ -133,7 +133,7 @@ AreRowRanges-from line front (text ∷ texts) e p =
     )
 
 -- a line that is not empty, split into texts that are not empty
-IsWrapped-texts : (mode : WrapMode) (tab_len width : ℕ) (line : List ℕ) (ranges : List (ℕ × ℕ)) (texts : Stretch) → 0 < length line → IsCutting mode tab_len width line texts
+IsWrapped-texts : (mode : WrapMode) (tab_len width : ℕ) (line : List ℕ) (ranges : List (ℕ × ℕ)) (texts : Stretch) → 0 < length line → IsWrapping mode tab_len width line texts
     → concat texts ≡ line → ranges ≡ ranges_from 0 texts → ArePieces texts → IsWrapped mode tab_len width line ranges
 IsWrapped-texts mode tab_len width [] ranges texts some cut joined ranges_are p = absurd (omega arith)
 IsWrapped-texts mode tab_len width (byte ∷ line) ranges texts some cut joined ranges_are p = record {
@@ -159,13 +159,13 @@ module _ (tab_len width : ℕ) (line : List ℕ) (ranges : List (ℕ × ℕ)) (u
   IsWrapped-whole ranges_are =
       IsWrapped-texts mode.None tab_len width line ranges (line ∷ []) some refl (append-nil line) (ranges_are ∙ ap (λ n. (0, n) ∷ []) (omega arith)) (record { some = some; utf8 = u }, tt)
 
-  pub IsWrapped-glyphs : (texts : Stretch) → IsGlyphCutting tab_len width line texts → ranges ≡ ranges_from 0 texts → IsWrapped mode.Glyph tab_len width line ranges
+  pub IsWrapped-glyphs : (texts : Stretch) → IsGlyphWrapping tab_len width line texts → ranges ≡ ranges_from 0 texts → IsWrapped mode.Glyph tab_len width line ranges
   IsWrapped-glyphs texts cutting ranges_are =
       IsWrapped-texts mode.Glyph tab_len width line ranges texts some cutting (concat-glyphs tab_len width line texts u cutting) ranges_are (ArePieces-glyphs tab_len width line texts u cutting)
 
-  module _ (blocks : List Block) (whole : flat_map units_of blocks ≡ line_units line) (cut : AreBlocks tab_len width blocks [])
+  module _ (blocks : List UnitBlock) (whole : flat_map units_of blocks ≡ line_units line) (cut : AreBlocks tab_len width blocks [])
       (ranges_are : ranges ≡ ranges_from 0 (flat_map rows_of blocks)) where
-    words_cut : IsWordCutting tab_len width line (flat_map rows_of blocks)
+    words_cut : IsWordWrapping tab_len width line (flat_map rows_of blocks)
     words_cut = record { blocks = blocks; whole = whole; cut = cut; rows_are = refl }
 
     rows_made : ArePieces (flat_map rows_of blocks) × (concat (flat_map rows_of blocks) ≡ concat (flat_map units_of blocks))

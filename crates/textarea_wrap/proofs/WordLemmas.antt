@@ -7,30 +7,30 @@ use Rattle.std.specs.List.{concat, flat_map, AllByRecursion}
 use Rattle.std.specs.Str.{chars}
 use Rattle.textarea_wrap.specs.Columns.{end_column, stretch_width}
 use Rattle.textarea_wrap.specs.Units.{is_blank}
-use Rattle.textarea_wrap.specs.Cutting.{Stretch, Block, shared, split, units_of, rows_of, ranges_from, HangsOver, IsBlock, AreBlocks, IsGlyphCutting}
+use Rattle.textarea_wrap.specs.WrapRules.{Stretch, UnitBlock, shared, split, units_of, rows_of, ranges_from, HangsOver, IsBlock, AreBlocks, IsGlyphWrapping}
 use Rattle.textarea_wrap.specs.WordWalk.{IsWordWalk}
 use Rattle.textarea_wrap.proofs.ColumnLemmas.{stretch_width-one, stretch_width-push}
 use Rattle.textarea_wrap.proofs.GlyphLemmas.{ranges_from-append, length-concat-push, nonempty_from_bytes}
 
-pub units_of-push : (blocks : List Block) (block : Block) (later : Stretch) → flat_map units_of (blocks ++ block ∷ []) ++ later ≡ flat_map units_of blocks ++ (units_of block ++ later)
+pub units_of-push : (blocks : List UnitBlock) (block : UnitBlock) (later : Stretch) → flat_map units_of (blocks ++ block ∷ []) ++ later ≡ flat_map units_of blocks ++ (units_of block ++ later)
 units_of-push blocks block later = simp (flat_map-append, append-nil, append_assoc)
 
-pub rows_of-push : (blocks : List Block) (block : Block) → flat_map rows_of (blocks ++ block ∷ []) ≡ flat_map rows_of blocks ++ rows_of block
+pub rows_of-push : (blocks : List UnitBlock) (block : UnitBlock) → flat_map rows_of (blocks ++ block ∷ []) ≡ flat_map rows_of blocks ++ rows_of block
 rows_of-push blocks block = simp (flat_map-append, append-nil)
 
-pub AreBlocks-push : (tab_len width : ℕ) (blocks : List Block) (block : Block) (later : Stretch) → AreBlocks tab_len width blocks (units_of block ++ later)
+pub AreBlocks-push : (tab_len width : ℕ) (blocks : List UnitBlock) (block : UnitBlock) (later : Stretch) → AreBlocks tab_len width blocks (units_of block ++ later)
     → IsBlock tab_len width block later → AreBlocks tab_len width (blocks ++ block ∷ []) later
 AreBlocks-push tab_len width [] block later before here = (here, tt)
 AreBlocks-push tab_len width (first ∷ blocks) block later before here =
     (subst (IsBlock tab_len width first) (sym (units_of-push blocks block later)) before.0, AreBlocks-push tab_len width blocks block later before.1 here)
 
 -- more rows, after rows that end where they begin
-ranges-push : (before rows : List (ℕ × ℕ)) (blocks : List Block) (block : Block) (at : ℕ)
+ranges-push : (before rows : List (ℕ × ℕ)) (blocks : List UnitBlock) (block : UnitBlock) (at : ℕ)
     → rows ≡ before ++ ranges_from 0 (flat_map rows_of blocks) → at ≡ length (concat (flat_map rows_of blocks))
     → rows ++ ranges_from at (rows_of block) ≡ before ++ ranges_from 0 (flat_map rows_of (blocks ++ block ∷ []))
 ranges-push before rows blocks block at rows_are at_is = grind (arith, common_steps, rows_of-push, ranges_from-append, append_assoc)
 
-length-rows-push : (blocks : List Block) (block : Block)
+length-rows-push : (blocks : List UnitBlock) (block : UnitBlock)
     → length (concat (flat_map rows_of (blocks ++ block ∷ []))) ≡ length (concat (flat_map rows_of blocks)) + length (concat (rows_of block))
 length-rows-push blocks block =
     simp (rows_of-push, concat-append, length-append)
@@ -135,7 +135,7 @@ module _ (tab_len width : ℕ) (units : Stretch) (before : List (ℕ × ℕ)) wh
 
     -- a unit that is too wide has rows of its own
     pub IsWordWalk-split : (texts : List (List ℕ)) → row_end ≤ row_start → width < end_column tab_len 0 (chars unit)
-        → IsGlyphCutting tab_len width unit texts → concat texts ≡ unit
+        → IsGlyphWrapping tab_len width unit texts → concat texts ≡ unit
         → IsWordWalk tab_len width units before (rows ++ ranges_from row_end texts) left (row_end + length unit) (row_end + length unit) 0
     IsWordWalk-split texts none over cutting whole =
         let same : row_start ≡ row_end = omega arith in
@@ -161,7 +161,7 @@ module _ (tab_len width : ℕ) (units : Stretch) (before : List (ℕ × ℕ)) wh
       (w : IsWordWalk tab_len width units before rows [] row_start row_end column) where
     -- no unit remains, and the open row is closed
     pub IsWordWalk-end_open : row_start < row_end
-        → (blocks : List Block) × (flat_map units_of blocks ≡ units) × AreBlocks tab_len width blocks []
+        → (blocks : List UnitBlock) × (flat_map units_of blocks ≡ units) × AreBlocks tab_len width blocks []
         × (rows ++ (row_start, row_end) ∷ [] ≡ before ++ ranges_from 0 (flat_map rows_of blocks))
     IsWordWalk-end_open started =
         let block = shared w.open_stretch in
@@ -174,7 +174,7 @@ module _ (tab_len width : ℕ) (units : Stretch) (before : List (ℕ × ℕ)) wh
 
     -- no unit remains, and no row is open
     pub IsWordWalk-end_closed : row_end ≤ row_start
-        → (blocks : List Block) × (flat_map units_of blocks ≡ units) × AreBlocks tab_len width blocks []
+        → (blocks : List UnitBlock) × (flat_map units_of blocks ≡ units) × AreBlocks tab_len width blocks []
         × (rows ≡ before ++ ranges_from 0 (flat_map rows_of blocks))
     IsWordWalk-end_closed none =
         let empty = ap (λ t. t ++ []) (w.closed none) in (

@@ -1,8 +1,8 @@
 pub mod Columns
-pub mod Cutting
+pub mod WrapRules
 pub mod Fitting
-pub mod Layout
+pub mod Metrics
 pub mod Units
 pub mod WordWalk
-pub mod Wrapped
+pub mod WrapResult
 pub mod RowsView

@@ -2,13 +2,13 @@
 use Rattle.std.specs.Prelude.{◌≡◌, ℕ, ◌+◌, ◌<◌, ◌≤◌, List, [], ◌++◌, length}
 use Rattle.std.specs.List.{concat, flat_map, AllByRecursion}
 use Rattle.textarea_wrap.specs.Columns.{stretch_width}
-use Rattle.textarea_wrap.specs.Cutting.{Stretch, Block, units_of, rows_of, ranges_from, IsFittingStretch, AreBlocks}
+use Rattle.textarea_wrap.specs.WrapRules.{Stretch, UnitBlock, units_of, rows_of, ranges_from, IsFittingStretch, AreBlocks}
 
 -- The units before `left` are in finished blocks or in the open row. The rows are those before the
 -- walk and those of the blocks. The open row is the bytes `row_start` to `row_end`, up to the
 -- column.
 pub record IsWordWalk (tab_len width : ℕ) (units : Stretch) (before rows : List (ℕ × ℕ)) (left : Stretch) (row_start row_end column : ℕ) : Type 0 where
-  pub blocks : List Block
+  pub blocks : List UnitBlock
   pub open_stretch : Stretch
   pub joined : flat_map units_of blocks ++ (open_stretch ++ left) ≡ units
   pub cut : AreBlocks tab_len width blocks (open_stretch ++ left)

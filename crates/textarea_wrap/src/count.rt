@@ -1,7 +1,7 @@
 //! A counter of the calls that wrap a line.
 ghost use Rattle.std.specs.Prelude.{◌≡◌, ℕ, ◌+◌, ⊤};
 
-use crate::tally::Tally;
+use crate::ghost_count::GhostCount;
 use std::alloc::AllocError;
 use std::marker::Model;
 
@@ -9,7 +9,7 @@ use std::marker::Model;
 /// bound. At run time the counter takes no bytes.
 #[derive(Drop)]
 pub struct WrapCount {
-    tally: Tally,
+    tally: GhostCount,
 }
 
 impl Model for WrapCount {
@@ -24,7 +24,7 @@ impl WrapCount {
         ensures { result ≡ 0 }
     {
         WrapCount {
-            tally: Tally::zero(),
+            tally: GhostCount::zero(),
         }
     }
 

@@ -3,12 +3,12 @@ ghost use Rattle.std.specs.Prelude.{◌≡◌, ◌<◌, ◌≤◌, ◌⊎◌, �
 ghost use Rattle.textarea_wrap.specs.declared.wrap.WrapMode.{WrapMode};
 ghost use Rattle.textarea_wrap.specs.declared.wrap.WrapMode.TheVariants as mode;
 ghost use Rattle.textarea_wrap.specs.Columns.{end_column, stretch_width};
-ghost use Rattle.textarea_wrap.specs.Cutting.{HasFewestGlyphRows, HasFewestWordRows, IsBlankCluster, IsFittingRow, IsFittingStretch, Stretch};
+ghost use Rattle.textarea_wrap.specs.WrapRules.{HasFewestGlyphRows, HasFewestWordRows, IsBlankCluster, IsFittingRow, IsFittingStretch, Stretch};
 ghost use Rattle.textarea_wrap.specs.Units.{line_units};
-ghost use Rattle.textarea_wrap.specs.Wrapped.{IsWrapped};
+ghost use Rattle.textarea_wrap.specs.WrapResult.{IsWrapped};
 
 /// A line wraps in only one way in each mode, at each width and tab length.
-pub fn one_cutting()
+pub fn one_wrapping()
     ensures { (mode : WrapMode) (tab_len width : ℕ) (line : List ℕ) (ranges others : List (ℕ × ℕ)) →
         IsWrapped mode tab_len width line ranges → IsWrapped mode tab_len width line others → ranges
         ≡ others }

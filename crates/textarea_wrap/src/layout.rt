@@ -1,7 +1,7 @@
 //! The width of line numbers, and the width that remains for visual rows.
 ghost use Rattle.std.specs.Prelude.{◌≡◌, ◌+◌, ◌≤◌, ℕ, length};
 ghost use Rattle.std.specs.Fmt.{decimal};
-ghost use Rattle.textarea_wrap.specs.Layout.{line_number_columns, columns_for_rows};
+ghost use Rattle.textarea_wrap.specs.Metrics.{line_number_columns, columns_for_rows};
 
 use crate::wrap::WrapMode;
 use std::marker::Model;
@@ -17,7 +17,7 @@ pub struct LayoutMetrics {
 }
 
 impl Model for LayoutMetrics {
-    ghost use Rattle.textarea_wrap.specs.Layout.{LayoutView};
+    ghost use Rattle.textarea_wrap.specs.Metrics.{LayoutView};
 
     ghost Value = { LayoutView };
 

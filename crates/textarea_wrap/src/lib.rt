@@ -2,8 +2,8 @@
 #![tactic(auto)]
 
 pub mod count;
+mod ghost_count;
 pub mod laws;
 pub mod layout;
 pub mod rows;
-mod tally;
 pub mod wrap;

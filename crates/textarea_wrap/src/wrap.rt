@@ -1,7 +1,7 @@
 //! Wrapping of one line into visual rows.
 ghost use Rattle.std.specs.Prelude.{◌≡◌, ◌+◌, ◌<◌, ◌≤◌, ◌↔◌, max, length, IsTrue, IsOk, IfOk, OnOk};
 ghost use Rattle.textarea_util.specs.Limit.{size_limit};
-ghost use Rattle.textarea_wrap.specs.Wrapped.{HasFewestRows, IsWrapped, TakesOneRow};
+ghost use Rattle.textarea_wrap.specs.WrapResult.{HasFewestRows, IsWrapped, TakesOneRow};
 
 use self::columns::fits_width;
 use self::glyphs::push_glyph_rows;
@@ -63,11 +63,11 @@ pub fn line_ranges(
     ensures one_row { length line.now < size_limit → TakesOneRow mode tab_len (max width 1) line.now
         → IsOk result }
 {
-    let cut = cut_line(alloc, line, mode, width.max(1), tab_len);
+    let cut = wrap_line(alloc, line, mode, width.max(1), tab_len);
     Rows::counted(cut, count)
 }
 
-fn cut_line(
+fn wrap_line(
     alloc: Global,
     line: &str,
     mode: WrapMode,

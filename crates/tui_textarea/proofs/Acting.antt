@@ -3,15 +3,15 @@ use Rattle.std.proofs.Common.{◌≡◌, ℕ, List, [], Option, None, Some, ap, 
 use Rattle.std.specs.Str.{chars}
 use Rattle.textarea_calls.specs.declared.call.Call.{Call}
 use Rattle.textarea_calls.specs.declared.call.Call.TheVariants as call
-use Rattle.textarea_text.specs.Given.{given}
+use Rattle.textarea_text.specs.Fragment.{fragment_symbols}
 use Rattle.textarea_text.specs.Place.{Place}
 use Rattle.textarea_document.specs.Splices.{selected_splices}
-use Rattle.tui_textarea.specs.CallSplices.{OfLeft, splices_of}
-use Rattle.tui_textarea.specs.Input.{IsLeftBy, asked_by, asked_without_shortcuts}
-use Rattle.tui_textarea.specs.Outcomes.{IsBehind, IsLeft, behind_pattern}
+use Rattle.tui_textarea.specs.CallSplices.{OfSplicesOutOfMemory, splices_of}
+use Rattle.tui_textarea.specs.Input.{IsInputOutOfMemory, asked_by, asked_without_shortcuts}
+use Rattle.tui_textarea.specs.Outcomes.{IsAfterCall, IsAfterOutOfMemory, after_pattern}
 use Rattle.tui_textarea.specs.Removals.{symbols_ahead_removed}
-use Rattle.tui_textarea.specs.Said.{Said, PatternRefused}
-use Rattle.tui_textarea.specs.Search.{next_match, previous_match, searched}
+use Rattle.tui_textarea.specs.CallResults.{CallResult, PatternRefused}
+use Rattle.tui_textarea.specs.Search.{next_match, previous_match, after_search}
 use Rattle.tui_textarea.specs.Selection.{unselected}
 use Rattle.tui_textarea.specs.Selection as selection
 use Rattle.tui_textarea.proofs.Stepping.{ahead_by, hit_range_by, selected_by}
@@ -21,16 +21,16 @@ use Rattle.textarea_calls.specs.declared.kind.Edit.TheVariants as edit
 use Rattle.textarea_calls.specs.declared.kind.Write.TheVariants as write
 use Rattle.textarea_data.specs.declared.cursor.CursorMove.TheVariants as move
 use Rattle.textarea_text.specs.Splice.{Splice}
-use Rattle.textarea_document.specs.Outcomes.{redone, undone}
+use Rattle.textarea_document.specs.Outcomes.{after_redo, after_undo}
 use Rattle.textarea_document.specs.Sound.{IsSound}
 use Rattle.textarea_document.specs.Splices.{redo_splices, undo_splices}
-use Rattle.textarea_document.specs.State.{DocumentState}
+use Rattle.textarea_document.specs.DocumentState.{DocumentState}
 use Rattle.tui_textarea.specs.CallSplices.{splices_by}
 use Rattle.tui_textarea.specs.Drawing.{viewport_scrolled}
-use Rattle.tui_textarea.specs.Input.{IsActed}
-use Rattle.tui_textarea.specs.Removals.{break_before_removed, line_end_removed, line_head_removed, symbol_before_removed, symbol_behind_removed, word_before_removed, word_behind_removed}
+use Rattle.tui_textarea.specs.Input.{IsAfterAction}
+use Rattle.tui_textarea.specs.Removals.{break_before_removed, line_end_removed, line_head_removed, symbol_before_removed, symbol_after_removed, word_before_removed, word_after_removed}
 use Rattle.tui_textarea.specs.State.{State}
-use Rattle.tui_textarea.proofs.Stepping.{Reckoning, after_by, before_by, break_by, char_by, cleared_by, copied_seen, cut_by, line_end_by, line_head_by, moves_seen, newline_by, seen, str_by, tab_by, unselected_by, word_after_by, word_before_by}
+use Rattle.tui_textarea.proofs.Stepping.{Reckoning, after_by, before_by, break_by, char_by, cleared_by, copied_seen, wrapping_by, line_end_by, line_head_by, moves_seen, newline_by, seen, str_by, tab_by, unselected_by, word_after_by, word_before_by}
 
 -- a relation of two documents and the splices between them
 abbrev pub Fact : Type 1
@@ -53,24 +53,24 @@ as_outcome By old new outcome splices is h = subst (λ (s : State). By old.docum
 
 -- the relation for undo and redo, with and without an edit to undo or redo
 pub record Past (Own : Fact) : Type 0 where
-  pub undos : (document : DocumentState) → IsSound document → Own document (undo_splices document) (undone document)
-  pub redos : (document : DocumentState) → IsSound document → Own document (redo_splices document) (redone document)
+  pub undos : (document : DocumentState) → IsSound document → Own document (undo_splices document) (after_undo document)
+  pub redos : (document : DocumentState) → IsSound document → Own document (redo_splices document) (after_redo document)
 
-pub acts_by : (By Own : Fact) (by : Reckoning By) (past : Past Own) (old new : State) (asked : Action) → IsSound old.document → IsActed old asked new → ByAct By Own asked old.document (splices_by old asked) new.document
+pub acts_by : (By Own : Fact) (by : Reckoning By) (past : Past Own) (old new : State) (asked : Action) → IsSound old.document → IsAfterAction old asked new → ByAct By Own asked old.document (splices_by old asked) new.document
 acts_by By Own by past old new action.Nothing h k = by.none old.document new.document (ap (λ (s : State). seen s.document) k)
 acts_by By Own by past old new (action.Write (write.InsertChar c)) h k = as_outcome By old new _ _ k (char_by By by old c h)
 acts_by By Own by past old new (action.Write write.InsertNewline) h k = as_outcome By old new _ _ k (newline_by By by old h)
 acts_by By Own by past old new (action.Write write.Copy) h k = by.none old.document new.document (ap (λ (s : State). seen s.document) k ∙ copied_seen old)
 acts_by By Own by past old new (action.Edit edit.InsertTab) h k = as_outcome By old new _ _ k (tab_by By by old h)
-acts_by By Own by past old new (action.Edit edit.DeleteNewline) h k = as_outcome By old new _ _ k (unselected_by By by old (break_before_removed old) _ h (break_by By by old.document old.moment h))
-acts_by By Own by past old new (action.Edit edit.DeleteChar) h k = as_outcome By old new _ _ k (unselected_by By by old (symbol_before_removed old) _ h (before_by By by old.document old.settings.undo_coalescing old.moment h))
-acts_by By Own by past old new (action.Edit edit.DeleteNextChar) h k = as_outcome By old new _ _ k (unselected_by By by old (symbol_behind_removed old) _ h (after_by By by old.document old.settings.undo_coalescing old.moment h))
+acts_by By Own by past old new (action.Edit edit.DeleteNewline) h k = as_outcome By old new _ _ k (unselected_by By by old (break_before_removed old) _ h (break_by By by old.document old.time h))
+acts_by By Own by past old new (action.Edit edit.DeleteChar) h k = as_outcome By old new _ _ k (unselected_by By by old (symbol_before_removed old) _ h (before_by By by old.document old.settings.undo_coalescing old.time h))
+acts_by By Own by past old new (action.Edit edit.DeleteNextChar) h k = as_outcome By old new _ _ k (unselected_by By by old (symbol_after_removed old) _ h (after_by By by old.document old.settings.undo_coalescing old.time h))
 acts_by By Own by past old new (action.Edit edit.DeleteLineByEnd) h k = as_outcome By old new _ _ k (unselected_by By by old (line_end_removed old) _ h (line_end_by By by old h))
 acts_by By Own by past old new (action.Edit edit.DeleteLineByHead) h k = as_outcome By old new _ _ k (unselected_by By by old (line_head_removed old) _ h (line_head_by By by old h))
 acts_by By Own by past old new (action.Edit edit.DeleteWord) h k = as_outcome By old new _ _ k (unselected_by By by old (word_before_removed old) _ h (word_before_by By by old h))
-acts_by By Own by past old new (action.Edit edit.DeleteNextWord) h k = as_outcome By old new _ _ k (unselected_by By by old (word_behind_removed old) _ h (word_after_by By by old h))
+acts_by By Own by past old new (action.Edit edit.DeleteNextWord) h k = as_outcome By old new _ _ k (unselected_by By by old (word_after_removed old) _ h (word_after_by By by old h))
 acts_by By Own by past old new (action.Edit edit.Clear) h k = as_outcome By old new _ _ k (cleared_by By by old h)
-acts_by By Own by past old new (action.Edit edit.Cut) h k = as_outcome By old new _ _ k (cut_by By by old h)
+acts_by By Own by past old new (action.Edit edit.Cut) h k = as_outcome By old new _ _ k (wrapping_by By by old h)
 acts_by By Own by past old new (action.Edit edit.Paste) h k = as_outcome By old new _ _ k (str_by By by old old.yank h)
 acts_by By Own by past old new (action.Edit edit.Undo) h k = as_outcome Own old new _ _ k (past.undos old.document h)
 acts_by By Own by past old new (action.Edit edit.Redo) h k = as_outcome Own old new _ _ k (past.redos old.document h)
@@ -97,21 +97,21 @@ ByCall By Past call.ClearAtomicRanges old splices new = Unit {0}
 ByCall By Past (call.Render area) old splices new = Unit {0}
 ByCall By Past made old splices new = By old splices new
 
-pattern_seen : (state : State) (text : List ℕ) (answer : Said) → seen (behind_pattern state text answer).document ≡ seen state.document
+pattern_seen : (state : State) (text : List ℕ) (answer : CallResult) → seen (after_pattern state text answer).document ≡ seen state.document
 pattern_seen state text PatternRefused = refl
 pattern_seen state text answer = refl
 
-searched_seen : (state : State) (found : Option Place) → seen (searched state found).document ≡ seen state.document
+searched_seen : (state : State) (found : Option Place) → seen (after_search state found).document ≡ seen state.document
 searched_seen state None = refl
 searched_seen state (Some place) = refl
 
 module _ (By Own : Fact) (by : Reckoning By) (past : Past Own) where
-  act_by : (old new : State) (asked : Action) → IsSound old.document → IsActed old asked new → ByAct By Own asked old.document (splices_by old asked) new.document
+  act_by : (old new : State) (asked : Action) → IsSound old.document → IsAfterAction old asked new → ByAct By Own asked old.document (splices_by old asked) new.document
   act_by = acts_by By Own by past
 
-  pub calls_by : (old new : State) (made : Call) (answer : Said) → IsSound old.document → IsBehind old made answer new → ByCall By Own made old.document (splices_of old made) new.document
+  pub calls_by : (old new : State) (made : Call) (answer : CallResult) → IsSound old.document → IsAfterCall old made answer new → ByCall By Own made old.document (splices_of old made) new.document
   calls_by old new (call.InsertChar c) answer h k = act_by old new (action.Write (write.InsertChar c)) h k
-  calls_by old new (call.InsertStr text) answer h k = as_outcome By old new _ _ k (str_by By by old (given (chars text.now)) h)
+  calls_by old new (call.InsertStr text) answer h k = as_outcome By old new _ _ k (str_by By by old (fragment_symbols (chars text.now)) h)
   calls_by old new call.InsertTab answer h k = act_by old new (action.Edit edit.InsertTab) h k
   calls_by old new call.InsertNewline answer h k = act_by old new (action.Write write.InsertNewline) h k
   calls_by old new call.Paste answer h k = act_by old new (action.Edit edit.Paste) h k
@@ -149,24 +149,24 @@ module _ (By Own : Fact) (by : Reckoning By) (past : Past Own) where
 
   -- ---- calls that run out of memory
 
-  left_by : (old new : State) → IsSound old.document → selection.IsLeft old new → OfLeft old (λ splices. By old.document splices new.document)
+  left_by : (old new : State) → IsSound old.document → selection.IsLeft old new → OfSplicesOutOfMemory old (λ splices. By old.document splices new.document)
   left_by old new h k =
       ⊎_elim
       (λ same. inl (by.none old.document new.document (ap (λ (s : State). seen s.document) same)))
-      (λ gone. inr (as_outcome By old new (unselected old) (selected_splices old.document) gone (selected_by By by old.document old.moment h)))
+      (λ gone. inr (as_outcome By old new (unselected old) (selected_splices old.document) gone (selected_by By by old.document old.time h)))
       k
 
-  stayed : (old new : State) → new ≡ old → OfLeft old (λ splices. By old.document splices new.document)
+  stayed : (old new : State) → new ≡ old → OfSplicesOutOfMemory old (λ splices. By old.document splices new.document)
   stayed old new same = inl (by.none old.document new.document (ap (λ (s : State). seen s.document) same))
 
-  act_left : (old new : State) (asked : Action) → IsSound old.document → IsLeftBy old asked new → OfLeft old (λ splices. By old.document splices new.document)
+  act_left : (old new : State) (asked : Action) → IsSound old.document → IsInputOutOfMemory old asked new → OfSplicesOutOfMemory old (λ splices. By old.document splices new.document)
   act_left old new (action.Write (write.InsertChar c)) h k = left_by old new h k
   act_left old new (action.Write write.InsertNewline) h k = left_by old new h k
   act_left old new (action.Edit edit.InsertTab) h k = left_by old new h k
   act_left old new (action.Edit edit.Paste) h k = left_by old new h k
   act_left old new asked h k = stayed old new k
 
-  pub calls_left : (old new : State) (made : Call) → IsSound old.document → IsLeft old made new → OfLeft old (λ splices. By old.document splices new.document)
+  pub calls_left : (old new : State) (made : Call) → IsSound old.document → IsAfterOutOfMemory old made new → OfSplicesOutOfMemory old (λ splices. By old.document splices new.document)
   calls_left old new (call.InsertChar c) h k = left_by old new h k
   calls_left old new (call.InsertStr text) h k = left_by old new h k
   calls_left old new call.InsertTab h k = left_by old new h k

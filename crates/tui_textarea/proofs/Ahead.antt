@@ -3,7 +3,7 @@ use Rattle.std.proofs.Common.{◌≡◌, ℕ, ◌+◌, ◌<◌, nat_lt, min, Boo
 use Rattle.std.proofs.lemmas.Bool.Decides.{nat_tests}
 use Rattle.textarea_text.specs.Text.{Symbol, lines}
 use Rattle.textarea_text.specs.Place.{Place, IsPlace, IsPlaceOf, index_of, place_of}
-use Rattle.textarea_document.specs.State.{DocumentState}
+use Rattle.textarea_document.specs.DocumentState.{DocumentState}
 use Rattle.textarea_text.proofs.Befores.{pair_is}
 use Rattle.textarea_text.proofs.TextPlaces.{index_within, place_of-index}
 

@@ -1,7 +1,7 @@
 -- The hit test of the cell of a caret that is shown returns the cursor.
 use Rattle.std.proofs.Common.{◌≡◌, ℕ, zero, suc, ◌-◌, ◌<◌, ◌≤◌, ◌⊎◌, inl, inr, ◌==◌, ◌||◌, ◌&&◌, min, Bool, true, false, not, List, [], ◌∷◌, Option, None, Some, if◌then◌else◌, ap, ap₂, arith, refl, subst, sym, ◌∙◌}
 use Rattle.std.proofs.lemmas.Bool.Decides.{nat_tests}
-use Rattle.tui_textarea.specs.DrawingPrelude.{is_filled, laid_out_of, with_inner_width, IsHitBack, Parts, frame_of, FrameState, has_lines, number_width, shows_placeholder, IsLastArea, IsHitBy, IsHitInRows, IsHitOf, IsHitWith, IsNear, greatest_at, IsPlaced, IsPlacedInRows, IsPlacedWith, LiesAs, Placing, corner_caret, row_view, IsRendered, at_inner_width, drawn_into, LaidOut, at_width, laid_out_with, LentRows, IsViewOf, LayoutSettings, AreRowsOf, row_total, greatest_column, row_at, HasNoZeroWidth, IsPlaceAt, IsVisualPosition, VisualPosition, Wrapping, SceneState, contains, Alignment, Left, Center, Right, Rect, IsPlace, Place, Symbol, caret_at, hit_column, hit_row, left_view, at_start, ViewportState, RowView, RowsView}
+use Rattle.tui_textarea.specs.DrawingPrelude.{has_symbols, text_and_layout, with_inner_width, IsCaretHit, Parts, frame_of, FrameState, has_lines, number_width, shows_placeholder, IsLastArea, IsHitBy, IsHitInRows, IsHitOf, IsHitWith, IsNear, greatest_at, IsPlacement, IsPlacementInRows, IsPlacementWith, HasRowView, Placement, corner_caret, row_view, ArePartsRendered, at_inner_width, drawn_into, TextAndLayout, at_width, with_settings, BorrowedRows, IsViewOf, LayoutSettings, AreRowsOf, row_total, greatest_column, row_at, HasNoZeroWidth, IsPlaceAt, IsVisualPosition, VisualPosition, Wrapping, SceneState, contains, Alignment, Left, Center, Right, Rect, IsPlace, Place, Symbol, caret_at, hit_column, hit_row, left_view, at_start, ViewportState, RowView, RowsView}
 use Rattle.tui_textarea.proofs.DrawnRows.{IsViewedOnce, lent_right}
 use Rattle.tui_textarea.proofs.OneHit.{BeginsOnce, lies_once, some_same, wanted_at}
 use Rattle.tui_textarea.proofs.Rects.{last_area_once}
@@ -27,7 +27,7 @@ abbrev pub IsFoundAgain : Type 0
 IsFoundAgain = (tab_len : ℕ) (lines : List (List ℕ)) (rows : List RowsView) (place : Place) (visual : VisualPosition) (found : Place) → IsVisualPosition tab_len lines rows place visual → HasNoZeroWidth (row_at lines rows visual.row).text → IsPlaceAt tab_len lines rows visual found → found ≡ place
 
 abbrev pub PutsSettings : Type 0
-PutsSettings = (laid : LaidOut) (settings : LayoutSettings) → (laid_out_with laid settings).layout.settings ≡ settings
+PutsSettings = (text_layout : TextAndLayout) (settings : LayoutSettings) → (with_settings text_layout settings).layout.settings ≡ settings
 
 pub record Laws : Type 0 where
   pub hits_row : HitsRow
@@ -35,7 +35,7 @@ pub record Laws : Type 0 where
   pub corner : HasCornerCaret
   pub seen_row : IsSeenInRow
   pub seen_column : IsSeenAtColumn
-  pub found_again : IsFoundAgain
+  pub visual_round_trip : IsFoundAgain
   pub viewed_once : IsViewedOnce
   pub begins_once : BeginsOnce
   pub settings_put : PutsSettings
@@ -50,7 +50,7 @@ view_lies Left viewport inner start columns = (refl, refl, inl refl)
 view_lies Center viewport inner start columns = (refl, refl, inr refl)
 view_lies Right viewport inner start columns = (refl, refl, inr refl)
 
-lies_in : (scene : SceneState) (viewport : ViewportState) (inner : Rect) (row : ℕ) (view : RowView) → LiesAs scene viewport inner row view → LiesIn viewport inner view
+lies_in : (scene : SceneState) (viewport : ViewportState) (inner : Rect) (row : ℕ) (view : RowView) → HasRowView scene viewport inner row view → LiesIn viewport inner view
 lies_in scene viewport inner row view h =
     subst (LiesIn viewport inner) (sym h.view_is) (view_lies scene.look.alignment viewport inner h.start (number_width scene))
 
@@ -66,15 +66,15 @@ record LeadsBack (b : Bool) (frame : FrameState) (viewport : ViewportState) (inn
 abbrev HasWideRow : SceneState → Type 0
 HasWideRow scene = (visual : VisualPosition) → IsVisualPosition scene.rows.wrapping.tab_len scene.rows.lines scene.rows.rows scene.cursor visual → HasNoZeroWidth (row_at scene.rows.lines scene.rows.rows visual.row).text
 
-in_rows : (laws : Laws) (frame : FrameState) (viewport : ViewportState) (inner : Rect) (placing : Placing) (x y : ℕ) → AreRowsOf frame.scene.rows.wrapping frame.scene.rows.lines frame.scene.rows.rows → IsPlacedInRows frame.scene frame.mode viewport inner placing → placing.caret ≡ Some (x, y) → HasWideRow frame.scene → LeadsBack false frame placing.viewport inner x y
-in_rows laws frame viewport inner placing x y right h e wide =
+in_rows : (laws : Laws) (frame : FrameState) (viewport : ViewportState) (inner : Rect) (placement : Placement) (x y : ℕ) → AreRowsOf frame.scene.rows.wrapping frame.scene.rows.lines frame.scene.rows.rows → IsPlacementInRows frame.scene frame.mode viewport inner placement → placement.caret ≡ Some (x, y) → HasWideRow frame.scene → LeadsBack false frame placement.viewport inner x y
+in_rows laws frame viewport inner placement x y right h e wide =
     let scene = frame.scene in
     let rows = scene.rows in
     let last = row_total rows.rows - 1 in
-    let lies = lies_in scene placing.viewport inner h.visual.row h.view h.view_is in
+    let lies = lies_in scene placement.viewport inner h.visual.row h.view h.view_is in
     let caret : caret_at h.view h.visual.row h.visual.column ≡ Some (x, y) = sym h.caret_is ∙ e in
     let below : h.visual.row < row_total rows.rows = laws.seen_row rows.wrapping rows.lines rows.rows scene.cursor h.visual right h.visual_is in
-    let hit : hit_row placing.viewport.row inner last x y ≡ Some h.visual.row =
+    let hit : hit_row placement.viewport.row inner last x y ≡ Some h.visual.row =
     ap₂ (λ (top : ℕ) (area : Rect). hit_row top area last x y) (sym lies.0) (sym lies.1)
     ∙ laws.hits_row h.view h.visual.row h.visual.column last x y caret (omega (arith, below)) in
     record {
@@ -82,20 +82,20 @@ in_rows laws frame viewport inner placing x y right h e wide =
       only = λ place k. only_cursor place k hit;
     }
   where
-    only_cursor : (place : Place) → IsHitInRows frame.scene placing.viewport inner x y place → hit_row placing.viewport.row inner (row_total frame.scene.rows.rows - 1) x y ≡ Some h.visual.row → place ≡ frame.scene.cursor
+    only_cursor : (place : Place) → IsHitInRows frame.scene placement.viewport inner x y place → hit_row placement.viewport.row inner (row_total frame.scene.rows.rows - 1) x y ≡ Some h.visual.row → place ≡ frame.scene.cursor
     only_cursor place k hit =
         let scene = frame.scene in
         let rows = scene.rows in
-        let lies = lies_in scene placing.viewport inner h.visual.row h.view h.view_is in
+        let lies = lies_in scene placement.viewport inner h.visual.row h.view h.view_is in
         let caret : caret_at h.view h.visual.row h.visual.column ≡ Some (x, y) = sym h.caret_is ∙ e in
         let greatest = greatest_at rows h.visual.row in
         let reached : h.visual.column ≤ greatest = laws.seen_column rows.wrapping.tab_len rows.lines rows.rows scene.cursor h.visual h.visual_is in
         let row : k.row ≡ h.visual.row = some_same h.visual.row k.row _ hit k.row_is in
-        let view : k.view ≡ h.view = lies_once laws.begins_once scene placing.viewport inner h.visual.row k.view h.view (subst (λ (r : ℕ). LiesAs scene placing.viewport inner r k.view) row k.view_is) h.view_is in
+        let view : k.view ≡ h.view = lies_once laws.begins_once scene placement.viewport inner h.visual.row k.view h.view (subst (λ (r : ℕ). HasRowView scene placement.viewport inner r k.view) row k.view_is) h.view_is in
         let column : hit_column h.view greatest x ≡ h.visual.column = laws.hits_column h.view h.visual.row h.visual.column greatest x y lies.2 caret reached in
         let near : IsNear rows h.visual place = subst (λ (wanted : VisualPosition). IsNear rows wanted place) (ap₂ (wanted_at rows x) row view ∙ ap (λ (n : ℕ). record { row = h.visual.row; column = n }) column) k.near in
         let least : min h.visual.column greatest ≡ h.visual.column = omega (arith, reached) in
-        laws.found_again rows.wrapping.tab_len rows.lines rows.rows scene.cursor h.visual place h.visual_is (wide h.visual h.visual_is)
+        laws.visual_round_trip rows.wrapping.tab_len rows.lines rows.rows scene.cursor h.visual place h.visual_is (wide h.visual h.visual_is)
         (subst (λ (n : ℕ). IsPlaceAt rows.wrapping.tab_len rows.lines rows.rows (record { row = h.visual.row; column = n }) place) least near)
 
 -- ---- a placeholder
@@ -115,7 +115,7 @@ corner_inside laws inner x y e =
     let hit = laws.hits_row (left_view (at_start inner) inner 0) 0 0 0 inner.x inner.y caret (omega arith) in
     subst (λ (cell : ℕ × ℕ). contains inner cell.0 cell.1 ≡ true) found.2 (inside_by (contains inner inner.x inner.y) _ 0 hit)
 
-no_text : (text : List Symbol) (b : Bool) → (not (is_filled text) && b) ≡ true → text ≡ []
+no_text : (text : List Symbol) (b : Bool) → (not (has_symbols text) && b) ≡ true → text ≡ []
 no_text [] b e = refl
 no_text (symbol ∷ text) b e = absurd cc
 
@@ -123,18 +123,18 @@ at_the_start : (place : Place) → IsPlace [] place → place ≡ (0, 0)
 at_the_start (zero, column) h = ap (λ (n : ℕ). (zero, n)) (omega (arith, h.1))
 at_the_start (suc row, column) h = absurd (omega (arith, h.0))
 
-cursor_at_start : (text : List Symbol) (cursor : Place) (b : Bool) → IsPlace text cursor → (not (is_filled text) && b) ≡ true → cursor ≡ (0, 0)
+cursor_at_start : (text : List Symbol) (cursor : Place) (b : Bool) → IsPlace text cursor → (not (has_symbols text) && b) ≡ true → cursor ≡ (0, 0)
 cursor_at_start text cursor b place e =
     at_the_start cursor (subst (λ (t : List Symbol). IsPlace t cursor) (no_text text b e) place)
 
 -- ---- both
 
-leads_back : (laws : Laws) (b : Bool) (frame : FrameState) (viewport : ViewportState) (inner : Rect) (placing : Placing) (x y : ℕ) → (b ≡ true → frame.scene.cursor ≡ (0, 0)) → AreRowsOf frame.scene.rows.wrapping frame.scene.rows.lines frame.scene.rows.rows → IsPlacedWith b frame viewport inner placing → placing.caret ≡ Some (x, y) → HasWideRow frame.scene → LeadsBack b frame placing.viewport inner x y
-leads_back laws true frame viewport inner placing x y start right h e wide = record {
-  inside = corner_inside laws inner x y (ap (λ (p : Placing). p.caret) (sym h) ∙ e);
+leads_back : (laws : Laws) (b : Bool) (frame : FrameState) (viewport : ViewportState) (inner : Rect) (placement : Placement) (x y : ℕ) → (b ≡ true → frame.scene.cursor ≡ (0, 0)) → AreRowsOf frame.scene.rows.wrapping frame.scene.rows.lines frame.scene.rows.rows → IsPlacementWith b frame viewport inner placement → placement.caret ≡ Some (x, y) → HasWideRow frame.scene → LeadsBack b frame placement.viewport inner x y
+leads_back laws true frame viewport inner placement x y start right h e wide = record {
+  inside = corner_inside laws inner x y (ap (λ (p : Placement). p.caret) (sym h) ∙ e);
   only = λ place k. k ∙ sym (start refl);
 }
-leads_back laws false frame viewport inner placing x y start right h e wide = in_rows laws frame viewport inner placing x y right h e wide
+leads_back laws false frame viewport inner placement x y start right h e wide = in_rows laws frame viewport inner placement x y right h e wide
 
 found_back : (frame : FrameState) (viewport : ViewportState) (inner : Rect) (x y : ℕ) (found : Option Place) → LeadsBack (shows_placeholder frame) frame viewport inner x y → IsHitOf frame viewport inner x y found → found ≡ Some frame.scene.cursor
 found_back frame viewport inner x y found back h =
@@ -142,13 +142,13 @@ found_back frame viewport inner x y found back h =
     hit.1 ∙ ap Some (back.only hit.0 hit.2)
 
 -- the parts after a drawing
-abbrev pub made : Parts → Rect → Placing → Parts
-made old inner placing = record (at_inner_width old inner.width) { drawing = drawn_into old.drawing inner placing }
+abbrev pub made : Parts → Rect → Placement → Parts
+made old inner placement = record (at_inner_width old inner.width) { drawing = drawn_into old.drawing inner placement }
 
-pub made_area : (puts : PutsSettings) (old : Parts) (inner : Rect) (placing : Placing) → IsLastArea (made old inner placing).document (made old inner placing).drawing inner
-made_area puts old inner placing =
-    let laid = laid_out_of old.document in
-    let width : (with_inner_width old.document inner.width).layout.settings.inner_width ≡ inner.width = ap (λ (s : LayoutSettings). s.inner_width) (puts laid (at_width laid inner.width)) in
+pub made_area : (puts : PutsSettings) (old : Parts) (inner : Rect) (placement : Placement) → IsLastArea (made old inner placement).document (made old inner placement).drawing inner
+made_area puts old inner placement =
+    let text_layout = text_and_layout old.document in
+    let width : (with_inner_width old.document inner.width).layout.settings.inner_width ≡ inner.width = ap (λ (s : LayoutSettings). s.inner_width) (puts text_layout (at_width text_layout inner.width)) in
     record {
       x = refl;
       y = refl;
@@ -156,18 +156,18 @@ made_area puts old inner placing =
       height = omega (arith, inner.bottom);
     }
 
-made_back : (laws : Laws) (old : Parts) (inner : Rect) (rows : LentRows) (placing : Placing) → IsViewOf (laid_out_of (with_inner_width old.document inner.width)) rows → IsPlaced (frame_of (at_inner_width old inner.width) rows) old.drawing.viewport inner placing → IsPlace old.document.text old.document.cursor → IsHitBack (made old inner placing)
-made_back laws old inner rows placing view placed place = λ x y found caret wide k.
-    let new = made old inner placing in
+made_back : (laws : Laws) (old : Parts) (inner : Rect) (rows : BorrowedRows) (placement : Placement) → IsViewOf (text_and_layout (with_inner_width old.document inner.width)) rows → IsPlacement (frame_of (at_inner_width old inner.width) rows) old.drawing.viewport inner placement → IsPlace old.document.text old.document.cursor → IsCaretHit (made old inner placement)
+made_back laws old inner rows placement view placed place = λ x y found caret wide k.
+    let new = made old inner placement in
     let frame = frame_of new rows in
-    let area : k.inner ≡ inner = last_area_once new.document new.drawing k.inner inner k.inner_is (made_area laws.settings_put old inner placing) in
-    let same : k.rows ≡ rows = laws.viewed_once (laid_out_of new.document) k.rows rows k.rows_are view in
-    let back = leads_back laws (shows_placeholder frame) frame old.drawing.viewport inner placing x y (cursor_at_start old.document.text old.document.cursor (has_lines old.surround.placeholder.lines) place) (lent_right (laid_out_of new.document) rows view) placed caret (λ visual h. wide rows visual view h) in
-    found_back frame placing.viewport inner x y found back
-    (subst (λ (r : LentRows). IsHitOf (frame_of new r) placing.viewport inner x y found) same
-    (subst (λ (a : Rect). IsHitOf (frame_of new k.rows) placing.viewport a x y found) area k.found_is))
+    let area : k.inner ≡ inner = last_area_once new.document new.drawing k.inner inner k.inner_is (made_area laws.settings_put old inner placement) in
+    let same : k.rows ≡ rows = laws.viewed_once (text_and_layout new.document) k.rows rows k.rows_are view in
+    let back = leads_back laws (shows_placeholder frame) frame old.drawing.viewport inner placement x y (cursor_at_start old.document.text old.document.cursor (has_lines old.surround.placeholder.lines) place) (lent_right (text_and_layout new.document) rows view) placed caret (λ visual h. wide rows visual view h) in
+    found_back frame placement.viewport inner x y found back
+    (subst (λ (r : BorrowedRows). IsHitOf (frame_of new r) placement.viewport inner x y found) same
+    (subst (λ (a : Rect). IsHitOf (frame_of new k.rows) placement.viewport a x y found) area k.found_is))
 
-pub hit_back : (laws : Laws) (old new : Parts) (area : Rect) → IsRendered old area new → IsPlace new.document.text new.document.cursor → IsHitBack new
+pub hit_back : (laws : Laws) (old new : Parts) (area : Rect) → ArePartsRendered old area new → IsPlace new.document.text new.document.cursor → IsCaretHit new
 hit_back laws old new area h =
-    subst (λ (p : Parts). IsPlace p.document.text p.document.cursor → IsHitBack p) (sym h.new_is)
-    (made_back laws old h.inner h.rows h.placing h.rows_are h.placing_is)
+    subst (λ (p : Parts). IsPlace p.document.text p.document.cursor → IsCaretHit p) (sym h.new_is)
+    (made_back laws old h.inner h.rows h.placement h.rows_are h.placing_is)

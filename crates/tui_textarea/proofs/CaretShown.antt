@@ -1,7 +1,7 @@
 -- The caret is shown if the inner area has room for it.
 use Rattle.std.proofs.Common.{◌≡◌, ◌≢◌, ℕ, ◌+◌, ◌-◌, ◌*◌, ◌^◌, ◌<◌, ◌≤◌, ◌==◌, ◌||◌, max, Bool, true, false, List, [], ◌∷◌, None, Some, IsSome, rules, if◌then◌else◌, length, refl, ap, ap₂, arith, subst, sym, ◌∙◌}
 use Rattle.std.proofs.lemmas.Bool.Decides.{nat_tests}
-use Rattle.tui_textarea.specs.DrawingPrelude.{size_limit, laid_out_of, with_inner_width, DocumentState, Parts, frame_of, scene_of, number_width, shows_placeholder, IsPlaced, IsPlacedInRows, IsPlacedWith, Placing, row_view, VisualPosition, viewport_at, IsRendered, at_inner_width, HasRoomForCaret, HasWidthForCaret, HasWidthForRows, IsCaretShown, number_columns, at_width, wrapping_of, LentRows, IsViewOf, is_wrapped, wrapping_for, LayoutSettings, AreRowsOf, row_total, size_total, greatest_column, row_at, Wrapping, Alignment, Left, Rect, weight, Symbol, Break, Character, following, joined, lines, on_first, caret_at, left_view, showing_row, showing_row_and_column, ViewportState, RowView, HaveFittingClusters, line_number_columns, RowsView, WrapMode}
+use Rattle.tui_textarea.specs.DrawingPrelude.{size_limit, text_and_layout, with_inner_width, DocumentState, Parts, frame_of, scene_of, number_width, shows_placeholder, IsPlacement, IsPlacementInRows, IsPlacementWith, Placement, row_view, VisualPosition, viewport_at, ArePartsRendered, at_inner_width, HasRoomForCaret, HasWidthForCaret, HasWidthForRows, IsCaretShown, number_columns, at_width, wrapping_of, BorrowedRows, IsViewOf, is_wrapped, wrapping_for, LayoutSettings, AreRowsOf, row_total, size_total, greatest_column, row_at, Wrapping, Alignment, Left, Rect, weight, Symbol, Break, Character, following, joined, lines, on_first, caret_at, left_view, showing_row, showing_row_and_column, ViewportState, RowView, HaveFittingClusters, line_number_columns, RowsView, WrapMode}
 use Rattle.tui_textarea.proofs.CaretBack.{IsSeenAtColumn, IsSeenInRow, PutsSettings, made, made_area}
 use Rattle.tui_textarea.proofs.DrawnRows.{lent_right}
 use Rattle.tui_textarea.proofs.Rects.{last_area_once}
@@ -112,12 +112,12 @@ corner_some w h corner wide high =
     let rows : (h == 0) ≡ false = grind (arith, nat_tests) in
     rw (columns, rows) (search rules)
 
-module _ (laws : Laws) (new : Parts) (rows : LentRows) (view : IsViewOf (laid_out_of new.document) rows) where
+module _ (laws : Laws) (new : Parts) (rows : BorrowedRows) (view : IsViewOf (text_and_layout new.document) rows) where
   abbrev settings : LayoutSettings
   settings = new.document.layout.settings
 
   right : AreRowsOf rows.wrapping rows.lines rows.rows
-  right = lent_right (laid_out_of new.document) rows view
+  right = lent_right (text_and_layout new.document) rows view
 
   few : weight new.document.text < size_limit → (row : ℕ) → row < row_total rows.rows → row < 2 ^ 64
   few limit row below =
@@ -133,17 +133,17 @@ module _ (laws : Laws) (new : Parts) (rows : LentRows) (view : IsViewOf (laid_ou
       let text = lines new.document.text in
       let left = settings.inner_width - number_columns new.document - 1 in
       let wrapping : Wrapping = record { mode = settings.mode; width = left; tab_len = settings.tab_len } in
-      let cut : wrapping_of (laid_out_of new.document) ≡ wrapping = wraps_beside settings.mode settings.tab_len settings.inner_width (length text) settings.line_numbers wraps room.columns in
+      let cut : wrapping_of (text_and_layout new.document) ≡ wrapping = wraps_beside settings.mode settings.tab_len settings.inner_width (length text) settings.line_numbers wraps room.columns in
       let width : left ≡ max left 1 = omega (arith, room.columns) in
       let bound = laws.within wrapping text rows.rows row
-      (subst (λ (w : Wrapping). AreRowsOf w text rows.rows) cut view.rows.laid_out) wraps room.tabs
+      (subst (λ (w : Wrapping). AreRowsOf w text rows.rows) cut view.rows.text_layout) wraps room.tabs
       (subst (λ (n : ℕ). HaveFittingClusters settings.tab_len n text) width room.clusters) below in
       let same : greatest_column rows.wrapping.tab_len (row_at rows.lines rows.rows row) ≡ greatest_column settings.tab_len (row_at text rows.rows row) =
       ap₂ (λ (t : ℕ) (l : List (List ℕ)). greatest_column t (row_at l rows.rows row)) (ap (λ (w : Wrapping). w.tab_len) (view.wrapping ∙ cut)) view.lines in
       omega (arith, bound, same, room.columns)
 
-  module _ (viewport : ViewportState) (inner : Rect) (placing : Placing) (width : settings.inner_width ≡ inner.width) (limit : weight new.document.text < size_limit) (tabs : settings.tab_len < 2 ^ 8) (room : HasRoomForCaret new inner) where
-    in_rows : IsPlacedInRows (scene_of new rows) settings.mode viewport inner placing → IsSome placing.caret
+  module _ (viewport : ViewportState) (inner : Rect) (placement : Placement) (width : settings.inner_width ≡ inner.width) (limit : weight new.document.text < size_limit) (tabs : settings.tab_len < 2 ^ 8) (room : HasRoomForCaret new inner) where
+    in_rows : IsPlacementInRows (scene_of new rows) settings.mode viewport inner placement → IsSome placement.caret
     in_rows h =
         let columns = number_width (scene_of new rows) in
         let same : columns ≡ number_columns new.document = ap (λ (l : List (List ℕ)). line_number_columns settings.line_numbers (length l)) view.lines in
@@ -156,25 +156,25 @@ module _ (laws : Laws) (new : Parts) (rows : LentRows) (view : IsViewOf (laid_ou
         let held : HasWidthForRows new.document settings.inner_width = subst (HasWidthForRows new.document) (sym width) (rows_width settings.mode new.document inner.width room.columns wraps) in
         omega (arith, same, width, reached, within_row wraps held h.visual.row below) in
         let lies : h.view ≡ left_view (viewport_at settings.mode viewport inner columns h.visual) inner columns =
-        h.view_is.view_is ∙ left_row new.drawing.look.alignment placing.viewport inner h.view_is.start columns room.left ∙ ap (λ (v : ViewportState). left_view v inner columns) h.viewport_is in
+        h.view_is.view_is ∙ left_row new.drawing.look.alignment placement.viewport inner h.view_is.start columns room.left ∙ ap (λ (v : ViewportState). left_view v inner columns) h.viewport_is in
         subst IsSome (sym (h.caret_is ∙ ap (λ (v : RowView). caret_at v h.visual.row h.visual.column) lies))
         (shown_in laws settings.mode viewport inner columns h.visual room.row (few limit h.visual.row below) wide small beside)
 
-    placed : (b : Bool) → IsPlacedWith b (frame_of new rows) viewport inner placing → IsSome placing.caret
-    placed true h = subst IsSome (sym (ap (λ (p : Placing). p.caret) h)) (corner_some inner.width inner.height (inner.x, inner.y) (some_width settings.mode new.document inner.width room.columns) room.row)
+    placed : (b : Bool) → IsPlacementWith b (frame_of new rows) viewport inner placement → IsSome placement.caret
+    placed true h = subst IsSome (sym (ap (λ (p : Placement). p.caret) h)) (corner_some inner.width inner.height (inner.x, inner.y) (some_width settings.mode new.document inner.width room.columns) room.row)
     placed false h = in_rows h
 
 -- ---- a drawing
 
-made_shown : (laws : Laws) (old : Parts) (inner : Rect) (rows : LentRows) (placing : Placing) → IsViewOf (laid_out_of (with_inner_width old.document inner.width)) rows → IsPlaced (frame_of (at_inner_width old inner.width) rows) old.drawing.viewport inner placing → weight (made old inner placing).document.text < size_limit → (made old inner placing).document.layout.settings.tab_len < 2 ^ 8 → IsCaretShown (made old inner placing)
-made_shown laws old inner rows placing view is_placed limit tabs = λ other other_is room.
-    let new = made old inner placing in
-    let same : other ≡ inner = last_area_once new.document new.drawing other inner other_is (made_area laws.settings_put old inner placing) in
-    let laid = laid_out_of old.document in
-    let width : new.document.layout.settings.inner_width ≡ inner.width = ap (λ (s : LayoutSettings). s.inner_width) (laws.settings_put laid (at_width laid inner.width)) in
-    placed laws new rows view old.drawing.viewport inner placing width limit tabs (subst (HasRoomForCaret new) same room) (shows_placeholder (frame_of new rows)) is_placed
+made_shown : (laws : Laws) (old : Parts) (inner : Rect) (rows : BorrowedRows) (placement : Placement) → IsViewOf (text_and_layout (with_inner_width old.document inner.width)) rows → IsPlacement (frame_of (at_inner_width old inner.width) rows) old.drawing.viewport inner placement → weight (made old inner placement).document.text < size_limit → (made old inner placement).document.layout.settings.tab_len < 2 ^ 8 → IsCaretShown (made old inner placement)
+made_shown laws old inner rows placement view is_placed limit tabs = λ other other_is room.
+    let new = made old inner placement in
+    let same : other ≡ inner = last_area_once new.document new.drawing other inner other_is (made_area laws.settings_put old inner placement) in
+    let text_layout = text_and_layout old.document in
+    let width : new.document.layout.settings.inner_width ≡ inner.width = ap (λ (s : LayoutSettings). s.inner_width) (laws.settings_put text_layout (at_width text_layout inner.width)) in
+    placed laws new rows view old.drawing.viewport inner placement width limit tabs (subst (HasRoomForCaret new) same room) (shows_placeholder (frame_of new rows)) is_placed
 
-pub caret_shown : (laws : Laws) (old new : Parts) (area : Rect) → IsRendered old area new → weight new.document.text < size_limit → new.document.layout.settings.tab_len < 2 ^ 8 → IsCaretShown new
+pub caret_shown : (laws : Laws) (old new : Parts) (area : Rect) → ArePartsRendered old area new → weight new.document.text < size_limit → new.document.layout.settings.tab_len < 2 ^ 8 → IsCaretShown new
 caret_shown laws old new area h =
     subst (λ (p : Parts). weight p.document.text < size_limit → p.document.layout.settings.tab_len < 2 ^ 8 → IsCaretShown p) (sym h.new_is)
-    (made_shown laws old h.inner h.rows h.placing h.rows_are h.placing_is)
+    (made_shown laws old h.inner h.rows h.placement h.rows_are h.placing_is)

@@ -6,7 +6,7 @@ use Rattle.textarea_text.specs.Splice.{Splice}
 use Rattle.textarea_history.specs.Log.{empty_log, recorded}
 use Rattle.tui_textarea.specs.State.{State, new_state, with_document}
 use Rattle.textarea_document.specs.Edits.{removed_before, part_removed}
-use Rattle.textarea_document.specs.Outcomes.{redone, undone}
+use Rattle.textarea_document.specs.Outcomes.{after_redo, after_undo}
 use Rattle.textarea_ranges.specs.Moved.{moved_ranges}
 use Rattle.tui_textarea.specs.Edits.{char_inserted, newline_inserted}
 use Rattle.tui_textarea.specs.Selection.{selection_cut}
@@ -56,10 +56,10 @@ parted_run_case = refl
 
 -- `a`, a line feed, `b`, the removal of `b`, and its undo: two lines, the cursor after the `b`
 abbrev pub undo_of : State → State
-undo_of state = with_document state (undone state.document)
+undo_of state = with_document state (after_undo state.document)
 
 abbrev pub redo_of : State → State
-redo_of state = with_document state (redone state.document)
+redo_of state = with_document state (after_redo state.document)
 
 -- the first character is selected, and the cursor is after it
 abbrev pub selected_first : State → State

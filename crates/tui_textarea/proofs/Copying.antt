@@ -6,14 +6,14 @@ use Rattle.std.proofs.lemmas.Bool.Decides.{nat_tests}
 use Rattle.textarea_text.specs.Text.{Symbol}
 use Rattle.textarea_text.specs.Place.{Place, IsPlace, end, index_of, inserted, is_before}
 use Rattle.textarea_text.proofs.TextPlaces.{index_within}
-use Rattle.textarea_text.specs.Part.{part}
-use Rattle.textarea_document.specs.State.{DocumentState}
+use Rattle.textarea_text.specs.Between.{symbols_between}
+use Rattle.textarea_document.specs.DocumentState.{DocumentState}
 use Rattle.textarea_document.specs.Outcomes.{unanchored}
-use Rattle.textarea_document.specs.Edits.{insertion_place, is_filled, part_removed}
+use Rattle.textarea_document.specs.Edits.{insertion_place, has_symbols, part_removed}
 use Rattle.textarea_document.specs.Selection.{is_selected, selected, selection_end, selection_start}
 use Rattle.tui_textarea.specs.State.{State, with_document}
 use Rattle.tui_textarea.specs.Edits.{symbols_or_none_inserted, str_inserted}
-use Rattle.tui_textarea.specs.Law.{PastesCopy, copied_and_pasted}
+use Rattle.tui_textarea.specs.TextAreaLaw.{PastesCopy, copied_and_pasted}
 use Rattle.tui_textarea.specs.Selection.{selection_copied, selection_cancelled}
 
 not_less : (n : ℕ) → nat_lt n n ≡ false
@@ -36,7 +36,7 @@ none_selected document =
     ap (λ b. is_before (cond b place place) (cond b place place)) (not_before place) ∙ not_before place
 
 -- there is text between two positions of which one comes first
-some_between : (text : List Symbol) (from to : Place) → IsPlace text to → index_of text from < index_of text to → 0 < length (part text from to)
+some_between : (text : List Symbol) (from to : Place) → IsPlace text to → index_of text from < index_of text to → 0 < length (symbols_between text from to)
 some_between text from to h ordered =
     omega (
       arith,
@@ -44,7 +44,7 @@ some_between text from to h ordered =
           (omega (arith, length-drop (index_of text from) text, index_within text to h)),
     )
 
-filled : (symbols : List Symbol) → 0 < length symbols → is_filled symbols ≡ true
+filled : (symbols : List Symbol) → 0 < length symbols → has_symbols symbols ≡ true
 filled [] h = absurd (omega (arith, h))
 filled (symbol ∷ symbols) h = refl
 
@@ -56,7 +56,7 @@ pastes_copy state e place ordered =
     record {
       text = ap (λ (s : State). s.document.text) reached ∙ text_of (selected state.document) some;
       cursor = ap (λ (s : State). s.document.cursor) reached ∙ cursor_of (selected state.document) some;
-      answer = ap (λ (s : State). is_filled s.yank) copied_is ∙ filled (selected state.document) some;
+      answer = ap (λ (s : State). has_symbols s.yank) copied_is ∙ filled (selected state.document) some;
     }
   where
     after : State
@@ -68,7 +68,7 @@ pastes_copy state e place ordered =
     reached : copied_and_pasted state ≡ symbols_or_none_inserted after (selected state.document)
     reached =
         ap (λ (s : State). str_inserted s s.yank) copied_is
-        ∙ ap (λ b. symbols_or_none_inserted (with_document after (cond b (part_removed after.document (selection_start after.document) (selection_end after.document) after.moment) after.document)) after.yank) (none_selected state.document)
+        ∙ ap (λ b. symbols_or_none_inserted (with_document after (cond b (part_removed after.document (selection_start after.document) (selection_end after.document) after.time) after.document)) after.yank) (none_selected state.document)
 
     some : 0 < length (selected state.document)
     some = some_between state.document.text (selection_start state.document) (selection_end state.document) place ordered

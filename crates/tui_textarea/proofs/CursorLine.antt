@@ -6,8 +6,8 @@ use Rattle.std.proofs.lemmas.Result.{IfOk-weaker}
 use Rattle.textarea_text.specs.Text.{Symbol, lines}
 use Rattle.textarea_text.specs.Place.{IsPlace, Place, index_of, line_end, line_of, row_start}
 use Rattle.textarea_document.specs.Selection.{is_selected, selected_removed}
-use Rattle.textarea_document.specs.State.{DocumentState}
-use Rattle.tui_textarea.specs.Removals.{cursor_line, has_behind, has_line_behind, is_at_line_end, removes_or}
+use Rattle.textarea_document.specs.DocumentState.{DocumentState}
+use Rattle.tui_textarea.specs.Removals.{cursor_line, has_after, has_line_after, is_at_line_end, removes_or}
 use Rattle.tui_textarea.specs.State.{State, with_document}
 use Rattle.tui_textarea.proofs.Unselected.{answered_unselected, none_gone}
 
@@ -49,22 +49,22 @@ end_behind text rows place stop rows_are is_place stop_is apart =
     omega (arith, ap (row_start text) row, column, is_place.1, apart)
 
 -- so there is something to remove
-line_goes : (state : State) → is_at_line_end state.document ≡ false → true ≡ removes_or state (has_line_behind state)
+line_goes : (state : State) → is_at_line_end state.document ≡ false → true ≡ removes_or state (has_line_after state)
 line_goes state inside =
-    sym (or_right (is_selected state.document) _ (or_left (not (is_at_line_end state.document)) (has_behind state) (ap not inside)))
+    sym (or_right (is_selected state.document) _ (or_left (not (is_at_line_end state.document)) (has_after state) (ap not inside)))
 
 -- the same after the removal of the selected text, if none is selected
-pub line_goes_unselected : {view state : State} → view ≡ state → (removed : DocumentState) → removed ≡ selected_removed view.document view.moment → is_selected view.document ≡ false
+pub line_goes_unselected : {view state : State} → view ≡ state → (removed : DocumentState) → removed ≡ selected_removed view.document view.time → is_selected view.document ≡ false
     → (rows : List (List ℕ)) (place stop : Place) → rows ≡ lines removed.text → place ≡ removed.cursor → stop ≡ line_end rows place.0 → place.1 ≢ stop.1
-    → true ≡ removes_or state (has_line_behind state)
+    → true ≡ removes_or state (has_line_after state)
 line_goes_unselected {state = state} is removed gone none rows place stop rows_are at stop_is apart =
     line_goes state (inside_read (none_gone is removed gone none) rows place stop rows_are at stop_is apart)
 
 -- at the line's end the symbol after the cursor is removed, if there is one
-pub answered_at_end : {E : Type 0} (r : Result Bool E) {view state : State} → view ≡ state → (removed : DocumentState) → removed ≡ selected_removed view.document view.moment
+pub answered_at_end : {E : Type 0} (r : Result Bool E) {view state : State} → view ≡ state → (removed : DocumentState) → removed ≡ selected_removed view.document view.time
     → is_selected view.document ≡ false → (rows : List (List ℕ)) (place stop : Place) → rows ≡ lines removed.text → place ≡ removed.cursor → stop ≡ line_end rows place.0
-    → place.1 ≡ stop.1 → IfOk r (λ found. found ≡ has_behind (with_document view removed)) → IfOk r (λ found. found ≡ removes_or state (has_line_behind state))
+    → place.1 ≡ stop.1 → IfOk r (λ found. found ≡ has_after (with_document view removed)) → IfOk r (λ found. found ≡ removes_or state (has_line_after state))
 answered_at_end r {state = state} is removed gone none rows place stop rows_are at stop_is same h =
-    IfOk-weaker r (λ b. b ≡ removes_or state (has_behind state)) (λ b. b ≡ removes_or state (has_line_behind state))
-    (λ b e. e ∙ ap (λ (t : Bool). removes_or state (not t || has_behind state)) (sym (at_end_read (none_gone is removed gone none) rows place stop rows_are at stop_is same)))
-    (answered_unselected r has_behind is removed gone none h)
+    IfOk-weaker r (λ b. b ≡ removes_or state (has_after state)) (λ b. b ≡ removes_or state (has_line_after state))
+    (λ b e. e ∙ ap (λ (t : Bool). removes_or state (not t || has_after state)) (sym (at_end_read (none_gone is removed gone none) rows place stop rows_are at stop_is same)))
+    (answered_unselected r has_after is removed gone none h)

@@ -3,44 +3,44 @@ use Rattle.std.proofs.Common.{◌≡◌, ℕ, ◌<◌, ◌&&◌, Bool, true, fal
 use Rattle.textarea_text.specs.Place.{Place}
 use Rattle.textarea_text.specs.Text.{Symbol, lines}
 use Rattle.textarea_data.specs.declared.cursor.CursorMove.{CursorMove}
-use Rattle.textarea_document.specs.Edits.{is_filled}
-use Rattle.textarea_document.specs.Rows.{HasRowsAt, laid_out_of, with_inner_width}
-use Rattle.textarea_document.specs.State.{DocumentState}
+use Rattle.textarea_document.specs.Edits.{has_symbols}
+use Rattle.textarea_document.specs.DocumentRows.{HasRowsAt, text_and_layout, with_inner_width}
+use Rattle.textarea_document.specs.DocumentState.{DocumentState}
 use Rattle.tui_textarea.specs.DrawnFrame.{Parts, frame_of}
 use Rattle.textarea_view.specs.Frame.{has_lines, shows_placeholder}
-use Rattle.textarea_lines.specs.Layout.{LaidOut, Layout, at_width, laid_out_with, wrapping_at, wrapping_of}
-use Rattle.textarea_screen_map.specs.Lent.{LentRows}
+use Rattle.textarea_lines.specs.TextLayout.{TextAndLayout, Layout, at_width, with_settings, wrapping_at, wrapping_of}
+use Rattle.textarea_screen_map.specs.BorrowedLines.{BorrowedRows}
 use Rattle.textarea_screen_map.specs.Map.{IsRowCount}
 use Rattle.textarea_lines.specs.View.{IsViewOf}
-use Rattle.textarea_lines.specs.Wrappings.{cut_at_width}
+use Rattle.textarea_lines.specs.Wrappings.{wrapped_at_width}
 use Rattle.textarea_lines.specs.declared.settings.LayoutSettings.{LayoutSettings}
-use Rattle.textarea_screen_map.specs.Layout.{AreRowsOf}
+use Rattle.textarea_screen_map.specs.LineRows.{AreRowsOf}
 use Rattle.textarea_blocks.specs.Sums.{row_total}
 use Rattle.textarea_screen_map.specs.declared.layout.Wrapping.{Wrapping}
-use Rattle.textarea_screen.specs.Text.{ShownLine}
+use Rattle.textarea_screen.specs.Text.{LineView}
 use Rattle.textarea_screen.specs.declared.screen.rect.Rect.{Rect}
-use Rattle.textarea_view.specs.Measure.{measure_of, rows_shown, saturated, width_inside}
-use Rattle.textarea_view.specs.State.{SurroundState}
+use Rattle.textarea_view.specs.Measure.{measure_of, visible_row_count, saturated_u16, width_inside}
+use Rattle.textarea_view.specs.SurroundState.{SurroundState}
 use Rattle.textarea_view.specs.declared.surround.measure.TextAreaMeasure.{TextAreaMeasure}
-use Rattle.tui_textarea.specs.Drawing.{IsRendered, parts_of}
-use Rattle.tui_textarea.specs.Frames.{IsLaidOutFor}
+use Rattle.tui_textarea.specs.Drawing.{IsRendered, drawing_parts}
+use Rattle.tui_textarea.specs.Frames.{HasLayoutFor}
 use Rattle.tui_textarea.specs.Measure.{IsMeasured, IsMeasuredAround}
-use Rattle.tui_textarea.specs.Moves.{IsMovedWith, moved_by, pushed}
+use Rattle.tui_textarea.specs.Moves.{IsMovedWith, after_move_by, pushed}
 use Rattle.tui_textarea.specs.State.{State}
 
 -- ---- the laws of lines
 
 abbrev pub KeepsText : Type 0
-KeepsText = (laid : LaidOut) (settings : LayoutSettings) → (laid_out_with laid settings).text ≡ laid.text
+KeepsText = (text_layout : TextAndLayout) (settings : LayoutSettings) → (with_settings text_layout settings).text ≡ text_layout.text
 
 abbrev pub PutsSettings : Type 0
-PutsSettings = (laid : LaidOut) (settings : LayoutSettings) → (laid_out_with laid settings).layout.settings ≡ settings
+PutsSettings = (text_layout : TextAndLayout) (settings : LayoutSettings) → (with_settings text_layout settings).layout.settings ≡ settings
 
 abbrev pub KeepsItsOwn : Type 0
-KeepsItsOwn = (laid : LaidOut) → laid_out_with laid laid.layout.settings ≡ laid
+KeepsItsOwn = (text_layout : TextAndLayout) → with_settings text_layout text_layout.layout.settings ≡ text_layout
 
-abbrev pub CutsAsMeasured : Type 0
-CutsAsMeasured = (laid : LaidOut) (inner_width : ℕ) → 0 < inner_width → wrapping_of (laid_out_with laid (at_width laid inner_width)) ≡ wrapping_at laid inner_width
+abbrev pub WrapsAsMeasured : Type 0
+WrapsAsMeasured = (text_layout : TextAndLayout) (inner_width : ℕ) → 0 < inner_width → wrapping_of (with_settings text_layout (at_width text_layout inner_width)) ≡ wrapping_at text_layout inner_width
 
 abbrev pub HasOneRowCount : Type 0
 HasOneRowCount = (document : DocumentState) (inner_width count other : ℕ) → HasRowsAt document inner_width count → HasRowsAt document inner_width other → count ≡ other
@@ -53,27 +53,27 @@ drawn_document old new area h = ap (λ (p : Parts). p.document) h.parts.new_is �
 drawn_surround : (old new : State) (area : Rect) → IsRendered old area new → new.surround ≡ old.surround
 drawn_surround old new area h = ap (λ (s : State). s.surround) h.rest
 
-pub width_put : (puts : PutsSettings) (old new : State) (area : Rect) → IsRendered old area new → IsLaidOutFor new area.width
+pub width_put : (puts : PutsSettings) (old new : State) (area : Rect) → IsRendered old area new → HasLayoutFor new area.width
 width_put puts old new area h =
-    let laid = laid_out_of old.document in
+    let text_layout = text_and_layout old.document in
     let width = width_inside old.surround.block area.width in
     ap (λ (d : DocumentState). d.layout.settings.inner_width) (drawn_document old new area h)
-    ∙ ap (λ (s : LayoutSettings). s.inner_width) (puts laid (at_width laid width))
+    ∙ ap (λ (s : LayoutSettings). s.inner_width) (puts text_layout (at_width text_layout width))
     ∙ ap (λ (s : SurroundState). width_inside s.block area.width) (sym (drawn_surround old new area h))
 
-pub document_stays : (keeps : KeepsItsOwn) (old new : State) (area : Rect) → IsLaidOutFor old area.width → IsRendered old area new → new.document ≡ old.document
+pub document_stays : (keeps : KeepsItsOwn) (old new : State) (area : Rect) → HasLayoutFor old area.width → IsRendered old area new → new.document ≡ old.document
 document_stays keeps old new area same h =
     drawn_document old new area h
     ∙ ap (with_inner_width old.document) (sym same)
-    ∙ ap (λ (l : LaidOut). record old.document { layout = l.layout }) (keeps (laid_out_of old.document))
+    ∙ ap (λ (l : TextAndLayout). record old.document { layout = l.layout }) (keeps (text_and_layout old.document))
 
 -- ---- after a move or a scroll
 
-moved_layout : (state : State) (shift : Bool) (found : Option Place) → (moved_by state shift found).document.layout ≡ state.document.layout
+moved_layout : (state : State) (shift : Bool) (found : Option Place) → (after_move_by state shift found).document.layout ≡ state.document.layout
 moved_layout state shift None = refl
 moved_layout state shift (Some place) = refl
 
-moved_surround : (state : State) (shift : Bool) (found : Option Place) → (moved_by state shift found).surround ≡ state.surround
+moved_surround : (state : State) (shift : Bool) (found : Option Place) → (after_move_by state shift found).surround ≡ state.surround
 moved_surround state shift None = refl
 moved_surround state shift (Some place) = refl
 
@@ -85,70 +85,70 @@ surround_moved : (old new : State) (shift : Bool) (cursor_move : CursorMove) →
 surround_moved old new shift cursor_move h =
     ap (λ (s : State). s.surround) h.new_is ∙ moved_surround old shift (pushed old.document.ranges cursor_move h.found)
 
-pub width_moved : (old new : State) (shift : Bool) (cursor_move : CursorMove) (width : ℕ) → IsMovedWith old shift cursor_move new → IsLaidOutFor old width → IsLaidOutFor new width
+pub width_moved : (old new : State) (shift : Bool) (cursor_move : CursorMove) (width : ℕ) → IsMovedWith old shift cursor_move new → HasLayoutFor old width → HasLayoutFor new width
 width_moved old new shift cursor_move width h put =
     ap (λ (l : Layout). l.settings.inner_width) (layout_moved old new shift cursor_move h)
     ∙ put
     ∙ ap (λ (s : SurroundState). width_inside s.block width) (sym (surround_moved old new shift cursor_move h))
 
 -- the same for the width of an area that is equally wide
-pub as_wide : (state : State) (area other : Rect) → other.width ≡ area.width → IsLaidOutFor state area.width → IsLaidOutFor state other.width
+pub as_wide : (state : State) (area other : Rect) → other.width ≡ area.width → HasLayoutFor state area.width → HasLayoutFor state other.width
 as_wide state area other wide put = put ∙ ap (width_inside state.surround.block) (sym wide)
 
 -- ---- measures
 
-rows_without : (shown : List ShownLine) (rows : ℕ) (is_empty : Bool) → (is_empty && has_lines shown) ≡ false → rows_shown shown rows is_empty ≡ rows
+rows_without : (shown : List LineView) (rows : ℕ) (is_empty : Bool) → (is_empty && has_lines shown) ≡ false → visible_row_count shown rows is_empty ≡ rows
 rows_without [] rows is_empty e = refl
 rows_without (line ∷ shown) rows true e = absurd cc
 rows_without (line ∷ shown) rows false e = refl
 
-rows_with : (shown : List ShownLine) (rows : ℕ) (is_empty : Bool) → (is_empty && has_lines shown) ≡ true → rows_shown shown rows is_empty ≡ length shown
+rows_with : (shown : List LineView) (rows : ℕ) (is_empty : Bool) → (is_empty && has_lines shown) ≡ true → visible_row_count shown rows is_empty ≡ length shown
 rows_with [] rows true e = absurd cc
 rows_with [] rows false e = absurd cc
 rows_with (line ∷ shown) rows true e = refl
 rows_with (line ∷ shown) rows false e = absurd cc
 
 -- the placeholder is shown before a drawing if it is shown after it
-shown_before : (old new : State) (area : Rect) (rows : LentRows) (b : Bool) → IsRendered old area new → shows_placeholder (frame_of (parts_of new) rows) ≡ b → (not (is_filled old.document.text) && has_lines old.surround.placeholder.lines) ≡ b
+shown_before : (old new : State) (area : Rect) (rows : BorrowedRows) (b : Bool) → IsRendered old area new → shows_placeholder (frame_of (drawing_parts new) rows) ≡ b → (not (has_symbols old.document.text) && has_lines old.surround.placeholder.lines) ≡ b
 shown_before old new area rows b h e =
-    ap (λ (t : List Symbol). not (is_filled t) && has_lines old.surround.placeholder.lines) (ap (λ (d : DocumentState). d.text) (sym (drawn_document old new area h)))
-    ∙ ap (λ (s : SurroundState). not (is_filled new.document.text) && has_lines s.placeholder.lines) (sym (drawn_surround old new area h))
+    ap (λ (t : List Symbol). not (has_symbols t) && has_lines old.surround.placeholder.lines) (ap (λ (d : DocumentState). d.text) (sym (drawn_document old new area h)))
+    ∙ ap (λ (s : SurroundState). not (has_symbols new.document.text) && has_lines s.placeholder.lines) (sym (drawn_surround old new area h))
     ∙ e
 
-content : (state : State) (width : ℕ) (measure : TextAreaMeasure) → (h : IsMeasured state width measure) → measure.content_rows ≡ saturated (rows_shown state.surround.placeholder.lines h.rows (not (is_filled state.document.text)))
+content : (state : State) (width : ℕ) (measure : TextAreaMeasure) → (h : IsMeasured state width measure) → measure.content_rows ≡ saturated_u16 (visible_row_count state.surround.placeholder.lines h.rows (not (has_symbols state.document.text)))
 content state width measure h = ap (λ (m : TextAreaMeasure). m.content_rows) h.measure_is
 
-rows_drawn : (texts : KeepsText) (cuts : CutsAsMeasured) (document : DocumentState) (inner_width : ℕ) (rows : LentRows) → 0 < inner_width → IsViewOf (laid_out_of (with_inner_width document inner_width)) rows → HasRowsAt document inner_width (row_total rows.rows)
+rows_drawn : (texts : KeepsText) (cuts : WrapsAsMeasured) (document : DocumentState) (inner_width : ℕ) (rows : BorrowedRows) → 0 < inner_width → IsViewOf (text_and_layout (with_inner_width document inner_width)) rows → HasRowsAt document inner_width (row_total rows.rows)
 unfolding HasRowsAt
 rows_drawn texts cuts document inner_width rows some k =
-    let laid = laid_out_of document in
-    let settings = at_width laid inner_width in
-    let new : LaidOut = laid_out_with laid settings in
-    let cut : wrapping_of (laid_out_of (with_inner_width document inner_width)) ≡ wrapping_at laid inner_width =
-    ap (λ (t : List Symbol). wrapping_of (record { text = t; layout = new.layout })) (sym (texts laid settings)) ∙ cuts laid inner_width some in
-    (rows.rows, subst (λ (w : Wrapping). AreRowsOf w (lines document.text) rows.rows) cut k.rows.laid_out, refl)
+    let text_layout = text_and_layout document in
+    let settings = at_width text_layout inner_width in
+    let new : TextAndLayout = with_settings text_layout settings in
+    let cut : wrapping_of (text_and_layout (with_inner_width document inner_width)) ≡ wrapping_at text_layout inner_width =
+    ap (λ (t : List Symbol). wrapping_of (record { text = t; layout = new.layout })) (sym (texts text_layout settings)) ∙ cuts text_layout inner_width some in
+    (rows.rows, subst (λ (w : Wrapping). AreRowsOf w (lines document.text) rows.rows) cut k.rows.text_layout, refl)
 
-pub measured_rows : (texts : KeepsText) (cuts : CutsAsMeasured) (counts : HasOneRowCount) (old new : State) (area : Rect) (measure : TextAreaMeasure) (rows : LentRows) → IsMeasured old area.width measure → IsRendered old area new → 0 < width_inside old.surround.block area.width → IsViewOf (laid_out_of new.document) rows → shows_placeholder (frame_of (parts_of new) rows) ≡ false → measure.content_rows ≡ saturated (row_total rows.rows)
+pub measured_rows : (texts : KeepsText) (cuts : WrapsAsMeasured) (counts : HasOneRowCount) (old new : State) (area : Rect) (measure : TextAreaMeasure) (rows : BorrowedRows) → IsMeasured old area.width measure → IsRendered old area new → 0 < width_inside old.surround.block area.width → IsViewOf (text_and_layout new.document) rows → shows_placeholder (frame_of (drawing_parts new) rows) ≡ false → measure.content_rows ≡ saturated_u16 (row_total rows.rows)
 measured_rows texts cuts counts old new area measure rows m h some k e =
     let width = width_inside old.surround.block area.width in
-    let drawn : IsViewOf (laid_out_of (with_inner_width old.document width)) rows = subst (λ (d : DocumentState). IsViewOf (laid_out_of d) rows) (drawn_document old new area h) k in
+    let drawn : IsViewOf (text_and_layout (with_inner_width old.document width)) rows = subst (λ (d : DocumentState). IsViewOf (text_and_layout d) rows) (drawn_document old new area h) k in
     content old area.width measure m
-    ∙ ap saturated (rows_without old.surround.placeholder.lines m.rows (not (is_filled old.document.text)) (shown_before old new area rows false h e))
-    ∙ ap saturated (counts old.document width m.rows (row_total rows.rows) m.rows_are (rows_drawn texts cuts old.document width rows some drawn))
+    ∙ ap saturated_u16 (rows_without old.surround.placeholder.lines m.rows (not (has_symbols old.document.text)) (shown_before old new area rows false h e))
+    ∙ ap saturated_u16 (counts old.document width m.rows (row_total rows.rows) m.rows_are (rows_drawn texts cuts old.document width rows some drawn))
 
-pub measured_placeholder : (old new : State) (area : Rect) (measure : TextAreaMeasure) (rows : LentRows) → IsMeasured old area.width measure → IsRendered old area new → shows_placeholder (frame_of (parts_of new) rows) ≡ true → measure.content_rows ≡ saturated (length new.surround.placeholder.lines)
+pub measured_placeholder : (old new : State) (area : Rect) (measure : TextAreaMeasure) (rows : BorrowedRows) → IsMeasured old area.width measure → IsRendered old area new → shows_placeholder (frame_of (drawing_parts new) rows) ≡ true → measure.content_rows ≡ saturated_u16 (length new.surround.placeholder.lines)
 measured_placeholder old new area measure rows m h e =
     content old area.width measure m
-    ∙ ap saturated (rows_with old.surround.placeholder.lines m.rows (not (is_filled old.document.text)) (shown_before old new area rows true h e))
-    ∙ ap (λ (s : SurroundState). saturated (length s.placeholder.lines)) (sym (drawn_surround old new area h))
+    ∙ ap saturated_u16 (rows_with old.surround.placeholder.lines m.rows (not (has_symbols old.document.text)) (shown_before old new area rows true h e))
+    ∙ ap (λ (s : SurroundState). saturated_u16 (length s.placeholder.lines)) (sym (drawn_surround old new area h))
 
 -- ---- a measure after a drawing
 
 same_rows : (puts : PutsSettings) (document : DocumentState) (inner width count : ℕ) → HasRowsAt (with_inner_width document inner) width count → HasRowsAt document width count
 unfolding HasRowsAt
 same_rows puts document inner width count rows =
-    let laid = laid_out_of document in
-    subst (λ (s : LayoutSettings). IsRowCount (cut_at_width s width (length (lines document.text))) (lines document.text) count) (puts laid (at_width laid inner)) rows
+    let text_layout = text_and_layout document in
+    subst (λ (s : LayoutSettings). IsRowCount (wrapped_at_width s width (length (lines document.text))) (lines document.text) count) (puts text_layout (at_width text_layout inner)) rows
 
 measured_after : (puts : PutsSettings) (old new : State) (area : Rect) (width : ℕ) (measure : TextAreaMeasure) → IsRendered old area new → IsMeasured new width measure → IsMeasured old width measure
 measured_after puts old new area width measure drawn m =
@@ -160,8 +160,8 @@ measured_after puts old new area width measure drawn m =
           (subst (λ (d : DocumentState). HasRowsAt d (width_inside old.surround.block width) m.rows) document
           (subst (λ (s : SurroundState). HasRowsAt new.document (width_inside s.block width) m.rows) surround m.rows_are));
       measure_is = m.measure_is
-          ∙ ap (λ (s : SurroundState). measure_of s m.rows (not (is_filled new.document.text))) surround
-          ∙ ap (λ (d : DocumentState). measure_of old.surround m.rows (not (is_filled d.text))) document;
+          ∙ ap (λ (s : SurroundState). measure_of s m.rows (not (has_symbols new.document.text))) surround
+          ∙ ap (λ (d : DocumentState). measure_of old.surround m.rows (not (has_symbols d.text))) document;
     }
 
 -- a measure before or after a drawing is one before it

@@ -12,21 +12,21 @@ mod Acting
 pub mod Ahead
 pub mod Copying
 mod Filled
-pub mod Given
+pub mod FragmentTexts
 pub mod Searches
 mod Cases
 mod OneTarget
 mod Frames
 mod OneAct
 mod Removing
-mod Cutting
+mod Wrapping
 mod Stepping
-mod Going
+mod RangesOverActions
 mod WorkedCounts
 mod Lifted
 mod Unselected
 mod CursorLine
 mod CallWorked
-pub mod CallCuts
-pub mod CallGoing
+pub mod CallWraps
+pub mod RangesOverCalls
 pub mod Runs

@@ -5,14 +5,14 @@ use Rattle.textarea_data.specs.declared.cursor.CursorMove.TheVariants as move
 use Rattle.textarea_calls.specs.declared.action.Action.{Action}
 use Rattle.textarea_calls.specs.declared.action.Action.TheVariants as action
 use Rattle.tui_textarea.specs.Drawing.{viewport_scrolled}
-use Rattle.tui_textarea.specs.Input.{IsActed}
+use Rattle.tui_textarea.specs.Input.{IsAfterAction}
 use Rattle.tui_textarea.specs.Moves.{IsMovedWith}
 use Rattle.tui_textarea.specs.State.{State}
 
 abbrev pub IsOneMove : Type 0
 IsOneMove = (old first second : State) (shift : Bool) (cursor_move : CursorMove) → IsMovedWith old shift cursor_move first → IsMovedWith old shift cursor_move second → first ≡ second
 
-pub one_act : (one : IsOneMove) (old first second : State) (asked : Action) → IsActed old asked first → IsActed old asked second → first ≡ second
+pub one_act : (one : IsOneMove) (old first second : State) (asked : Action) → IsAfterAction old asked first → IsAfterAction old asked second → first ≡ second
 one_act one old first second action.Nothing h k = h ∙ sym k
 one_act one old first second (action.Write write) h k = h ∙ sym k
 one_act one old first second (action.Edit edit) h k = h ∙ sym k

@@ -1,6 +1,6 @@
 -- A cell shows at most one position.
 use Rattle.std.proofs.Common.{◌≡◌, ℕ, Bool, true, false, Option, Some, sym, subst, ap, ap₂, ◌∙◌}
-use Rattle.tui_textarea.specs.DrawingPrelude.{is_some, laid_out_of, Parts, frame_of, FrameState, number_width, shows_placeholder, IsHit, IsLastArea, IsHitBy, IsHitInRows, IsHitOf, IsHitWith, IsNear, VisualPosition, greatest_at, IsStart, LiesAs, row_area, row_view, LentRows, RowArea, IsRowStart, SceneState, contains, Alignment, Left, Center, Right, Rect, Place, hit_column, ViewportState, RowView}
+use Rattle.tui_textarea.specs.DrawingPrelude.{is_some, text_and_layout, Parts, frame_of, FrameState, number_width, shows_placeholder, IsHitTest, IsLastArea, IsHitBy, IsHitInRows, IsHitOf, IsHitWith, IsNear, VisualPosition, greatest_at, IsStart, HasRowView, row_area, row_view, BorrowedRows, RowArea, IsRowStart, SceneState, contains, Alignment, Left, Center, Right, Rect, Place, hit_column, ViewportState, RowView}
 use Rattle.tui_textarea.proofs.DrawnRows.{IsPlacedOnce, IsViewedOnce, near_once}
 use Rattle.tui_textarea.proofs.Rects.{last_area_once}
 
@@ -15,7 +15,7 @@ start_once begins_once Left scene rows row start other h k = h ∙ sym k
 start_once begins_once Center scene rows row start other h k = begins_once scene rows row start other h k
 start_once begins_once Right scene rows row start other h k = begins_once scene rows row start other h k
 
-pub lies_once : (begins_once : BeginsOnce) (scene : SceneState) (viewport : ViewportState) (inner : Rect) (row : ℕ) (view other : RowView) → LiesAs scene viewport inner row view → LiesAs scene viewport inner row other → view ≡ other
+pub lies_once : (begins_once : BeginsOnce) (scene : SceneState) (viewport : ViewportState) (inner : Rect) (row : ℕ) (view other : RowView) → HasRowView scene viewport inner row view → HasRowView scene viewport inner row other → view ≡ other
 lies_once begins_once scene viewport inner row view other h k =
     h.view_is
     ∙ ap (λ (start : ℕ). row_view scene.look.alignment viewport inner start (number_width scene)) (start_once begins_once scene.look.alignment scene (row_area scene.look inner viewport.column) row h.start k.start h.start_is k.start_is)
@@ -26,13 +26,13 @@ lies_once begins_once scene viewport inner row view other h k =
 pub some_same : (row other : ℕ) (found : Option ℕ) → found ≡ Some row → found ≡ Some other → other ≡ row
 some_same row other found e f = cc (e, f)
 
-abbrev pub wanted_at : LentRows → ℕ → ℕ → RowView → VisualPosition
+abbrev pub wanted_at : BorrowedRows → ℕ → ℕ → RowView → VisualPosition
 wanted_at rows x row view = record { row = row; column = hit_column view (greatest_at rows row) x }
 
 in_rows_once : (placed_once : IsPlacedOnce) (begins_once : BeginsOnce) (scene : SceneState) (viewport : ViewportState) (inner : Rect) (x y : ℕ) (place other : Place) → IsHitInRows scene viewport inner x y place → IsHitInRows scene viewport inner x y other → place ≡ other
 in_rows_once placed_once begins_once scene viewport inner x y place other h k =
     let row : k.row ≡ h.row = some_same h.row k.row _ h.row_is k.row_is in
-    let view : k.view ≡ h.view = lies_once begins_once scene viewport inner h.row k.view h.view (subst (λ (r : ℕ). LiesAs scene viewport inner r k.view) row k.view_is) h.view_is in
+    let view : k.view ≡ h.view = lies_once begins_once scene viewport inner h.row k.view h.view (subst (λ (r : ℕ). HasRowView scene viewport inner r k.view) row k.view_is) h.view_is in
     near_once placed_once scene.rows (wanted_at scene.rows x h.row h.view) place other h.near
     (subst (λ (wanted : VisualPosition). IsNear scene.rows wanted other) (ap₂ (wanted_at scene.rows x) row view) k.near)
 
@@ -45,12 +45,12 @@ hit_by_once placed_once begins_once false frame viewport inner x y found other h
 hit_by_once placed_once begins_once true frame viewport inner x y found other h k =
     h.1 ∙ ap Some (hit_with_once placed_once begins_once (shows_placeholder frame) frame viewport inner x y h.0 k.0 h.2 k.2) ∙ sym k.1
 
-pub hit_once : (viewed_once : IsViewedOnce) (placed_once : IsPlacedOnce) (begins_once : BeginsOnce) (parts : Parts) (x y : ℕ) (found other : Option Place) → IsHit parts x y found → IsHit parts x y other → found ≡ other
+pub hit_once : (viewed_once : IsViewedOnce) (placed_once : IsPlacedOnce) (begins_once : BeginsOnce) (parts : Parts) (x y : ℕ) (found other : Option Place) → IsHitTest parts x y found → IsHitTest parts x y other → found ≡ other
 hit_once viewed_once placed_once begins_once parts x y found other h k =
     let inner : k.inner ≡ h.inner = last_area_once parts.document parts.drawing k.inner h.inner k.inner_is h.inner_is in
-    let rows : k.rows ≡ h.rows = viewed_once (laid_out_of parts.document) k.rows h.rows k.rows_are h.rows_are in
+    let rows : k.rows ≡ h.rows = viewed_once (text_and_layout parts.document) k.rows h.rows k.rows_are h.rows_are in
     hit_by_once placed_once begins_once (contains h.inner x y) (frame_of parts h.rows) parts.drawing.viewport h.inner x y found other h.found_is
-    (subst (λ (r : LentRows). IsHitOf (frame_of parts r) parts.drawing.viewport h.inner x y other) rows
+    (subst (λ (r : BorrowedRows). IsHitOf (frame_of parts r) parts.drawing.viewport h.inner x y other) rows
     (subst (λ (a : Rect). IsHitOf (frame_of parts k.rows) parts.drawing.viewport a x y other) inner k.found_is))
 
 -- ---- when there is a position
@@ -59,7 +59,7 @@ some_by : (b : Bool) (frame : FrameState) (viewport : ViewportState) (inner : Re
 some_by false frame viewport inner x y found h = ap is_some h
 some_by true frame viewport inner x y found h = ap is_some h.1
 
-pub some_where_shown : (parts : Parts) (x y : ℕ) (found : Option Place) → IsHit parts x y found → (inner : Rect) → IsLastArea parts.document parts.drawing inner → is_some found ≡ contains inner x y
+pub some_where_shown : (parts : Parts) (x y : ℕ) (found : Option Place) → IsHitTest parts x y found → (inner : Rect) → IsLastArea parts.document parts.drawing inner → is_some found ≡ contains inner x y
 some_where_shown parts x y found h inner last =
     some_by (contains h.inner x y) (frame_of parts h.rows) parts.drawing.viewport h.inner x y found h.found_is
     ∙ ap (λ (a : Rect). contains a x y) (last_area_once parts.document parts.drawing h.inner inner h.inner_is last)

@@ -2,7 +2,7 @@
 use Rattle.std.proofs.Common.{◌≡◌, ℕ, ◌+◌, ◌-◌, ◌≤◌, min, ap, ap₂, sym, subst, ◌∙◌}
 use Rattle.std.proofs.Math.Bridge.{le_prop}
 use Rattle.std.specs.Prelude.{Option}
-use Rattle.tui_textarea.specs.DrawingPrelude.{DocumentState, IsLastArea, DrawingState, ShownBlock, Rect, IsInner}
+use Rattle.tui_textarea.specs.DrawingPrelude.{DocumentState, IsLastArea, DrawingState, BlockView, Rect, IsInner}
 
 -- it is the rectangle with these numbers, whatever the proofs that its edges are at most 65535
 abbrev IsThen : Rect → ℕ → ℕ → ℕ → ℕ → Type 0
@@ -21,7 +21,7 @@ same_rect a b x y width height =
     (subst (λ (n : ℕ). IsThen b b.x b.y b.width n) (sym height) (is_then b)))) a.right a.bottom
 
 -- the area inside a block is unique
-pub inner_once : (block : Option ShownBlock) (area inner other : Rect) → IsInner block area inner → IsInner block area other → inner ≡ other
+pub inner_once : (block : Option BlockView) (area inner other : Rect) → IsInner block area inner → IsInner block area other → inner ≡ other
 inner_once block area inner other h k =
     same_rect inner other (h.x ∙ sym k.x) (h.y ∙ sym k.y) (h.width ∙ sym k.width) (h.height ∙ sym k.height)
 

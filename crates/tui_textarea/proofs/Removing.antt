@@ -8,14 +8,14 @@ use Rattle.textarea_text.specs.Place.{Place, IsPlace, end, index_of, is_before, 
 use Rattle.textarea_text.specs.Text.{Symbol}
 use Rattle.textarea_text.proofs.TextPlaces.{IsPlace-end, index_of-end}
 use Rattle.textarea_text.specs.Nearest.{greatest_below, least_below, passing}
-use Rattle.textarea_text.specs.Words.{is_behind_word, is_earlier_word_start, is_later_behind_word, is_word_start, next_behind_word, previous_word_start}
-use Rattle.textarea_ranges.specs.Held.{range_end, range_start}
+use Rattle.textarea_text.specs.Words.{is_past_word, is_earlier_word_start, is_later_past_word, is_word_start, next_past_word, previous_word_start}
+use Rattle.textarea_ranges.specs.Lookup.{range_end, range_start}
 use Rattle.textarea_data.specs.declared.range.AtomicDeleteDirection.{AtomicDeleteDirection}
 use Rattle.textarea_data.specs.declared.range.AtomicRange.{AtomicRange}
-use Rattle.textarea_document.specs.Edits.{IsMade, Remove, cursor_index, hit_at_cursor}
+use Rattle.textarea_document.specs.Edits.{HasEffect, Remove, cursor_index, range_at_cursor}
 use Rattle.textarea_document.specs.Selection.{is_selected, origin, selection_end, selection_start}
 use Rattle.textarea_document.specs.Sound.{IsSound}
-use Rattle.textarea_document.specs.State.{DocumentState}
+use Rattle.textarea_document.specs.DocumentState.{DocumentState}
 use Rattle.textarea_document.proofs.Orders.{index_before}
 use Rattle.textarea_document.proofs.Ranges.{IsHeld, hit_is_held}
 use Rattle.textarea_document.proofs.Sounds.{start_is_place}
@@ -32,7 +32,7 @@ chosen : (text : List Symbol) (b : Bool) (one other : Place) → IsPlace text on
 chosen text true one other h h' = h
 chosen text false one other h h' = h'
 
-pub selected_made : (document : DocumentState) → IsSound document → is_selected document ≡ true → IsMade document (Remove (selection_start document) (selection_end document))
+pub selected_made : (document : DocumentState) → IsSound document → is_selected document ≡ true → HasEffect document (Remove (selection_start document) (selection_end document))
 selected_made document h selected =
     let text = document.text in
     let from = origin_is_place text document.anchor document.cursor h.anchor h.cursor in
@@ -43,7 +43,7 @@ selected_made document h selected =
 
 -- ---- the range at the cursor
 
-pub hit_made : (document : DocumentState) (direction : AtomicDeleteDirection) (range : AtomicRange) → IsSound document → hit_at_cursor document direction ≡ Some range → IsMade document (Remove (range_start range) (range_end range))
+pub hit_made : (document : DocumentState) (direction : AtomicDeleteDirection) (range : AtomicRange) → IsSound document → range_at_cursor document direction ≡ Some range → HasEffect document (Remove (range_start range) (range_end range))
 hit_made document direction range h is =
     let held : IsHeld document.text range = subst (λ (found : Option AtomicRange). IfSome found (IsHeld document.text)) is (hit_is_held document.text document.ranges document.cursor direction h.ranges) in
     (held.start_is, held.end_is, held.ordered)
@@ -58,20 +58,20 @@ index_is_place text index within =
       ap (λ t. index_of t (end (0, 0) front)) (sym whole) ∙ index_of-end front (drop index text) ∙ length-take-le index text within,
     )
 
-pub ahead_made : (document : DocumentState) (count : ℕ) → IsSound document → nat_lt (cursor_index document) (index_ahead document count) ≡ true → IsMade document (Remove document.cursor (place_of document.text (index_ahead document count)))
+pub ahead_made : (document : DocumentState) (count : ℕ) → IsSound document → nat_lt (cursor_index document) (index_ahead document count) ≡ true → HasEffect document (Remove document.cursor (place_of document.text (index_ahead document count)))
 ahead_made document count h some =
     let less : cursor_index document < index_ahead document count = grind (arith, nat_tests) in
     let to = index_is_place document.text (index_ahead document count) (omega arith) in
     (h.cursor, to.0, omega (arith, less, to.1))
 
-pub whole_made : (document : DocumentState) → 0 < length document.text → IsMade document (Remove (0, 0) (place_of document.text (length document.text)))
+pub whole_made : (document : DocumentState) → 0 < length document.text → HasEffect document (Remove (0, 0) (place_of document.text (length document.text)))
 whole_made document some =
     let to = index_is_place document.text (length document.text) (omega arith) in
     (start_is_place document.text, to.0, omega (arith, some, to.1))
 
 -- ---- in the cursor's line
 
-in_line_made : (document : DocumentState) (from to : ℕ) → IsSound document → from < to → to ≤ length (cursor_line document) → IsMade document (Remove (in_line document from) (in_line document to))
+in_line_made : (document : DocumentState) (from to : ℕ) → IsSound document → from < to → to ≤ length (cursor_line document) → HasEffect document (Remove (in_line document from) (in_line document to))
 in_line_made document from to h less within = ((h.cursor.0, omega arith), (h.cursor.0, within), omega arith)
 
 differs : (m n : ℕ) → m ≤ n → (m == n) ≡ false → m < n
@@ -80,11 +80,11 @@ differs m n within apart = grind (arith, nat_tests)
 pub some_number : (m : ℕ) → (m == 0) ≡ false → 0 < m
 some_number m apart = grind (arith, nat_tests)
 
-pub line_end_made : (document : DocumentState) → IsSound document → is_at_line_end document ≡ false → IsMade document (Remove document.cursor (in_line document (length (cursor_line document))))
+pub line_end_made : (document : DocumentState) → IsSound document → is_at_line_end document ≡ false → HasEffect document (Remove document.cursor (in_line document (length (cursor_line document))))
 line_end_made document h inside =
     in_line_made document document.cursor.1 (length (cursor_line document)) h (differs document.cursor.1 (length (cursor_line document)) h.cursor.1 inside) (omega arith)
 
-pub line_head_made : (document : DocumentState) → IsSound document → (document.cursor.1 == 0) ≡ false → IsMade document (Remove (in_line document 0) document.cursor)
+pub line_head_made : (document : DocumentState) → IsSound document → (document.cursor.1 == 0) ≡ false → HasEffect document (Remove (in_line document 0) document.cursor)
 line_head_made document h inside = in_line_made document 0 document.cursor.1 h (some_number document.cursor.1 inside) h.cursor.1
 
 -- ---- words
@@ -115,22 +115,22 @@ start_before line column None some is = some
 start_before line column (Some start) some is =
     below start column (and_parts (nat_lt start column) (is_word_start line start) (greatest_passes (is_earlier_word_start line column) (length line) start is)).0
 
-pub word_start_made : (document : DocumentState) → IsSound document → (document.cursor.1 == 0) ≡ false → IsMade document (Remove (in_line document (word_start_before (cursor_line document) document.cursor.1)) document.cursor)
+pub word_start_made : (document : DocumentState) → IsSound document → (document.cursor.1 == 0) ≡ false → HasEffect document (Remove (in_line document (word_start_before (cursor_line document) document.cursor.1)) document.cursor)
 word_start_made document h inside =
     let line = cursor_line document in
     let column = document.cursor.1 in
     in_line_made document (word_start_before line column) column h (start_before line column (previous_word_start line column) (some_number column inside) refl) h.cursor.1
 
-end_after : (line : List ℕ) (column : ℕ) (found : Option ℕ) → column < length line → next_behind_word line column ≡ found → (column < unwrap_or found (length line)) × (unwrap_or found (length line) ≤ length line)
+end_after : (line : List ℕ) (column : ℕ) (found : Option ℕ) → column < length line → next_past_word line column ≡ found → (column < unwrap_or found (length line)) × (unwrap_or found (length line) ≤ length line)
 end_after line column None inside is = (inside, omega arith)
 end_after line column (Some stop) inside is =
-    let parts = and_parts (nat_lt column stop) (is_behind_word line stop) (least_passes (is_later_behind_word line column) (length line) stop is) in
+    let parts = and_parts (nat_lt column stop) (is_past_word line stop) (least_passes (is_later_past_word line column) (length line) stop is) in
     let within : stop < length line = below stop (length line) (and_parts (nat_lt stop (length line)) _ parts.1).0 in
     (below column stop parts.0, omega arith)
 
-pub word_end_made : (document : DocumentState) → IsSound document → is_at_line_end document ≡ false → IsMade document (Remove document.cursor (in_line document (word_end_after (cursor_line document) document.cursor.1)))
+pub word_end_made : (document : DocumentState) → IsSound document → is_at_line_end document ≡ false → HasEffect document (Remove document.cursor (in_line document (word_end_after (cursor_line document) document.cursor.1)))
 word_end_made document h inside =
     let line = cursor_line document in
     let column = document.cursor.1 in
-    let ends = end_after line column (next_behind_word line column) (differs column (length line) h.cursor.1 inside) refl in
+    let ends = end_after line column (next_past_word line column) (differs column (length line) h.cursor.1 inside) refl in
     in_line_made document column (word_end_after line column) h ends.0 ends.1

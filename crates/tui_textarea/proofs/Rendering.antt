@@ -1,6 +1,6 @@
 -- The state after a drawing, from its steps.
 use Rattle.std.proofs.Common.{◌≡◌, ℕ, ap, sym, subst, ◌∙◌}
-use Rattle.tui_textarea.specs.DrawingPrelude.{parts_of, laid_out_of, with_inner_width, DocumentState, Parts, frame_of, FrameState, Placing, IsDrawn, IsRendered, at_inner_width, drawn_into, DrawingState, IsDrawnAt, IsFrameDrawn, IsViewOf, Buffer, Rect, IsInner}
+use Rattle.tui_textarea.specs.DrawingPrelude.{parts_of, text_and_layout, with_inner_width, DocumentState, Parts, frame_of, FrameState, Placement, IsDrawn, ArePartsRendered, at_inner_width, drawn_into, DrawingState, IsDrawnAt, IsFrameDrawn, IsViewOf, Buffer, Rect, IsInner}
 use Rattle.tui_textarea.proofs.Widths.{frame_at_width}
 
 -- the parts, with another document and another state of drawing
@@ -8,32 +8,32 @@ abbrev pub with_both : Parts → DocumentState → DrawingState → Parts
 with_both parts document drawing = parts_of document parts.pattern parts.surround drawing
 
 -- the steps of a drawing: the inner area, the drawing with the rows at its width, and the new state
-pub record IsStepped (old : Parts) (area inner : Rect) (width : ℕ) (a b : Buffer) (placing : Placing) (document : DocumentState) (drawing : DrawingState) : Type 0 where
+pub record IsStepped (old : Parts) (area inner : Rect) (width : ℕ) (a b : Buffer) (placement : Placement) (document : DocumentState) (drawing : DrawingState) : Type 0 where
   pub inner_is : IsInner old.surround.block area inner
   pub width_is : width ≡ inner.width
-  pub drawn : IsDrawnAt old width area inner a b placing
+  pub drawn : IsDrawnAt old width area inner a b placement
   pub document_is : document ≡ with_inner_width old.document width
-  pub drawing_is : drawing ≡ drawn_into old.drawing inner placing
+  pub drawing_is : drawing ≡ drawn_into old.drawing inner placement
 
-module _ (old : Parts) (area inner : Rect) (width : ℕ) (a b : Buffer) (placing : Placing) (document : DocumentState) (drawing : DrawingState) (h : IsStepped old area inner width a b placing document drawing) where
-  new_parts : with_both old document drawing ≡ record (at_inner_width old inner.width) { drawing = drawn_into old.drawing inner placing }
+module _ (old : Parts) (area inner : Rect) (width : ℕ) (a b : Buffer) (placement : Placement) (document : DocumentState) (drawing : DrawingState) (h : IsStepped old area inner width a b placement document drawing) where
+  new_parts : with_both old document drawing ≡ record (at_inner_width old inner.width) { drawing = drawn_into old.drawing inner placement }
   new_parts =
       ap (λ (d : DocumentState). with_both old d drawing) (h.document_is ∙ ap (with_inner_width old.document) h.width_is)
       ∙ ap (with_both old (with_inner_width old.document inner.width)) h.drawing_is
 
-  rows_there : IsViewOf (laid_out_of (with_inner_width old.document inner.width)) h.drawn.rows
-  rows_there = subst (λ (w : ℕ). IsViewOf (laid_out_of (with_inner_width old.document w)) h.drawn.rows) h.width_is h.drawn.rows_are
+  rows_there : IsViewOf (text_and_layout (with_inner_width old.document inner.width)) h.drawn.rows
+  rows_there = subst (λ (w : ℕ). IsViewOf (text_and_layout (with_inner_width old.document w)) h.drawn.rows) h.width_is h.drawn.rows_are
 
-  drawn_there : IsFrameDrawn (frame_of (at_inner_width old inner.width) h.drawn.rows) old.drawing.viewport area inner a b placing
-  drawn_there = subst (λ (f : FrameState). IsFrameDrawn f old.drawing.viewport area inner a b placing) (sym (frame_at_width old inner.width h.drawn.rows)) h.drawn.drawn
+  drawn_there : IsFrameDrawn (frame_of (at_inner_width old inner.width) h.drawn.rows) old.drawing.viewport area inner a b placement
+  drawn_there = subst (λ (f : FrameState). IsFrameDrawn f old.drawing.viewport area inner a b placement) (sym (frame_at_width old inner.width h.drawn.rows)) h.drawn.drawn
 
-  pub rendered : IsRendered old area (with_both old document drawing)
+  pub rendered : ArePartsRendered old area (with_both old document drawing)
   rendered = record {
     inner = inner;
     inner_is = h.inner_is;
     rows = h.drawn.rows;
     rows_are = rows_there;
-    placing = placing;
+    placement = placement;
     placing_is = drawn_there.placing_is;
     new_is = new_parts;
   }

@@ -11,23 +11,23 @@ use Rattle.tui_textarea.specs.Rendered.{IsDrawn}
 use Rattle.textarea_screen.specs.Buffer.{cell_at}
 use Rattle.textarea_screen.specs.declared.screen.buffer.Buffer.{Buffer}
 use Rattle.textarea_screen.specs.declared.screen.rect.Rect.{Rect}
-use Rattle.tui_textarea.specs.Drawing.{IsRendered, parts_of, viewport_scrolled}
+use Rattle.tui_textarea.specs.Drawing.{IsRendered, drawing_parts, viewport_scrolled}
 use Rattle.tui_textarea.specs.State.{State}
-use Rattle.tui_textarea.specs.Input.{IsActed, asked_by, asked_without_shortcuts}
+use Rattle.tui_textarea.specs.Input.{IsAfterAction, asked_by, asked_without_shortcuts}
 use Rattle.tui_textarea.specs.Moves.{IsMovedWith}
 use Rattle.textarea_data.specs.declared.cursor.CursorMove.TheVariants.{InViewport}
-use Rattle.tui_textarea.specs.Outcomes.{IsBehind, IsShown}
-use Rattle.tui_textarea.specs.Run.{Leads, Makes, ShowsSame}
-use Rattle.tui_textarea.specs.Said.{Said, said}
+use Rattle.tui_textarea.specs.Outcomes.{IsAfterCall, IsBufferAfter}
+use Rattle.tui_textarea.specs.Run.{Leads, CallLeads, ShowsSame}
+use Rattle.tui_textarea.specs.CallResults.{CallResult, call_result}
 use Rattle.textarea_calls.specs.declared.call.Call.{Call}
 use Rattle.textarea_calls.specs.declared.call.Call.TheVariants.{Input, InputWithoutShortcuts, Move, Render, Scroll, SetSearchPattern}
 use Rattle.textarea_calls.specs.declared.answer.Answer.{Answer}
 
 -- ---- one more call
 
-pub Leads-append : (old mid new : State) (buffer screen shown : Buffer) (calls : List Call) (answers : List Said) (call : Call) (answer : Said) → Leads old buffer calls answers mid screen → Makes mid screen call answer new shown → Leads old buffer (calls ++ call ∷ []) (answers ++ answer ∷ []) new shown
+pub Leads-append : (old mid new : State) (buffer screen shown : Buffer) (calls : List Call) (answers : List CallResult) (call : Call) (answer : CallResult) → Leads old buffer calls answers mid screen → CallLeads mid screen call answer new shown → Leads old buffer (calls ++ call ∷ []) (answers ++ answer ∷ []) new shown
 Leads-append old mid new buffer screen shown [] [] call answer so_far made =
-    (new, shown, subst (λ (b : Buffer). Makes old b call answer new shown) so_far.1 (subst (λ (s : State). Makes s screen call answer new shown) so_far.0 made), (refl, refl))
+    (new, shown, subst (λ (b : Buffer). CallLeads old b call answer new shown) so_far.1 (subst (λ (s : State). CallLeads s screen call answer new shown) so_far.0 made), (refl, refl))
 Leads-append old mid new buffer screen shown [] (a ∷ answers) call answer so_far made = absurd so_far
 Leads-append old mid new buffer screen shown (first ∷ calls) [] call answer so_far made = absurd so_far
 Leads-append old mid new buffer screen shown (first ∷ calls) (a ∷ answers) call answer so_far made =
@@ -39,11 +39,11 @@ one_more calls index call within is_call =
     ap (λ (this : Call). take index calls ++ this ∷ []) is_call ∙ sym (take_more calls index call within)
 
 -- the calls up to the one at the index lead to the state and buffer after that one
-pub leads_more : (old mid new : State) (buffer screen shown : Buffer) (calls : List Call) (answers : List Answer) (index : ℕ) (call : Call) (answer : Answer) → index < length calls → call ≡ get_or calls index call → Leads old buffer (take index calls) (map said answers) mid screen → Makes mid screen call (said answer) new shown → Leads old buffer (take (index + 1) calls) (map said (answers ++ answer ∷ [])) new shown
+pub leads_more : (old mid new : State) (buffer screen shown : Buffer) (calls : List Call) (answers : List Answer) (index : ℕ) (call : Call) (answer : Answer) → index < length calls → call ≡ get_or calls index call → Leads old buffer (take index calls) (map call_result answers) mid screen → CallLeads mid screen call (call_result answer) new shown → Leads old buffer (take (index + 1) calls) (map call_result (answers ++ answer ∷ [])) new shown
 leads_more old mid new buffer screen shown calls answers index call answer within is_call so_far made =
-    subst (λ (a : List Said). Leads old buffer (take (index + 1) calls) a new shown) (sym (map-append said answers (answer ∷ [])))
-    (subst (λ (done : List Call). Leads old buffer done (map said answers ++ said answer ∷ []) new shown) (one_more calls index call within is_call)
-    (Leads-append old mid new buffer screen shown (take index calls) (map said answers) call (said answer) so_far made))
+    subst (λ (a : List CallResult). Leads old buffer (take (index + 1) calls) a new shown) (sym (map-append call_result answers (answer ∷ [])))
+    (subst (λ (done : List Call). Leads old buffer done (map call_result answers ++ call_result answer ∷ []) new shown) (one_more calls index call within is_call)
+    (Leads-append old mid new buffer screen shown (take index calls) (map call_result answers) call (call_result answer) so_far made))
 
 -- ---- one final state
 
@@ -51,7 +51,7 @@ abbrev pub OneMove : Type 0
 OneMove = (old first second : State) (shift : Bool) (cursor_move : CursorMove) → IsMovedWith old shift cursor_move first → IsMovedWith old shift cursor_move second → first ≡ second
 
 abbrev pub OneInput : Type 0
-OneInput = (old first second : State) (action : Action) → IsActed old action first → IsActed old action second → first ≡ second
+OneInput = (old first second : State) (action : Action) → IsAfterAction old action first → IsAfterAction old action second → first ≡ second
 
 -- each drawing of the drawn parts leads to one result
 abbrev pub OneRendering : Type 0
@@ -59,10 +59,10 @@ OneRendering = (old first second : Parts) (area : Rect) → rendered.IsRendered 
 
 one_rendered : OneRendering → (old first second : State) (area : Rect) → IsRendered old area first → IsRendered old area second → first ≡ second
 one_rendered renderings old first second area e f =
-    let same : parts_of first ≡ parts_of second = renderings (parts_of old) (parts_of first) (parts_of second) area e.parts f.parts in
+    let same : drawing_parts first ≡ drawing_parts second = renderings (drawing_parts old) (drawing_parts first) (drawing_parts second) area e.parts f.parts in
     e.rest ∙ ap (λ (parts : Parts). record old { document = parts.document; drawing = parts.drawing }) same ∙ sym f.rest
 
-one_behind : OneMove → OneInput → OneRendering → (old : State) (call : Call) (answer : Said) (first second : State) → IsBehind old call answer first → IsBehind old call answer second → first ≡ second
+one_behind : OneMove → OneInput → OneRendering → (old : State) (call : Call) (answer : CallResult) (first second : State) → IsAfterCall old call answer first → IsAfterCall old call answer second → first ≡ second
 one_behind moves inputs renderings old (SetSearchPattern text) answer first second e f = e ∙ sym f
 one_behind moves inputs renderings old (Move cursor_move) answer first second e f = moves old first second (is_some old.document.anchor) cursor_move e f
 one_behind moves inputs renderings old (Scroll scrolling) answer first second e f = moves (viewport_scrolled old scrolling) first second (is_some old.document.anchor) InViewport e f
@@ -71,7 +71,7 @@ one_behind moves inputs renderings old (InputWithoutShortcuts input) answer firs
 one_behind moves inputs renderings old (Render area) answer first second e f = one_rendered renderings old first second area e f
 one_behind moves inputs renderings old call answer first second e f = e ∙ sym f
 
-pub one_end : OneMove → OneInput → OneRendering → (calls : List Call) (answers : List Said) (old first second : State) (buffer other shown drawn : Buffer) → Leads old buffer calls answers first shown → Leads old other calls answers second drawn → first ≡ second
+pub one_end : OneMove → OneInput → OneRendering → (calls : List Call) (answers : List CallResult) (old first second : State) (buffer other shown drawn : Buffer) → Leads old buffer calls answers first shown → Leads old other calls answers second drawn → first ≡ second
 one_end moves inputs renderings [] [] old first second buffer other shown drawn e f = e.0 ∙ sym f.0
 one_end moves inputs renderings [] (a ∷ answers) old first second buffer other shown drawn e f = absurd e
 one_end moves inputs renderings (call ∷ calls) [] old first second buffer other shown drawn e f = absurd e
@@ -113,16 +113,16 @@ still_same : (old other first second : Buffer) → first ≡ old → second ≡ 
 still_same old other first second e f same =
     subst (λ (b : Buffer). ShowsSame b second) (sym e) (subst (ShowsSame old) (sym f) same)
 
-one_shown : OneDrawing → (call : Call) (state : State) (old other first second : Buffer) → IsShown call state old first → IsShown call state other second → ShowsSame old other → ShowsSame first second
-one_shown drawings (Render area) state old other first second e f same = drawn_same drawings (parts_of state) area old other first second e f same
+one_shown : OneDrawing → (call : Call) (state : State) (old other first second : Buffer) → IsBufferAfter call state old first → IsBufferAfter call state other second → ShowsSame old other → ShowsSame first second
+one_shown drawings (Render area) state old other first second e f same = drawn_same drawings (drawing_parts state) area old other first second e f same
 one_shown drawings call state old other first second e f same = still_same old other first second e f same
 
-pub one_screen : OneMove → OneInput → OneRendering → OneDrawing → (calls : List Call) (answers : List Said) (old first second : State) (buffer other shown drawn : Buffer) → Leads old buffer calls answers first shown → Leads old other calls answers second drawn → ShowsSame buffer other → ShowsSame shown drawn
+pub one_screen : OneMove → OneInput → OneRendering → OneDrawing → (calls : List Call) (answers : List CallResult) (old first second : State) (buffer other shown drawn : Buffer) → Leads old buffer calls answers first shown → Leads old other calls answers second drawn → ShowsSame buffer other → ShowsSame shown drawn
 one_screen moves inputs renderings drawings [] [] old first second buffer other shown drawn e f same = still_same buffer other shown drawn e.1 f.1 same
 one_screen moves inputs renderings drawings [] (a ∷ answers) old first second buffer other shown drawn e f same = absurd e
 one_screen moves inputs renderings drawings (call ∷ calls) [] old first second buffer other shown drawn e f same = absurd e
 one_screen moves inputs renderings drawings (call ∷ calls) (answer ∷ answers) old first second buffer other shown drawn e f same =
     let here : f.0 ≡ e.0 = one_behind moves inputs renderings old call answer f.0 e.0 f.2.behind e.2.behind in
-    let made : Makes old other call answer e.0 f.1 = subst (λ (s : State). Makes old other call answer s f.1) here f.2 in
+    let made : CallLeads old other call answer e.0 f.1 = subst (λ (s : State). CallLeads old other call answer s f.1) here f.2 in
     let later : Leads e.0 f.1 calls answers second drawn = subst (λ (s : State). Leads s f.1 calls answers second drawn) here f.3 in
     one_screen moves inputs renderings drawings calls answers e.0 first second e.1 f.1 shown drawn e.3 later (one_shown drawings call e.0 buffer other e.1 f.1 e.2.drawn made.drawn same)

@@ -7,7 +7,7 @@ use Rattle.textarea_text.specs.Text.{Symbol, characters_of, lines, lines_of}
 use Rattle.textarea_text.specs.Place.{Place, IsPlace, IsPlaceOf}
 use Rattle.textarea_search.specs.Matches.{match_columns}
 use Rattle.textarea_search.specs.Starts.{IsPlaceIn, starts_from, starts_of}
-use Rattle.textarea_document.specs.State.{DocumentState}
+use Rattle.textarea_document.specs.DocumentState.{DocumentState}
 use Rattle.tui_textarea.specs.Search.{starts_in}
 
 -- the bytes of lines, by their characters

@@ -1,8 +1,8 @@
 -- The state after an edit is reached by the splices in the definitions, each that of one step.
 use Rattle.std.proofs.Common.{◌≡◌, ◌≢◌, ℕ, ◌==◌, ◌<◌, nat_lt, Bool, true, false, cond, if◌then◌else◌, List, [], ◌∷◌, ◌++◌, length, replicate, Option, None, Some, ap, refl, ◌∙◌, arith, eq-eqb}
 use Rattle.textarea_data.specs.declared.cursor.CursorMove.{CursorMove}
-use Rattle.textarea_lines.specs.Layout.{LaidOut}
-use Rattle.textarea_ranges.specs.Held.{range_end, range_start}
+use Rattle.textarea_lines.specs.TextLayout.{TextAndLayout}
+use Rattle.textarea_ranges.specs.Lookup.{range_end, range_start}
 use Rattle.textarea_data.specs.declared.range.AtomicDeleteDirection.{AtomicDeleteDirection}
 use Rattle.textarea_data.specs.declared.range.AtomicDeleteDirection.TheVariants.{Backward, Forward}
 use Rattle.textarea_data.specs.declared.range.AtomicRange.{AtomicRange}
@@ -10,21 +10,21 @@ use Rattle.textarea_text.specs.Place.{Place}
 use Rattle.textarea_document.specs.Target.{word_end_after, word_start_before}
 use Rattle.textarea_text.specs.Splice.{Splice}
 use Rattle.textarea_text.specs.Text.{Symbol, Break, Character}
-use Rattle.textarea_document.specs.Edits.{Insert, IsMade, Remove, RemoveBefore, RemoveBehind, RemoveBreak, Step, break_removed, cursor_index, hit_at_cursor, hit_before, hit_behind, is_at_end, is_at_start, is_filled, nothing_inserted, part_removed, range_removed_or, removed_before, removed_behind, splice_of, stepped, symbol_removed_before, symbol_removed_behind, symbols_inserted}
+use Rattle.textarea_document.specs.Edits.{Insert, HasEffect, Remove, RemoveBefore, RemoveBehind, RemoveBreak, EditStep, break_removed, cursor_index, range_at_cursor, range_before, range_after, is_at_end, is_at_start, has_symbols, nothing_inserted, part_removed, removed_range_or, removed_before, removed_after, splice_of_step, stepped, symbol_removed_before, symbol_removed_after, symbols_inserted}
 use Rattle.textarea_document.specs.Outcomes.{unanchored}
 use Rattle.textarea_document.specs.Ranges.{range_removed}
-use Rattle.textarea_document.specs.Rows.{laid_out_of}
+use Rattle.textarea_document.specs.DocumentRows.{text_and_layout}
 use Rattle.textarea_document.specs.Selection.{is_selected, selected_removed, selection_end, selection_start}
 use Rattle.textarea_document.specs.Sound.{IsSound}
-use Rattle.textarea_document.specs.Splices.{after_splices, before_splices, break_splices, hit_splices, insertion_splices, range_splices_or, removal_splices, selected_splices}
-use Rattle.textarea_document.specs.State.{DocumentState}
+use Rattle.textarea_document.specs.Splices.{after_splices, before_splices, break_splices, cursor_range_splices, insertion_splices, range_splices_or, removal_splices, selected_splices}
+use Rattle.textarea_document.specs.DocumentState.{DocumentState}
 use Rattle.textarea_document.proofs.Sounds.{sound_edited}
 use Rattle.textarea_document.proofs.StepLaw.{step_kept}
 use Rattle.tui_textarea.specs.Edits.{breaks_line, char_inserted, newline_inserted, spaces_to_stop, str_inserted, tab_inserted, typed_character_inserted}
-use Rattle.tui_textarea.specs.Layout.{tab_length}
-use Rattle.tui_textarea.specs.Moves.{IsMovedWith, moved_by, pushed}
-use Rattle.tui_textarea.specs.Ranges.{hit_range_removed}
-use Rattle.tui_textarea.specs.Removals.{back_to_word_removed, cursor_line, hit_removed_or, in_line, index_ahead, is_at_line_end, line_end_removed, line_head_removed, on_to_word_end_removed, symbols_ahead_removed, text_cleared, unselected_or, word_before_removed, word_behind_removed, yanked}
+use Rattle.tui_textarea.specs.LayoutCalls.{tab_length}
+use Rattle.tui_textarea.specs.Moves.{IsMovedWith, after_move_by, pushed}
+use Rattle.tui_textarea.specs.Ranges.{atomic_range_removed}
+use Rattle.tui_textarea.specs.Removals.{back_to_word_removed, cursor_line, cursor_range_removed_or, in_line, index_ahead, is_at_line_end, line_end_removed, line_head_removed, on_to_word_end_removed, symbols_ahead_removed, text_cleared, unselected_or, word_before_removed, word_after_removed, yanked}
 use Rattle.tui_textarea.specs.Selection.{selection_cancelled, selection_copied, selection_cut, unselected}
 use Rattle.tui_textarea.specs.Splices.{ahead_splices, char_splices, clear_splices, line_end_splices, line_head_splices, selected_splices_or, str_splices, tab_splices, word_after_splices, word_before_splices}
 use Rattle.tui_textarea.specs.State.{State}
@@ -32,10 +32,10 @@ use Rattle.tui_textarea.proofs.Removing.{ahead_made, hit_made, line_end_made, li
 
 -- the visible side of a document's text: its layout and ranges
 abbrev pub Seen : Type 0
-Seen = LaidOut × List AtomicRange
+Seen = TextAndLayout × List AtomicRange
 
 abbrev pub seen : DocumentState → Seen
-seen document = (laid_out_of document, document.ranges)
+seen document = (text_and_layout document, document.ranges)
 
 -- a property that both cases of a test have
 pub by_test : {X : Type 0} (P : X → Type 0) (b : Bool) (x y : X) → (b ≡ true → P x) → (b ≡ false → P y) → P (cond b x y)
@@ -49,7 +49,7 @@ by_both P false u v x y h k = k refl
 
 -- ---- what leaves text, layout and ranges unchanged
 
-moved_seen : (state : State) (shift : Bool) (found : Option Place) → seen (moved_by state shift found).document ≡ seen state.document
+moved_seen : (state : State) (shift : Bool) (found : Option Place) → seen (after_move_by state shift found).document ≡ seen state.document
 moved_seen state shift None = refl
 moved_seen state shift (Some place) = refl
 
@@ -66,20 +66,20 @@ copied_seen state = by_test (λ (s : State). seen s.document ≡ seen state.docu
 apart : (m n : ℕ) → (m == n) ≡ false → m ≢ n
 apart m n e same = absurd (cc (e, eq-eqb m n same))
 
-some_symbols : (symbols : List Symbol) → is_filled symbols ≡ true → 0 < length symbols
+some_symbols : (symbols : List Symbol) → has_symbols symbols ≡ true → 0 < length symbols
 some_symbols [] e = absurd cc
 some_symbols (symbol ∷ symbols) e = omega arith
 
 -- the document without the selected text is sound too
-sound_part : (document : DocumentState) (from to : Place) (now : ℕ) → IsSound document → IsMade document (Remove from to) → IsSound (part_removed document from to now)
+sound_part : (document : DocumentState) (from to : Place) (now : ℕ) → IsSound document → HasEffect document (Remove from to) → IsSound (part_removed document from to now)
 unfolding part_removed
 sound_part document from to now h made =
-    sound_edited document (splice_of document (Remove from to)) false now h (step_kept document (Remove from to) h made).0
+    sound_edited document (splice_of_step document (Remove from to)) false now h (step_kept document (Remove from to) h made).0
 
 sound_unselected : (state : State) → IsSound state.document → IsSound (unselected state).document
 sound_unselected state h =
     by_test IsSound (is_selected state.document) _ _
-    (λ selected. sound_part state.document (selection_start state.document) (selection_end state.document) state.moment h (selected_made state.document h selected))
+    (λ selected. sound_part state.document (selection_start state.document) (selection_end state.document) state.time h (selected_made state.document h selected))
     (λ none. h)
 
 -- A relation of two documents and the splices between them. No splices relate documents of the same
@@ -89,20 +89,20 @@ pub record Reckoning (By : DocumentState → List Splice → DocumentState → T
   pub none : (old new : DocumentState) → seen new ≡ seen old → By old [] new
   pub same : (old new other : DocumentState) (splices : List Splice) → seen other ≡ seen new → By old splices new → By old splices other
   pub two : (old between new : DocumentState) (first second : List Splice) → By old first between → By between second new → By old (first ++ second) new
-  pub one : (document : DocumentState) (step : Step) (typed : Bool) (now : ℕ) → IsSound document → IsMade document step → By document (splice_of document step ∷ []) (stepped document step typed now)
+  pub one : (document : DocumentState) (step : EditStep) (typed : Bool) (now : ℕ) → IsSound document → HasEffect document step → By document (splice_of_step document step ∷ []) (stepped document step typed now)
 
 module _ (By : DocumentState → List Splice → DocumentState → Type 0) (by : Reckoning By) where
   -- the relation for the documents of two states
   abbrev From : State → List Splice → State → Type 0
   From old splices new = By old.document splices new.document
 
-  pub part_by : (document : DocumentState) (from to : Place) (now : ℕ) → IsSound document → IsMade document (Remove from to) → By document (removal_splices document from to) (part_removed document from to now)
+  pub part_by : (document : DocumentState) (from to : Place) (now : ℕ) → IsSound document → HasEffect document (Remove from to) → By document (removal_splices document from to) (part_removed document from to now)
   unfolding part_removed
   part_by document from to now h made = by.one document (Remove from to) false now h made
 
   -- ---- removals
 
-  pub hit_or_by : (document other : DocumentState) (splices : List Splice) (direction : AtomicDeleteDirection) (found : Option AtomicRange) (now : ℕ) → IsSound document → hit_at_cursor document direction ≡ found → (found ≡ None → By document splices other) → By document (range_splices_or found document splices) (range_removed_or found document now other)
+  pub hit_or_by : (document other : DocumentState) (splices : List Splice) (direction : AtomicDeleteDirection) (found : Option AtomicRange) (now : ℕ) → IsSound document → range_at_cursor document direction ≡ found → (found ≡ None → By document splices other) → By document (range_splices_or found document splices) (removed_range_or found document now other)
   hit_or_by document other splices direction None now h is k = k refl
   hit_or_by document other splices direction (Some range) now h is k =
       part_by document (range_start range) (range_end range) now h (hit_made document direction range h is)
@@ -110,15 +110,15 @@ module _ (By : DocumentState → List Splice → DocumentState → Type 0) (by :
   pub before_by : (document : DocumentState) (typed : Bool) (now : ℕ) → IsSound document → By document (before_splices document) (removed_before document typed now)
   unfolding removed_before
   before_by document typed now h =
-      hit_or_by document (symbol_removed_before document typed now) (if is_at_start document then [] else splice_of document RemoveBefore ∷ []) Backward (hit_before document) now h refl
+      hit_or_by document (symbol_removed_before document typed now) (if is_at_start document then [] else splice_of_step document RemoveBefore ∷ []) Backward (range_before document) now h refl
       (λ none. by_both (By document) (is_at_start document) _ _ _ _
       (λ at. by.none document (unanchored document) refl)
       (λ inside. by.one document RemoveBefore typed now h (none, apart (cursor_index document) 0 inside)))
 
-  pub after_by : (document : DocumentState) (typed : Bool) (now : ℕ) → IsSound document → By document (after_splices document) (removed_behind document typed now)
-  unfolding removed_behind
+  pub after_by : (document : DocumentState) (typed : Bool) (now : ℕ) → IsSound document → By document (after_splices document) (removed_after document typed now)
+  unfolding removed_after
   after_by document typed now h =
-      hit_or_by document (symbol_removed_behind document typed now) (if is_at_end document then [] else splice_of document RemoveBehind ∷ []) Forward (hit_behind document) now h refl
+      hit_or_by document (symbol_removed_after document typed now) (if is_at_end document then [] else splice_of_step document RemoveBehind ∷ []) Forward (range_after document) now h refl
       (λ none. by_both (By document) (is_at_end document) _ _ _ _
       (λ at. by.none document (unanchored document) refl)
       (λ inside. by.one document RemoveBehind typed now h (none, apart (cursor_index document) (length document.text) inside)))
@@ -129,9 +129,9 @@ module _ (By : DocumentState → List Splice → DocumentState → Type 0) (by :
       (λ at. by.none document (unanchored document) refl)
       (λ inside. by.one document RemoveBreak false now h (apart document.cursor.0 0 inside))
 
-  pub yanked_by : (state : State) (from to : Place) → IsSound state.document → IsMade state.document (Remove from to) → From state (removal_splices state.document from to) (yanked state from to)
+  pub yanked_by : (state : State) (from to : Place) → IsSound state.document → HasEffect state.document (Remove from to) → From state (removal_splices state.document from to) (yanked state from to)
   unfolding yanked
-  yanked_by state from to h made = part_by state.document from to state.moment h made
+  yanked_by state from to h made = part_by state.document from to state.time h made
 
   pub ahead_by : (state : State) (count : ℕ) → IsSound state.document → From state (ahead_splices state.document count) (symbols_ahead_removed state count)
   ahead_by state count h =
@@ -142,57 +142,57 @@ module _ (By : DocumentState → List Splice → DocumentState → Type 0) (by :
   pub line_end_by : (state : State) → IsSound state.document → From state (line_end_splices state.document) (line_end_removed state)
   line_end_by state h =
       by_both (From state) (is_at_line_end state.document) _ _ _ _
-      (λ at. after_by state.document state.settings.undo_coalescing state.moment h)
+      (λ at. after_by state.document state.settings.undo_coalescing state.time h)
       (λ inside. yanked_by state _ _ h (line_end_made state.document h inside))
 
   pub line_head_by : (state : State) → IsSound state.document → From state (line_head_splices state.document) (line_head_removed state)
   line_head_by state h =
       by_both (From state) (state.document.cursor.1 == 0) _ _ _ _
-      (λ at. break_by state.document state.moment h)
+      (λ at. break_by state.document state.time h)
       (λ inside. yanked_by state _ _ h (line_head_made state.document h inside))
 
   back_to_word_by : (state : State) → IsSound state.document → From state (if state.document.cursor.1 == 0 then break_splices state.document else removal_splices state.document (in_line state.document (word_start_before (cursor_line state.document) state.document.cursor.1)) state.document.cursor) (back_to_word_removed state)
   unfolding back_to_word_removed
   back_to_word_by state h =
       by_both (From state) (state.document.cursor.1 == 0) _ _ _ _
-      (λ at. break_by state.document state.moment h)
+      (λ at. break_by state.document state.time h)
       (λ inside. yanked_by state _ _ h (word_start_made state.document h inside))
 
   on_to_word_end_by : (state : State) → IsSound state.document → From state (if is_at_line_end state.document then after_splices state.document else removal_splices state.document state.document.cursor (in_line state.document (word_end_after (cursor_line state.document) state.document.cursor.1))) (on_to_word_end_removed state)
   unfolding on_to_word_end_removed
   on_to_word_end_by state h =
       by_both (From state) (is_at_line_end state.document) _ _ _ _
-      (λ at. after_by state.document state.settings.undo_coalescing state.moment h)
+      (λ at. after_by state.document state.settings.undo_coalescing state.time h)
       (λ inside. yanked_by state _ _ h (word_end_made state.document h inside))
 
-  hit_removed_by : (state other : State) (splices : List Splice) (direction : AtomicDeleteDirection) (found : Option AtomicRange) → IsSound state.document → hit_at_cursor state.document direction ≡ found → From state splices other → From state (range_splices_or found state.document splices) (hit_removed_or found state other)
+  hit_removed_by : (state other : State) (splices : List Splice) (direction : AtomicDeleteDirection) (found : Option AtomicRange) → IsSound state.document → range_at_cursor state.document direction ≡ found → From state splices other → From state (range_splices_or found state.document splices) (cursor_range_removed_or found state other)
   hit_removed_by state other splices direction None h is k = k
   hit_removed_by state other splices direction (Some range) h is k =
-      part_by state.document (range_start range) (range_end range) state.moment h (hit_made state.document direction range h is)
+      part_by state.document (range_start range) (range_end range) state.time h (hit_made state.document direction range h is)
 
   pub word_before_by : (state : State) → IsSound state.document → From state (word_before_splices state.document) (word_before_removed state)
   word_before_by state h =
-      hit_removed_by state (back_to_word_removed state) _ Backward (hit_before state.document) h refl (back_to_word_by state h)
+      hit_removed_by state (back_to_word_removed state) _ Backward (range_before state.document) h refl (back_to_word_by state h)
 
-  pub word_after_by : (state : State) → IsSound state.document → From state (word_after_splices state.document) (word_behind_removed state)
+  pub word_after_by : (state : State) → IsSound state.document → From state (word_after_splices state.document) (word_after_removed state)
   word_after_by state h =
-      hit_removed_by state (on_to_word_end_removed state) _ Forward (hit_behind state.document) h refl (on_to_word_end_by state h)
+      hit_removed_by state (on_to_word_end_removed state) _ Forward (range_after state.document) h refl (on_to_word_end_by state h)
 
   pub cleared_by : (state : State) → IsSound state.document → From state (clear_splices state.document) (text_cleared state)
   cleared_by state h =
-      by_both (From state) (is_filled state.document.text) _ _ _ _
+      by_both (From state) (has_symbols state.document.text) _ _ _ _
       (λ filled. yanked_by state _ _ h (whole_made state.document (some_symbols state.document.text filled)))
       (λ empty. by.none state.document state.document refl)
 
-  range_by : (document : DocumentState) (direction : AtomicDeleteDirection) (found : Option AtomicRange) (now : ℕ) → IsSound document → hit_at_cursor document direction ≡ found → By document (range_splices_or found document []) (range_removed found document now)
+  range_by : (document : DocumentState) (direction : AtomicDeleteDirection) (found : Option AtomicRange) (now : ℕ) → IsSound document → range_at_cursor document direction ≡ found → By document (range_splices_or found document []) (range_removed found document now)
   range_by document direction None now h is = by.none document document refl
   range_by document direction (Some range) now h is =
       by.same document (part_removed document (range_start range) (range_end range) now) (range_removed (Some range) document now) (removal_splices document (range_start range) (range_end range)) refl
       (part_by document (range_start range) (range_end range) now h (hit_made document direction range h is))
 
-  pub hit_range_by : (state : State) (direction : AtomicDeleteDirection) → IsSound state.document → From state (hit_splices state.document direction) (hit_range_removed state direction)
+  pub hit_range_by : (state : State) (direction : AtomicDeleteDirection) → IsSound state.document → From state (cursor_range_splices state.document direction) (atomic_range_removed state direction)
   hit_range_by state direction h =
-      range_by state.document direction (hit_at_cursor state.document direction) state.moment h refl
+      range_by state.document direction (range_at_cursor state.document direction) state.time h refl
 
   -- ---- over a selection
 
@@ -204,15 +204,15 @@ module _ (By : DocumentState → List Splice → DocumentState → Type 0) (by :
 
   pub unselected_by : (state other : State) (splices : List Splice) → IsSound state.document → From state splices other → From state (selected_splices_or state.document splices) (unselected_or state other)
   unselected_by state other splices h k =
-      by_both (From state) (is_selected state.document) _ _ _ _ (λ selected. selected_by state.document state.moment h) (λ none. k)
+      by_both (From state) (is_selected state.document) _ _ _ _ (λ selected. selected_by state.document state.time h) (λ none. k)
 
-  pub cut_by : (state : State) → IsSound state.document → From state (selected_splices state.document) (selection_cut state)
-  cut_by state h =
+  pub wrapping_by : (state : State) → IsSound state.document → From state (selected_splices state.document) (selection_cut state)
+  wrapping_by state h =
       by_test (From state (selected_splices state.document)) (is_selected state.document) _ _
-      (λ selected. selected_by state.document state.moment h)
+      (λ selected. selected_by state.document state.time h)
       (λ none. by.same state.document (unselected state).document (unanchored state.document) (selected_splices state.document)
       (by_test (λ (d : DocumentState). seen (unanchored state.document) ≡ seen d) (is_selected state.document) _ _ (λ selected. absurd (cc (selected, none))) (λ free. refl))
-      (selected_by state.document state.moment h))
+      (selected_by state.document state.time h))
 
   -- ---- insertions
 
@@ -222,19 +222,19 @@ module _ (By : DocumentState → List Splice → DocumentState → Type 0) (by :
 
   after_removal : (state new : State) (splices : List Splice) → IsSound state.document → From (unselected state) splices new → From state (selected_splices state.document ++ splices) new
   after_removal state new splices h k =
-      by.two state.document (unselected state).document new.document (selected_splices state.document) splices (selected_by state.document state.moment h) k
+      by.two state.document (unselected state).document new.document (selected_splices state.document) splices (selected_by state.document state.time h) k
 
   pub str_by : (state : State) (symbols : List Symbol) → IsSound state.document → From state (str_splices state symbols) (str_inserted state symbols)
   str_by state symbols h =
-      after_removal state (str_inserted state symbols) _ h (symbols_by (unselected state).document symbols state.moment (sound_unselected state h))
+      after_removal state (str_inserted state symbols) _ h (symbols_by (unselected state).document symbols state.time (sound_unselected state h))
 
   pub newline_by : (state : State) → IsSound state.document → From state (str_splices state (Break ∷ [])) (newline_inserted state)
   newline_by state h =
-      after_removal state (newline_inserted state) _ h (by.one (unselected state).document (Insert (Break ∷ [])) false state.moment (sound_unselected state h) (omega arith))
+      after_removal state (newline_inserted state) _ h (by.one (unselected state).document (Insert (Break ∷ [])) false state.time (sound_unselected state h) (omega arith))
 
   typed_by : (state : State) (c : ℕ) → IsSound state.document → From state (str_splices state (Character c ∷ [])) (typed_character_inserted (unselected state) c)
   typed_by state c h =
-      after_removal state (typed_character_inserted (unselected state) c) _ h (by.one (unselected state).document (Insert (Character c ∷ [])) state.settings.undo_coalescing state.moment (sound_unselected state h) (omega arith))
+      after_removal state (typed_character_inserted (unselected state) c) _ h (by.one (unselected state).document (Insert (Character c ∷ [])) state.settings.undo_coalescing state.time (sound_unselected state h) (omega arith))
 
   pub char_by : (state : State) (c : ℕ) → IsSound state.document → From state (char_splices state c) (char_inserted state c)
   char_by state c h =

@@ -5,32 +5,32 @@ use Rattle.std.proofs.lemmas.Result.{IfOk-weaker}
 use Rattle.std.specs.Result.{IfOk, OnOk}
 use Rattle.textarea_data.specs.declared.range.AtomicRange.{AtomicRange}
 use Rattle.textarea_data.specs.declared.range.AtomicDeleteDirection.{AtomicDeleteDirection}
-use Rattle.textarea_document.specs.Edits.{hit_at_cursor, hit_removed, range_removed_or}
+use Rattle.textarea_document.specs.Edits.{range_at_cursor, cursor_range_removed, removed_range_or}
 use Rattle.textarea_document.specs.Selection.{is_selected, selected_removed}
-use Rattle.textarea_document.specs.State.{DocumentState}
+use Rattle.textarea_document.specs.DocumentState.{DocumentState}
 use Rattle.tui_textarea.specs.Removals.{removes_or, unselected_or}
 use Rattle.tui_textarea.specs.Selection.{unselected}
 use Rattle.tui_textarea.specs.State.{State, with_document}
 
-pub unselected_is : {view state : State} → view ≡ state → (removed : DocumentState) → removed ≡ selected_removed view.document view.moment
+pub unselected_is : {view state : State} → view ≡ state → (removed : DocumentState) → removed ≡ selected_removed view.document view.time
     → with_document view removed ≡ unselected state
 unselected_is {view} is removed gone = ap (with_document view) gone ∙ ap unselected is
 
 -- if text is selected, only that is removed
-pub selected_gone : {view state : State} → view ≡ state → (removed : DocumentState) → removed ≡ selected_removed view.document view.moment
+pub selected_gone : {view state : State} → view ≡ state → (removed : DocumentState) → removed ≡ selected_removed view.document view.time
     → is_selected view.document ≡ true → (other : State) → with_document view removed ≡ unselected_or state other
 selected_gone {view} {state} is removed gone some other =
     unselected_is is removed gone
     ∙ sym (cond-true (is_selected state.document) (unselected state) other (ap (λ (s : State). is_selected s.document) (sym is) ∙ some))
 
 -- if none is, nothing is removed
-pub none_gone : {view state : State} → view ≡ state → (removed : DocumentState) → removed ≡ selected_removed view.document view.moment
+pub none_gone : {view state : State} → view ≡ state → (removed : DocumentState) → removed ≡ selected_removed view.document view.time
     → is_selected view.document ≡ false → with_document view removed ≡ state
 none_gone {view} is removed gone none = ap (with_document view) (gone ∙ cond-false (is_selected view.document) _ view.document none) ∙ is
 
 -- the document after the call, if it succeeds
 pub made_unselected : {T E : Type 0} (r : Result T E) (made : State → DocumentState) {view state : State} → view ≡ state → (removed new : DocumentState)
-    → removed ≡ selected_removed view.document view.moment → is_selected view.document ≡ false
+    → removed ≡ selected_removed view.document view.time → is_selected view.document ≡ false
     → OnOk r (new ≡ made (with_document view removed)) → OnOk r (with_document view new ≡ unselected_or state (with_document state (made state)))
 made_unselected (Ok x) made {view} {state} is removed new gone none h =
     ap (with_document view) (h ∙ ap made (none_gone is removed gone none))
@@ -40,7 +40,7 @@ made_unselected (Err e) made is removed new gone none h = h
 
 -- the call's result
 pub answered_unselected : {E : Type 0} (r : Result Bool E) (has : State → Bool) {view state : State} → view ≡ state → (removed : DocumentState)
-    → removed ≡ selected_removed view.document view.moment → is_selected view.document ≡ false
+    → removed ≡ selected_removed view.document view.time → is_selected view.document ≡ false
     → IfOk r (λ found. found ≡ has (with_document view removed)) → IfOk r (λ found. found ≡ removes_or state (has state))
 answered_unselected (Ok found) has {view} {state} is removed gone none h =
     h ∙ ap has (none_gone is removed gone none) ∙ ap (λ (b : Bool). b || has state) (sym (ap (λ (s : State). is_selected s.document) (sym is) ∙ none))
@@ -52,36 +52,36 @@ none_is (Some x) e = absurd (cc e)
 
 -- its result if there is no range at the cursor either
 pub answered_unhit : {E : Type 0} (r : Result Bool E) (has : State → Bool) (direction : AtomicDeleteDirection) {view state : State} → view ≡ state
-    → (removed behind : DocumentState) (found : Option AtomicRange) → removed ≡ selected_removed view.document view.moment → is_selected view.document ≡ false
-    → found ≡ hit_at_cursor removed direction → is_some found ≡ false → behind ≡ hit_removed removed direction view.moment
+    → (removed behind : DocumentState) (found : Option AtomicRange) → removed ≡ selected_removed view.document view.time → is_selected view.document ≡ false
+    → found ≡ range_at_cursor removed direction → is_some found ≡ false → behind ≡ cursor_range_removed removed direction view.time
     → IfOk r (λ b. b ≡ has (with_document view behind))
-    → IfOk r (λ b. b ≡ removes_or state (is_some (hit_at_cursor state.document direction) || has state))
+    → IfOk r (λ b. b ≡ removes_or state (is_some (range_at_cursor state.document direction) || has state))
 answered_unhit r has direction {view} is removed behind found gone none found_is unhit behind_is h =
-    answered_unselected r (λ (s : State). is_some (hit_at_cursor s.document direction) || has s) is removed gone none
-    (IfOk-weaker r (λ b. b ≡ has (with_document view behind)) (λ b. b ≡ (is_some (hit_at_cursor removed direction) || has (with_document view removed)))
+    answered_unselected r (λ (s : State). is_some (range_at_cursor s.document direction) || has s) is removed gone none
+    (IfOk-weaker r (λ b. b ≡ has (with_document view behind)) (λ b. b ≡ (is_some (range_at_cursor removed direction) || has (with_document view removed)))
     (λ b e. e ∙ ap (λ (d : DocumentState). has (with_document view d)) stays
     ∙ sym (ap (λ (t : Bool). t || has (with_document view removed)) (ap is_some (sym found_is) ∙ unhit))) h)
   where
     stays : behind ≡ removed
-    stays = behind_is ∙ ap (λ (o : Option AtomicRange). range_removed_or o removed view.moment removed) (sym found_is ∙ none_is found unhit)
+    stays = behind_is ∙ ap (λ (o : Option AtomicRange). removed_range_or o removed view.time removed) (sym found_is ∙ none_is found unhit)
 
 -- a range that was found at the cursor then is one of the state
-pub hit_found : {view state : State} → view ≡ state → (removed : DocumentState) → removed ≡ selected_removed view.document view.moment → is_selected view.document ≡ false
-    → (direction : AtomicDeleteDirection) → hit_at_cursor removed direction ≡ hit_at_cursor state.document direction
-hit_found is removed gone none direction = ap (λ (s : State). hit_at_cursor s.document direction) (none_gone is removed gone none)
+pub hit_found : {view state : State} → view ≡ state → (removed : DocumentState) → removed ≡ selected_removed view.document view.time → is_selected view.document ≡ false
+    → (direction : AtomicDeleteDirection) → range_at_cursor removed direction ≡ range_at_cursor state.document direction
+hit_found is removed gone none direction = ap (λ (s : State). range_at_cursor s.document direction) (none_gone is removed gone none)
 
 -- so something is removed if there is a range at the cursor
-pub hit_goes : {view state : State} → view ≡ state → (removed : DocumentState) → removed ≡ selected_removed view.document view.moment → is_selected view.document ≡ false
-    → (direction : AtomicDeleteDirection) (found : Option AtomicRange) (other : Bool) → found ≡ hit_at_cursor removed direction → is_some found ≡ true
-    → true ≡ removes_or state (is_some (hit_at_cursor state.document direction) || other)
+pub hit_goes : {view state : State} → view ≡ state → (removed : DocumentState) → removed ≡ selected_removed view.document view.time → is_selected view.document ≡ false
+    → (direction : AtomicDeleteDirection) (found : Option AtomicRange) (other : Bool) → found ≡ range_at_cursor removed direction → is_some found ≡ true
+    → true ≡ removes_or state (is_some (range_at_cursor state.document direction) || other)
 hit_goes {state = state} is removed gone none direction found other found_is some =
-    sym (or_right (is_selected state.document) _ (or_left (is_some (hit_at_cursor state.document direction)) other
+    sym (or_right (is_selected state.document) _ (or_left (is_some (range_at_cursor state.document direction)) other
     (ap is_some (sym (found_is ∙ hit_found is removed gone none direction)) ∙ some)))
 
 -- there is no range at the cursor if nothing is removed
-pub none_hit : {view state : State} → view ≡ state → (removed : DocumentState) → removed ≡ selected_removed view.document view.moment → is_selected view.document ≡ false
-    → (direction : AtomicDeleteDirection) (other : Bool) → removes_or state (is_some (hit_at_cursor state.document direction) || other) ≡ false
-    → hit_at_cursor removed direction ≡ None
+pub none_hit : {view state : State} → view ≡ state → (removed : DocumentState) → removed ≡ selected_removed view.document view.time → is_selected view.document ≡ false
+    → (direction : AtomicDeleteDirection) (other : Bool) → removes_or state (is_some (range_at_cursor state.document direction) || other) ≡ false
+    → range_at_cursor removed direction ≡ None
 none_hit {state = state} is removed gone none direction other stays =
-    let hit = hit_at_cursor state.document direction in
+    let hit = range_at_cursor state.document direction in
     hit_found is removed gone none direction ∙ none_is hit (or_parts (is_some hit) other (or_parts (is_selected state.document) (is_some hit || other) stays).1).0

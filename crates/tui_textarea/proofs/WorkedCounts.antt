@@ -2,28 +2,28 @@
 use Rattle.std.proofs.Common.{◌≡◌, ℕ, ◌+◌, Option, None, Some, is_some, ap, refl, subst, sym, ◌∙◌}
 use Rattle.std.specs.Fmt.{digits}
 use Rattle.textarea_data.specs.declared.cursor.CursorMove.TheVariants.{Bottom, End}
-use Rattle.textarea_document.specs.Cuts.{CutsNothing}
-use Rattle.textarea_document.specs.Rows.{laid_out_of, with_inner_width}
-use Rattle.textarea_document.specs.State.{DocumentState}
+use Rattle.textarea_document.specs.DocumentWraps.{WrapsNothing}
+use Rattle.textarea_document.specs.DocumentRows.{text_and_layout, with_inner_width}
+use Rattle.textarea_document.specs.DocumentState.{DocumentState}
 use Rattle.tui_textarea.specs.DrawingState.{DrawingState}
-use Rattle.textarea_lines.specs.Cuts.{map_width}
-use Rattle.textarea_lines.specs.Layout.{Layout}
+use Rattle.textarea_lines.specs.LineWraps.{map_width}
+use Rattle.textarea_lines.specs.TextLayout.{Layout}
 use Rattle.textarea_screen.specs.declared.screen.rect.Rect.{Rect}
 use Rattle.textarea_screen.specs.declared.screen.style.Style.{Style}
 use Rattle.textarea_view.specs.Measure.{width_inside}
-use Rattle.textarea_view.specs.State.{SurroundState}
+use Rattle.textarea_view.specs.SurroundState.{SurroundState}
 use Rattle.textarea_text.specs.Place.{Place, last_row, line_end}
 use Rattle.textarea_text.specs.Text.{lines}
-use Rattle.textarea_text.specs.Part.{clip}
+use Rattle.textarea_text.specs.Between.{clip}
 use Rattle.textarea_wrap.specs.declared.wrap.WrapMode.{WrapMode}
 use Rattle.textarea_wrap.specs.declared.wrap.WrapMode.TheVariants as mode
 use Rattle.tui_textarea.specs.Drawing.{IsRendered}
 use Rattle.tui_textarea.specs.Edits.{newline_inserted}
-use Rattle.tui_textarea.specs.Frames.{IsLaidOutFor}
-use Rattle.tui_textarea.specs.Moves.{IsMoved, moved_by, pushed}
-use Rattle.tui_textarea.specs.Search.{searched}
+use Rattle.tui_textarea.specs.Frames.{HasLayoutFor}
+use Rattle.tui_textarea.specs.Moves.{IsMoved, after_move_by, pushed}
+use Rattle.tui_textarea.specs.Search.{after_search}
 use Rattle.tui_textarea.specs.State.{State}
-use Rattle.tui_textarea.specs.Worked.{IsAtEndOf, cut_so_far, hundred_lines, made_again, nine_lines, taken_back, with_a, with_x_y_z}
+use Rattle.tui_textarea.specs.Worked.{IsAtEndOf, wrapped_so_far, hundred_lines, with_redone, nine_lines, with_undone, with_a, with_x_y_z}
 use Rattle.tui_textarea.proofs.Frames.{drawn_document}
 
 -- the state after a drawing into an area of this width
@@ -41,48 +41,48 @@ drawn_is old new area width is h =
 abbrev hundred : DrawingState → State
 hundred drawing = drawn_at hundred_lines 6 drawing
 
-a_typed : (drawing : DrawingState) → cut_so_far (with_a (hundred drawing)) ≡ cut_so_far (hundred drawing) + 1
+a_typed : (drawing : DrawingState) → wrapped_so_far (with_a (hundred drawing)) ≡ wrapped_so_far (hundred drawing) + 1
 a_typed drawing = refl
 
-three_inserted : (drawing : DrawingState) → cut_so_far (with_x_y_z (with_a (hundred drawing))) ≡ cut_so_far (with_a (hundred drawing)) + 3
+three_inserted : (drawing : DrawingState) → wrapped_so_far (with_x_y_z (with_a (hundred drawing))) ≡ wrapped_so_far (with_a (hundred drawing)) + 3
 three_inserted drawing = refl
 
-three_undone : (drawing : DrawingState) → cut_so_far (taken_back (with_x_y_z (with_a (hundred drawing)))) ≡ cut_so_far (with_x_y_z (with_a (hundred drawing))) + 1
+three_undone : (drawing : DrawingState) → wrapped_so_far (with_undone (with_x_y_z (with_a (hundred drawing)))) ≡ wrapped_so_far (with_x_y_z (with_a (hundred drawing))) + 1
 three_undone drawing = refl
 
-three_redone : (drawing : DrawingState) → cut_so_far (made_again (taken_back (with_x_y_z (with_a (hundred drawing))))) ≡ cut_so_far (taken_back (with_x_y_z (with_a (hundred drawing)))) + 3
+three_redone : (drawing : DrawingState) → wrapped_so_far (with_redone (with_undone (with_x_y_z (with_a (hundred drawing))))) ≡ wrapped_so_far (with_undone (with_x_y_z (with_a (hundred drawing)))) + 3
 three_redone drawing = refl
 
 module _ (drawn : State) (area : Rect) (wide : area.width ≡ 6) (h : IsRendered hundred_lines area drawn) where
   is_hundred : drawn ≡ hundred drawn.drawing
   is_hundred = drawn_is hundred_lines drawn area 6 wide h
 
-  pub a_among_hundred : cut_so_far (with_a drawn) ≡ cut_so_far drawn + 1
-  a_among_hundred = subst (λ (s : State). cut_so_far (with_a s) ≡ cut_so_far s + 1) (sym is_hundred) (a_typed drawn.drawing)
+  pub a_among_hundred : wrapped_so_far (with_a drawn) ≡ wrapped_so_far drawn + 1
+  a_among_hundred = subst (λ (s : State). wrapped_so_far (with_a s) ≡ wrapped_so_far s + 1) (sym is_hundred) (a_typed drawn.drawing)
 
-  pub three_among_hundred : cut_so_far (with_x_y_z (with_a drawn)) ≡ cut_so_far (with_a drawn) + 3
-  three_among_hundred = subst (λ (s : State). cut_so_far (with_x_y_z (with_a s)) ≡ cut_so_far (with_a s) + 3) (sym is_hundred) (three_inserted drawn.drawing)
+  pub three_among_hundred : wrapped_so_far (with_x_y_z (with_a drawn)) ≡ wrapped_so_far (with_a drawn) + 3
+  three_among_hundred = subst (λ (s : State). wrapped_so_far (with_x_y_z (with_a s)) ≡ wrapped_so_far (with_a s) + 3) (sym is_hundred) (three_inserted drawn.drawing)
 
-  pub three_taken_back : cut_so_far (taken_back (with_x_y_z (with_a drawn))) ≡ cut_so_far (with_x_y_z (with_a drawn)) + 1
-  three_taken_back = subst (λ (s : State). cut_so_far (taken_back (with_x_y_z (with_a s))) ≡ cut_so_far (with_x_y_z (with_a s)) + 1) (sym is_hundred) (three_undone drawn.drawing)
+  pub three_taken_back : wrapped_so_far (with_undone (with_x_y_z (with_a drawn))) ≡ wrapped_so_far (with_x_y_z (with_a drawn)) + 1
+  three_taken_back = subst (λ (s : State). wrapped_so_far (with_undone (with_x_y_z (with_a s))) ≡ wrapped_so_far (with_x_y_z (with_a s)) + 1) (sym is_hundred) (three_undone drawn.drawing)
 
-  pub three_made_again : cut_so_far (made_again (taken_back (with_x_y_z (with_a drawn)))) ≡ cut_so_far (taken_back (with_x_y_z (with_a drawn))) + 3
-  three_made_again = subst (λ (s : State). cut_so_far (made_again (taken_back (with_x_y_z (with_a s)))) ≡ cut_so_far (taken_back (with_x_y_z (with_a s))) + 3) (sym is_hundred) (three_redone drawn.drawing)
+  pub three_made_again : wrapped_so_far (with_redone (with_undone (with_x_y_z (with_a drawn)))) ≡ wrapped_so_far (with_undone (with_x_y_z (with_a drawn))) + 3
+  three_made_again = subst (λ (s : State). wrapped_so_far (with_redone (with_undone (with_x_y_z (with_a s)))) ≡ wrapped_so_far (with_undone (with_x_y_z (with_a s))) + 3) (sym is_hundred) (three_redone drawn.drawing)
 
 -- ---- nine lines
 
 -- a move to the last line, and one to its end
 abbrev below_all : State → State
-below_all state = moved_by state (is_some state.document.anchor) (pushed state.document.ranges Bottom (Some (clip (lines state.document.text) (last_row (lines state.document.text), state.document.cursor.1))))
+below_all state = after_move_by state (is_some state.document.anchor) (pushed state.document.ranges Bottom (Some (clip (lines state.document.text) (last_row (lines state.document.text), state.document.cursor.1))))
 
 abbrev at_end : State → State
-at_end state = moved_by state (is_some state.document.anchor) (pushed state.document.ranges End (Some (line_end (lines state.document.text) state.document.cursor.0)))
+at_end state = after_move_by state (is_some state.document.anchor) (pushed state.document.ranges End (Some (line_end (lines state.document.text) state.document.cursor.0)))
 
 below_is : (old new : State) → IsMoved old Bottom new → new ≡ below_all old
-below_is old new h = h.new_is ∙ ap (λ (found : Option Place). moved_by old (is_some old.document.anchor) (pushed old.document.ranges Bottom found)) h.target_is.found_is
+below_is old new h = h.new_is ∙ ap (λ (found : Option Place). after_move_by old (is_some old.document.anchor) (pushed old.document.ranges Bottom found)) h.target_is.found_is
 
 end_is : (old new : State) → IsMoved old End new → new ≡ at_end old
-end_is old new h = h.new_is ∙ ap (λ (found : Option Place). moved_by old (is_some old.document.anchor) (pushed old.document.ranges End found)) h.target_is.found_is
+end_is old new h = h.new_is ∙ ap (λ (found : Option Place). after_move_by old (is_some old.document.anchor) (pushed old.document.ranges End found)) h.target_is.found_is
 
 -- at the end of the last line, after a drawing into an area of this width
 abbrev nine : WrapMode → Style → ℕ → DrawingState → State
@@ -102,22 +102,22 @@ holds mode width P each style drawn ended area wide h k =
     subst P (sym (is_nine mode style drawn ended area width wide h k)) (each style drawn.drawing)
 
 abbrev AddsAtNewline : ℕ → State → Type 0
-AddsAtNewline size state = cut_so_far (newline_inserted state) ≡ cut_so_far state + size
+AddsAtNewline size state = wrapped_so_far (newline_inserted state) ≡ wrapped_so_far state + size
 
-abbrev AddsTakenBack : ℕ → State → Type 0
-AddsTakenBack size state = cut_so_far (taken_back (newline_inserted state)) ≡ cut_so_far (newline_inserted state) + size
+abbrev AddsUndone : ℕ → State → Type 0
+AddsUndone size state = wrapped_so_far (with_undone (newline_inserted state)) ≡ wrapped_so_far (newline_inserted state) + size
 
 abbrev IsAsWide : ℕ → State → Type 0
-IsAsWide columns state = map_width (laid_out_of state.document) ≡ Some columns
+IsAsWide columns state = map_width (text_and_layout state.document) ≡ Some columns
 
 abbrev IsAsWideAtNewline : ℕ → State → Type 0
-IsAsWideAtNewline columns state = map_width (laid_out_of (newline_inserted state).document) ≡ Some columns
+IsAsWideAtNewline columns state = map_width (text_and_layout (newline_inserted state).document) ≡ Some columns
 
 ten_cut : (style : Style) (drawing : DrawingState) → AddsAtNewline 10 (nine mode.Glyph style 11 drawing)
 unfolding digits
 ten_cut style drawing = refl
 
-nine_cut : (style : Style) (drawing : DrawingState) → AddsTakenBack 9 (nine mode.Glyph style 11 drawing)
+nine_cut : (style : Style) (drawing : DrawingState) → AddsUndone 9 (nine mode.Glyph style 11 drawing)
 unfolding digits
 nine_cut style drawing = refl
 
@@ -139,8 +139,8 @@ two_whole style drawing = refl
 pub tenth_cuts_all : Holds mode.Glyph 11 (AddsAtNewline 10)
 tenth_cuts_all = holds mode.Glyph 11 (AddsAtNewline 10) ten_cut
 
-pub ninth_cuts_all : Holds mode.Glyph 11 (AddsTakenBack 9)
-ninth_cuts_all = holds mode.Glyph 11 (AddsTakenBack 9) nine_cut
+pub ninth_cuts_all : Holds mode.Glyph 11 (AddsUndone 9)
+ninth_cuts_all = holds mode.Glyph 11 (AddsUndone 9) nine_cut
 
 pub wide_before : Holds mode.Glyph 11 (IsAsWide 7)
 wide_before = holds mode.Glyph 11 (IsAsWide 7) seven_wide
@@ -156,21 +156,21 @@ tenth_is_whole = holds mode.None 11 (AddsAtNewline 2) two_whole
 
 -- ---- frames
 
-searched_document : (state : State) (found : Option Place) → (searched state found).document.layout ≡ state.document.layout
+searched_document : (state : State) (found : Option Place) → (after_search state found).document.layout ≡ state.document.layout
 searched_document state None = refl
 searched_document state (Some place) = refl
 
-searched_surround : (state : State) (found : Option Place) → (searched state found).surround ≡ state.surround
+searched_surround : (state : State) (found : Option Place) → (after_search state found).surround ≡ state.surround
 searched_surround state None = refl
 searched_surround state (Some place) = refl
 
-pub width_searched : (state : State) (found : Option Place) (width : ℕ) → IsLaidOutFor state width → IsLaidOutFor (searched state found) width
+pub width_searched : (state : State) (found : Option Place) (width : ℕ) → HasLayoutFor state width → HasLayoutFor (after_search state found) width
 width_searched state found width put =
     ap (λ (l : Layout). l.settings.inner_width) (searched_document state found)
     ∙ put
     ∙ ap (λ (s : SurroundState). width_inside s.block width) (sym (searched_surround state found))
 
-pub still_cut : (drawn down scrolled again : State) (found : Option Place) → down.document.layout ≡ drawn.document.layout → scrolled.document.layout ≡ down.document.layout → again.document ≡ (searched scrolled found).document → CutsNothing drawn.document again.document
+pub still_cut : (drawn down scrolled again : State) (found : Option Place) → down.document.layout ≡ drawn.document.layout → scrolled.document.layout ≡ down.document.layout → again.document ≡ (after_search scrolled found).document → WrapsNothing drawn.document again.document
 still_cut drawn down scrolled again found moved shown same =
     let layout : again.document.layout ≡ drawn.document.layout =
     ap (λ (d : DocumentState). d.layout) same ∙ searched_document scrolled found ∙ shown ∙ moved in

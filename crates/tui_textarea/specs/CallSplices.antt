@@ -2,18 +2,18 @@
 use Rattle.std.specs.Prelude.{◌≡◌, ◌⊎◌, List, [], ◌∷◌, ◌++◌}
 use Rattle.std.specs.Str.{chars}
 use Rattle.textarea_text.specs.Splice.{Splice}
-use Rattle.textarea_text.specs.Given.{given}
+use Rattle.textarea_text.specs.Fragment.{fragment_symbols}
 use Rattle.textarea_text.specs.Text.{Break}
 use Rattle.textarea_calls.specs.declared.action.Action.TheVariants as action
 use Rattle.textarea_screen.specs.declared.screen.buffer.Buffer.{Buffer}
-use Rattle.textarea_document.specs.Splices.{after_splices, before_splices, break_splices, hit_splices, redo_splices, selected_splices, undo_splices}
-use Rattle.textarea_calls.specs.Kinds.{call_of_edit, call_of_write}
+use Rattle.textarea_document.specs.Splices.{after_splices, before_splices, break_splices, cursor_range_splices, redo_splices, selected_splices, undo_splices}
+use Rattle.textarea_calls.specs.CallGroups.{call_of_edit, call_of_write}
 use Rattle.textarea_calls.specs.declared.action.Action.{Action}
 use Rattle.tui_textarea.specs.Input.{asked_by, asked_without_shortcuts}
 use Rattle.tui_textarea.specs.Splices.{ahead_splices, char_splices, clear_splices, line_end_splices, line_head_splices, selected_splices_or, str_splices, tab_splices, word_after_splices, word_before_splices}
 use Rattle.tui_textarea.specs.State.{State}
-use Rattle.tui_textarea.specs.Run.{Makes}
-use Rattle.tui_textarea.specs.Said.{Said}
+use Rattle.tui_textarea.specs.Run.{CallLeads}
+use Rattle.tui_textarea.specs.CallResults.{CallResult}
 use Rattle.textarea_calls.specs.declared.call.Call.{Call}
 use Rattle.textarea_calls.specs.declared.call.Call.TheVariants.{InsertChar, InsertStr, InsertTab, InsertNewline, DeleteStr, DeleteNewline, DeleteChar, DeleteNextChar, DeleteLineByEnd, DeleteLineByHead, DeleteWord, DeleteNextWord, Clear, Cut, Paste, Undo, Redo, DeleteAtomicRangeAtCursor, Input, InputWithoutShortcuts}
 
@@ -23,7 +23,7 @@ use Rattle.textarea_calls.specs.declared.call.Call.TheVariants.{InsertChar, Inse
 -- inputs are defined below.
 abbrev pub call_splices : State → Call → List Splice
 call_splices state (InsertChar c) = char_splices state c
-call_splices state (InsertStr text) = str_splices state (given (chars text.now))
+call_splices state (InsertStr text) = str_splices state (fragment_symbols (chars text.now))
 call_splices state InsertTab = tab_splices state
 call_splices state InsertNewline = str_splices state (Break ∷ [])
 call_splices state Paste = str_splices state state.yank
@@ -39,7 +39,7 @@ call_splices state Clear = clear_splices state.document
 call_splices state Cut = selected_splices state.document
 call_splices state Undo = undo_splices state.document
 call_splices state Redo = redo_splices state.document
-call_splices state (DeleteAtomicRangeAtCursor direction) = hit_splices state.document direction
+call_splices state (DeleteAtomicRangeAtCursor direction) = cursor_range_splices state.document direction
 call_splices state call = []
 
 -- the splices of an input with this action: those of the action's call
@@ -56,14 +56,14 @@ splices_of state call = call_splices state call
 
 -- the fact is true of the splices of a call that ran out of memory: none, or the selection's
 -- removal
-abbrev pub OfLeft : State → (List Splice → Type 0) → Type 0
-OfLeft state Fact = Fact [] ⊎ Fact (selected_splices state.document)
+abbrev pub OfSplicesOutOfMemory : State → (List Splice → Type 0) → Type 0
+OfSplicesOutOfMemory state Fact = Fact [] ⊎ Fact (selected_splices state.document)
 
 -- the calls lead with these results from the old state and buffer to the new ones, and these are
 -- their splices: those of each call in the state that it is made in, one call's after another's
-abbrev pub LeadsBy : State → Buffer → List Call → List Said → List Splice → State → Buffer → Type 0
+abbrev pub LeadsBy : State → Buffer → List Call → List CallResult → List Splice → State → Buffer → Type 0
 LeadsBy old buffer [] [] splices new shown = (splices ≡ []) × (new ≡ old) × (shown ≡ buffer)
 LeadsBy old buffer (call ∷ calls) (answer ∷ answers) splices new shown =
     (between : State) × (screen : Buffer) × (later : List Splice) × (splices ≡ splices_of old call ++ later)
-    × Makes old buffer call answer between screen × LeadsBy between screen calls answers later new shown
+    × CallLeads old buffer call answer between screen × LeadsBy between screen calls answers later new shown
 LeadsBy old buffer calls answers splices new shown = ⊥

@@ -7,35 +7,35 @@ use Rattle.textarea_text.specs.Place.{Place}
 use Rattle.textarea_text.specs.Text.{lines, lines_of, text_of}
 use Rattle.textarea_data.specs.declared.range.AtomicRange.{AtomicRange}
 use Rattle.textarea_data.specs.declared.range.RejectedAtomicRange.{RejectedAtomicRange}
-use Rattle.textarea_ranges.specs.Held.{inside}
+use Rattle.textarea_ranges.specs.Lookup.{range_around}
 use Rattle.textarea_ranges.specs.Order.{in_order}
 use Rattle.textarea_ranges.specs.Rejected.{rejected_of}
 use Rattle.textarea_history.specs.Log.{empty_log, newest, next}
-use Rattle.textarea_text.specs.Given.{given, written}
-use Rattle.textarea_text.specs.Part.{clip}
-use Rattle.textarea_document.specs.State.{fresh_document}
-use Rattle.textarea_document.specs.Edits.{hit_at_cursor, is_filled}
-use Rattle.textarea_document.specs.Outcomes.{redone, run_ended, undone}
+use Rattle.textarea_text.specs.Fragment.{fragment_symbols, fragment_text}
+use Rattle.textarea_text.specs.Between.{clip}
+use Rattle.textarea_document.specs.DocumentState.{fresh_document}
+use Rattle.textarea_document.specs.Edits.{range_at_cursor, has_symbols}
+use Rattle.textarea_document.specs.Outcomes.{after_redo, run_ended, after_undo}
 use Rattle.textarea_document.specs.Selection.{is_selected}
 use Rattle.textarea_document.specs.Selection as document_selection
 use Rattle.tui_textarea.specs.State.{State, with_document, with_other_lines}
 use Rattle.tui_textarea.specs.Edits.{inserts_tab, inserts_text, char_inserted, newline_inserted, tab_inserted, str_inserted}
-use Rattle.tui_textarea.specs.Removals.{break_before_removed, text_cleared, has_ahead, has_before, has_behind, has_break_before, has_line_before, has_line_behind, has_word_before, has_word_behind, line_end_removed, line_head_removed, removes_or, symbol_before_removed, symbol_behind_removed, symbols_ahead_removed, unselected_or, word_before_removed, word_behind_removed}
+use Rattle.tui_textarea.specs.Removals.{break_before_removed, text_cleared, has_ahead, has_before, has_after, has_break_before, has_line_before, has_line_after, has_word_before, has_word_after, line_end_removed, line_head_removed, removes_or, symbol_before_removed, symbol_after_removed, symbols_ahead_removed, unselected_or, word_before_removed, word_after_removed}
 use Rattle.tui_textarea.specs.Selection.{all_selected, selection_copied, selection_cut, selection_cancelled, selection_started, unselected}
 use Rattle.tui_textarea.specs.Selection as selection
-use Rattle.textarea_screen.specs.Block.{shown_block}
-use Rattle.textarea_screen.specs.Text.{shown_text}
-use Rattle.textarea_view.specs.State.{style_with_lines}
+use Rattle.textarea_screen.specs.Block.{block_view}
+use Rattle.textarea_screen.specs.Text.{text_view}
+use Rattle.textarea_view.specs.SurroundState.{style_with_lines}
 use Rattle.textarea_view.specs.Outcomes.{with_max_rows, with_min_rows, with_placeholder_style, with_placeholder_text}
 use Rattle.textarea_screen.specs.declared.screen.alignment.Alignment.TheVariants.{Left}
-use Rattle.tui_textarea.specs.Drawing.{highlighted, unhighlighted, with_look}
-use Rattle.tui_textarea.specs.Layout.{alignment_set, mode_set, number_style, numbers_set, stays_cut, tab_length, tab_length_set, with_alignment, with_line_numbers, with_tab_length, with_wrap_mode, without_line_numbers}
+use Rattle.tui_textarea.specs.Drawing.{highlighted, unhighlighted, with_look_set}
+use Rattle.tui_textarea.specs.LayoutCalls.{alignment_set, mode_set, number_style, line_numbers_set, keeps_layout, tab_length, tab_length_set, with_alignment, with_line_numbers, with_tab_length, with_wrap_mode, without_line_numbers}
 use Rattle.tui_textarea.specs.Measure.{reads_rows, with_surround}
-use Rattle.tui_textarea.specs.Search.{next_match, previous_match, searched, with_pattern}
+use Rattle.tui_textarea.specs.Search.{next_match, previous_match, after_search, with_pattern}
 use Rattle.tui_textarea.specs.Patterns.{IsNewPattern}
-use Rattle.tui_textarea.specs.Ranges.{cursor_normalized, hit_range_removed, ranges_accepted, ranges_cleared}
-use Rattle.tui_textarea.specs.Said as told
-use Rattle.tui_textarea.specs.Said.{Said, Done, Flag, Range, Rejected, Text}
+use Rattle.tui_textarea.specs.Ranges.{cursor_normalized, atomic_range_removed, ranges_accepted, ranges_cleared}
+use Rattle.tui_textarea.specs.CallResults as told
+use Rattle.tui_textarea.specs.CallResults.{CallResult, Done, Flag, Range, Rejected, Text}
 use Rattle.textarea_calls.specs.declared.call.Call.{Call}
 use Rattle.textarea_calls.specs.declared.call.Call.TheVariants.{InsertChar, InsertStr, InsertTab, InsertNewline, DeleteStr, DeleteNewline, DeleteChar, DeleteNextChar, DeleteLineByEnd, DeleteLineByHead, DeleteWord, DeleteNextWord, Clear, Cut, Copy, Paste, Undo, Redo, StartSelection, CancelSelection, SelectAll, SetYankText, YankText, SetTabLength, SetHardTabIndent, SetMaxHistories, SetUndoCoalescing, SetNow, SetLines, TrySetAtomicRanges, ClearAtomicRanges, NormalizeCursorAroundAtomicRanges, AtomicRangeAtCursor, DeleteAtomicRangeAtCursor, SetSearchPattern, SearchForward, SearchBack, SetWrapMode, SetLineNumberStyle, RemoveLineNumber, Measure, SetBlock, RemoveBlock, SetPlaceholderText, SetStyledPlaceholder, SetPlaceholderStyle, SetMinRows, SetMaxRows, SetStyle, Style, SetCursorStyle, CursorStyle, SetCursorLineStyle, CursorLineStyle, SetSelectionStyle, SelectionStyle, SetSearchStyle, SearchStyle, SetMaskChar, ClearMaskChar, MaskChar, SetCursorRenderMode, CursorRenderMode, SetAlignment, Alignment, CustomHighlight, ClearCustomHighlight, Render, RenderedCursorPosition, CursorAtPosition, Cursor, IsEmpty, IsSelecting, SelectionRange, TabLength, HardTabIndent, MaxHistories, UndoCoalescing, WrapMode, LineNumberStyle, PlaceholderStyle, MinRows, MaxRows}
 
@@ -44,7 +44,7 @@ abbrev pub rejected_ranges : State → List AtomicRange → List RejectedAtomicR
 rejected_ranges state ranges = rejected_of (lines state.document.text) (in_order ranges)
 
 -- the result of setting ranges: the rejected ranges, or done if there are none
-abbrev pub ranges_answer : List RejectedAtomicRange → Said
+abbrev pub ranges_answer : List RejectedAtomicRange → CallResult
 ranges_answer [] = Done
 ranges_answer (range ∷ rejected) = Rejected (range ∷ rejected)
 
@@ -55,52 +55,52 @@ with_ranges_if (range ∷ rejected) state ranges = state
 
 -- the result of the call; of one that sets a pattern, if the pattern is accepted. The results of a
 -- measure, a hit test and an input are defined elsewhere
-abbrev pub answer_of : State → Call → Said
-answer_of state (InsertStr text) = Flag (inserts_text state (given (chars text.now)))
-answer_of state InsertTab = Flag (inserts_tab state)
-answer_of state (DeleteStr count) = Flag (removes_or state (has_ahead state count))
-answer_of state DeleteNewline = Flag (removes_or state (has_break_before state))
-answer_of state DeleteChar = Flag (removes_or state (has_before state))
-answer_of state DeleteNextChar = Flag (removes_or state (has_behind state))
-answer_of state DeleteLineByEnd = Flag (removes_or state (has_line_behind state))
-answer_of state DeleteLineByHead = Flag (removes_or state (has_line_before state))
-answer_of state DeleteWord = Flag (removes_or state (has_word_before state))
-answer_of state DeleteNextWord = Flag (removes_or state (has_word_behind state))
-answer_of state Clear = Flag (is_filled state.document.text)
-answer_of state Cut = Flag (is_selected state.document)
-answer_of state Paste = Flag (is_filled state.yank)
-answer_of state Undo = Flag (is_some (newest state.document.log))
-answer_of state Redo = Flag (is_some (next state.document.log))
-answer_of state YankText = Text (written state.yank)
-answer_of state (TrySetAtomicRanges ranges) = ranges_answer (rejected_ranges state ranges.now)
-answer_of state (NormalizeCursorAroundAtomicRanges bias) = Flag (is_some (inside state.document.ranges state.document.cursor))
-answer_of state (AtomicRangeAtCursor direction) = Range (hit_at_cursor state.document direction)
-answer_of state (DeleteAtomicRangeAtCursor direction) = Range (hit_at_cursor state.document direction)
-answer_of state (SearchForward at_cursor) = Flag (is_some (next_match state at_cursor))
-answer_of state (SearchBack at_cursor) = Flag (is_some (previous_match state at_cursor))
-answer_of state Style = told.Style state.drawing.look.style
-answer_of state CursorStyle = told.Style state.drawing.look.cursor_style
-answer_of state CursorLineStyle = told.Style state.drawing.look.cursor_line_style
-answer_of state SelectionStyle = told.Style state.drawing.look.selection_style
-answer_of state SearchStyle = told.Style state.drawing.look.search_style
-answer_of state MaskChar = told.Character state.drawing.look.mask
-answer_of state CursorRenderMode = told.CursorRenderMode state.drawing.look.cursor_render_mode
-answer_of state Alignment = told.Alignment state.drawing.look.alignment
-answer_of state RenderedCursorPosition = told.Position state.drawing.caret
-answer_of state Cursor = told.Cursor state.document.cursor
-answer_of state IsEmpty = Flag (not (is_filled state.document.text))
-answer_of state IsSelecting = Flag (is_some state.document.anchor)
-answer_of state SelectionRange = told.Selection (document_selection.selection state.document)
-answer_of state TabLength = told.Number (tab_length state.document)
-answer_of state HardTabIndent = Flag state.settings.hard_tab_indent
-answer_of state MaxHistories = told.Number state.document.log.maximum
-answer_of state UndoCoalescing = Flag state.settings.undo_coalescing
-answer_of state WrapMode = told.WrapMode state.document.layout.settings.mode
-answer_of state LineNumberStyle = told.StyleIfShown (number_style state)
-answer_of state PlaceholderStyle = told.StyleIfShown (style_with_lines state.surround.placeholder.lines state.surround.placeholder.style)
-answer_of state MinRows = told.Number state.surround.min_rows
-answer_of state MaxRows = told.Number state.surround.max_rows
-answer_of state call = Done
+abbrev pub call_answer : State → Call → CallResult
+call_answer state (InsertStr text) = Flag (inserts_text state (fragment_symbols (chars text.now)))
+call_answer state InsertTab = Flag (inserts_tab state)
+call_answer state (DeleteStr count) = Flag (removes_or state (has_ahead state count))
+call_answer state DeleteNewline = Flag (removes_or state (has_break_before state))
+call_answer state DeleteChar = Flag (removes_or state (has_before state))
+call_answer state DeleteNextChar = Flag (removes_or state (has_after state))
+call_answer state DeleteLineByEnd = Flag (removes_or state (has_line_after state))
+call_answer state DeleteLineByHead = Flag (removes_or state (has_line_before state))
+call_answer state DeleteWord = Flag (removes_or state (has_word_before state))
+call_answer state DeleteNextWord = Flag (removes_or state (has_word_after state))
+call_answer state Clear = Flag (has_symbols state.document.text)
+call_answer state Cut = Flag (is_selected state.document)
+call_answer state Paste = Flag (has_symbols state.yank)
+call_answer state Undo = Flag (is_some (newest state.document.log))
+call_answer state Redo = Flag (is_some (next state.document.log))
+call_answer state YankText = Text (fragment_text state.yank)
+call_answer state (TrySetAtomicRanges ranges) = ranges_answer (rejected_ranges state ranges.now)
+call_answer state (NormalizeCursorAroundAtomicRanges bias) = Flag (is_some (range_around state.document.ranges state.document.cursor))
+call_answer state (AtomicRangeAtCursor direction) = Range (range_at_cursor state.document direction)
+call_answer state (DeleteAtomicRangeAtCursor direction) = Range (range_at_cursor state.document direction)
+call_answer state (SearchForward at_cursor) = Flag (is_some (next_match state at_cursor))
+call_answer state (SearchBack at_cursor) = Flag (is_some (previous_match state at_cursor))
+call_answer state Style = told.Style state.drawing.look.style
+call_answer state CursorStyle = told.Style state.drawing.look.cursor_style
+call_answer state CursorLineStyle = told.Style state.drawing.look.cursor_line_style
+call_answer state SelectionStyle = told.Style state.drawing.look.selection_style
+call_answer state SearchStyle = told.Style state.drawing.look.search_style
+call_answer state MaskChar = told.Character state.drawing.look.mask
+call_answer state CursorRenderMode = told.CursorRenderMode state.drawing.look.cursor_render_mode
+call_answer state Alignment = told.Alignment state.drawing.look.alignment
+call_answer state RenderedCursorPosition = told.Position state.drawing.caret
+call_answer state Cursor = told.Cursor state.document.cursor
+call_answer state IsEmpty = Flag (not (has_symbols state.document.text))
+call_answer state IsSelecting = Flag (is_some state.document.anchor)
+call_answer state SelectionRange = told.Selection (document_selection.selection state.document)
+call_answer state TabLength = told.Number (tab_length state.document)
+call_answer state HardTabIndent = Flag state.settings.hard_tab_indent
+call_answer state MaxHistories = told.Number state.document.log.maximum
+call_answer state UndoCoalescing = Flag state.settings.undo_coalescing
+call_answer state WrapMode = told.WrapMode state.document.layout.settings.mode
+call_answer state LineNumberStyle = told.StyleIfShown (number_style state)
+call_answer state PlaceholderStyle = told.StyleIfShown (style_with_lines state.surround.placeholder.lines state.surround.placeholder.style)
+call_answer state MinRows = told.Number state.surround.min_rows
+call_answer state MaxRows = told.Number state.surround.max_rows
+call_answer state call = Done
 
 -- the lines replace the old ones, and all edits and custom highlights are forgotten: the cursor
 -- moves to the nearest position in them, nothing is selected, and nothing is scrolled
@@ -112,33 +112,33 @@ with_lines state lines cursor =
 -- after moves, scrolls, inputs and drawings are defined elsewhere
 abbrev pub state_after : State → Call → State
 state_after state (InsertChar c) = char_inserted state c
-state_after state (InsertStr text) = str_inserted state (given (chars text.now))
+state_after state (InsertStr text) = str_inserted state (fragment_symbols (chars text.now))
 state_after state InsertTab = tab_inserted state
 state_after state InsertNewline = newline_inserted state
 state_after state (DeleteStr count) = unselected_or state (symbols_ahead_removed state count)
 state_after state DeleteNewline = unselected_or state (break_before_removed state)
 state_after state DeleteChar = unselected_or state (symbol_before_removed state)
-state_after state DeleteNextChar = unselected_or state (symbol_behind_removed state)
+state_after state DeleteNextChar = unselected_or state (symbol_after_removed state)
 state_after state DeleteLineByEnd = unselected_or state (line_end_removed state)
 state_after state DeleteLineByHead = unselected_or state (line_head_removed state)
 state_after state DeleteWord = unselected_or state (word_before_removed state)
-state_after state DeleteNextWord = unselected_or state (word_behind_removed state)
+state_after state DeleteNextWord = unselected_or state (word_after_removed state)
 state_after state Clear = text_cleared state
 state_after state Cut = selection_cut state
 state_after state Copy = selection_copied state
 state_after state Paste = str_inserted state state.yank
-state_after state Undo = with_document state (undone state.document)
-state_after state Redo = with_document state (redone state.document)
-state_after state (SetYankText text) = record state { yank = given (chars text.now) }
+state_after state Undo = with_document state (after_undo state.document)
+state_after state Redo = with_document state (after_redo state.document)
+state_after state (SetYankText text) = record state { yank = fragment_symbols (chars text.now) }
 state_after state YankText = state
 state_after state (TrySetAtomicRanges ranges) = with_ranges_if (rejected_ranges state ranges.now) state ranges.now
 state_after state (NormalizeCursorAroundAtomicRanges bias) = cursor_normalized state bias
 state_after state (AtomicRangeAtCursor direction) = state
-state_after state (DeleteAtomicRangeAtCursor direction) = hit_range_removed state direction
+state_after state (DeleteAtomicRangeAtCursor direction) = atomic_range_removed state direction
 state_after state (SetLines lines cursor) = with_lines state lines.now cursor
 state_after state (SetSearchPattern text) = with_pattern state text.now
-state_after state (SearchForward at_cursor) = searched state (next_match state at_cursor)
-state_after state (SearchBack at_cursor) = searched state (previous_match state at_cursor)
+state_after state (SearchForward at_cursor) = after_search state (next_match state at_cursor)
+state_after state (SearchBack at_cursor) = after_search state (previous_match state at_cursor)
 state_after state StartSelection = selection_started state
 state_after state CancelSelection = selection_cancelled state
 state_after state SelectAll = all_selected state
@@ -146,10 +146,10 @@ state_after state (SetTabLength columns) = with_tab_length state columns
 state_after state (SetWrapMode mode) = with_wrap_mode state mode
 state_after state (SetLineNumberStyle style) = with_line_numbers state style
 state_after state RemoveLineNumber = without_line_numbers state
-state_after state (SetBlock block) = with_surround state (record state.surround { block = Some (shown_block block.now) })
+state_after state (SetBlock block) = with_surround state (record state.surround { block = Some (block_view block.now) })
 state_after state RemoveBlock = with_surround state (record state.surround { block = None })
 state_after state (SetPlaceholderText text) = with_surround state (with_placeholder_text state.surround text.now)
-state_after state (SetStyledPlaceholder text) = with_surround state (record state.surround { placeholder = shown_text text.now })
+state_after state (SetStyledPlaceholder text) = with_surround state (record state.surround { placeholder = text_view text.now })
 state_after state (SetPlaceholderStyle style) = with_surround state (with_placeholder_style state.surround style)
 state_after state (SetMinRows rows) = with_surround state (with_min_rows state.surround rows)
 state_after state (SetMaxRows rows) = with_surround state (with_max_rows state.surround rows)
@@ -158,16 +158,16 @@ state_after state (SetMaxHistories maximum) =
     with_document state (record state.document { log = empty_log maximum })
 state_after state (SetUndoCoalescing joins) =
     record state { document = record state.document { log = run_ended state.document.log }; settings = record state.settings { undo_coalescing = joins } }
-state_after state (SetNow moment) = record state { moment = as_nanos moment }
+state_after state (SetNow time) = record state { time = as_nanos time }
 state_after state ClearAtomicRanges = ranges_cleared state
-state_after state (SetStyle style) = with_look state (record state.drawing.look { style = style })
-state_after state (SetCursorStyle style) = with_look state (record state.drawing.look { cursor_style = style })
-state_after state (SetCursorLineStyle style) = with_look state (record state.drawing.look { cursor_line_style = style })
-state_after state (SetSelectionStyle style) = with_look state (record state.drawing.look { selection_style = style })
-state_after state (SetSearchStyle style) = with_look state (record state.drawing.look { search_style = style })
-state_after state (SetMaskChar mask) = with_look state (record state.drawing.look { mask = Some mask })
-state_after state ClearMaskChar = with_look state (record state.drawing.look { mask = None })
-state_after state (SetCursorRenderMode mode) = with_look state (record state.drawing.look { cursor_render_mode = mode })
+state_after state (SetStyle style) = with_look_set state (record state.drawing.look { style = style })
+state_after state (SetCursorStyle style) = with_look_set state (record state.drawing.look { cursor_style = style })
+state_after state (SetCursorLineStyle style) = with_look_set state (record state.drawing.look { cursor_line_style = style })
+state_after state (SetSelectionStyle style) = with_look_set state (record state.drawing.look { selection_style = style })
+state_after state (SetSearchStyle style) = with_look_set state (record state.drawing.look { search_style = style })
+state_after state (SetMaskChar mask) = with_look_set state (record state.drawing.look { mask = Some mask })
+state_after state ClearMaskChar = with_look_set state (record state.drawing.look { mask = None })
+state_after state (SetCursorRenderMode mode) = with_look_set state (record state.drawing.look { cursor_render_mode = mode })
 state_after state (SetAlignment alignment) = with_alignment state alignment
 state_after state (CustomHighlight range style priority) = highlighted state range style priority
 state_after state ClearCustomHighlight = unhighlighted state
@@ -179,18 +179,18 @@ state_after state call = state
 -- one that clears or looks up ranges, or one that clears highlights
 abbrev pub NeedsMemory : State → Call → Type 0
 NeedsMemory state (InsertChar c) = Unit {0}
-NeedsMemory state (InsertStr text) = inserts_text state (given (chars text.now)) ≢ false
+NeedsMemory state (InsertStr text) = inserts_text state (fragment_symbols (chars text.now)) ≢ false
 NeedsMemory state InsertTab = inserts_tab state ≢ false
 NeedsMemory state InsertNewline = Unit {0}
 NeedsMemory state (DeleteStr count) = removes_or state (has_ahead state count) ≢ false
 NeedsMemory state DeleteNewline = removes_or state (has_break_before state) ≢ false
 NeedsMemory state DeleteChar = removes_or state (has_before state) ≢ false
-NeedsMemory state DeleteNextChar = removes_or state (has_behind state) ≢ false
-NeedsMemory state DeleteLineByEnd = removes_or state (has_line_behind state) ≢ false
+NeedsMemory state DeleteNextChar = removes_or state (has_after state) ≢ false
+NeedsMemory state DeleteLineByEnd = removes_or state (has_line_after state) ≢ false
 NeedsMemory state DeleteLineByHead = removes_or state (has_line_before state) ≢ false
 NeedsMemory state DeleteWord = removes_or state (has_word_before state) ≢ false
-NeedsMemory state DeleteNextWord = removes_or state (has_word_behind state) ≢ false
-NeedsMemory state Clear = is_filled state.document.text ≢ false
+NeedsMemory state DeleteNextWord = removes_or state (has_word_after state) ≢ false
+NeedsMemory state Clear = has_symbols state.document.text ≢ false
 NeedsMemory state Cut = is_selected state.document ≢ false
 NeedsMemory state Copy = is_selected state.document ≢ false
 NeedsMemory state Paste = inserts_text state state.yank ≢ false
@@ -199,20 +199,20 @@ NeedsMemory state Redo = next state.document.log ≢ None
 NeedsMemory state (SetYankText text) = Unit {0}
 NeedsMemory state YankText = Unit {0}
 NeedsMemory state (TrySetAtomicRanges ranges) = Unit {0}
-NeedsMemory state (DeleteAtomicRangeAtCursor direction) = hit_at_cursor state.document direction ≢ None
+NeedsMemory state (DeleteAtomicRangeAtCursor direction) = range_at_cursor state.document direction ≢ None
 NeedsMemory state (SetLines lines cursor) = Unit {0}
 NeedsMemory state (SetSearchPattern text) = IsNewPattern state text.now
 NeedsMemory state (SearchForward at_cursor) = state.pattern ≢ None
 NeedsMemory state (SearchBack at_cursor) = state.pattern ≢ None
-NeedsMemory state (SetTabLength columns) = stays_cut state (tab_length_set state columns) ≢ true
-NeedsMemory state (SetWrapMode mode) = stays_cut state (mode_set state mode) ≢ true
-NeedsMemory state (SetLineNumberStyle style) = stays_cut state (numbers_set state true) ≢ true
-NeedsMemory state RemoveLineNumber = stays_cut state (numbers_set state false) ≢ true
+NeedsMemory state (SetTabLength columns) = keeps_layout state (tab_length_set state columns) ≢ true
+NeedsMemory state (SetWrapMode mode) = keeps_layout state (mode_set state mode) ≢ true
+NeedsMemory state (SetLineNumberStyle style) = keeps_layout state (line_numbers_set state true) ≢ true
+NeedsMemory state RemoveLineNumber = keeps_layout state (line_numbers_set state false) ≢ true
 NeedsMemory state (Measure width) = reads_rows state width ≢ true
 NeedsMemory state (SetBlock block) = Unit {0}
 NeedsMemory state (SetPlaceholderText text) = text.now ≢ []
 NeedsMemory state (SetStyledPlaceholder text) = Unit {0}
-NeedsMemory state (SetAlignment alignment) = stays_cut state (alignment_set state alignment) ≢ true
+NeedsMemory state (SetAlignment alignment) = keeps_layout state (alignment_set state alignment) ≢ true
 NeedsMemory state (CustomHighlight range style priority) = Unit {0}
 NeedsMemory state (Render area) = Unit {0}
 NeedsMemory state (CursorAtPosition position) = state.drawing.look.alignment ≢ Left
@@ -220,10 +220,10 @@ NeedsMemory state call = ⊥
 
 -- the state after a call that ran out of memory: the old state, or, after an insertion, that
 -- without the selected text
-abbrev pub LeftRefused : State → Call → State → Type 0
-LeftRefused old (InsertChar c) new = selection.IsLeft old new
-LeftRefused old (InsertStr text) new = selection.IsLeft old new
-LeftRefused old InsertTab new = selection.IsLeft old new
-LeftRefused old InsertNewline new = selection.IsLeft old new
-LeftRefused old Paste new = selection.IsLeft old new
-LeftRefused old call new = new ≡ old
+abbrev pub StateOutOfMemory : State → Call → State → Type 0
+StateOutOfMemory old (InsertChar c) new = selection.IsLeft old new
+StateOutOfMemory old (InsertStr text) new = selection.IsLeft old new
+StateOutOfMemory old InsertTab new = selection.IsLeft old new
+StateOutOfMemory old InsertNewline new = selection.IsLeft old new
+StateOutOfMemory old Paste new = selection.IsLeft old new
+StateOutOfMemory old call new = new ≡ old

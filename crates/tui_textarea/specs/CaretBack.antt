@@ -1,30 +1,30 @@
 -- The position at the caret's cell after a drawing.
 use Rattle.std.specs.Prelude.{◌≡◌, ℕ, Option, Some}
-use Rattle.textarea_document.specs.Rows.{laid_out_of}
+use Rattle.textarea_document.specs.DocumentRows.{text_and_layout}
 use Rattle.tui_textarea.specs.DrawnFrame.{Parts}
-use Rattle.tui_textarea.specs.Hit.{IsHit}
-use Rattle.tui_textarea.specs.Rendered.{IsRendered}
-use Rattle.textarea_screen_map.specs.Lent.{LentRows}
+use Rattle.tui_textarea.specs.Hit.{IsHitTest}
+use Rattle.tui_textarea.specs.Rendered.{ArePartsRendered}
+use Rattle.textarea_screen_map.specs.BorrowedLines.{BorrowedRows}
 use Rattle.textarea_lines.specs.View.{IsViewOf}
-use Rattle.textarea_screen_map.specs.Rows.{row_at}
-use Rattle.textarea_screen_map.specs.Seen.{HasNoZeroWidth, IsVisualPosition}
+use Rattle.textarea_screen_map.specs.VisualRows.{row_at}
+use Rattle.textarea_screen_map.specs.VisualPositions.{HasNoZeroWidth, IsVisualPosition}
 use Rattle.textarea_screen_map.specs.declared.layout.VisualPosition.{VisualPosition}
 use Rattle.textarea_screen.specs.declared.screen.rect.Rect.{Rect}
 use Rattle.textarea_text.specs.Place.{Place}
 
 -- no character of the cursor's visual row has display width 0
 abbrev pub HasWideCursorRow : Parts → Type 0
-HasWideCursorRow parts = (rows : LentRows) (visual : VisualPosition) → IsViewOf (laid_out_of parts.document) rows
+HasWideCursorRow parts = (rows : BorrowedRows) (visual : VisualPosition) → IsViewOf (text_and_layout parts.document) rows
     → IsVisualPosition rows.wrapping.tab_len rows.lines rows.rows parts.document.cursor visual
     → HasNoZeroWidth (row_at rows.lines rows.rows visual.row).text
 
 -- the caret's cell shows the cursor, if no character of its visual row has display width 0
-abbrev pub IsHitBack : Parts → Type 0
-IsHitBack parts = (x y : ℕ) (found : Option Place) → parts.drawing.caret ≡ Some (x, y)
-    → HasWideCursorRow parts → IsHit parts x y found → found ≡ Some parts.document.cursor
+abbrev pub IsCaretHit : Parts → Type 0
+IsCaretHit parts = (x y : ℕ) (found : Option Place) → parts.drawing.caret ≡ Some (x, y)
+    → HasWideCursorRow parts → IsHitTest parts x y found → found ≡ Some parts.document.cursor
 
 -- if a drawing left these parts with the caret in this cell, and no character of the cursor's
 -- visual row has display width 0, the cell shows the cursor
 abbrev pub IsCursorAtCaret : Parts → ℕ → ℕ → Option Place → Type 0
-IsCursorAtCaret parts x y found = (old : Parts) (area : Rect) → IsRendered old area parts
+IsCursorAtCaret parts x y found = (old : Parts) (area : Rect) → ArePartsRendered old area parts
     → parts.drawing.caret ≡ Some (x, y) → HasWideCursorRow parts → found ≡ Some parts.document.cursor

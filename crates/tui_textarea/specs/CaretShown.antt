@@ -1,13 +1,13 @@
 -- When the caret is shown after a drawing.
 use Rattle.std.specs.Prelude.{◌≡◌, ℕ, ◌+◌, ◌-◌, ◌*◌, ◌<◌, ◌≤◌, IsSome, length}
-use Rattle.textarea_document.specs.State.{DocumentState}
+use Rattle.textarea_document.specs.DocumentState.{DocumentState}
 use Rattle.tui_textarea.specs.DrawnFrame.{Parts}
 use Rattle.tui_textarea.specs.Hit.{IsLastArea}
 use Rattle.textarea_screen.specs.declared.screen.alignment.Alignment.TheVariants.{Left}
 use Rattle.textarea_screen.specs.declared.screen.rect.Rect.{Rect}
 use Rattle.textarea_text.specs.Text.{lines}
 use Rattle.textarea_wrap.specs.Fitting.{HaveFittingClusters}
-use Rattle.textarea_wrap.specs.Layout.{line_number_columns}
+use Rattle.textarea_wrap.specs.Metrics.{line_number_columns}
 use Rattle.textarea_wrap.specs.declared.wrap.WrapMode.{WrapMode}
 use Rattle.textarea_wrap.specs.declared.wrap.WrapMode.TheVariants as wrap
 

@@ -12,14 +12,14 @@ use Rattle.textarea_view.specs.Scrolled.{scrolled_by}
 use Rattle.tui_textarea.specs.State.{State}
 
 -- the parts of a text area that are drawn
-abbrev pub parts_of : State → Parts
-parts_of state = record { document = state.document; pattern = state.pattern; surround = state.surround; drawing = state.drawing }
+abbrev pub drawing_parts : State → Parts
+drawing_parts state = record { document = state.document; pattern = state.pattern; surround = state.surround; drawing = state.drawing }
 
 abbrev pub with_drawing : State → DrawingState → State
 with_drawing state drawing = record state { drawing = drawing }
 
-abbrev pub with_look : State → Look → State
-with_look state look = with_drawing state (record state.drawing { look = look })
+abbrev pub with_look_set : State → Look → State
+with_look_set state look = with_drawing state (record state.drawing { look = look })
 
 -- a custom highlight is added after the others, from a row and byte to a row and byte
 abbrev pub highlighted : State → Place × Place → Style → ℕ → State
@@ -38,5 +38,5 @@ viewport_scrolled state scrolling =
 -- The state after a drawing into the area: the layout has the width inside the block, and the
 -- viewport, the inner area and the caret are those of this drawing. All else is as before.
 pub record IsRendered (old : State) (area : Rect) (new : State) : Type 0 where
-  pub parts : drawing.IsRendered (parts_of old) area (parts_of new)
+  pub parts : drawing.IsRendered (drawing_parts old) area (drawing_parts new)
   pub rest : new ≡ record old { document = new.document; drawing = new.drawing }

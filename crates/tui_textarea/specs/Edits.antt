@@ -1,13 +1,13 @@
 -- The states after insertions, which first remove the selected text, as its own edit.
 use Rattle.std.specs.Prelude.{ℕ, ◌-◌, ◌%◌, ◌==◌, ◌||◌, Bool, not, List, [], take, replicate, slice_index_or, if◌then◌else◌}
 use Rattle.textarea_text.specs.Text.{Symbol, Character, lines}
-use Rattle.textarea_document.specs.State.{DocumentState}
-use Rattle.textarea_document.specs.Edits.{insertion_place, is_filled, break_inserted, character_inserted, symbols_inserted}
+use Rattle.textarea_document.specs.DocumentState.{DocumentState}
+use Rattle.textarea_document.specs.Edits.{insertion_place, has_symbols, break_inserted, character_inserted, symbols_inserted}
 use Rattle.textarea_document.specs.Selection.{is_selected}
 use Rattle.textarea_text.specs.Tab.{width_of}
 use Rattle.tui_textarea.specs.State.{State, with_document}
 use Rattle.tui_textarea.specs.Selection.{selection_cancelled, unselected}
-use Rattle.tui_textarea.specs.Layout.{tab_length}
+use Rattle.tui_textarea.specs.LayoutCalls.{tab_length}
 
 -- a line feed and a carriage return break the line
 abbrev pub breaks_line : ℕ → Bool
@@ -15,10 +15,10 @@ breaks_line c = (c == 10) || (c == 13)
 
 -- the character is inserted at the insertion position, as typed
 abbrev pub typed_character_inserted : State → ℕ → State
-typed_character_inserted state c = with_document state (character_inserted state.document c state.settings.undo_coalescing state.moment)
+typed_character_inserted state c = with_document state (character_inserted state.document c state.settings.undo_coalescing state.time)
 
 abbrev pub line_broken : State → State
-line_broken state = with_document state (break_inserted state.document state.moment)
+line_broken state = with_document state (break_inserted state.document state.time)
 
 -- the character, or the break that it means, is inserted
 abbrev pub char_or_break_inserted : State → ℕ → State
@@ -27,7 +27,7 @@ char_or_break_inserted state c = if breaks_line c then line_broken state else ty
 -- the symbols are inserted; without any, the cursor moves to the insertion position, and nothing is
 -- selected any more
 abbrev pub symbols_or_none_inserted : State → List Symbol → State
-symbols_or_none_inserted state symbols = with_document state (symbols_inserted state.document symbols state.moment)
+symbols_or_none_inserted state symbols = with_document state (symbols_inserted state.document symbols state.time)
 
 -- the characters before the insertion position in its line: before the cursor, or before the end of
 -- the atomic range that strictly contains it
@@ -58,7 +58,7 @@ str_inserted state symbols = symbols_or_none_inserted (unselected state) symbols
 
 -- whether a text was inserted or a selection removed
 abbrev pub inserts_text : State → List Symbol → Bool
-inserts_text state symbols = is_selected state.document || is_filled symbols
+inserts_text state symbols = is_selected state.document || has_symbols symbols
 
 abbrev pub tab_inserted : State → State
 tab_inserted state = tab_or_spaces_inserted (unselected state) (tab_length state.document)

@@ -1,14 +1,14 @@
 -- The position that a cell of the screen shows, and the visible position nearest to the cursor.
 use Rattle.std.specs.Prelude.{◌≡◌, ℕ, ◌-◌, min, Bool, true, false, Option}
-use Rattle.textarea_document.specs.Rows.{laid_out_of}
-use Rattle.textarea_document.specs.State.{DocumentState}
+use Rattle.textarea_document.specs.DocumentRows.{text_and_layout}
+use Rattle.textarea_document.specs.DocumentState.{DocumentState}
 use Rattle.tui_textarea.specs.DrawnFrame.{Parts, frame_of}
 use Rattle.tui_textarea.specs.DrawingState.{DrawingState}
 use Rattle.textarea_view.specs.Hit.{IsHitOf, IsNear, greatest_at}
-use Rattle.textarea_screen_map.specs.Lent.{LentRows}
+use Rattle.textarea_screen_map.specs.BorrowedLines.{BorrowedRows}
 use Rattle.textarea_lines.specs.View.{IsViewOf}
 use Rattle.textarea_blocks.specs.Sums.{row_total}
-use Rattle.textarea_screen_map.specs.Seen.{IsVisualPosition, is_same_visual}
+use Rattle.textarea_screen_map.specs.VisualPositions.{IsVisualPosition, is_same_visual}
 use Rattle.textarea_screen_map.specs.declared.layout.VisualPosition.{VisualPosition}
 use Rattle.textarea_screen.specs.declared.screen.rect.Rect.{Rect}
 use Rattle.textarea_text.specs.Place.{Place}
@@ -25,25 +25,25 @@ pub record IsLastArea (document : DocumentState) (drawing : DrawingState) (inner
   pub height : inner.height ≡ min drawing.height (65535 - inner.y)
 
 -- the position that a cell shows, with the present text, in the inner area of the last drawing
-pub record IsHit (parts : Parts) (x y : ℕ) (found : Option Place) : Type 0 where
+pub record IsHitTest (parts : Parts) (x y : ℕ) (found : Option Place) : Type 0 where
   pub inner : Rect
   pub inner_is : IsLastArea parts.document parts.drawing inner
-  pub rows : LentRows
-  pub rows_are : IsViewOf (laid_out_of parts.document) rows
+  pub rows : BorrowedRows
+  pub rows_are : IsViewOf (text_and_layout parts.document) rows
   pub found_is : IsHitOf (frame_of parts rows) parts.drawing.viewport inner x y found
 
 -- ---- the nearest visible position
 
 -- the cursor itself if nothing changes, otherwise the position at the visual position
-abbrev pub IsReached : Bool → LentRows → VisualPosition → Place → Place → Type 0
+abbrev pub IsReached : Bool → BorrowedRows → VisualPosition → Place → Place → Type 0
 IsReached true rows wanted cursor place = place ≡ cursor
 IsReached false rows wanted cursor place = IsNear rows wanted place
 
 -- the cursor moves from its visual position to the nearest visible visual row, and in that row to
 -- the nearest visible display column
-pub record IsInside (document : DocumentState) (viewport : ViewportState) (place : Place) : Type 0 where
-  pub rows : LentRows
-  pub rows_are : IsViewOf (laid_out_of document) rows
+pub record IsNearestShown (document : DocumentState) (viewport : ViewportState) (place : Place) : Type 0 where
+  pub rows : BorrowedRows
+  pub rows_are : IsViewOf (text_and_layout document) rows
   pub visual : VisualPosition
   pub visual_is : IsVisualPosition rows.wrapping.tab_len rows.lines rows.rows document.cursor visual
   pub row : ℕ

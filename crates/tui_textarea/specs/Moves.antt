@@ -7,11 +7,11 @@ use Rattle.textarea_data.specs.declared.scroll.Scrolling.{Scrolling}
 use Rattle.textarea_data.specs.declared.range.AtomicRange.{AtomicRange}
 use Rattle.textarea_data.specs.declared.range.AtomicCursorBias.{AtomicCursorBias}
 use Rattle.textarea_data.specs.declared.range.AtomicCursorBias.TheVariants.{Backward, Forward}
-use Rattle.textarea_ranges.specs.Held.{moved_out}
-use Rattle.textarea_document.specs.Outcomes.{moved}
-use Rattle.textarea_document.specs.State.{DocumentState}
-use Rattle.textarea_document.specs.Rows.{IsAboveCursor, IsBelowCursor}
-use Rattle.tui_textarea.specs.Hit.{IsInside}
+use Rattle.textarea_ranges.specs.Lookup.{moved_out}
+use Rattle.textarea_document.specs.Outcomes.{after_move}
+use Rattle.textarea_document.specs.DocumentState.{DocumentState}
+use Rattle.textarea_document.specs.DocumentRows.{IsAboveCursor, IsBelowCursor}
+use Rattle.tui_textarea.specs.Hit.{IsNearestShown}
 use Rattle.textarea_document.specs.Target.{VisualTargets, target}
 use Rattle.tui_textarea.specs.Drawing.{viewport_scrolled}
 use Rattle.tui_textarea.specs.State.{State, with_document}
@@ -23,9 +23,9 @@ anchor_with true document = Some (unwrap_or document.anchor document.cursor)
 anchor_with false document = None
 
 -- the cursor moves to the target, with or without Shift; without a target nothing changes
-abbrev pub moved_by : State → Bool → Option Place → State
-moved_by state shift None = state
-moved_by state shift (Some place) = with_document state (moved state.document place (anchor_with shift state.document))
+abbrev pub after_move_by : State → Bool → Option Place → State
+after_move_by state shift None = state
+after_move_by state shift (Some place) = with_document state (after_move state.document place (anchor_with shift state.document))
 
 -- which end of an atomic range replaces the move's target if that is strictly inside it
 abbrev pub bias_of : CursorMove → AtomicCursorBias
@@ -48,14 +48,14 @@ pub record IsTarget (state : State) (cursor_move : CursorMove) (found : Option P
   pub visual : VisualTargets
   pub above_is : cursor_move ≡ move.Up → IsAboveCursor state.document visual.above
   pub below_is : cursor_move ≡ move.Down → IsBelowCursor state.document visual.below
-  pub inside_is : cursor_move ≡ move.InViewport → IsInside state.document state.drawing.viewport visual.inside
+  pub inside_is : cursor_move ≡ move.InViewport → IsNearestShown state.document state.drawing.viewport visual.inside
   pub found_is : found ≡ target visual state.document.text state.document.cursor cursor_move
 
 -- the state after the move, with or without Shift: the cursor is at the target, if there is one
 pub record IsMovedWith (old : State) (shift : Bool) (cursor_move : CursorMove) (new : State) : Type 0 where
   pub found : Option Place
   pub target_is : IsTarget old cursor_move found
-  pub new_is : new ≡ moved_by old shift (pushed old.document.ranges cursor_move found)
+  pub new_is : new ≡ after_move_by old shift (pushed old.document.ranges cursor_move found)
 
 -- the state after a scroll, with or without Shift, with the cursor at the nearest visible position
 abbrev pub IsScrolledWith : State → Bool → Scrolling → State → Type 0

@@ -2,87 +2,87 @@
 -- one state. A pattern may be rejected: that is a result too, and the state stays. The definitions
 -- of moves, scrolls, inputs, measures, hit tests and drawings are those of the text area.
 use Rattle.std.specs.Prelude.{◌≡◌, ℕ, List}
-use Rattle.tui_textarea.specs.Hit.{IsHit}
+use Rattle.tui_textarea.specs.Hit.{IsHitTest}
 use Rattle.tui_textarea.specs.Rendered.{IsDrawn}
 use Rattle.textarea_screen.specs.Buffer.{KeepsOutside}
 use Rattle.textarea_screen.specs.Rect.{contains}
 use Rattle.textarea_screen.specs.declared.screen.buffer.Buffer.{Buffer}
 use Rattle.textarea_screen.specs.declared.screen.rect.Position.{Position}
-use Rattle.tui_textarea.specs.Drawing.{IsRendered, parts_of}
-use Rattle.tui_textarea.specs.Input.{IsActed, IsLeftBy, MayRefuseAct, acts, asked_by, asked_without_shortcuts}
+use Rattle.tui_textarea.specs.Drawing.{IsRendered, drawing_parts}
+use Rattle.tui_textarea.specs.Input.{IsAfterAction, IsInputOutOfMemory, ActMayRunOutOfMemory, action_flag, asked_by, asked_without_shortcuts}
 use Rattle.tui_textarea.specs.Measure.{IsMeasured}
 use Rattle.tui_textarea.specs.Moves.{IsMoved, IsScrolled}
 use Rattle.tui_textarea.specs.State.{State}
 use Rattle.tui_textarea.specs.Search.{with_pattern}
-use Rattle.tui_textarea.specs.Calls.{LeftRefused, NeedsMemory, answer_of, state_after}
-use Rattle.tui_textarea.specs.Patterns.{MayRefusePattern}
-use Rattle.tui_textarea.specs.Said.{Said, Done, Flag, Measured, PatternRefused, Place}
+use Rattle.tui_textarea.specs.Calls.{StateOutOfMemory, NeedsMemory, call_answer, state_after}
+use Rattle.tui_textarea.specs.Patterns.{MayRejectPattern}
+use Rattle.tui_textarea.specs.CallResults.{CallResult, Done, Flag, Measured, PatternRefused, Place}
 use Rattle.textarea_calls.specs.declared.call.Call.{Call}
 use Rattle.textarea_calls.specs.declared.call.Call.TheVariants.{CursorAtPosition, Input, InputWithoutShortcuts, Measure, Move, Render, Scroll, SetSearchPattern}
 
 -- a possible result of setting this pattern
-abbrev pub IsPatternAnswer : State → List ℕ → Said → Type 0
-IsPatternAnswer state text PatternRefused = MayRefusePattern state text
+abbrev pub IsPatternAnswer : State → List ℕ → CallResult → Type 0
+IsPatternAnswer state text PatternRefused = MayRejectPattern state text
 IsPatternAnswer state text answer = answer ≡ Done
 
 -- the state after setting this pattern with this result
-abbrev pub behind_pattern : State → List ℕ → Said → State
-behind_pattern state text PatternRefused = state
-behind_pattern state text answer = with_pattern state text
+abbrev pub after_pattern : State → List ℕ → CallResult → State
+after_pattern state text PatternRefused = state
+after_pattern state text answer = with_pattern state text
 
 -- a possible result of measuring at this width
-abbrev pub IsMeasureAnswer : State → ℕ → Said → Type 0
+abbrev pub IsMeasureAnswer : State → ℕ → CallResult → Type 0
 IsMeasureAnswer state width (Measured measure) = IsMeasured state width measure
 IsMeasureAnswer state width answer = ⊥
 
 -- a possible result of the hit test for this cell
-abbrev pub IsHitAnswer : State → Position → Said → Type 0
-IsHitAnswer state cell (Place place) = IsHit (parts_of state) cell.x cell.y place
+abbrev pub IsHitAnswer : State → Position → CallResult → Type 0
+IsHitAnswer state cell (Place place) = IsHitTest (drawing_parts state) cell.x cell.y place
 IsHitAnswer state cell answer = ⊥
 
 -- a possible result of the call
-abbrev pub IsAnswer : State → Call → Said → Type 0
+abbrev pub IsAnswer : State → Call → CallResult → Type 0
 IsAnswer state (SetSearchPattern text) answer = IsPatternAnswer state text.now answer
 IsAnswer state (Measure width) answer = IsMeasureAnswer state width answer
 IsAnswer state (CursorAtPosition cell) answer = IsHitAnswer state cell answer
-IsAnswer state (Input input) answer = answer ≡ Flag (acts state (asked_by input.now))
-IsAnswer state (InputWithoutShortcuts input) answer = answer ≡ Flag (acts state (asked_without_shortcuts input.now))
-IsAnswer state call answer = answer ≡ answer_of state call
+IsAnswer state (Input input) answer = answer ≡ Flag (action_flag state (asked_by input.now))
+IsAnswer state (InputWithoutShortcuts input) answer = answer ≡ Flag (action_flag state (asked_without_shortcuts input.now))
+IsAnswer state call answer = answer ≡ call_answer state call
 
 -- the state after the call, with this result
-abbrev pub IsBehind : State → Call → Said → State → Type 0
-IsBehind old (SetSearchPattern text) answer new = new ≡ behind_pattern old text.now answer
-IsBehind old (Move cursor_move) answer new = IsMoved old cursor_move new
-IsBehind old (Scroll scrolling) answer new = IsScrolled old scrolling new
-IsBehind old (Render area) answer new = IsRendered old area new
-IsBehind old (Input input) answer new = IsActed old (asked_by input.now) new
-IsBehind old (InputWithoutShortcuts input) answer new = IsActed old (asked_without_shortcuts input.now) new
-IsBehind old call answer new = new ≡ state_after old call
+abbrev pub IsAfterCall : State → Call → CallResult → State → Type 0
+IsAfterCall old (SetSearchPattern text) answer new = new ≡ after_pattern old text.now answer
+IsAfterCall old (Move cursor_move) answer new = IsMoved old cursor_move new
+IsAfterCall old (Scroll scrolling) answer new = IsScrolled old scrolling new
+IsAfterCall old (Render area) answer new = IsRendered old area new
+IsAfterCall old (Input input) answer new = IsAfterAction old (asked_by input.now) new
+IsAfterCall old (InputWithoutShortcuts input) answer new = IsAfterAction old (asked_without_shortcuts input.now) new
+IsAfterCall old call answer new = new ≡ state_after old call
 
 -- the call may run out of memory, because it, or the call of its input, may need memory
-abbrev pub MayRefuse : State → Call → Type 0
-MayRefuse state (Input input) = MayRefuseAct state (asked_by input.now)
-MayRefuse state (InputWithoutShortcuts input) = MayRefuseAct state (asked_without_shortcuts input.now)
-MayRefuse state call = NeedsMemory state call
+abbrev pub MayRunOutOfMemory : State → Call → Type 0
+MayRunOutOfMemory state (Input input) = ActMayRunOutOfMemory state (asked_by input.now)
+MayRunOutOfMemory state (InputWithoutShortcuts input) = ActMayRunOutOfMemory state (asked_without_shortcuts input.now)
+MayRunOutOfMemory state call = NeedsMemory state call
 
 -- the state after a call that ran out of memory
-abbrev pub IsLeft : State → Call → State → Type 0
-IsLeft old (Input input) new = IsLeftBy old (asked_by input.now) new
-IsLeft old (InputWithoutShortcuts input) new = IsLeftBy old (asked_without_shortcuts input.now) new
-IsLeft old call new = LeftRefused old call new
+abbrev pub IsAfterOutOfMemory : State → Call → State → Type 0
+IsAfterOutOfMemory old (Input input) new = IsInputOutOfMemory old (asked_by input.now) new
+IsAfterOutOfMemory old (InputWithoutShortcuts input) new = IsInputOutOfMemory old (asked_without_shortcuts input.now) new
+IsAfterOutOfMemory old call new = StateOutOfMemory old call new
 
 -- the call may run out of memory, and this is the state after it did
-pub record Refused (old : State) (call : Call) (new : State) : Type 0 where
-  pub may : MayRefuse old call
-  pub left : IsLeft old call new
+pub record RanOutOfMemory (old : State) (call : Call) (new : State) : Type 0 where
+  pub may : MayRunOutOfMemory old call
+  pub left : IsAfterOutOfMemory old call new
 
 -- the buffer after the call, if it leaves this state: after a drawing that state drawn into the
 -- area, after any other call the old buffer
-abbrev pub IsShown : Call → State → Buffer → Buffer → Type 0
-IsShown (Render area) state old new = IsDrawn (parts_of state) area old new
-IsShown call state old new = new ≡ old
+abbrev pub IsBufferAfter : Call → State → Buffer → Buffer → Type 0
+IsBufferAfter (Render area) state old new = IsDrawn (drawing_parts state) area old new
+IsBufferAfter call state old new = new ≡ old
 
 -- the buffer after a call that ran out of memory: after a drawing the old one outside the area
-abbrev pub IsSpared : Call → Buffer → Buffer → Type 0
-IsSpared (Render area) old new = KeepsOutside (contains area) old new
-IsSpared call old new = new ≡ old
+abbrev pub IsBufferOutOfMemory : Call → Buffer → Buffer → Type 0
+IsBufferOutOfMemory (Render area) old new = KeepsOutside (contains area) old new
+IsBufferOutOfMemory call old new = new ≡ old

@@ -1,10 +1,10 @@
 -- Why a call that sets a pattern may fail.
 use Rattle.std.specs.Prelude.{◌≡◌, ◌≢◌, ℕ, List, [], Some, Result, Ok, Err, IfOk, IsOk, IsErr}
 use Rattle.regex.specs.declared.error.Error.{Error}
-use Rattle.textarea_search.specs.Failures.{IsCarried, IsPatternFailure}
+use Rattle.textarea_search.specs.PatternErrors.{IsErrorFor, IsPatternFailure}
 use Rattle.textarea_search.specs.declared.error.SearchError.{SearchError}
 use Rattle.textarea_search.specs.declared.error.SearchError.TheVariants.{Memory, Pattern}
-use Rattle.tui_textarea.specs.Said.{said, Done, PatternRefused}
+use Rattle.tui_textarea.specs.CallResults.{call_result, Done, PatternRefused}
 use Rattle.textarea_calls.specs.declared.answer.Answer.{Answer}
 use Rattle.tui_textarea.specs.State.{State}
 
@@ -15,15 +15,15 @@ pub record IsNewPattern (state : State) (text : List ℕ) : Type 0 where
 
 -- `regex` may reject the text as a pattern: it has an error for it, and a syntax error only if the
 -- text is no pattern or nests too deep
-pub record MayRefusePattern (state : State) (text : List ℕ) : Type 0 where
+pub record MayRejectPattern (state : State) (text : List ℕ) : Type 0 where
   pub is_new : IsNewPattern state text
   pub error : Error
   pub because : IsPatternFailure text (Pattern error)
-  pub carried : IsCarried text (Pattern error)
+  pub carried : IsErrorFor text (Pattern error)
 
 -- how the result of setting a pattern is converted: done if it was set; rejected if `regex`
 -- returned an error; and out of memory if that was the reason
-abbrev pub IsToldAs : {T E : Type 0} → Result T SearchError → Result Answer E → Type 0
-IsToldAs (Ok set) told = IsOk told × IfOk told (λ answer. said answer ≡ Done)
-IsToldAs (Err (Pattern error)) told = IsOk told × IfOk told (λ answer. said answer ≡ PatternRefused)
-IsToldAs (Err (Memory error)) told = IsErr told
+abbrev pub IsPatternResult : {T E : Type 0} → Result T SearchError → Result Answer E → Type 0
+IsPatternResult (Ok set) told = IsOk told × IfOk told (λ answer. call_result answer ≡ Done)
+IsPatternResult (Err (Pattern error)) told = IsOk told × IfOk told (λ answer. call_result answer ≡ PatternRefused)
+IsPatternResult (Err (Memory error)) told = IsErr told

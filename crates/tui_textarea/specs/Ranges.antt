@@ -3,7 +3,7 @@ use Rattle.std.specs.Prelude.{List}
 use Rattle.textarea_data.specs.declared.range.AtomicRange.{AtomicRange}
 use Rattle.textarea_data.specs.declared.range.AtomicCursorBias.{AtomicCursorBias}
 use Rattle.textarea_data.specs.declared.range.AtomicDeleteDirection.{AtomicDeleteDirection}
-use Rattle.textarea_document.specs.Edits.{hit_at_cursor}
+use Rattle.textarea_document.specs.Edits.{range_at_cursor}
 use Rattle.textarea_document.specs.Ranges.{accepted, normalized, range_removed, ranges_forgotten}
 use Rattle.tui_textarea.specs.State.{State, with_document}
 
@@ -18,5 +18,5 @@ abbrev pub cursor_normalized : State → AtomicCursorBias → State
 cursor_normalized state bias = with_document state (normalized state.document bias)
 
 -- the range at the cursor is removed, and the selection stays
-abbrev pub hit_range_removed : State → AtomicDeleteDirection → State
-hit_range_removed state direction = with_document state (range_removed (hit_at_cursor state.document direction) state.document state.moment)
+abbrev pub atomic_range_removed : State → AtomicDeleteDirection → State
+atomic_range_removed state direction = with_document state (range_removed (range_at_cursor state.document direction) state.document state.time)

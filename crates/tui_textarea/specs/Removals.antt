@@ -2,11 +2,11 @@
 use Rattle.std.specs.Prelude.{ℕ, ◌+◌, ◌==◌, ◌||◌, nat_lt, Bool, not, List, [], length, min, slice_index_or, if◌then◌else◌, Option, None, Some, is_some}
 use Rattle.textarea_text.specs.Text.{lines}
 use Rattle.textarea_text.specs.Place.{Place, place_of}
-use Rattle.textarea_document.specs.State.{DocumentState}
-use Rattle.textarea_document.specs.Edits.{cursor_index, hit_before, hit_behind, is_at_end, is_at_start, is_filled, taken_symbols, removed_before, removed_behind, break_removed, part_removed}
+use Rattle.textarea_document.specs.DocumentState.{DocumentState}
+use Rattle.textarea_document.specs.Edits.{cursor_index, range_before, range_after, is_at_end, is_at_start, has_symbols, taken_symbols, removed_before, removed_after, break_removed, part_removed}
 use Rattle.textarea_document.specs.Selection.{is_selected}
 use Rattle.textarea_data.specs.declared.range.AtomicRange.{AtomicRange}
-use Rattle.textarea_ranges.specs.Held.{range_start, range_end}
+use Rattle.textarea_ranges.specs.Lookup.{range_start, range_end}
 use Rattle.textarea_document.specs.Target.{word_end_after, word_start_before}
 use Rattle.tui_textarea.specs.State.{State, with_document}
 use Rattle.tui_textarea.specs.Selection.{selection_cancelled, unselected}
@@ -15,19 +15,19 @@ use Rattle.tui_textarea.specs.Selection.{selection_cancelled, unselected}
 
 -- the text between the two positions is removed and yanked, with the atomic ranges that it overlaps
 unfoldable pub yanked : State → Place → Place → State
-yanked state from to = record state { document = part_removed state.document from to state.moment; yank = taken_symbols state.document from to }
+yanked state from to = record state { document = part_removed state.document from to state.time; yank = taken_symbols state.document from to }
 
 -- the atomic range at the cursor, backward, is removed, or else the symbol before the cursor, if
 -- there is one, as a typed edit; and the same forward
 abbrev pub symbol_before_removed : State → State
-symbol_before_removed state = with_document state (removed_before state.document state.settings.undo_coalescing state.moment)
+symbol_before_removed state = with_document state (removed_before state.document state.settings.undo_coalescing state.time)
 
-abbrev pub symbol_behind_removed : State → State
-symbol_behind_removed state = with_document state (removed_behind state.document state.settings.undo_coalescing state.moment)
+abbrev pub symbol_after_removed : State → State
+symbol_after_removed state = with_document state (removed_after state.document state.settings.undo_coalescing state.time)
 
 -- the break before the cursor's line is removed, if there is one
 abbrev pub break_before_removed : State → State
-break_before_removed state = with_document state (break_removed state.document state.moment)
+break_before_removed state = with_document state (break_removed state.document state.time)
 
 abbrev pub cursor_line : DocumentState → List ℕ
 cursor_line document = slice_index_or (lines document.text) document.cursor.0 []
@@ -52,7 +52,7 @@ symbols_ahead_removed state count =
 -- the text from the cursor to the line's end, or at the end the symbol after it
 abbrev pub line_end_removed : State → State
 line_end_removed state =
-    if is_at_line_end state.document then symbol_behind_removed state
+    if is_at_line_end state.document then symbol_after_removed state
     else yanked state state.document.cursor (in_line state.document (length (cursor_line state.document)))
 
 -- the text from the line's start to the cursor, or at the start the break before it
@@ -61,9 +61,9 @@ line_head_removed state =
     if state.document.cursor.1 == 0 then break_before_removed state else yanked state (in_line state.document 0) state.document.cursor
 
 -- the range is removed and not yanked, if there is one; otherwise it is the other state
-abbrev pub hit_removed_or : Option AtomicRange → State → State → State
-hit_removed_or None state other = other
-hit_removed_or (Some range) state other = with_document state (part_removed state.document (range_start range) (range_end range) state.moment)
+abbrev pub cursor_range_removed_or : Option AtomicRange → State → State → State
+cursor_range_removed_or None state other = other
+cursor_range_removed_or (Some range) state other = with_document state (part_removed state.document (range_start range) (range_end range) state.time)
 
 -- the text from the start of the word before the cursor, or from the line's start, to the cursor;
 -- at the line's start the break before it
@@ -74,24 +74,24 @@ back_to_word_removed state =
 
 -- the range at the cursor, backward, or else back to the word's start
 abbrev pub word_before_removed : State → State
-word_before_removed state = hit_removed_or (hit_before state.document) state (back_to_word_removed state)
+word_before_removed state = cursor_range_removed_or (range_before state.document) state (back_to_word_removed state)
 
 -- the text from the cursor to the word's end, or to the line's end; there the symbol after it
 unfoldable pub on_to_word_end_removed : State → State
 on_to_word_end_removed state =
-    if is_at_line_end state.document then symbol_behind_removed state
+    if is_at_line_end state.document then symbol_after_removed state
     else yanked state state.document.cursor (in_line state.document (word_end_after (cursor_line state.document) state.document.cursor.1))
 
 -- the range at the cursor, forward, or else up to the word's end
-abbrev pub word_behind_removed : State → State
-word_behind_removed state = hit_removed_or (hit_behind state.document) state (on_to_word_end_removed state)
+abbrev pub word_after_removed : State → State
+word_after_removed state = cursor_range_removed_or (range_after state.document) state (on_to_word_end_removed state)
 
 -- whether each of them has a symbol to remove
 abbrev pub has_before : State → Bool
 has_before state = not (is_at_start state.document)
 
-abbrev pub has_behind : State → Bool
-has_behind state = not (is_at_end state.document)
+abbrev pub has_after : State → Bool
+has_after state = not (is_at_end state.document)
 
 abbrev pub has_break_before : State → Bool
 has_break_before state = not (state.document.cursor.0 == 0)
@@ -100,18 +100,18 @@ abbrev pub has_ahead : State → ℕ → Bool
 has_ahead state count = nat_lt (cursor_index state.document) (index_ahead state.document count)
 
 -- whether there is text after the cursor, in its line or after that; and the same before it
-abbrev pub has_line_behind : State → Bool
-has_line_behind state = not (is_at_line_end state.document) || has_behind state
+abbrev pub has_line_after : State → Bool
+has_line_after state = not (is_at_line_end state.document) || has_after state
 
 abbrev pub has_line_before : State → Bool
 has_line_before state = not (state.document.cursor.1 == 0) || has_break_before state
 
 -- whether there is a range at the cursor, or text in that direction
 abbrev pub has_word_before : State → Bool
-has_word_before state = is_some (hit_before state.document) || has_line_before state
+has_word_before state = is_some (range_before state.document) || has_line_before state
 
-abbrev pub has_word_behind : State → Bool
-has_word_behind state = is_some (hit_behind state.document) || has_line_behind state
+abbrev pub has_word_after : State → Bool
+has_word_after state = is_some (range_after state.document) || has_line_after state
 
 -- ---- the calls
 
@@ -125,4 +125,4 @@ removes_or state other = is_selected state.document || other
 -- all text is removed and yanked, as one removal from its start; an empty text stays unchanged
 abbrev pub text_cleared : State → State
 text_cleared state =
-    if is_filled state.document.text then yanked state (0, 0) (place_of state.document.text (length state.document.text)) else state
+    if has_symbols state.document.text then yanked state (0, 0) (place_of state.document.text (length state.document.text)) else state

@@ -5,26 +5,26 @@ use Rattle.textarea_screen.specs.declared.screen.buffer.Buffer.{Buffer}
 use Rattle.tui_textarea.specs.State.{State}
 use Rattle.textarea_calls.specs.declared.call.Call.{Call}
 use Rattle.textarea_calls.specs.declared.answer.Answer.{Answer}
-use Rattle.tui_textarea.specs.Said.{Said, said}
-use Rattle.tui_textarea.specs.Outcomes.{IsAnswer, IsBehind, IsShown, IsSpared, Refused}
+use Rattle.tui_textarea.specs.CallResults.{CallResult, call_result}
+use Rattle.tui_textarea.specs.Outcomes.{IsAnswer, IsAfterCall, IsBufferAfter, IsBufferOutOfMemory, RanOutOfMemory}
 
 -- the call may have this result in the old state and over the old buffer, and leave the new ones
-pub record Makes (old : State) (buffer : Buffer) (call : Call) (answer : Said) (new : State) (shown : Buffer) : Type 0 where
+pub record CallLeads (old : State) (buffer : Buffer) (call : Call) (answer : CallResult) (new : State) (shown : Buffer) : Type 0 where
   pub answered : IsAnswer old call answer
-  pub behind : IsBehind old call answer new
-  pub drawn : IsShown call new buffer shown
+  pub behind : IsAfterCall old call answer new
+  pub drawn : IsBufferAfter call new buffer shown
 
 -- the calls lead with these results, one for each call, from the old state and buffer to the new
 -- ones: each call starts from the state and buffer after the one before it
-abbrev pub Leads : State → Buffer → List Call → List Said → State → Buffer → Type 0
+abbrev pub Leads : State → Buffer → List Call → List CallResult → State → Buffer → Type 0
 Leads old buffer [] [] new shown = (new ≡ old) × (shown ≡ buffer)
 Leads old buffer (call ∷ calls) (answer ∷ answers) new shown =
-    (between : State) × (screen : Buffer) × Makes old buffer call answer between screen × Leads between screen calls answers new shown
+    (between : State) × (screen : Buffer) × CallLeads old buffer call answer between screen × Leads between screen calls answers new shown
 Leads old buffer calls answers new shown = ⊥
 
 -- all calls were made
 abbrev pub Completes : State → Buffer → List Call → List Answer → State → Buffer → Type 0
-Completes old buffer calls answers new shown = Leads old buffer calls (map said answers) new shown
+Completes old buffer calls answers new shown = Leads old buffer calls (map call_result answers) new shown
 
 -- the calls before this index were made, and the one at it ran out of memory, in the state and over
 -- the buffer after them
@@ -33,9 +33,9 @@ pub record StopsAt (old : State) (buffer : Buffer) (calls : List Call) (answers 
   pub here : slice_get calls index ≡ Some call
   pub before : State
   pub screen : Buffer
-  pub led : Leads old buffer (take index calls) (map said answers) before screen
-  pub refused : Refused before call new
-  pub spared : IsSpared call screen shown
+  pub led : Leads old buffer (take index calls) (map call_result answers) before screen
+  pub refused : RanOutOfMemory before call new
+  pub spared : IsBufferOutOfMemory call screen shown
 
 -- there is a call, but memory runs out for the list of results, so none was made
 pub record NeverBegins (old : State) (buffer : Buffer) (calls : List Call) (answers : List Answer) (index : ℕ) (new : State) (shown : Buffer) : Type 0 where

@@ -7,7 +7,7 @@ use Rattle.textarea_search.specs.Matches.{match_columns}
 use Rattle.textarea_search.specs.Starts.{found_start, starts_from}
 use Rattle.textarea_search.specs.declared.search.direction.Direction.{Direction}
 use Rattle.textarea_search.specs.declared.search.direction.Direction.TheVariants.{Forward, Back}
-use Rattle.textarea_document.specs.Outcomes.{moved}
+use Rattle.textarea_document.specs.Outcomes.{after_move}
 use Rattle.tui_textarea.specs.State.{State, with_document}
 
 -- the pattern that a text sets: none if it is empty
@@ -38,6 +38,6 @@ abbrev pub previous_match : State → Bool → Option Place
 previous_match state at_cursor = found_match Back state at_cursor
 
 -- the cursor moves to the found position, if any; the anchor stays, and a run of typing ends
-abbrev pub searched : State → Option Place → State
-searched state None = state
-searched state (Some place) = with_document state (moved state.document place state.document.anchor)
+abbrev pub after_search : State → Option Place → State
+after_search state None = state
+after_search state (Some place) = with_document state (after_move state.document place state.document.anchor)

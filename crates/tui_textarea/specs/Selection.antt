@@ -2,13 +2,13 @@
 use Rattle.std.specs.Prelude.{◌≡◌, ◌⊎◌, Some, length, if◌then◌else◌}
 use Rattle.textarea_text.specs.Place.{place_of}
 use Rattle.textarea_document.specs.Edits.{taken_symbols}
-use Rattle.textarea_document.specs.Outcomes.{moved, unanchored}
+use Rattle.textarea_document.specs.Outcomes.{after_move, unanchored}
 use Rattle.textarea_document.specs.Selection.{is_selected, selected, selection_end, selection_start, selected_removed}
 use Rattle.tui_textarea.specs.State.{State, with_document}
 
 -- the selected text is removed, if there is any: an edit of its own, which yanks nothing
 abbrev pub unselected : State → State
-unselected state = with_document state (selected_removed state.document state.moment)
+unselected state = with_document state (selected_removed state.document state.time)
 
 abbrev pub selection_cancelled : State → State
 selection_cancelled state = with_document state (unanchored state.document)
@@ -18,7 +18,7 @@ selection_started state = with_document state (record state.document { anchor = 
 
 -- the whole text is selected, from its start to the cursor, which moves to its end
 abbrev pub all_selected : State → State
-all_selected state = with_document state (moved state.document (place_of state.document.text (length state.document.text)) (Some (0, 0)))
+all_selected state = with_document state (after_move state.document (place_of state.document.text (length state.document.text)) (Some (0, 0)))
 
 -- the selected text is yanked, if there is any; nothing is selected any more
 abbrev pub selection_copied : State → State
@@ -32,5 +32,5 @@ selection_cut state =
     else selection_cancelled state
 
 -- the state after an insertion that ran out of memory: the old one, or it without the selected text
-abbrev pub IsLeft : State → State → Type 0
-IsLeft old new = (new ≡ old) ⊎ (new ≡ unselected old)
+abbrev pub IsInsertOutOfMemory : State → State → Type 0
+IsInsertOutOfMemory old new = (new ≡ old) ⊎ (new ≡ unselected old)

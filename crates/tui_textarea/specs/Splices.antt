@@ -3,13 +3,13 @@ use Rattle.std.specs.Prelude.{ℕ, ◌==◌, List, [], ◌∷◌, ◌++◌, leng
 use Rattle.textarea_text.specs.Place.{place_of}
 use Rattle.textarea_text.specs.Splice.{Splice}
 use Rattle.textarea_text.specs.Text.{Symbol, Break, Character}
-use Rattle.textarea_document.specs.Edits.{cursor_index, hit_before, hit_behind, is_filled}
+use Rattle.textarea_document.specs.Edits.{cursor_index, range_before, range_after, has_symbols}
 use Rattle.textarea_document.specs.Selection.{is_selected}
 use Rattle.textarea_document.specs.Splices.{after_splices, before_splices, break_splices, insertion_splices, range_splices_or, redo_splices, removal_splices, selected_splices, undo_splices}
-use Rattle.textarea_document.specs.State.{DocumentState}
+use Rattle.textarea_document.specs.DocumentState.{DocumentState}
 use Rattle.textarea_document.specs.Target.{word_end_after, word_start_before}
 use Rattle.tui_textarea.specs.Edits.{breaks_line, spaces_to_stop}
-use Rattle.tui_textarea.specs.Layout.{tab_length}
+use Rattle.tui_textarea.specs.LayoutCalls.{tab_length}
 use Rattle.tui_textarea.specs.Removals.{cursor_line, in_line, index_ahead, is_at_line_end}
 use Rattle.tui_textarea.specs.Selection.{unselected}
 use Rattle.tui_textarea.specs.State.{State}
@@ -61,7 +61,7 @@ line_head_splices document =
 -- start the break before it
 abbrev pub word_before_splices : DocumentState → List Splice
 word_before_splices document =
-    range_splices_or (hit_before document) document
+    range_splices_or (range_before document) document
     (if document.cursor.1 == 0 then break_splices document
     else removal_splices document (in_line document (word_start_before (cursor_line document) document.cursor.1)) document.cursor)
 
@@ -69,11 +69,11 @@ word_before_splices document =
 -- after it
 abbrev pub word_after_splices : DocumentState → List Splice
 word_after_splices document =
-    range_splices_or (hit_behind document) document
+    range_splices_or (range_after document) document
     (if is_at_line_end document then after_splices document
     else removal_splices document document.cursor (in_line document (word_end_after (cursor_line document) document.cursor.1)))
 
 -- the whole text, if there is any
 abbrev pub clear_splices : DocumentState → List Splice
 clear_splices document =
-    if is_filled document.text then removal_splices document (0, 0) (place_of document.text (length document.text)) else []
+    if has_symbols document.text then removal_splices document (0, 0) (place_of document.text (length document.text)) else []

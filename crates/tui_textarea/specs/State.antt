@@ -3,10 +3,10 @@ use Rattle.std.specs.Prelude.{ℕ, List, [], false, map, Option, None}
 use Rattle.std.specs.Borrow.{Bor}
 use Rattle.std.specs.Str.{chars}
 use Rattle.textarea_text.specs.Text.{Symbol, joined}
-use Rattle.textarea_document.specs.State.{DocumentState, new_document}
+use Rattle.textarea_document.specs.DocumentState.{DocumentState, new_document}
 use Rattle.textarea_wrap.specs.declared.wrap.WrapMode.TheVariants as mode
 use Rattle.textarea_lines.specs.declared.settings.LayoutSettings.{LayoutSettings}
-use Rattle.textarea_view.specs.State.{SurroundState, new_surround}
+use Rattle.textarea_view.specs.SurroundState.{SurroundState, new_surround}
 use Rattle.tui_textarea.specs.DrawingState.{DrawingState, for_other_lines, new_drawing}
 use Rattle.tui_textarea.specs.declared.textarea.settings.Settings.{Settings}
 
@@ -17,7 +17,7 @@ pub record State : Type 0 where
   pub document : DocumentState
   pub yank : List Symbol
   pub settings : Settings
-  pub moment : ℕ
+  pub time : ℕ
   pub pattern : Option (List ℕ)
   pub surround : SurroundState
   pub drawing : DrawingState
@@ -34,7 +34,7 @@ default_layout = record { mode = mode.None; tab_len = 4; line_numbers = false; i
 -- a new text area: the cursor at the start, nothing selected, at most 50 edits remembered and none
 -- yet, nothing yanked, no pattern, no block and no placeholder, the initial look, and nothing drawn
 abbrev pub new_state : List Symbol → State
-new_state text = record { document = new_document text default_layout 50; yank = []; settings = default_settings; moment = 0; pattern = None; surround = new_surround; drawing = new_drawing }
+new_state text = record { document = new_document text default_layout 50; yank = []; settings = default_settings; time = 0; pattern = None; surround = new_surround; drawing = new_drawing }
 
 abbrev pub with_document : State → DocumentState → State
 with_document state document = record state { document = document }
@@ -44,9 +44,9 @@ abbrev pub with_other_lines : State → DocumentState → State
 with_other_lines state document = record state { document = document; drawing = for_other_lines state.drawing }
 
 -- the characters of a borrowed text
-abbrev pub lent_characters : Bor (List ℕ) → List ℕ
-lent_characters text = chars text.now
+abbrev pub borrowed_characters : Bor (List ℕ) → List ℕ
+borrowed_characters text = chars text.now
 
 -- the text with each of these as a line
 abbrev pub text_of_each : List (Bor (List ℕ)) → List Symbol
-text_of_each texts = joined (map lent_characters texts)
+text_of_each texts = joined (map borrowed_characters texts)

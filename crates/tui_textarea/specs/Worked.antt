@@ -2,20 +2,20 @@
 use Rattle.std.specs.Prelude.{ℕ, List, [], ◌∷◌, replicate}
 use Rattle.std.specs.List.{range_with_len}
 use Rattle.textarea_data.specs.declared.cursor.CursorMove.TheVariants.{Bottom, End}
-use Rattle.textarea_document.specs.Outcomes.{redone, undone}
-use Rattle.textarea_text.specs.Given.{given}
+use Rattle.textarea_document.specs.Outcomes.{after_redo, after_undo}
+use Rattle.textarea_text.specs.Fragment.{fragment_symbols}
 use Rattle.textarea_screen.specs.declared.screen.style.Style.{Style}
 use Rattle.textarea_text.specs.Text.{Symbol, joined}
 use Rattle.textarea_wrap.specs.declared.wrap.WrapMode.{WrapMode}
 use Rattle.textarea_wrap.specs.declared.wrap.WrapMode.TheVariants as mode
 use Rattle.tui_textarea.specs.Edits.{char_inserted, str_inserted}
-use Rattle.tui_textarea.specs.Layout.{with_line_numbers, with_wrap_mode}
+use Rattle.tui_textarea.specs.LayoutCalls.{with_line_numbers, with_wrap_mode}
 use Rattle.tui_textarea.specs.Moves.{IsMoved}
 use Rattle.tui_textarea.specs.State.{State, new_state, with_document}
 
 -- the number of lines that were wrapped so far
-abbrev pub cut_so_far : State → ℕ
-cut_so_far state = state.document.layout.count
+abbrev pub wrapped_so_far : State → ℕ
+wrapped_so_far state = state.document.layout.count
 
 -- this number of equal lines, each of this number of letters from `a` on
 abbrev pub lettered : ℕ → ℕ → List Symbol
@@ -34,14 +34,14 @@ with_a state = char_inserted state 97
 
 -- three lines `x`, `y` and `z` are inserted
 abbrev pub with_x_y_z : State → State
-with_x_y_z state = str_inserted state (given (120 ∷ 10 ∷ 121 ∷ 10 ∷ 122 ∷ []))
+with_x_y_z state = str_inserted state (fragment_symbols (120 ∷ 10 ∷ 121 ∷ 10 ∷ 122 ∷ []))
 
 -- the newest edit is undone; and redone
-abbrev pub taken_back : State → State
-taken_back state = with_document state (undone state.document)
+abbrev pub with_undone : State → State
+with_undone state = with_document state (after_undo state.document)
 
-abbrev pub made_again : State → State
-made_again state = with_document state (redone state.document)
+abbrev pub with_redone : State → State
+with_redone state = with_document state (after_redo state.document)
 
 -- the cursor has moved to the last line, and to its end
 abbrev pub IsAtEndOf : State → State → Type 0

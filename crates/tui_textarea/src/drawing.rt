@@ -12,7 +12,7 @@ use std::alloc::{AllocError, Global};
 use std::marker::Model;
 use textarea_data::scroll::Scrolling;
 use textarea_screen::screen::Position;
-use textarea_search::search::KeptMatches;
+use textarea_search::search::MatchCache;
 use textarea_view::Viewport;
 use textarea_view::look::{CustomHighlight, Look};
 
@@ -26,13 +26,13 @@ pub struct Drawing {
     corner: Position,
     height: u16,
     caret: Option<Position>,
-    kept_matches: KeptMatches,
+    match_cache: MatchCache,
 }
 
 impl Model for Drawing {
     ghost use Rattle.std.specs.Option.{option_map};
     ghost use Rattle.tui_textarea.specs.DrawingState.{DrawingState};
-    ghost use Rattle.textarea_view.specs.Placed.{cell_of_position};
+    ghost use Rattle.textarea_view.specs.Placements.{cell_of_position};
 
     ghost Value = { DrawingState };
 
@@ -58,7 +58,7 @@ impl Clone for Drawing {
             corner: self.corner,
             height: self.height,
             caret: self.caret,
-            kept_matches: KeptMatches::new(*self.highlights.allocator()),
+            match_cache: MatchCache::new(*self.highlights.allocator()),
         })
     }
 }
@@ -75,7 +75,7 @@ impl Drawing {
             corner: Position { x: 0, y: 0 },
             height: 0,
             caret: None,
-            kept_matches: KeptMatches::new(alloc),
+            match_cache: MatchCache::new(alloc),
         }
     }
 

@@ -3,34 +3,34 @@ ghost use Rattle.std.specs.Prelude.{◌≡◌, ◌<◌, ◌^◌, ℕ, Bool, [], 
 ghost use Rattle.textarea_util.specs.Limit.{size_limit};
 ghost use Rattle.textarea_data.specs.declared.cursor.CursorMove.{CursorMove};
 ghost use Rattle.textarea_data.specs.declared.scroll.Scrolling.{Scrolling};
-ghost use Rattle.textarea_document.specs.Rows.{laid_out_of};
+ghost use Rattle.textarea_document.specs.DocumentRows.{text_and_layout};
 ghost use Rattle.textarea_document.specs.Sound.{IsSound};
-ghost use Rattle.tui_textarea.specs.CaretBack.{IsHitBack};
+ghost use Rattle.tui_textarea.specs.CaretBack.{IsCaretHit};
 ghost use Rattle.tui_textarea.specs.DrawnFrame.{frame_of};
 ghost use Rattle.textarea_view.specs.Frame.{shows_placeholder};
 ghost use Rattle.tui_textarea.specs.CaretShown.{IsCaretShown};
 ghost use Rattle.textarea_calls.specs.declared.action.Action.{Action};
-ghost use Rattle.textarea_screen_map.specs.Lent.{LentRows};
+ghost use Rattle.textarea_screen_map.specs.BorrowedLines.{BorrowedRows};
 ghost use Rattle.textarea_lines.specs.View.{IsViewOf};
 ghost use Rattle.textarea_blocks.specs.Sums.{row_total};
 ghost use Rattle.textarea_screen.specs.declared.screen.rect.Rect.{Rect};
-ghost use Rattle.textarea_view.specs.Measure.{saturated, width_inside};
+ghost use Rattle.textarea_view.specs.Measure.{saturated_u16, width_inside};
 ghost use Rattle.textarea_view.specs.declared.surround.measure.TextAreaMeasure.{TextAreaMeasure};
 ghost use Rattle.textarea_text.specs.Size.{weight};
-ghost use Rattle.tui_textarea.specs.Drawing.{IsRendered, parts_of};
-ghost use Rattle.tui_textarea.specs.Frames.{IsLaidOutFor};
+ghost use Rattle.tui_textarea.specs.Drawing.{IsRendered, drawing_parts};
+ghost use Rattle.tui_textarea.specs.Frames.{HasLayoutFor};
 ghost use Rattle.tui_textarea.specs.Measure.{IsMeasured, IsMeasuredAround};
-ghost use Rattle.tui_textarea.specs.Input.{IsActed};
+ghost use Rattle.tui_textarea.specs.Input.{IsAfterAction};
 ghost use Rattle.tui_textarea.specs.Moves.{IsMovedWith, IsScrolledWith};
 ghost use Rattle.tui_textarea.specs.State.{State};
 
-use crate::drawing::laws::{caret_is_hit_back, caret_is_shown, one_place_inside};
+use crate::drawing::laws::{caret_hit_is_cursor, caret_is_shown, one_nearest_place};
 pub use crate::textarea::laws::{
-    copy_then_paste, cursor_and_anchor_are_places, edits_fit, is_sound, redo_gives_all_back,
-    rows_are_laid_out_anew, undos_give_back,
+    copy_then_paste, cursor_and_anchor_are_places, edits_fit, is_sound, redo_restores_all,
+    rows_are_those_from_scratch, undos_restore,
 };
 use textarea_document::laws::{one_place_up_and_down, one_row_count};
-use textarea_lines::laws::{cut_as_measured, settings_stay};
+use textarea_lines::laws::{settings_stay, wrapped_as_measured};
 
 /// A move determines the state after it, with or without Shift.
 pub fn one_move()
@@ -39,13 +39,13 @@ pub fn one_move()
         first ≡ second }
 {
     one_place_up_and_down();
-    one_place_inside();
+    one_nearest_place();
 }
 
 /// The action of an input determines the state after it.
 pub fn one_input()
     ensures { (old first second : State) (action : Action) →
-        IsActed old action first → IsActed old action second → first ≡ second }
+        IsAfterAction old action first → IsAfterAction old action second → first ≡ second }
 {
     one_move();
 }
@@ -62,20 +62,21 @@ pub fn one_measure()
 /// drawing shows, up to 65535: its visual rows, if a column is left inside the block, or the
 /// placeholder's lines, if these are shown instead.
 pub fn measured_as_drawn()
-    ensures rows { (old new : State) (area : Rect) (measure : TextAreaMeasure) (view : LentRows) →
+    ensures rows { (old new : State) (area : Rect) (measure : TextAreaMeasure) (view : BorrowedRows)
+        →
         IsMeasuredAround old new area.width measure → IsRendered old area new →
         0 < width_inside old.surround.block area.width →
-        IsViewOf (laid_out_of new.document) view →
-        shows_placeholder (frame_of (parts_of new) view) ≡ false →
-        measure.content_rows ≡ saturated (row_total view.rows) }
+        IsViewOf (text_and_layout new.document) view →
+        shows_placeholder (frame_of (drawing_parts new) view) ≡ false →
+        measure.content_rows ≡ saturated_u16 (row_total view.rows) }
     ensures placeholder { (old new : State) (area : Rect) (measure : TextAreaMeasure)
-        (view : LentRows) →
+        (view : BorrowedRows) →
         IsMeasuredAround old new area.width measure → IsRendered old area new →
-        shows_placeholder (frame_of (parts_of new) view) ≡ true →
-        measure.content_rows ≡ saturated (length new.surround.placeholder.lines) }
+        shows_placeholder (frame_of (drawing_parts new) view) ≡ true →
+        measure.content_rows ≡ saturated_u16 (length new.surround.placeholder.lines) }
 {
     one_row_count();
-    cut_as_measured();
+    wrapped_as_measured();
     settings_stay();
 }
 
@@ -83,30 +84,30 @@ pub fn measured_as_drawn()
 /// already, a drawing into that area leaves the document unchanged: no line is wrapped.
 pub fn drawn_at_its_width()
     ensures put { (old new : State) (area : Rect) →
-        IsRendered old area new → IsLaidOutFor new area.width }
-    ensures stays { (old new : State) (area : Rect) → IsLaidOutFor old area.width →
+        IsRendered old area new → HasLayoutFor new area.width }
+    ensures stays { (old new : State) (area : Rect) → HasLayoutFor old area.width →
         IsRendered old area new → new.document ≡ old.document }
 {
     settings_stay();
 }
 
 /// A move or scroll, with or without Shift, leaves the layout and its width: no line is wrapped.
-pub fn moves_cut_nothing()
+pub fn moves_wrap_nothing()
     ensures moved { (old new : State) (shift : Bool) (cursor_move : CursorMove) →
         IsMovedWith old shift cursor_move new → new.document.layout ≡ old.document.layout }
     ensures scrolled { (old new : State) (shift : Bool) (scrolling : Scrolling) →
         IsScrolledWith old shift scrolling new → new.document.layout ≡ old.document.layout }
     ensures width_moved { (old new : State) (shift : Bool) (cursor_move : CursorMove)
         (width : ℕ) → IsMovedWith old shift cursor_move new →
-        IsLaidOutFor old width → IsLaidOutFor new width }
+        HasLayoutFor old width → HasLayoutFor new width }
     ensures width_scrolled { (old new : State) (shift : Bool) (scrolling : Scrolling)
         (width : ℕ) → IsScrolledWith old shift scrolling new →
-        IsLaidOutFor old width → IsLaidOutFor new width }
+        HasLayoutFor old width → HasLayoutFor new width }
 {}
 
 /// The text is wrapped once for all drawings at one width: a second drawing into an area of the
 /// same width leaves the document unchanged, even after a move or a scroll between the two.
-pub fn frame_cuts_once()
+pub fn frame_wraps_once()
     ensures again { (old first second : State) (area other : Rect) → other.width ≡ area.width →
         IsRendered old area first → IsRendered first other second →
         second.document ≡ first.document }
@@ -120,19 +121,19 @@ pub fn frame_cuts_once()
         IsRendered scrolled other second → second.document ≡ scrolled.document }
 {
     drawn_at_its_width();
-    moves_cut_nothing();
+    moves_wrap_nothing();
 }
 
 /// After every drawing, the position at the caret's cell is the cursor, if the caret is shown and
 /// no character of the cursor's visual row has display width 0. With left alignment the caret is
 /// shown if the inner area has room for it. Every text area satisfies the assumed limits of size.
-pub fn carets_are_kept()
+pub fn caret_hits_are_cursors()
     ensures back { (old new : State) (area : Rect) → IsSound new.document →
-        IsRendered old area new → IsHitBack (parts_of new) }
+        IsRendered old area new → IsCaretHit (drawing_parts new) }
     ensures shown { (old new : State) (area : Rect) → weight new.document.text < size_limit →
         new.document.layout.settings.tab_len < 2 ^ 8 →
-        IsRendered old area new → IsCaretShown (parts_of new) }
+        IsRendered old area new → IsCaretShown (drawing_parts new) }
 {
-    caret_is_hit_back();
+    caret_hit_is_cursor();
     caret_is_shown();
 }

@@ -22,8 +22,8 @@ ghost use Rattle.textarea_util.specs.Limit.{size_limit};
 ghost use Rattle.textarea_text.specs.Text.{lines, lines_of, text_of};
 ghost use Rattle.textarea_text.specs.Place.{IsPlace};
 ghost use Rattle.textarea_text.specs.Size.{size_of};
-ghost use Rattle.textarea_document.specs.State.{fresh_document};
-ghost use Rattle.textarea_text.specs.Part.{clip};
+ghost use Rattle.textarea_document.specs.DocumentState.{fresh_document};
+ghost use Rattle.textarea_text.specs.Between.{clip};
 ghost use Rattle.tui_textarea.specs.State.{new_state, with_other_lines};
 
 use crate::drawing::Drawing;
@@ -58,7 +58,7 @@ pub struct TextArea<'a> {
     document: Document,
     yank: Vec<String>,
     settings: Settings,
-    moment: Duration,
+    time: Duration,
     search: Search,
     surround: Surround<'a>,
     drawing: Drawing,
@@ -75,7 +75,7 @@ impl<'a> Model for TextArea<'a> {
       document = area.document;
       yank = text_of area.yank.items;
       settings = area.settings;
-      moment = as_nanos area.moment;
+      time = as_nanos area.time;
       pattern = area.search;
       surround = area.surround;
       drawing = area.drawing;
@@ -87,13 +87,13 @@ impl<'a> Clone for TextArea<'a> {
 
     /// Returns a copy of the text area with its history, or an error if memory runs out.
     fn clone(&self) -> Result<TextArea<'a>, AllocError> {
-        let (search, surround, drawing) = self.clone_shown()?;
+        let (search, surround, drawing) = self.clone_look()?;
         let (document, yank) = self.clone_text()?;
         Ok(TextArea {
             document,
             yank,
             settings: self.settings,
-            moment: self.moment,
+            time: self.time,
             search,
             surround,
             drawing,
@@ -112,7 +112,7 @@ impl<'a> TextArea<'a> {
     }
 
     // Returns copies of the search pattern, of the surround, and of the state of drawing.
-    fn clone_shown(&self) -> Result<(Search, Surround<'a>, Drawing), AllocError>
+    fn clone_look(&self) -> Result<(Search, Surround<'a>, Drawing), AllocError>
         ensures pattern { IfOk result (λ copies. copies.0 ≡ self.now.pattern) }
         ensures surround { IfOk result (λ copies. copies.1 ≡ self.now.surround) }
         ensures drawing { IfOk result (λ copies. copies.2 ≡ self.now.drawing) }
@@ -132,7 +132,7 @@ impl<'a> TextArea<'a> {
             document: Document::new(alloc, lines, DEFAULT_LAYOUT, DEFAULT_MAX_HISTORIES)?,
             yank: Vec::new(alloc),
             settings: Settings::default(),
-            moment: Duration::ZERO,
+            time: Duration::ZERO,
             search: Search::default(),
             surround: Surround::new(alloc),
             drawing: Drawing::new(alloc),

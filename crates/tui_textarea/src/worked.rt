@@ -2,80 +2,80 @@
 ghost use Rattle.std.specs.Prelude.{◌≡◌, ◌+◌, Bool, Some};
 ghost use Rattle.textarea_data.specs.declared.cursor.CursorMove.TheVariants.{Down};
 ghost use Rattle.textarea_data.specs.declared.scroll.Scrolling.{Scrolling};
-ghost use Rattle.textarea_document.specs.Cuts.{CutsNothing};
-ghost use Rattle.textarea_document.specs.Rows.{laid_out_of};
-ghost use Rattle.textarea_lines.specs.Cuts.{map_width};
+ghost use Rattle.textarea_document.specs.DocumentWraps.{WrapsNothing};
+ghost use Rattle.textarea_document.specs.DocumentRows.{text_and_layout};
+ghost use Rattle.textarea_lines.specs.LineWraps.{map_width};
 ghost use Rattle.textarea_screen.specs.declared.screen.rect.Rect.{Rect};
 ghost use Rattle.textarea_screen.specs.declared.screen.style.Style.{Style};
 ghost use Rattle.textarea_wrap.specs.declared.wrap.WrapMode.TheVariants as mode;
 ghost use Rattle.tui_textarea.specs.Drawing.{IsRendered};
 ghost use Rattle.tui_textarea.specs.Edits.{newline_inserted};
 ghost use Rattle.tui_textarea.specs.Moves.{IsMoved, IsScrolled};
-ghost use Rattle.tui_textarea.specs.Search.{next_match, searched};
+ghost use Rattle.tui_textarea.specs.Search.{next_match, after_search};
 ghost use Rattle.tui_textarea.specs.State.{State};
-ghost use Rattle.tui_textarea.specs.Worked.{IsAtEndOf, cut_so_far, hundred_lines, made_again, nine_lines, taken_back, with_a, with_x_y_z};
+ghost use Rattle.tui_textarea.specs.Worked.{IsAtEndOf, wrapped_so_far, hundred_lines, with_redone, nine_lines, with_undone, with_a, with_x_y_z};
 
-use crate::laws::{drawn_at_its_width, moves_cut_nothing};
+use crate::laws::{drawn_at_its_width, moves_wrap_nothing};
 
 /// A hundred lines `abcdefgh`, wrapped by grapheme clusters, are drawn into an area of 6 columns.
 /// Then a typed `a` wraps one line; `x`, `y` and `z`, three lines inserted at once, wrap three
 /// lines; the undo of that wraps one, and the redo three.
-pub fn hundred_lines_are_cut()
+pub fn hundred_lines_wrap()
     ensures typed { (drawn : State) (area : Rect) → area.width ≡ 6 →
         IsRendered hundred_lines area drawn →
-        cut_so_far (with_a drawn) ≡ cut_so_far drawn + 1 }
+        wrapped_so_far (with_a drawn) ≡ wrapped_so_far drawn + 1 }
     ensures inserted { (drawn : State) (area : Rect) → area.width ≡ 6 →
         IsRendered hundred_lines area drawn →
-        cut_so_far (with_x_y_z (with_a drawn)) ≡ cut_so_far (with_a drawn) + 3 }
+        wrapped_so_far (with_x_y_z (with_a drawn)) ≡ wrapped_so_far (with_a drawn) + 3 }
     ensures undone { (drawn : State) (area : Rect) → area.width ≡ 6 →
         IsRendered hundred_lines area drawn →
-        cut_so_far (taken_back (with_x_y_z (with_a drawn)))
-        ≡ cut_so_far (with_x_y_z (with_a drawn)) + 1 }
+        wrapped_so_far (with_undone (with_x_y_z (with_a drawn)))
+        ≡ wrapped_so_far (with_x_y_z (with_a drawn)) + 1 }
     ensures redone { (drawn : State) (area : Rect) → area.width ≡ 6 →
         IsRendered hundred_lines area drawn →
-        cut_so_far (made_again (taken_back (with_x_y_z (with_a drawn))))
-        ≡ cut_so_far (taken_back (with_x_y_z (with_a drawn))) + 3 }
+        wrapped_so_far (with_redone (with_undone (with_x_y_z (with_a drawn))))
+        ≡ wrapped_so_far (with_undone (with_x_y_z (with_a drawn))) + 3 }
 {}
 
 /// Nine lines `abcdefg` with line numbers, wrapped by clusters, are drawn into an area of 11
 /// columns, and the cursor moves to the end of the last one. Then a line break makes a tenth line,
 /// whose number needs one more column: the map of visual rows shrinks from 7 columns to 6, and all
 /// ten lines are wrapped. Its undo wraps all nine.
-pub fn tenth_line_is_cut()
+pub fn tenth_line_wraps_all()
     ensures width { (style : Style) (drawn ended : State) (area : Rect) → area.width ≡ 11 →
         IsRendered (nine_lines mode.Glyph style) area drawn → IsAtEndOf drawn ended →
-        map_width (laid_out_of ended.document) ≡ Some 7 }
+        map_width (text_and_layout ended.document) ≡ Some 7 }
     ensures narrower { (style : Style) (drawn ended : State) (area : Rect) → area.width ≡ 11 →
         IsRendered (nine_lines mode.Glyph style) area drawn → IsAtEndOf drawn ended →
-        map_width (laid_out_of (newline_inserted ended).document) ≡ Some 6 }
+        map_width (text_and_layout (newline_inserted ended).document) ≡ Some 6 }
     ensures all { (style : Style) (drawn ended : State) (area : Rect) → area.width ≡ 11 →
         IsRendered (nine_lines mode.Glyph style) area drawn → IsAtEndOf drawn ended →
-        cut_so_far (newline_inserted ended) ≡ cut_so_far ended + 10 }
+        wrapped_so_far (newline_inserted ended) ≡ wrapped_so_far ended + 10 }
     ensures undone { (style : Style) (drawn ended : State) (area : Rect) → area.width ≡ 11 →
         IsRendered (nine_lines mode.Glyph style) area drawn → IsAtEndOf drawn ended →
-        cut_so_far (taken_back (newline_inserted ended))
-        ≡ cut_so_far (newline_inserted ended) + 9 }
+        wrapped_so_far (with_undone (newline_inserted ended))
+        ≡ wrapped_so_far (newline_inserted ended) + 9 }
 {}
 
 /// The same lines in an area of 3 columns, where the map is one column wide with nine lines and
 /// with ten, and in the mode `None`: the line break wraps only the two lines that it makes.
-pub fn tenth_line_is_cut_alone()
+pub fn tenth_line_wraps_itself()
     ensures narrow { (style : Style) (drawn ended : State) (area : Rect) → area.width ≡ 3 →
         IsRendered (nine_lines mode.Glyph style) area drawn → IsAtEndOf drawn ended →
-        cut_so_far (newline_inserted ended) ≡ cut_so_far ended + 2 }
+        wrapped_so_far (newline_inserted ended) ≡ wrapped_so_far ended + 2 }
     ensures whole { (style : Style) (drawn ended : State) (area : Rect) → area.width ≡ 11 →
         IsRendered (nine_lines mode.None style) area drawn → IsAtEndOf drawn ended →
-        cut_so_far (newline_inserted ended) ≡ cut_so_far ended + 2 }
+        wrapped_so_far (newline_inserted ended) ≡ wrapped_so_far ended + 2 }
 {}
 
 /// After a drawing, a Down, a scroll, a search and a drawing into the same area wrap no line.
-pub fn frames_cut_nothing()
+pub fn frames_wrap_nothing()
     ensures { (old drawn down scrolled again : State) (area : Rect) (scrolling : Scrolling)
         (at_cursor : Bool) → IsRendered old area drawn →
         IsMoved drawn Down down → IsScrolled down scrolling scrolled →
-        IsRendered (searched scrolled (next_match scrolled at_cursor)) area again →
-        CutsNothing drawn.document again.document }
+        IsRendered (after_search scrolled (next_match scrolled at_cursor)) area again →
+        WrapsNothing drawn.document again.document }
 {
     drawn_at_its_width();
-    moves_cut_nothing();
+    moves_wrap_nothing();
 }

@@ -70,6 +70,6 @@ fn check(alloc: Global, kind: &str, case: &str) -> Result<(), Stop> {
         "unread" => sessions::check_unread(alloc, case),
         "sessions" => sessions::check(alloc, case),
         "runs" => runs::check(alloc, case),
-        _ => Err(Stop::Unread),
+        _ => Err(Stop::Unparsed),
     }
 }

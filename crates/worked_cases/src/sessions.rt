@@ -38,7 +38,7 @@ fn check_unread_line(alloc: Global, line: &str) -> Result<(), Stop> {
     let mut output = Vec::new(alloc);
     let mut errors = Vec::new(alloc);
     let status = script::serve(alloc, &mut line.as_bytes(), &mut output, &mut errors);
-    if status == streams::NOT_READ
+    if status == streams::UNPARSED
         && output.is_empty()
         && errors.as_slice() == b"line 1: not read\n".as_slice()
     {

@@ -1,7 +1,7 @@
 //! Transcripts: calls with their results, and states of the text area between them.
 //!
 //! A line `CALL => ANSWER` has a script command, a test command (`textarea_cases::words`) or a
-//! question (`textarea_cases::told`), and its result, or `*` for any. `input_without_shortcuts` has
+//! question (`textarea_cases::report`), and its result, or `*` for any. `input_without_shortcuts` has
 //! the arguments of `input`. The inputs of a line `input HELD KEY | HELD KEY .. => ANSWER` are
 //! tried each in its own text area.
 //!
@@ -9,7 +9,7 @@
 //! cursor, selection, screen. What isn't written is unchanged, also at the end; at first there is
 //! no screen. If all calls are script commands, `tascript` must print the same for them.
 ghost use Rattle.std.specs.Prelude.{IfSome};
-ghost use Rattle.textarea_calls.specs.Made.{CanBeMade};
+ghost use Rattle.textarea_calls.specs.Possible.{CanBeMade};
 
 use crate::sessions::check_script;
 use std::alloc::{AllocError, Global};
@@ -17,11 +17,11 @@ use std::mem::replace;
 use textarea_calls::Call;
 use textarea_calls::commands::{Command, read};
 use textarea_cases::lines::unescaped;
-use textarea_cases::parts::told_answer;
+use textarea_cases::parts::answer_text;
+use textarea_cases::report::report_text;
 use textarea_cases::shown::{Script, Shown};
 use textarea_cases::stop::{Stop, compare};
-use textarea_cases::told::told_of;
-use textarea_cases::words::{Lent, call_of, character, lines_in, titled};
+use textarea_cases::words::{Borrows, call_of, character, lines_in, titled};
 use textarea_run::perform::perform;
 use textarea_run::printing::{Report, Screen};
 use textarea_script::script::{COLUMNS, ROWS};
@@ -29,7 +29,7 @@ use tui_textarea::{Borders, Buffer, Color, Rect, Style, TextArea};
 
 // The script of a transcript's calls: its lines, and the expected output of `tascript`.
 #[derive(Drop)]
-struct Tried {
+struct TriedScript {
     lines: String,
     wanted: String,
 }
@@ -44,11 +44,11 @@ pub fn check(alloc: Global, case: &str) -> Result<(), Stop> {
 }
 
 // The values that calls borrow: a block in green on yellow, a placeholder of two lines, a letter.
-fn lent(alloc: Global) -> Result<Lent, AllocError> {
+fn lent(alloc: Global) -> Result<Borrows, AllocError> {
     let block = titled(alloc, Borders::ALL, "hi")?
         .style(Style::new().bg(Color::Yellow))
         .border_style(Style::new().fg(Color::Green));
-    Ok(Lent {
+    Ok(Borrows {
         block,
         placeholder: lines_in(alloc, Style::new(), &["type", "here"])?,
         letter: character('z'),
@@ -67,7 +67,7 @@ fn choices(case: &str) -> usize {
 }
 
 // Makes the calls with the input of this number. For a script, `tascript` must print the same.
-fn check_input(alloc: Global, case: &str, choice: usize, lent: &Lent) -> Result<(), Stop> {
+fn check_input(alloc: Global, case: &str, choice: usize, lent: &Borrows) -> Result<(), Stop> {
     match check_choice(alloc, case, choice, lent)? {
         Some(tried) => check_script(alloc, tried.lines.as_str(), tried.wanted.as_str()),
         None => Ok(()),
@@ -80,8 +80,8 @@ fn check_choice(
     alloc: Global,
     case: &str,
     choice: usize,
-    lent: &Lent,
-) -> Result<Option<Tried>, Stop> {
+    lent: &Borrows,
+) -> Result<Option<TriedScript>, Stop> {
     let mut trial = Trial::new(alloc, choice)?;
     let checked = check_new(alloc, case, lent, &mut trial);
     drop(trial);
@@ -91,9 +91,9 @@ fn check_choice(
 fn check_new(
     alloc: Global,
     case: &str,
-    lent: &Lent,
+    lent: &Borrows,
     trial: &mut Trial,
-) -> Result<Option<Tried>, Stop> {
+) -> Result<Option<TriedScript>, Stop> {
     let mut area = TextArea::try_default(alloc)?;
     let checked = check_area(alloc, case, lent, &mut area, trial);
     drop(area);
@@ -103,10 +103,10 @@ fn check_new(
 fn check_area(
     alloc: Global,
     case: &str,
-    lent: &Lent,
+    lent: &Borrows,
     area: &mut TextArea<'_>,
     trial: &mut Trial,
-) -> Result<Option<Tried>, Stop> {
+) -> Result<Option<TriedScript>, Stop> {
     for line in case.lines() {
         trial.try_line(alloc, area, lent, line)?;
     }
@@ -154,7 +154,7 @@ impl Trial {
         &mut self,
         alloc: Global,
         area: &mut TextArea<'_>,
-        lent: &Lent,
+        lent: &Borrows,
         line: &str,
     ) -> Result<(), Stop> {
         match line.split_once(" => ") {
@@ -171,7 +171,7 @@ impl Trial {
         &mut self,
         alloc: Global,
         area: &mut TextArea<'_>,
-        lent: &Lent,
+        lent: &Borrows,
         (call, answer): (&str, &str),
     ) -> Result<(), Stop> {
         let chosen = chosen(alloc, call, self.choice)?;
@@ -187,17 +187,17 @@ impl Trial {
         &mut self,
         alloc: Global,
         area: &mut TextArea<'_>,
-        lent: &Lent,
+        lent: &Borrows,
         line: &str,
     ) -> Result<String, Stop> {
-        if let Some(told) = told_of(alloc, area, &self.cells.buffer, line)? {
+        if let Some(told) = report_text(alloc, area, &self.cells.buffer, line)? {
             return Ok(told);
         }
-        if let Some(told) = self.cells.told_words(alloc, area, lent, line)? {
+        if let Some(told) = self.cells.words_result(alloc, area, lent, line)? {
             self.script.has_words = true;
             return Ok(told);
         }
-        let told = self.cells.told_line(alloc, area, line)?;
+        let told = self.cells.line_result(alloc, area, line)?;
         self.script.push(line, told.as_str())?;
         Ok(told)
     }
@@ -213,14 +213,18 @@ impl Trial {
     }
 
     // Returns the script, if all calls are lines of scripts.
-    fn tried(&mut self, alloc: Global, area: &TextArea<'_>) -> Result<Option<Tried>, AllocError> {
+    fn tried(
+        &mut self,
+        alloc: Global,
+        area: &TextArea<'_>,
+    ) -> Result<Option<TriedScript>, AllocError> {
         if self.script.has_words {
             return Ok(None);
         }
         let printed = self.cells.printed(alloc, area)?;
         let wanted = format!(in alloc; "{}{printed}", self.script.answers)?;
         let lines = replace(&mut self.script.lines, String::new(alloc));
-        Ok(Some(Tried { lines, wanted }))
+        Ok(Some(TriedScript { lines, wanted }))
     }
 }
 
@@ -233,25 +237,25 @@ struct Cells {
 
 impl Cells {
     // The printed result of a test command, if the line is one.
-    fn told_words(
+    fn words_result(
         &mut self,
         alloc: Global,
         area: &mut TextArea<'_>,
-        lent: &Lent,
+        lent: &Borrows,
         line: &str,
     ) -> Result<Option<String>, Stop> {
         if let Some(input) = line.strip_prefix("input_without_shortcuts ") {
-            return Ok(Some(self.told_input(alloc, area, input)?));
+            return Ok(Some(self.input_result(alloc, area, input)?));
         }
         let words = unescaped(alloc, line)?;
         match call_of(words.as_str(), lent) {
-            Some(call) => Ok(Some(self.told_call(alloc, area, call)?)),
+            Some(call) => Ok(Some(self.call_result_text(alloc, area, call)?)),
             None => Ok(None),
         }
     }
 
     // The printed result of an input, without shortcuts.
-    fn told_input(
+    fn input_result(
         &mut self,
         alloc: Global,
         area: &mut TextArea<'_>,
@@ -261,14 +265,14 @@ impl Cells {
         let commands = read(alloc, line.as_bytes())?;
         match call_in(commands.as_slice()) {
             Some(Call::Input(input)) => {
-                self.told_call(alloc, area, Call::InputWithoutShortcuts(input))
+                self.call_result_text(alloc, area, Call::InputWithoutShortcuts(input))
             }
-            _ => Err(Stop::Unread),
+            _ => Err(Stop::Unparsed),
         }
     }
 
     // The printed result of a script's line.
-    fn told_line(
+    fn line_result(
         &mut self,
         alloc: Global,
         area: &mut TextArea<'_>,
@@ -276,12 +280,12 @@ impl Cells {
     ) -> Result<String, Stop> {
         let commands = read(alloc, line.as_bytes())?;
         match call_in(commands.as_slice()) {
-            Some(call) => self.told_call(alloc, area, call),
-            None => Err(Stop::Unread),
+            Some(call) => self.call_result_text(alloc, area, call),
+            None => Err(Stop::Unparsed),
         }
     }
 
-    fn told_call(
+    fn call_result_text(
         &mut self,
         alloc: Global,
         area: &mut TextArea<'_>,
@@ -293,7 +297,7 @@ impl Cells {
             self.drawn = Some(place);
         }
         let answer = perform(area, call, &mut self.buffer)?;
-        Ok(told_answer(alloc, &answer)?)
+        Ok(answer_text(alloc, &answer)?)
     }
 
     // The printed text area, and the cells that were drawn last.

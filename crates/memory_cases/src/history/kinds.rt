@@ -1,13 +1,13 @@
 //! Kinds of edits, and texts as fragments.
 ghost use Rattle.std.specs.Prelude.{◌≡◌, ◌<◌, ◌≤◌, ◌∷◌, [], vec_len, IfOk, IfSome};
 ghost use Rattle.textarea_text.specs.Text.{text_of};
-ghost use Rattle.textarea_history.specs.Edit.{inserts_of, pieces_of, symbols_of};
+ghost use Rattle.textarea_history.specs.Edit.{inserts_of, line_count_of, symbols_of};
 
 use std::alloc::{AllocError, Global};
 use textarea_history::edit::EditKind;
 
 /// Returns the fragment of a text, which is split into lines at each `|`.
-pub fn pieces_in(alloc: Global, text: &str) -> Result<Vec<String>, AllocError>
+pub fn line_count_in(alloc: Global, text: &str) -> Result<Vec<String>, AllocError>
     ensures { IfOk result (λ pieces. 0 < vec_len pieces) }
 {
     let mut pieces = Vec::new(alloc);
@@ -25,7 +25,7 @@ pub fn kind_of(mut pieces: Vec<String>, inserts: bool) -> EditKind
     requires { 0 < vec_len pieces }
     ensures symbols { symbols_of result ≡ text_of pieces.items }
     ensures inserts { inserts_of result ≡ inserts }
-    ensures pieces { IfSome (pieces_of result) (λ n. 2 ≤ n) }
+    ensures pieces { IfSome (line_count_of result) (λ n. 2 ≤ n) }
 {
     if 1 < pieces.len() {
         return if inserts {

@@ -4,15 +4,15 @@ ghost use Rattle.textarea_text.specs.Text.{lines_of, symbol_in, text_of};
 ghost use Rattle.textarea_text.specs.Place.{IsPlace, IsPlaceOf, IsSymbolBefore};
 ghost use Rattle.textarea_text.specs.Size.{size_of};
 ghost use Rattle.textarea_util.specs.Limit.{size_limit};
-ghost use Rattle.memory_cases.specs.Ready.{IsReady};
+ghost use Rattle.memory_cases.specs.Ready.{IsEditReady};
 
 use crate::history::calls::{Edit, Place};
-use crate::history::kinds::{kind_of, pieces_in};
+use crate::history::kinds::{kind_of, line_count_in};
 use std::alloc::{AllocError, Global};
 use textarea_history::edit::{EditKind, deletion_of};
-use textarea_text::part::between;
 use textarea_text::places::{ahead, clip, end_of};
 use textarea_text::rows::{SymbolBefore, byte_offset, size_within_limit, symbol_before};
+use textarea_text::text_slice::between;
 
 /// The greatest row and column that are edited.
 const LIMIT: usize = 4294967296;
@@ -29,7 +29,7 @@ pub struct Plan {
 pub fn plan_of(alloc: Global, lines: &[String], edit: Edit<'_>) -> Result<Option<Plan>, AllocError>
     requires { 0 < length lines.now }
     ensures { IfOk result (λ found. IfSome found
-        (λ plan. IsReady (text_of lines.now) plan.kind plan.before plan.after)) }
+        (λ plan. IsEditReady (text_of lines.now) plan.kind plan.before plan.after)) }
 {
     match edit {
         Edit::Char(place, c) => Ok(character(lines, place, c)),
@@ -43,7 +43,7 @@ pub fn plan_of(alloc: Global, lines: &[String], edit: Edit<'_>) -> Result<Option
 fn character(lines: &[String], place: Place, c: char) -> Option<Plan>
     requires { 0 < length lines.now }
     ensures { IfSome result
-        (λ plan. IsReady (text_of lines.now) plan.kind plan.before plan.after) }
+        (λ plan. IsEditReady (text_of lines.now) plan.kind plan.before plan.after) }
 {
     let before = nearest(lines, place)?;
     Some(Plan {
@@ -56,7 +56,7 @@ fn character(lines: &[String], place: Place, c: char) -> Option<Plan>
 fn line_break(lines: &[String], place: Place) -> Option<Plan>
     requires { 0 < length lines.now }
     ensures { IfSome result
-        (λ plan. IsReady (text_of lines.now) plan.kind plan.before plan.after) }
+        (λ plan. IsEditReady (text_of lines.now) plan.kind plan.before plan.after) }
 {
     let before = nearest(lines, place)?;
     Some(Plan {
@@ -75,9 +75,9 @@ pub fn insertion(
 ) -> Result<Option<Plan>, AllocError>
     requires { 0 < length lines.now }
     ensures { IfOk result (λ found. IfSome found
-        (λ plan. IsReady (text_of lines.now) plan.kind plan.before plan.after)) }
+        (λ plan. IsEditReady (text_of lines.now) plan.kind plan.before plan.after)) }
 {
-    let pieces = pieces_in(alloc, text)?;
+    let pieces = line_count_in(alloc, text)?;
     size_within_limit(pieces.as_slice())?;
     let Some(before) = nearest(lines, place) else {
         return Ok(None);
@@ -91,7 +91,7 @@ fn insertion_of(lines: &[String], before: Place, pieces: Vec<String>) -> Option<
     requires place { IsPlace (text_of lines.now) before }
     requires small { (before.0 ≤ 2 ^ 32) × (before.1 ≤ 2 ^ 32) }
     ensures { IfSome result
-        (λ plan. IsReady (text_of lines.now) plan.kind plan.before plan.after) }
+        (λ plan. IsEditReady (text_of lines.now) plan.kind plan.before plan.after) }
 {
     let after = end_of(before, pieces.as_slice());
     if is_same(after, before) {
@@ -108,7 +108,7 @@ fn insertion_of(lines: &[String], before: Place, pieces: Vec<String>) -> Option<
 fn deletion(lines: &[String], place: Place) -> Option<Plan>
     requires { 0 < length lines.now }
     ensures { IfSome result
-        (λ plan. IsReady (text_of lines.now) plan.kind plan.before plan.after) }
+        (λ plan. IsEditReady (text_of lines.now) plan.kind plan.before plan.after) }
 {
     let before = nearest(lines, place)?;
     let symbol = symbol_at(lines, before)?;
@@ -128,7 +128,7 @@ fn removal(
 ) -> Result<Option<Plan>, AllocError>
     requires { 0 < length lines.now }
     ensures { IfOk result (λ found. IfSome found
-        (λ plan. IsReady (text_of lines.now) plan.kind plan.before plan.after)) }
+        (λ plan. IsEditReady (text_of lines.now) plan.kind plan.before plan.after)) }
 {
     let Some(after) = nearest(lines, place) else {
         return Ok(None);

@@ -2,15 +2,15 @@
 ghost use Rattle.std.specs.Prelude.{◌≡◌, ◌<◌, ◌≤◌, vec_len, length, IfOk, IfSome};
 ghost use Rattle.textarea_text.specs.Text.{text_of};
 ghost use Rattle.textarea_text.specs.Place.{end};
-ghost use Rattle.textarea_history.specs.Edit.{IsWellFormed, end_of_kind, pieces_of, splice_of, symbols_of};
-ghost use Rattle.memory_cases.specs.Ready.{IsReady};
+ghost use Rattle.textarea_history.specs.Edit.{IsWellFormed, end_of_kind, line_count_of, splice_of, symbols_of};
+ghost use Rattle.memory_cases.specs.Ready.{IsEditReady};
 
 use crate::history::calls::{Edit as Wanted, Place, Typed};
 use crate::history::plans::{Plan, insertion, plan_of};
 use std::alloc::{AllocError, Global};
 use std::marker::Model;
 use textarea_history::history::{Edit, History};
-use textarea_text::given::copy_pieces;
+use textarea_text::fragment::copy_fragment;
 use textarea_text::util::Pos;
 
 /// Lines, and a history whose edits were each made on them when they were recorded.
@@ -22,7 +22,7 @@ pub struct Recorded {
 
 impl Model for Recorded {
     ghost use Rattle.std.specs.Prelude.{◌<◌, vec_len};
-    ghost use Rattle.textarea_history.specs.Law.{IsSound};
+    ghost use Rattle.textarea_history.specs.HistoryLaw.{IsSoundLog};
     ghost use Rattle.textarea_history.specs.Log.{Logged, logged_of};
 
     ghost Value = { Logged };
@@ -30,7 +30,7 @@ impl Model for Recorded {
     ghost view = { λ recorded. logged_of recorded.lines.items recorded.history.log };
 
     ghost invariant = { λ recorded. (0 < vec_len recorded.lines)
-        × IsSound (logged_of recorded.lines.items recorded.history.log) };
+        × IsSoundLog (logged_of recorded.lines.items recorded.history.log) };
 }
 
 /// The lines after an edit, and the lines after its undo.
@@ -92,7 +92,7 @@ impl Recorded {
     }
 
     fn make(&mut self, plan: &Plan, typed: Typed) -> Result<(), AllocError>
-        requires { IsReady self.old.text plan.now.kind plan.now.before plan.now.after }
+        requires { IsEditReady self.old.text plan.now.kind plan.now.before plan.now.after }
     {
         let edit = edit_of(plan)?;
         let mut lines = copied(self.lines.as_slice(), *self.lines.allocator())?;
@@ -115,7 +115,7 @@ impl Recorded {
 // The edit with a copy of the plan's kind.
 fn edit_of(plan: &Plan) -> Result<Edit, AllocError>
     requires some { 0 < length (symbols_of plan.now.kind) }
-    requires pieces { IfSome (pieces_of plan.now.kind) (λ n. 2 ≤ n) }
+    requires pieces { IfSome (line_count_of plan.now.kind) (λ n. 2 ≤ n) }
     requires ends { end_of_kind plan.now.kind plan.now.before plan.now.after
         ≡ end (splice_of plan.now.kind plan.now.before plan.now.after).place
         (symbols_of plan.now.kind) }
@@ -131,7 +131,7 @@ fn edit_of(plan: &Plan) -> Result<Edit, AllocError>
 
 fn make_and_undo(lines: &[String], alloc: Global, plan: &Plan) -> Result<BothWays, AllocError>
     requires some { 0 < length lines.now }
-    requires ready { IsReady (text_of lines.now)
+    requires ready { IsEditReady (text_of lines.now)
         plan.now.kind plan.now.before plan.now.after }
 {
     let edit = edit_of(plan)?;
@@ -157,5 +157,5 @@ fn copied(lines: &[String], alloc: Global) -> Result<Vec<String>, AllocError>
     ensures some { IfOk result (λ copy. 0 < vec_len copy) }
     ensures text { IfOk result (λ copy. text_of copy.items ≡ text_of lines.now) }
 {
-    copy_pieces(alloc, lines)
+    copy_fragment(alloc, lines)
 }

@@ -116,12 +116,12 @@ pub fn move_bytes(alloc: Global, characters: usize, times: usize) -> Result<usiz
     let mut bytes = Vec::new(alloc);
     bytes.resize(characters.saturating_mul(2), 0u8)?;
     for _ in 0..times {
-        move_behind(alloc, &mut bytes)?;
+        move_to_end(alloc, &mut bytes)?;
     }
     Ok(bytes.len())
 }
 
-fn move_behind(alloc: Global, bytes: &mut Vec<u8>) -> Result<(), AllocError> {
+fn move_to_end(alloc: Global, bytes: &mut Vec<u8>) -> Result<(), AllocError> {
     let middle = bytes.len() / 2;
     let character = vec![in alloc; 0xc3u8, 0xa9]?;
     bytes.reserve(2)?;

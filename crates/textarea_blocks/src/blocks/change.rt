@@ -32,8 +32,8 @@ impl RowBlocks {
         let going = &self.blocks[block].as_slice()[start..start + count];
         let (rows_gone, rows_come) = (count_rows(going), count_rows(rows.as_slice()));
         replace_items(&mut self.blocks[block], start, count, rows);
-        self.lines.turn_from(block + 1, count, come);
-        self.rows.turn_from(block + 1, rows_gone, rows_come);
+        self.lines.shift_from(block + 1, count, come);
+        self.rows.shift_from(block + 1, rows_gone, rows_come);
     }
 
     // Replaces the blocks `from..to`. Allocates nothing.
@@ -183,14 +183,14 @@ impl RowBlocks {
         let mut behind = RowBlocks::new(*self.blocks.allocator());
         behind.reserve(1)?;
         self.reserve(1)?;
-        let rows = self.take_behind(block, at)?;
+        let rows = self.split_block_off(block, at)?;
         behind.put_first(rows);
         self.exchange_blocks(block + 1, block + 1, behind);
         Ok(())
     }
 
     // Removes the rows of all lines of a block from the line `at` on, and returns them.
-    fn take_behind(&mut self, block: usize, at: usize) -> Result<Vec<Rows>, AllocError>
+    fn split_block_off(&mut self, block: usize, at: usize) -> Result<Vec<Rows>, AllocError>
         requires block { block < length self.old.blocks }
         requires at { at ≤ length (get_or self.old.blocks block []) }
         ensures err { OnErr result (self.new.blocks ≡ self.old.blocks) }
@@ -201,9 +201,9 @@ impl RowBlocks {
         ensures room { self.new.more ≡ self.old.more }
     {
         let rows = self.blocks[block].split_off(at)?;
-        self.lines.turn_from(block + 1, rows.len(), 0);
+        self.lines.shift_from(block + 1, rows.len(), 0);
         let rows_gone = count_rows(rows.as_slice());
-        self.rows.turn_from(block + 1, rows_gone, 0);
+        self.rows.shift_from(block + 1, rows_gone, 0);
         Ok(rows)
     }
 

@@ -19,16 +19,16 @@ pub(super) struct Numbers {
 
 impl Model for Numbers {
     ghost use Rattle.std.specs.Prelude.{◌-◌, vec_len, vec_capacity};
-    ghost use Rattle.textarea_blocks.specs.Turned.{CanTurn, NumbersView, turned};
+    ghost use Rattle.textarea_blocks.specs.Shifted.{CanShift, NumbersView, shifted_numbers};
 
     ghost Value = { NumbersView };
 
     ghost view = { λ kept. record {
-      numbers = turned kept.from kept.less kept.more kept.items.items;
+      numbers = shifted_numbers kept.from kept.less kept.more kept.items.items;
       spare = vec_capacity kept.items - vec_len kept.items;
     } };
 
-    ghost invariant = { λ kept. CanTurn kept.items.items kept.from kept.less kept.more };
+    ghost invariant = { λ kept. CanShift kept.items.items kept.from kept.less kept.more };
 }
 
 impl Clone for Numbers {
@@ -126,7 +126,7 @@ impl Numbers {
     /// Adds `come` to each number from `from` on and subtracts `gone`. Allocates nothing. A pending
     /// difference with the same `from` is combined with this one, unless a sum overflows. Otherwise
     /// it is added to the items, and this one is pending.
-    pub(super) fn turn_from(&mut self, from: usize, gone: usize, come: usize)
+    pub(super) fn shift_from(&mut self, from: usize, gone: usize, come: usize)
         requires enough { (k : ℕ) → from ≤ k → k < length self.old.numbers
             → gone ≤ get_or self.old.numbers k 0 + come }
         requires small { (k : ℕ) → from ≤ k → k < length self.old.numbers

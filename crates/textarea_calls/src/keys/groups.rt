@@ -1,10 +1,10 @@
 //! The key table with shortcuts, by the modifier keys that are held.
-#![tactic(auto, unfolding(crate::specs::Keys::keys, crate::specs::Table::action_by))]
+#![tactic(auto, unfolding(crate::specs::Keys::keys_with_shortcuts, crate::specs::Table::action_by))]
 
 ghost use Rattle.std.specs.Prelude.{◌≡◌, true, false};
 ghost use Rattle.textarea_data.specs.declared.input.Key.TheVariants.{Char};
-ghost use Rattle.textarea_calls.specs.Keys.{keys};
-ghost use Rattle.textarea_calls.specs.Table.{action_by, pressed, whatever_held};
+ghost use Rattle.textarea_calls.specs.Keys.{keys_with_shortcuts};
+ghost use Rattle.textarea_calls.specs.Table.{action_by, pressed, any_modifiers};
 
 use super::{ONE_DOWN, ONE_UP};
 use crate::action::Action;
@@ -15,7 +15,7 @@ use textarea_data::scroll::Scrolling;
 
 /// Returns what a key asks for with neither Ctrl nor Alt.
 pub(super) fn plain(key: Key, shift: bool) -> Action
-    ensures { result ≡ action_by keys (pressed key false false shift) }
+    ensures { result ≡ action_by keys_with_shortcuts (pressed key false false shift) }
 {
     match key {
         Key::Char('\n' | '\r') => Action::Write(Write::InsertNewline),
@@ -27,13 +27,13 @@ pub(super) fn plain(key: Key, shift: bool) -> Action
         Key::Up => Action::MoveWithShift(CursorMove::Up, shift),
         Key::Right => Action::MoveWithShift(CursorMove::Forward, shift),
         Key::Left => Action::MoveWithShift(CursorMove::Back, shift),
-        _ => whatever_is_held(key, shift),
+        _ => any_modifiers_held(key, shift),
     }
 }
 
 /// Returns what a key asks for with Ctrl but not Alt.
 pub(super) fn with_ctrl(key: Key, shift: bool) -> Action
-    ensures { result ≡ action_by keys (pressed key true false shift) }
+    ensures { result ≡ action_by keys_with_shortcuts (pressed key true false shift) }
 {
     match key {
         Key::Char(character) => character_with_ctrl(character, shift),
@@ -41,13 +41,13 @@ pub(super) fn with_ctrl(key: Key, shift: bool) -> Action
         Key::Left => Action::MoveWithShift(CursorMove::WordBack, shift),
         Key::Down => Action::MoveWithShift(CursorMove::ParagraphForward, shift),
         Key::Up => Action::MoveWithShift(CursorMove::ParagraphBack, shift),
-        _ => whatever_is_held(key, shift),
+        _ => any_modifiers_held(key, shift),
     }
 }
 
 /// Returns what a character asks for with Ctrl but not Alt.
 fn character_with_ctrl(character: char, shift: bool) -> Action
-    ensures { result ≡ action_by keys (pressed (Char character) true false shift) }
+    ensures { result ≡ action_by keys_with_shortcuts (pressed (Char character) true false shift) }
 {
     match character {
         'm' => Action::Write(Write::InsertNewline),
@@ -74,19 +74,19 @@ fn character_with_ctrl(character: char, shift: bool) -> Action
 
 /// Returns what a key asks for with Alt but not Ctrl.
 pub(super) fn with_alt(key: Key, shift: bool) -> Action
-    ensures { result ≡ action_by keys (pressed key false true shift) }
+    ensures { result ≡ action_by keys_with_shortcuts (pressed key false true shift) }
 {
     match key {
         Key::Char(character) => character_with_alt(character, shift),
         Key::Backspace => Action::Edit(Edit::DeleteWord),
         Key::Delete => Action::Edit(Edit::DeleteNextWord),
-        _ => whatever_is_held(key, shift),
+        _ => any_modifiers_held(key, shift),
     }
 }
 
 /// Returns what a character asks for with Alt but not Ctrl.
 fn character_with_alt(character: char, shift: bool) -> Action
-    ensures { result ≡ action_by keys (pressed (Char character) false true shift) }
+    ensures { result ≡ action_by keys_with_shortcuts (pressed (Char character) false true shift) }
 {
     match character {
         'h' => Action::Edit(Edit::DeleteWord),
@@ -104,20 +104,21 @@ fn character_with_alt(character: char, shift: bool) -> Action
 
 /// Returns what a key asks for with both Ctrl and Alt.
 pub(super) fn with_ctrl_and_alt(key: Key, shift: bool) -> Action
-    ensures { result ≡ action_by keys (pressed key true true shift) }
+    ensures { result ≡ action_by keys_with_shortcuts (pressed key true true shift) }
 {
     match key {
         Key::Left | Key::Char('b') => Action::MoveWithShift(CursorMove::Head, shift),
         Key::Right | Key::Char('f') => Action::MoveWithShift(CursorMove::End, shift),
         Key::Up | Key::Char('p') => Action::MoveWithShift(CursorMove::Top, shift),
         Key::Down | Key::Char('n') => Action::MoveWithShift(CursorMove::Bottom, shift),
-        _ => whatever_is_held(key, shift),
+        _ => any_modifiers_held(key, shift),
     }
 }
 
 /// Returns what a key asks for by the cases of the table that ignore Ctrl and Alt.
-fn whatever_is_held(key: Key, shift: bool) -> Action
-    ensures { result ≡ action_by (whatever_held keys) (pressed key false false shift) }
+fn any_modifiers_held(key: Key, shift: bool) -> Action
+    ensures { result ≡ action_by (any_modifiers keys_with_shortcuts)
+        (pressed key false false shift) }
 {
     match key {
         Key::Enter => Action::Write(Write::InsertNewline),

@@ -1,6 +1,6 @@
 //! Insertions at the cursor, or at the end of the atomic range that strictly contains it.
 ghost use Rattle.std.specs.Prelude.{◌≡◌, ◌<◌, ◌≤◌, true, OnOk, OnErr, IsOk, IfOk, All, []};
-ghost use Rattle.textarea_document.specs.Prelude.{as_nanos, size_limit, text_of, IsPlace, size_of, IsInside, break_inserted, character_inserted, insertion_place, is_filled, nothing_inserted, symbols_inserted};
+ghost use Rattle.textarea_document.specs.Prelude.{as_nanos, size_limit, text_of, IsPlace, size_of, IsInside, break_inserted, character_inserted, insertion_place, has_symbols, nothing_inserted, symbols_inserted};
 
 use crate::document::Document;
 use crate::document::edits::edit_of;
@@ -8,7 +8,7 @@ use std::alloc::AllocError;
 use std::time::Duration;
 use textarea_data::range::AtomicCursorBias;
 use textarea_history::edit::{Edit, EditKind};
-use textarea_ranges::held::move_out;
+use textarea_ranges::lookup::move_out;
 use textarea_text::places::end_of;
 use textarea_text::rows;
 
@@ -20,7 +20,7 @@ impl Document {
         ensures small { (result.0 < size_limit) × (result.1 ≤ size_limit) }
         ensures outside { All (λ range. ¬ IsInside result range) self.now.ranges }
     {
-        let _lines = self.laid.lines();
+        let _lines = self.text_layout.lines();
         move_out(
             self.ranges.as_slice(),
             self.cursor,
@@ -73,12 +73,13 @@ impl Document {
     /// strings, and returns whether it has a symbol. Without one the cursor moves there and the
     /// selection is dropped. A fragment larger than any text is an out-of-memory error.
     pub fn insert(&mut self, pieces: Vec<String>, now: Duration) -> Result<bool, AllocError>
-        ensures inserted { IfOk result (λ inserted. inserted ≡ is_filled (text_of pieces.items)) }
+        ensures inserted { IfOk result (λ inserted. inserted ≡ has_symbols (text_of pieces.items)) }
         ensures ok { OnOk result
             (self.new ≡ symbols_inserted self.old (text_of pieces.items) (as_nanos now)) }
         ensures err { OnErr result (self.new ≡ self.old) }
         ensures nothing { text_of pieces.items ≡ [] → IsOk result }
-        ensures limit { IfOk result (λ inserted. inserted ≡ true → size_of pieces.items ≤ size_limit) }
+        ensures limit { IfOk result
+            (λ inserted. inserted ≡ true → size_of pieces.items ≤ size_limit) }
     {
         if !has_symbol(pieces.as_slice()) {
             self.insert_nothing();
@@ -94,7 +95,7 @@ impl Document {
 
 /// Returns whether the fragment has a symbol: a break between two of its strings, or a character.
 pub fn has_symbol(pieces: &[String]) -> bool
-    ensures { result ≡ is_filled (text_of pieces.now) }
+    ensures { result ≡ has_symbols (text_of pieces.now) }
 {
     if pieces.is_empty() {
         return false;

@@ -1,6 +1,6 @@
 //! Laws of documents, each the contract of a function that only reads.
 ghost use Rattle.std.specs.Prelude.{◌≡◌, ◌≤◌, ◌<◌, ℕ, Bool, length};
-ghost use Rattle.textarea_document.specs.Prelude.{Fits, Splice, IsMade, Step, splice_of, GivesAllBack, GivesBack, ListsFit, edited, CutsNone, IsSound};
+ghost use Rattle.textarea_document.specs.Prelude.{Fits, Splice, HasEffect, EditStep, splice_of_step, RestoresAll, RestoresDocument, ListsFit, after_edit, SplitsNoRange, IsSound};
 
 use crate::document::Document;
 
@@ -8,18 +8,18 @@ impl Document {
     /// The law of undo, for every document: `count` undos, at most one for each done edit, give the
     /// text before the last `count` edits; then `count` redos restore the text and both lists of
     /// edits, and leave the cursor where the newest edit leaves it.
-    pub fn undos_give_back(&self)
-        ensures { (count : ℕ) → count ≤ length self.now.log.done → GivesBack self.now count }
+    pub fn undos_restore(&self)
+        ensures { (count : ℕ) → count ≤ length self.now.log.done → RestoresDocument self.now count }
     {
         let _ = &self.history; // by the invariant each edit can be undone
     }
 
     /// The law of one edit, for every document that remembers edits: after each edit that fits the
     /// text, an undo and a redo restore the text, both lists of edits, and the cursor.
-    pub fn redo_gives_all_back(&self)
+    pub fn redo_restores_all(&self)
         ensures { (splice : Splice) (typed : Bool) (now : ℕ) →
             Fits self.now.text splice → 0 < self.now.log.maximum →
-            GivesAllBack (edited self.now splice typed now) }
+            RestoresAll (after_edit self.now splice typed now) }
     {
         let _ = &self.history; // by the invariant each edit can be undone
     }
@@ -44,11 +44,11 @@ impl Document {
 
     /// The law of atomic ranges, for every document: each insertion or removal of a call fits the
     /// text, removes each range completely or not at all, and inserts nothing strictly inside one.
-    pub fn steps_cut_none(&self)
-        ensures fits { (step : Step) → IsMade self.now step →
-            Fits self.now.text (splice_of self.now step) }
-        ensures cuts_none { (step : Step) → IsMade self.now step →
-            CutsNone self.now.ranges (splice_of self.now step) }
+    pub fn steps_split_no_range(&self)
+        ensures fits { (step : EditStep) → HasEffect self.now step →
+            Fits self.now.text (splice_of_step self.now step) }
+        ensures cuts_none { (step : EditStep) → HasEffect self.now step →
+            SplitsNoRange self.now.ranges (splice_of_step self.now step) }
     {
         let _ = &self.ranges; // by the invariant they are valid for the text
     }

@@ -1,6 +1,6 @@
 //! Atomic ranges: spans of characters in a line that are edited as a whole.
 ghost use Rattle.std.specs.Prelude.{◌≡◌, ◌<◌, IfOk, IfSome, IsOk, MatchResult, None, OnErr, OnOk, false, is_some};
-ghost use Rattle.textarea_document.specs.Prelude.{as_nanos, lines, IsPlace, index_of, inside, range_start, range_end, AreInOrder, AreRefused, AreValid, Backward, Forward, hit_at_cursor, is_at_end, is_at_start, accepted, anchor_out, anchored, holding, normalized, unless_empty, range_removed, ranges_forgotten};
+ghost use Rattle.textarea_document.specs.Prelude.{as_nanos, lines, IsPlace, index_of, range_around, range_start, range_end, AreInOrder, AreRejected, AreValid, Backward, Forward, range_at_cursor, is_at_end, is_at_start, accepted, anchor_out, anchored, with_ranges, normalized, unless_empty, range_removed, ranges_forgotten};
 
 use crate::document::Document;
 use std::alloc::AllocError;
@@ -8,7 +8,7 @@ use std::time::Duration;
 use textarea_data::range::{
     AtomicCursorBias, AtomicDeleteDirection, AtomicRange, AtomicRangeError,
 };
-use textarea_ranges::held;
+use textarea_ranges::lookup;
 use textarea_ranges::validate::validate;
 use textarea_text::places::clip;
 
@@ -32,7 +32,7 @@ impl Document {
     ) -> Result<Result<(), AtomicRangeError>, AllocError>
         ensures judged { IfOk result (λ outcome. MatchResult outcome
             (λ _. AreValid (lines self.old.text) ranges.items)
-            (λ error. AreRefused (lines self.old.text) ranges.items error.rejected.items)) }
+            (λ error. AreRejected (lines self.old.text) ranges.items error.rejected.items)) }
         ensures set { IfOk result (λ outcome.
             OnOk outcome (self.new ≡ accepted self.old ranges.items)) }
         ensures refused { IfOk result (λ outcome. OnErr outcome (self.new ≡ self.old)) }
@@ -40,7 +40,7 @@ impl Document {
     {
         match validate(self.allocator(), ranges, self.lines())? {
             Ok(held) => {
-                self.hold(held);
+                self.store_ranges(held);
                 Ok(Ok(()))
             }
             Err(error) => Ok(Err(error)),
@@ -48,12 +48,12 @@ impl Document {
     }
 
     // Replaces the atomic ranges by these, which are sorted.
-    fn hold(&mut self, ranges: Vec<AtomicRange>)
+    fn store_ranges(&mut self, ranges: Vec<AtomicRange>)
         requires valid { AreValid (lines self.old.text) ranges.items }
         requires in_order { AreInOrder ranges.items }
-        ensures { self.new ≡ holding self.old ranges.items }
+        ensures { self.new ≡ with_ranges self.old ranges.items }
     {
-        let cursor = held::move_out(ranges.as_slice(), self.cursor, AtomicCursorBias::Forward);
+        let cursor = lookup::move_out(ranges.as_slice(), self.cursor, AtomicCursorBias::Forward);
         let anchor = anchor_out(ranges.as_slice(), self.anchor);
         self.cursor = cursor;
         self.anchor = unless_empty(anchor, cursor);
@@ -70,18 +70,18 @@ impl Document {
     /// Moves a cursor strictly inside an atomic range to its start for Backward, to its end for
     /// Forward, and returns whether it was inside one. The selection and a run of typing stay.
     pub fn normalize_cursor(&mut self, bias: AtomicCursorBias) -> bool
-        ensures moved { result ≡ is_some (inside self.old.ranges self.old.cursor) }
+        ensures moved { result ≡ is_some (range_around self.old.ranges self.old.cursor) }
         ensures new { self.new ≡ normalized self.old bias }
     {
-        let found = held::inside(self.ranges.as_slice(), self.cursor).is_some();
-        self.cursor = held::move_out(self.ranges.as_slice(), self.cursor, bias);
+        let found = lookup::range_around(self.ranges.as_slice(), self.cursor).is_some();
+        self.cursor = lookup::move_out(self.ranges.as_slice(), self.cursor, bias);
         found
     }
 
     /// Returns the atomic range at the cursor in this direction. Its two ends are positions of the
     /// text, the first one first; backward it starts before the cursor, forward it ends after it.
     pub fn range_at_cursor(&self, direction: AtomicDeleteDirection) -> Option<AtomicRange>
-        ensures value { result ≡ hit_at_cursor self.now direction }
+        ensures value { result ≡ range_at_cursor self.now direction }
         ensures start { IfSome result (λ range. IsPlace self.now.text (range_start range)) }
         ensures end { IfSome result (λ range. IsPlace self.now.text (range_end range)) }
         ensures ordered { IfSome result (λ range.
@@ -89,7 +89,7 @@ impl Document {
         ensures before { direction ≡ Backward → IfSome result (λ _. is_at_start self.now ≡ false) }
         ensures behind { direction ≡ Forward → IfSome result (λ _. is_at_end self.now ≡ false) }
     {
-        held::hit(self.ranges.as_slice(), self.cursor, direction)
+        lookup::range_at_place(self.ranges.as_slice(), self.cursor, direction)
     }
 
     /// Removes the atomic range at the cursor in this direction, and returns it. The selection
@@ -100,14 +100,14 @@ impl Document {
         direction: AtomicDeleteDirection,
         now: Duration,
     ) -> Result<Option<AtomicRange>, AllocError>
-        ensures removed { IfOk result (λ range. range ≡ hit_at_cursor self.old direction) }
+        ensures removed { IfOk result (λ range. range ≡ range_at_cursor self.old direction) }
         ensures ok { OnOk result (self.new
-            ≡ range_removed (hit_at_cursor self.old direction) self.old (as_nanos now)) }
+            ≡ range_removed (range_at_cursor self.old direction) self.old (as_nanos now)) }
         ensures err { OnErr result (self.new ≡ self.old) }
-        ensures nothing { hit_at_cursor self.old direction ≡ None → IsOk result }
+        ensures nothing { range_at_cursor self.old direction ≡ None → IsOk result }
     {
         let anchor = self.anchor();
-        let Some(range) = self.remove_hit(direction, now)? else {
+        let Some(range) = self.remove_cursor_range(direction, now)? else {
             return Ok(None);
         };
         self.set_clipped_anchor(anchor);
@@ -131,7 +131,7 @@ fn anchor_out(ranges: &[AtomicRange], anchor: Option<(usize, usize)>) -> Option<
     ensures { result ≡ anchor_out ranges.now anchor }
 {
     let place = anchor?;
-    Some(held::move_out(ranges, place, AtomicCursorBias::Backward))
+    Some(lookup::move_out(ranges, place, AtomicCursorBias::Backward))
 }
 
 // Returns the selection's beginning, or `None` if it is the cursor.

@@ -1,6 +1,6 @@
 //! Removals from a document.
 ghost use Rattle.std.specs.Prelude.{◌≡◌, ◌<◌, ◌≤◌, OnOk, OnErr, IsOk, IfOk, IfSome, MatchOption, not, true, false, ◌==◌, ◌++◌, ◌∷◌, ◌+◌, None, [], drop, take, encode_utf8_all, length};
-ghost use Rattle.textarea_document.specs.Prelude.{chars, as_nanos, offset_at, lines_of, symbol_in, text_of, IsPlace, IsPlaceOf, index_of, part, Backward, Forward, TakesWhole, widened, IsSymbolBehind, hit_at_cursor, hit_before, hit_behind, hit_removed, is_at_end, is_at_start, removal, taken_symbols, removed_before, removed_behind, break_removed, part_removed, symbol_removed_before, symbol_removed_behind, edited};
+ghost use Rattle.textarea_document.specs.Prelude.{chars, as_nanos, offset_at, lines_of, symbol_in, text_of, IsPlace, IsPlaceOf, index_of, symbols_between, Backward, Forward, TakesWhole, widened, IsSymbolAfter, range_at_cursor, range_before, range_after, cursor_range_removed, is_at_end, is_at_start, removal, taken_symbols, removed_before, removed_after, break_removed, part_removed, symbol_removed_before, symbol_removed_after, after_edit};
 
 use crate::document::Document;
 use crate::document::edits::edit_of;
@@ -8,11 +8,11 @@ use std::alloc::AllocError;
 use std::time::Duration;
 use textarea_data::range::{AtomicDeleteDirection, AtomicRange};
 use textarea_history::edit::{Edit, EditKind, deletion_of};
-use textarea_ranges::held;
-use textarea_text::given::copy_pieces;
-use textarea_text::part::between;
+use textarea_ranges::lookup;
+use textarea_text::fragment::copy_fragment;
 use textarea_text::places::line_end;
 use textarea_text::rows;
+use textarea_text::text_slice::between;
 
 impl Document {
     /// Removes the text between two positions, and each range that it overlaps.
@@ -53,7 +53,7 @@ impl Document {
     {
         let (start, end) = self.widen(from, to);
         let pieces = between(self.allocator(), self.lines(), start, end)?;
-        let taken = copy_pieces(self.allocator(), pieces.as_slice())?;
+        let taken = copy_fragment(self.allocator(), pieces.as_slice())?;
         self.remove_whole(pieces, start, end, now)?;
         Ok(taken)
     }
@@ -70,10 +70,10 @@ impl Document {
         requires from { IsPlace self.old.text from }
         requires to { IsPlace self.old.text to }
         requires ordered { index_of self.old.text from < index_of self.old.text to }
-        requires pieces { text_of pieces.items ≡ part self.old.text from to }
+        requires pieces { text_of pieces.items ≡ symbols_between self.old.text from to }
         requires whole { TakesWhole self.old.ranges from to }
         ensures ok { OnOk result (self.new
-            ≡ edited self.old (removal self.old.text from to) false (as_nanos now)) }
+            ≡ after_edit self.old (removal self.old.text from to) false (as_nanos now)) }
         ensures err { OnErr result (self.new ≡ self.old) }
     {
         self.edit(edit_of(pieces, false, from, to), false, now)
@@ -90,20 +90,21 @@ impl Document {
         ensures ordered { index_of self.now.text result.0 < index_of self.now.text result.1 }
         ensures whole { TakesWhole self.now.ranges result.0 result.1 }
     {
-        held::widen(self.ranges(), from, to)
+        lookup::widen(self.ranges(), from, to)
     }
 
     /// Removes the atomic range at the cursor in this direction, and returns it; nothing is
     /// selected then. Without such a range returns `None`, and nothing changes.
-    pub fn remove_hit(
+    pub fn remove_cursor_range(
         &mut self,
         direction: AtomicDeleteDirection,
         now: Duration,
     ) -> Result<Option<AtomicRange>, AllocError>
-        ensures removed { IfOk result (λ range. range ≡ hit_at_cursor self.old direction) }
-        ensures ok { OnOk result (self.new ≡ hit_removed self.old direction (as_nanos now)) }
+        ensures removed { IfOk result (λ range. range ≡ range_at_cursor self.old direction) }
+        ensures ok { OnOk result
+            (self.new ≡ cursor_range_removed self.old direction (as_nanos now)) }
         ensures err { OnErr result (self.new ≡ self.old) }
-        ensures nothing { hit_at_cursor self.old direction ≡ None → IsOk result }
+        ensures nothing { range_at_cursor self.old direction ≡ None → IsOk result }
         ensures before { direction ≡ Backward →
             IfOk result (λ range. IfSome range (λ _. is_at_start self.old ≡ false)) }
         ensures behind { direction ≡ Forward →
@@ -128,7 +129,7 @@ impl Document {
         ensures err { OnErr result (self.new ≡ self.old) }
         ensures nothing { is_at_start self.old ≡ true → IsOk result }
     {
-        match self.remove_hit(AtomicDeleteDirection::Backward, now)? {
+        match self.remove_cursor_range(AtomicDeleteDirection::Backward, now)? {
             Some(_) => Ok(true),
             None => self.remove_symbol_before(typed, now),
         }
@@ -136,30 +137,30 @@ impl Document {
 
     /// Removes the atomic range at the cursor, forward, or else the character after the cursor, or
     /// at a line's end the line break there, as typed or not. Returns whether there was one.
-    #[tactic(auto, unfolding(crate::specs::Edits::removed_behind))]
-    pub fn remove_behind(&mut self, typed: bool, now: Duration) -> Result<bool, AllocError>
+    #[tactic(auto, unfolding(crate::specs::Edits::removed_after))]
+    pub fn remove_after(&mut self, typed: bool, now: Duration) -> Result<bool, AllocError>
         ensures removed { IfOk result (λ removed. removed ≡ not (is_at_end self.old)) }
-        ensures ok { OnOk result (self.new ≡ removed_behind self.old typed (as_nanos now)) }
+        ensures ok { OnOk result (self.new ≡ removed_after self.old typed (as_nanos now)) }
         ensures err { OnErr result (self.new ≡ self.old) }
         ensures nothing { is_at_end self.old ≡ true → IsOk result }
     {
-        match self.remove_hit(AtomicDeleteDirection::Forward, now)? {
+        match self.remove_cursor_range(AtomicDeleteDirection::Forward, now)? {
             Some(_) => Ok(true),
-            None => self.remove_symbol_behind(typed, now),
+            None => self.remove_symbol_after(typed, now),
         }
     }
 
     // Removes the character before the cursor, or at column 0 the line break there, as typed or
     // not. Returns whether there was one.
     fn remove_symbol_before(&mut self, typed: bool, now: Duration) -> Result<bool, AllocError>
-        requires none_hit { hit_before self.old ≡ None }
+        requires none_hit { range_before self.old ≡ None }
         ensures removed { IfOk result (λ removed. removed ≡ not (is_at_start self.old)) }
         ensures ok { OnOk result (self.new ≡ symbol_removed_before self.old typed (as_nanos now)) }
         ensures err { OnErr result (self.new ≡ self.old) }
         ensures nothing { is_at_start self.old ≡ true → IsOk result }
     {
         let cursor = self.cursor();
-        let offset = self.laid.offset_of(cursor);
+        let offset = self.text_layout.offset_of(cursor);
         let Some(before) = rows::symbol_before(self.lines(), cursor, offset) else {
             self.set_anchor(None);
             return Ok(false);
@@ -171,16 +172,16 @@ impl Document {
 
     // Removes the character after the cursor, or at a line's end the line break there, as typed or
     // not. Returns whether there was one.
-    fn remove_symbol_behind(&mut self, typed: bool, now: Duration) -> Result<bool, AllocError>
-        requires none_hit { hit_behind self.old ≡ None }
+    fn remove_symbol_after(&mut self, typed: bool, now: Duration) -> Result<bool, AllocError>
+        requires none_hit { range_after self.old ≡ None }
         ensures removed { IfOk result (λ removed. removed ≡ not (is_at_end self.old)) }
-        ensures ok { OnOk result (self.new ≡ symbol_removed_behind self.old typed (as_nanos now)) }
+        ensures ok { OnOk result (self.new ≡ symbol_removed_after self.old typed (as_nanos now)) }
         ensures err { OnErr result (self.new ≡ self.old) }
         ensures nothing { is_at_end self.old ≡ true → IsOk result }
     {
         let cursor = self.cursor();
-        let offset = self.laid.offset_of(cursor);
-        let Some(behind) = symbol_behind(self.lines(), cursor, offset) else {
+        let offset = self.text_layout.offset_of(cursor);
+        let Some(behind) = symbol_after(self.lines(), cursor, offset) else {
             self.set_anchor(None);
             return Ok(false);
         };
@@ -213,22 +214,22 @@ impl Document {
 
 // The symbol after a position, and its end: a character, or `None` for the break between two lines.
 #[derive(Clone, Copy)]
-struct SymbolBehind {
+struct SymbolAfter {
     end: (usize, usize),
     character: Option<char>,
 }
 
 // Returns the symbol after the position, at byte `offset` of its line; `None` at the text's end.
-fn symbol_behind(lines: &[String], place: (usize, usize), offset: usize) -> Option<SymbolBehind>
+fn symbol_after(lines: &[String], place: (usize, usize), offset: usize) -> Option<SymbolAfter>
     requires place { IsPlaceOf (lines_of lines.now) place }
     requires offset { offset ≡ offset_at (lines_of lines.now) place }
     ensures { MatchOption result (index_of (text_of lines.now) place ≡ length (text_of lines.now))
         (λ behind.
-        IsSymbolBehind (text_of lines.now) place behind.end (symbol_in behind.character)) }
+        IsSymbolAfter (text_of lines.now) place behind.end (symbol_in behind.character)) }
 {
     let (row, column) = place;
-    if let Some(c) = character_behind(lines[row].as_str(), column, offset) {
-        return Some(SymbolBehind {
+    if let Some(c) = character_after(lines[row].as_str(), column, offset) {
+        return Some(SymbolAfter {
             end: (row, column + 1),
             character: Some(c),
         });
@@ -236,14 +237,14 @@ fn symbol_behind(lines: &[String], place: (usize, usize), offset: usize) -> Opti
     if row + 1 == lines.len() {
         return None;
     }
-    Some(SymbolBehind {
+    Some(SymbolAfter {
         end: (row + 1, 0),
         character: None,
     })
 }
 
 // Returns the character after the column of a line, at byte `offset`; `None` at the line's end.
-fn character_behind(line: &str, column: usize, offset: usize) -> Option<char>
+fn character_after(line: &str, column: usize, offset: usize) -> Option<char>
     requires column { column ≤ length (chars line.now) }
     requires offset { offset ≡ length (encode_utf8_all (take column (chars line.now))) }
     ensures { MatchOption result (column ≡ length (chars line.now))

@@ -2,7 +2,7 @@
 ghost use Rattle.std.specs.Prelude.{◌≡◌, [], ◌++◌, ℕ, List, IfOk, IsOk, OnOk, OnErr, IsCharBoundary, IsPermutation};
 ghost use Rattle.std.specs.Iterator.{IsFinite, Drains};
 ghost use Rattle.std.specs.List.Sorted.{IsSortedByKey, IsStableByKey};
-ghost use Rattle.textarea_highlight.specs.Borders.{ArePlaced, IsEmptyAt, MarkNothing, rounded_down, highlight_borders, match_borders, place_of, place_cmp};
+ghost use Rattle.textarea_highlight.specs.Borders.{ArePlaced, IsEmptyAt, MarkNothing, rounded_down, highlight_borders, match_borders, border_key, border_cmp};
 
 use std::alloc::{AllocError, Global};
 use textarea_screen::screen::Style;
@@ -41,7 +41,8 @@ pub fn push_highlight(
     ensures added { OnOk result (borders.new.items
         ≡ borders.old.items ++ highlight_borders row.now from to style rank) }
     ensures placed { ArePlaced row.now borders.old.items → ArePlaced row.now borders.new.items }
-    ensures nothing { IsEmptyAt row.now from to → IsOk result × (borders.new.items ≡ borders.old.items) }
+    ensures nothing { IsEmptyAt row.now from to → IsOk result ×
+        (borders.new.items ≡ borders.old.items) }
     ensures err { OnErr result (borders.new.items ≡ borders.old.items) }
 {
     let start = round_down(row, from);
@@ -97,8 +98,8 @@ fn round_down(row: &str, offset: usize) -> usize
 /// Sorts the borders by offset, then by rank, then as they were added.
 pub fn sort(borders: &mut Vec<Border>) -> Result<(), AllocError>
     ensures permutation { IsPermutation borders.old.items borders.new.items }
-    ensures sorted { OnOk result (IsSortedByKey place_of place_cmp borders.new.items) }
-    ensures stable { IsStableByKey place_of place_cmp borders.old.items borders.new.items }
+    ensures sorted { OnOk result (IsSortedByKey border_key border_cmp borders.new.items) }
+    ensures stable { IsStableByKey border_key border_cmp borders.old.items borders.new.items }
     ensures nothing { borders.old.items ≡ [] → IsOk result }
     ensures err { OnErr result (borders.new.items ≡ borders.old.items) }
 {

@@ -13,13 +13,13 @@ pub struct OpenStyles {
 }
 
 impl OpenStyles {
-    ghost use Rattle.textarea_highlight.specs.OpenStyles.{base_of, IsBehind};
-    ghost use Rattle.textarea_highlight.specs.Brackets.{IsStyleBehind};
+    ghost use Rattle.textarea_highlight.specs.OpenStyles.{base_of, ArePassed};
+    ghost use Rattle.textarea_highlight.specs.Brackets.{IsStyleAfter};
 
     /// Returns the state without an open style. The current style is the base style.
     pub fn new(alloc: Global, base: Style) -> OpenStyles
         ensures base { base_of result ≡ base }
-        ensures none { IsBehind result [] }
+        ensures none { ArePassed result [] }
     {
         OpenStyles {
             base,
@@ -30,7 +30,7 @@ impl OpenStyles {
     /// Closes all styles, and sets another base style.
     pub fn restart(&mut self, base: Style)
         ensures base { base_of self.new ≡ base }
-        ensures none { IsBehind self.new [] }
+        ensures none { ArePassed self.new [] }
     {
         self.base = base;
         self.started.clear();
@@ -39,8 +39,8 @@ impl OpenStyles {
     /// Applies one more mark.
     pub fn pass(&mut self, mark: Mark) -> Result<(), AllocError>
         ensures base { base_of self.new ≡ base_of self.old }
-        ensures ok { OnOk result ((marks : _) → IsBehind self.old marks
-            → IsBehind self.new (marks ++ mark ∷ [])) }
+        ensures ok { OnOk result ((marks : _) → ArePassed self.old marks
+            → ArePassed self.new (marks ++ mark ∷ [])) }
     {
         match mark {
             Mark::Start(style) => self.started.push(style)?,
@@ -53,8 +53,8 @@ impl OpenStyles {
 
     /// Returns the style after the marks so far.
     pub fn style(&self) -> Style
-        ensures { (marks : _) → IsBehind self.now marks
-            → IsStyleBehind marks (base_of self.now) result }
+        ensures { (marks : _) → ArePassed self.now marks
+            → IsStyleAfter marks (base_of self.now) result }
     {
         match self.started.last() {
             Some(style) => *style,

@@ -1,15 +1,15 @@
 //! The text on the screen for the segments of a row.
 ghost use Rattle.std.specs.Prelude.{◌≡◌, ◌+◌, ◌*◌, ◌^◌, ◌<◌, ◌≤◌, ◌↔◌, ◌++◌, map, length, drop, None, IfOk, OnOk, chars, encode_utf8_all, string_bytes};
 ghost use Rattle.std.specs.List.{list_any};
-ghost use Rattle.textarea_screen.specs.Text.{shown_content};
-ghost use Rattle.textarea_highlight.specs.Texts.{bytes_of, IsLent};
+ghost use Rattle.textarea_screen.specs.Text.{content_view};
+ghost use Rattle.textarea_highlight.specs.Texts.{text_bytes_of, IsUncopied};
 ghost use Rattle.textarea_wrap.specs.Columns.{column_after, end_column};
-ghost use Rattle.textarea_highlight.specs.Display.{is_tab, shown_char, with_spaces, without_tabs, shown, shown_bytes, IsShownAsItIs};
+ghost use Rattle.textarea_highlight.specs.Display.{is_tab, display_char, with_spaces, without_tabs, display_text, display_bytes, IsShownAsItIs};
 
 use std::alloc::{AllocError, Global};
 use textarea_screen::screen::SpanText;
 use textarea_text::util::spaces;
-use textarea_wrap::wrap::columns::{column_behind, column_behind_text};
+use textarea_wrap::wrap::columns::{column_after, column_after_text};
 
 /// The text on the screen for the segments of one row, from left to right.
 #[derive(Drop)]
@@ -26,9 +26,9 @@ impl Display {
     /// and it is shown unchanged, otherwise a new text.
     pub fn show<'a>(&mut self, piece: &'a str) -> Result<SpanText<'a>, AllocError>
         requires { self.old.column + 255 * length piece.now < 2 ^ 63 }
-        ensures text { IfOk result (λ content. bytes_of (shown_content content)
-            ≡ shown_bytes self.old.mask self.old.tab_len self.old.column piece.now) }
-        ensures borrowed { IfOk result (λ content. IsLent (shown_content content)
+        ensures text { IfOk result (λ content. text_bytes_of (content_view content)
+            ≡ display_bytes self.old.mask self.old.tab_len self.old.column piece.now) }
+        ensures borrowed { IfOk result (λ content. IsUncopied (content_view content)
             ↔ IsShownAsItIs self.old.mask self.old.tab_len self.old.column piece.now) }
         ensures column { OnOk result (self.new ≡ record self.old {
           column = end_column self.old.tab_len self.old.column (chars piece.now);
@@ -39,7 +39,7 @@ impl Display {
             Some(mask) => SpanText::Owned(mask_text(self.alloc, piece, mask)?),
             None => show_tabs(self.alloc, piece, self.tab_len, self.column)?,
         };
-        self.column = column_behind_text(piece, self.column, self.tab_len);
+        self.column = column_after_text(piece, self.column, self.tab_len);
         Ok(content)
     }
 }
@@ -51,13 +51,13 @@ fn show_tabs<'a>(
     column: usize,
 ) -> Result<SpanText<'a>, AllocError>
     requires { column + 255 * length piece.now < 2 ^ 63 }
-    ensures text { IfOk result (λ content. bytes_of (shown_content content)
-        ≡ shown_bytes None tab_len column piece.now) }
-    ensures borrowed { IfOk result (λ content. IsLent (shown_content content)
-        ↔ (shown None tab_len column (chars piece.now) ≡ chars piece.now)) }
+    ensures text { IfOk result (λ content. text_bytes_of (content_view content)
+        ≡ display_bytes None tab_len column piece.now) }
+    ensures borrowed { IfOk result (λ content. IsUncopied (content_view content)
+        ↔ (display_text None tab_len column (chars piece.now) ≡ chars piece.now)) }
 {
     if tab_len == 0 {
-        if has_tab_behind_start(piece) {
+        if has_tab_after_start(piece) {
             Ok(SpanText::Owned(drop_tabs(alloc, piece)?))
         } else {
             Ok(SpanText::Borrowed(piece))
@@ -75,7 +75,7 @@ fn has_tab(piece: &str) -> bool
     piece.chars().any(|c| c == '\t')
 }
 
-fn has_tab_behind_start(piece: &str) -> bool
+fn has_tab_after_start(piece: &str) -> bool
     ensures { result ≡ list_any is_tab (drop 1 (chars piece.now)) }
 {
     piece.chars().skip(1).any(|c| c == '\t')
@@ -107,15 +107,15 @@ fn expand_tabs(alloc: Global, piece: &str, tab_len: u8, column: usize) -> Result
     let mut expanded = String::new(alloc);
     let mut at = column;
     for c in piece.chars() {
-        let next = column_behind(c, at, tab_len);
-        push_shown(&mut expanded, c, at, next, tab_len)?;
+        let next = column_after(c, at, tab_len);
+        push_display(&mut expanded, c, at, next, tab_len)?;
         at = next;
     }
     Ok(expanded)
 }
 
 /// Appends the text on the screen for a character between two columns.
-fn push_shown(
+fn push_display(
     text: &mut String,
     c: char,
     column: usize,
@@ -126,7 +126,7 @@ fn push_shown(
     requires room { next ≤ column + 255 }
     requires after { column ≤ next }
     ensures { OnOk result (string_bytes text.new
-        ≡ string_bytes text.old ++ encode_utf8_all (shown_char tab_len column c)) }
+        ≡ string_bytes text.old ++ encode_utf8_all (display_char tab_len column c)) }
 {
     if c == '\t' {
         text.push_str(spaces((next - column) as u8))?;

@@ -3,16 +3,16 @@ ghost use Rattle.std.specs.Prelude.{◌≡◌, ◌+◌, ◌^◌, ◌<◌, ◌≤
 ghost use Rattle.std.specs.Fmt.{decimal};
 ghost use Rattle.std.specs.Iterator.{IsFinite, Drains};
 ghost use Rattle.textarea_util.specs.Limit.{size_limit};
-ghost use Rattle.textarea_screen.specs.Text.{shown_line, shown_span};
-ghost use Rattle.textarea_highlight.specs.Cut.{IsAscending};
+ghost use Rattle.textarea_screen.specs.Text.{line_view, span_view};
+ghost use Rattle.textarea_highlight.specs.Split.{IsAscending};
 ghost use Rattle.textarea_highlight.specs.Borders.{IsEmptyAt, MarkNothing};
 ghost use Rattle.textarea_highlight.specs.Highlights.{AddsNoCursor, AddsNoRange, byte_of, plain_row, with_number, with_placeholder, with_base, with_cursor_line, with_matches, with_range, with_selection, with_segment, end_style};
 ghost use Rattle.textarea_highlight.specs.Row.{AddsRow, ShowsNothing, ShowsRow};
 
 use super::borders::{Border, borders_of_matches, push_highlight, sort};
 use super::brackets::OpenStyles;
-use super::cut::{RowStyle, cut, push_end_cell};
 use super::numbers::number_text;
+use super::split::{RowStyle, push_end_cell, split};
 use std::alloc::{AllocError, Global};
 use std::marker::Model;
 use std::mem;
@@ -68,14 +68,14 @@ pub struct LineHighlighter<'a> {
 impl<'a> Model for LineHighlighter<'a> {
     ghost use Rattle.std.specs.Prelude.{map};
     ghost use Rattle.textarea_highlight.specs.Borders.{ArePlaced};
-    ghost use Rattle.textarea_screen.specs.Text.{shown_span};
+    ghost use Rattle.textarea_screen.specs.Text.{span_view};
     ghost use Rattle.textarea_highlight.specs.Highlights.{Highlights};
 
     ghost Value = { Highlights };
 
     ghost view = { λ h. record {
       row = h.row.now;
-      numbers = map shown_span h.spans.items;
+      numbers = map span_view h.spans.items;
       borders = h.borders.items;
       base = h.base;
       cursor_at_end = h.cursor_at_end;
@@ -301,7 +301,7 @@ impl<'a> LineHighlighter<'a> {
     /// after it if that is drawn. A segment borrows from the row if it is shown unchanged. A row of
     /// 2^48 bytes or more is out of memory, as a line in `line_ranges`.
     pub fn into_spans(self) -> Result<Line<'a>, AllocError>
-        ensures shown { IfOk result (λ line. ShowsRow self.entry (shown_line line)) }
+        ensures shown { IfOk result (λ line. ShowsRow self.entry (line_view line)) }
         ensures too_long { size_limit ≤ length self.entry.row → IsErr result }
         ensures nothing { ShowsNothing self.entry → IsOk result }
     {
@@ -317,7 +317,7 @@ impl<'a> LineHighlighter<'a> {
     /// Replaces the spans of a line by those that `into_spans` returns, and reuses its memory. What
     /// the highlighter contains then is not specified; `restart` must come next.
     pub fn show_in(&mut self, line: &mut Line<'a>) -> Result<(), AllocError>
-        ensures shown { OnOk result (ShowsRow self.old (shown_line line.new)) }
+        ensures shown { OnOk result (ShowsRow self.old (line_view line.new)) }
         ensures too_long { size_limit ≤ length self.old.row → IsErr result }
         ensures nothing { ShowsNothing self.old → IsOk result }
     {
@@ -335,7 +335,7 @@ impl<'a> LineHighlighter<'a> {
         requires short { length self.old.row < size_limit }
         requires ordered { IsAscending self.old.borders }
         ensures added { OnOk result (AddsRow self.old
-            (map shown_span spans.old.items) (map shown_span spans.new.items)) }
+            (map span_view spans.old.items) (map span_view spans.new.items)) }
         ensures nothing { self.old.row ≡ [] → self.old.borders ≡ [] → end_style self.old ≡ None
             → IsOk result }
     {
@@ -347,7 +347,7 @@ impl<'a> LineHighlighter<'a> {
         };
         let borders = self.borders.as_slice();
         let styles = &mut self.styles;
-        cut(self.alloc, spans, styles, self.row, borders, row_style)?;
+        split(self.alloc, spans, styles, self.row, borders, row_style)?;
         push_end_cell(spans, end_style)
     }
 

@@ -1,6 +1,6 @@
 //! Changes: borrowed edits with a direction.
 ghost use Rattle.std.specs.Prelude.{◌≡◌, ◌<◌, ◌≤◌, ◌+◌, ◌++◌, ◌↔◌, length, min, IsTrue, IsOk, OnOk, OnErr, IfOk, true, false, vec_len};
-ghost use Rattle.textarea_history.specs.Prelude.{chars, characters, following, lines_of, text_of, weight, offset_at, IsPlaceOf, end, Fits, place_after, place_before, IsReplacementFor, breaks_of, IsRemovalInLine, Makes};
+ghost use Rattle.textarea_history.specs.Prelude.{chars, characters, following, lines_of, text_of, weight, offset_at, IsPlaceOf, end, Fits, place_after, place_before, IsReplacementFor, breaks_of, IsRemovalInLine, MakesLines};
 
 use super::{Content, Edit};
 use crate::texts::reverse_text;
@@ -91,7 +91,7 @@ impl<'a> Change<'a> {
             Content::Text(text) => text.len(),
             Content::Typed(text) => text.len(),
             Content::Break => 1,
-            Content::Chunk(pieces) => weight_of_pieces(pieces.as_slice()),
+            Content::Chunk(pieces) => weight_of_fragment(pieces.as_slice()),
         }
     }
 
@@ -99,7 +99,7 @@ impl<'a> Change<'a> {
     pub fn apply(&self, lines: &mut Vec<String>) -> Result<(), AllocError>
         requires nonempty { 0 < vec_len lines.old }
         requires fits { Fits (text_of lines.old.items) self.now }
-        ensures ok { OnOk result (Makes self.now lines.old.items lines.new.items) }
+        ensures ok { OnOk result (MakesLines self.now lines.old.items lines.new.items) }
         ensures err { OnErr result (lines.new.items ≡ lines.old.items) }
         ensures nonempty { 0 < vec_len lines.new }
         ensures no_memory { IsRemovalInLine self.now → IsOk result }
@@ -120,7 +120,7 @@ impl<'a> Change<'a> {
         requires nonempty { 0 < vec_len lines.old }
         requires fits { Fits (text_of lines.old.items) self.now }
         requires offset { offset ≡ offset_at (lines_of lines.old.items) self.now.place }
-        ensures ok { OnOk result (Makes self.now lines.old.items lines.new.items) }
+        ensures ok { OnOk result (MakesLines self.now lines.old.items lines.new.items) }
         ensures err { OnErr result (lines.new.items ≡ lines.old.items) }
         ensures len { vec_len lines.new ≡ vec_len lines.old }
         ensures no_memory { self.now.inserts ≡ false → IsOk result }
@@ -164,7 +164,7 @@ impl<'a> Change<'a> {
         requires nonempty { 0 < vec_len lines.old }
         requires fits { Fits (text_of lines.old.items) self.now }
         requires offset { offset ≡ offset_at (lines_of lines.old.items) self.now.place }
-        ensures ok { OnOk result (Makes self.now lines.old.items lines.new.items) }
+        ensures ok { OnOk result (MakesLines self.now lines.old.items lines.new.items) }
         ensures err { OnErr result (lines.new.items ≡ lines.old.items) }
         ensures len { vec_len lines.new ≡ vec_len lines.old }
         ensures start { IsPlaceOf (lines_of lines.new.items) self.now.place }
@@ -226,7 +226,7 @@ impl<'a> Change<'a> {
 }
 
 // The bytes of a fragment: those of its lines, and one for each break.
-fn weight_of_pieces(pieces: &[String]) -> usize
+fn weight_of_fragment(pieces: &[String]) -> usize
     ensures { result ≡ min (weight (text_of pieces.now)) usize.MAX }
 {
     match pieces {

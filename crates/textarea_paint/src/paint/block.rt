@@ -1,6 +1,6 @@
 //! A block's borders, corners and title.
 ghost use Rattle.std.specs.Prelude.{◌≡◌, ◌+◌, ◌<◌, ◌≤◌, ◌&&◌, length, IsOk, IfSome, OnOk, OnErr, if◌then◌else◌};
-ghost use Rattle.textarea_screen.specs.Block.{shown_block};
+ghost use Rattle.textarea_screen.specs.Block.{block_view};
 ghost use Rattle.textarea_screen.specs.Buffer.{Changes, KeepsOutside};
 ghost use Rattle.textarea_screen.specs.Cell.{with_symbol};
 ghost use Rattle.textarea_screen.specs.Inset.{inset_of};
@@ -19,8 +19,8 @@ use textarea_screen::screen::{Block, Borders, Buffer, Rect, Style};
 /// title, each over the one before. After out of memory, cells of the area may be changed already.
 pub fn draw_block(buffer: &mut Buffer, area: Rect, block: &Block) -> Result<(), AllocError>
     ensures ok { OnOk result
-        (Changes buffer.old buffer.new (block_cell (shown_block block.now) area)) }
-    ensures inline { IfSome (shown_block block.now).title (λ title.
+        (Changes buffer.old buffer.new (block_cell (block_view block.now) area)) }
+    ensures inline { IfSome (block_view block.now).title (λ title.
         AreInline (row_clusters empty_style title)) → IsOk result }
     ensures err { OnErr result (KeepsOutside (contains area) buffer.old buffer.new) }
 {
@@ -97,8 +97,8 @@ fn draw_title(buffer: &mut Buffer, area: Rect, block: &Block) -> Result<(), Allo
     requires columns { 0 < area.width }
     requires rows { 0 < area.height }
     ensures ok { OnOk result
-        (Changes buffer.old buffer.new (in_area area (title_change (shown_block block.now) area))) }
-    ensures inline { IfSome (shown_block block.now).title (λ title.
+        (Changes buffer.old buffer.new (in_area area (title_change (block_view block.now) area))) }
+    ensures inline { IfSome (block_view block.now).title (λ title.
         AreInline (row_clusters empty_style title)) → IsOk result }
     ensures err { OnErr result (KeepsOutside (contains area) buffer.old buffer.new) }
 {

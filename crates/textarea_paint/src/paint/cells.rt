@@ -3,7 +3,7 @@ ghost use Rattle.std.specs.Prelude.{◌≡◌, ◌+◌, ◌≤◌, ◌==◌, ℕ
 ghost use Rattle.textarea_screen.specs.Buffer.{Changes, KeepsOutside};
 ghost use Rattle.textarea_screen.specs.Cell.{with_symbol};
 ghost use Rattle.textarea_screen.specs.declared.screen.cell.TheConstants.{INLINE_BYTES};
-ghost use Rattle.textarea_paint.specs.Cells.{IsPenAt, IsWithin, row_change, is_in_cells, is_between, placed_at, symbol_of};
+ghost use Rattle.textarea_paint.specs.Cells.{IsPenAt, IsColumnWithin, row_change, is_in_cells, is_between, placed_at, symbol_of};
 ghost use Rattle.textarea_paint.specs.Columns.{columns_of};
 ghost use Rattle.textarea_paint.specs.LineClusters.{styled_cluster};
 
@@ -36,13 +36,13 @@ pub(crate) fn draw_cluster(
     cluster: StyledCluster,
 ) -> Result<Pen, AllocError>
     requires edge { cells.x + cells.width ≤ 65535 }
-    requires within { IsWithin cells pen.x }
+    requires within { IsColumnWithin cells pen.x }
     ensures moved { (left column : ℕ) → IsPenAt cells left column pen
         → IfOk result (IsPenAt cells left (column + columns_of cluster.entry.text.now)) }
     ensures drawn { (left column : ℕ) → IsPenAt cells left column pen
         → OnOk result (Changes buffer.old buffer.new
         (row_change cells left (placed_at column (styled_cluster cluster.entry) ∷ []))) }
-    ensures within { IfOk result (λ moved. IsWithin cells moved.x) }
+    ensures within { IfOk result (λ moved. IsColumnWithin cells moved.x) }
     ensures inline { length cluster.entry.text.now ≤ INLINE_BYTES → IsOk result }
     ensures err { OnErr result (KeepsOutside (is_in_cells cells) buffer.old buffer.new) }
 {

@@ -2,7 +2,7 @@
 ghost use Rattle.std.specs.Prelude.{◌≡◌, ◌<◌, ◌≤◌, ◌↔◌, true, length, ◌∷◌, IsTrue, IfSome};
 ghost use Rattle.unicode_segmentation.specs.Grapheme.{graphemes};
 ghost use Rattle.std.specs.Iterator.{YieldsFirstBy, item_count};
-ghost use Rattle.textarea_screen.specs.Text.{shown_line};
+ghost use Rattle.textarea_screen.specs.Text.{line_view};
 ghost use Rattle.textarea_paint.specs.Clusters.{row_clusters};
 ghost use Rattle.textarea_paint.specs.Plain.{BeginsPlain, IsPrintable};
 
@@ -33,7 +33,7 @@ impl<'a, 'b> LineClusters<'a, 'b> {
 
     /// Returns an iterator over the clusters of a line, whose style is patched over `style`.
     pub(crate) fn new(line: &'a Line<'b>, style: Style) -> LineClusters<'a, 'b>
-        ensures { clusters_left result ≡ row_clusters style (shown_line line.now) }
+        ensures { clusters_left result ≡ row_clusters style (line_view line.now) }
     {
         let base = style.patch(line.style);
         LineClusters {

@@ -2,10 +2,10 @@
 ghost use Rattle.std.specs.Prelude.{◌≡◌, ◌+◌, ◌≤◌, min, IsOk, OnOk, OnErr};
 ghost use Rattle.textarea_screen.specs.Buffer.{area_of, Changes, HasNone, KeepsOutside};
 ghost use Rattle.textarea_screen.specs.Rect.{is_in_row};
-ghost use Rattle.textarea_screen.specs.Text.{shown_line};
+ghost use Rattle.textarea_screen.specs.Text.{line_view};
 ghost use Rattle.textarea_paint.specs.Cells.{is_in_cells, place_from, row_change};
 ghost use Rattle.textarea_paint.specs.Clusters.{row_clusters, AreInline};
-ghost use Rattle.textarea_paint.specs.Row.{fitting, row_width, row_start, row_cell};
+ghost use Rattle.textarea_paint.specs.Row.{fitting, clusters_width, line_offset, row_cell};
 
 use super::cells::{Pen, RowCells, draw_cluster};
 use super::clusters::LineClusters;
@@ -30,8 +30,8 @@ pub struct RowArea {
 /// is done. After out of memory, cells of the row may be changed already.
 pub fn draw_row(buffer: &mut Buffer, rows: RowArea, y: u16, line: &Line) -> Result<(), AllocError>
     ensures ok { OnOk result
-        (Changes buffer.old buffer.new (row_cell rows y (shown_line line.now))) }
-    ensures inline { AreInline (row_clusters rows.style (shown_line line.now)) → IsOk result }
+        (Changes buffer.old buffer.new (row_cell rows y (line_view line.now))) }
+    ensures inline { AreInline (row_clusters rows.style (line_view line.now)) → IsOk result }
     ensures unseen { HasNone (is_in_row rows.area y) buffer.old → IsOk result }
     ensures err { OnErr result (KeepsOutside (is_in_row rows.area y) buffer.old buffer.new) }
 {
@@ -57,8 +57,8 @@ pub fn draw_row(buffer: &mut Buffer, rows: RowArea, y: u16, line: &Line) -> Resu
 /// Returns the number of columns between the left edge of the area and the start of a line: 0 with
 /// `Alignment::Left`, and else the number that centers the line or aligns it at the right.
 pub fn row_start(rows: RowArea, line: &Line) -> u16
-    ensures { result ≡ row_start rows.alignment rows.area.width
-        (row_clusters rows.style (shown_line line.now)) }
+    ensures { result ≡ line_offset rows.alignment rows.area.width
+        (row_clusters rows.style (line_view line.now)) }
 {
     let width = rows.area.width;
     match rows.alignment {
@@ -78,11 +78,11 @@ pub(super) fn draw_left(
 ) -> Result<(), AllocError>
     requires edge { cells.x + cells.width ≤ 65535 }
     ensures ok { OnOk result (Changes buffer.old buffer.new
-        (row_change cells left (place_from 0 (row_clusters style (shown_line line.now))))) }
-    ensures inline { AreInline (row_clusters style (shown_line line.now)) → IsOk result }
+        (row_change cells left (place_from 0 (row_clusters style (line_view line.now))))) }
+    ensures inline { AreInline (row_clusters style (line_view line.now)) → IsOk result }
     ensures err { OnErr result (KeepsOutside (is_in_cells cells) buffer.old buffer.new) }
 {
-    let end = seen_end(buffer, cells);
+    let end = visible_end(buffer, cells);
     let mut pen = Pen {
         hidden: left,
         x: cells.x,
@@ -98,7 +98,8 @@ pub(super) fn draw_left(
 
 /// Returns the number of columns of those clusters that are drawn in an area of `width` columns.
 fn fitting_columns(line: &Line, style: Style, width: u16) -> u16
-    ensures value { result ≡ row_width (fitting width (row_clusters style (shown_line line.now))) }
+    ensures value { result ≡ clusters_width
+        (fitting width (row_clusters style (line_view line.now))) }
     ensures bound { result ≤ width }
 {
     let mut room = width;
@@ -126,11 +127,11 @@ fn draw_fitting(
     requires edge { cells.x + cells.width ≤ 65535 }
     requires within { start ≤ cells.width }
     ensures ok { OnOk result (Changes buffer.old buffer.new (row_change cells 0
-        (place_from start (fitting cells.width (row_clusters style (shown_line line.now)))))) }
-    ensures inline { AreInline (row_clusters style (shown_line line.now)) → IsOk result }
+        (place_from start (fitting cells.width (row_clusters style (line_view line.now)))))) }
+    ensures inline { AreInline (row_clusters style (line_view line.now)) → IsOk result }
     ensures err { OnErr result (KeepsOutside (is_in_cells cells) buffer.old buffer.new) }
 {
-    let end = seen_end(buffer, cells);
+    let end = visible_end(buffer, cells);
     let mut room = cells.width;
     let mut pen = Pen {
         hidden: 0,
@@ -153,7 +154,7 @@ fn draw_fitting(
 }
 
 /// Returns the column after the last of the cells that the buffer may have, where drawing ends.
-fn seen_end(buffer: &Buffer, cells: RowCells) -> u16
+fn visible_end(buffer: &Buffer, cells: RowCells) -> u16
     requires edge { cells.x + cells.width ≤ 65535 }
     ensures { result ≡ min (cells.x + cells.width)
         ((area_of buffer.now).x + (area_of buffer.now).width) }

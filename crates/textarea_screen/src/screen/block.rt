@@ -77,7 +77,7 @@ pub struct Block<'a> {
 impl<'a> Block<'a> {
     ghost use Rattle.textarea_screen.specs.Block.{
       plain_block,
-      shown_block,
+      block_view,
       left_inset,
       top_inset,
       inner_width,
@@ -143,10 +143,10 @@ impl<'a> Block<'a> {
     /// takes the top row if there is no top border; the padding is inside of these. The result has
     /// no column or no row if the block takes them all.
     pub fn inner(&self, area: Rect) -> Rect
-        ensures x { result.x ≡ area.x + min (left_inset (shown_block self.now)) area.width }
-        ensures y { result.y ≡ area.y + min (top_inset (shown_block self.now)) area.height }
-        ensures width { result.width ≡ inner_width (shown_block self.now) area.width }
-        ensures height { result.height ≡ inner_height (shown_block self.now) area.height }
+        ensures x { result.x ≡ area.x + min (left_inset (block_view self.now)) area.width }
+        ensures y { result.y ≡ area.y + min (top_inset (block_view self.now)) area.height }
+        ensures width { result.width ≡ inner_width (block_view self.now) area.width }
+        ensures height { result.height ≡ inner_height (block_view self.now) area.height }
         ensures within { (x y : ℕ) → IsTrue (contains result x y) → IsTrue (contains area x y) }
     {
         let has_top = self.borders.contains(Borders::TOP) || self.title.is_some();
@@ -164,7 +164,7 @@ impl<'a> Block<'a> {
 
     /// Returns a copy of the block; the owned texts of its title are copied.
     pub fn clone(&self) -> Result<Block<'a>, AllocError>
-        ensures { IfOk result (λ block. shown_block block ≡ shown_block self.now) }
+        ensures { IfOk result (λ block. block_view block ≡ block_view self.now) }
     {
         let title = match &self.title {
             Some(title) => Some(title.clone()?),

@@ -17,7 +17,7 @@ pub struct Buffer {
 
 impl Buffer {
     ghost use Rattle.textarea_screen.specs.Rect.{contains, is_in_row};
-    ghost use Rattle.textarea_screen.specs.Cell.{shown_cell, fresh_cell, styled, with_symbol};
+    ghost use Rattle.textarea_screen.specs.Cell.{cell_view, fresh_cell, styled, with_symbol};
     ghost use Rattle.textarea_screen.specs.Buffer.{area_of, cell_at, place_in, Changes};
 
     /// Returns a buffer of fresh cells, in one allocation.
@@ -44,7 +44,7 @@ impl Buffer {
     /// Returns the cell at column `x` and row `y`, or `None` outside of the buffer's area.
     pub fn cell(&self, x: u16, y: u16) -> Option<&Cell>
         ensures inside { IsSome result ↔ IsTrue (contains (area_of self.now) x y) }
-        ensures value { option_map (λ cell. shown_cell cell.now) result ≡ cell_at self.now x y }
+        ensures value { option_map (λ cell. cell_view cell.now) result ≡ cell_at self.now x y }
     {
         if self.area.contains(Position { x, y }) {
             Some(&self.cells[self.place(x, y)])

@@ -68,11 +68,11 @@ pub struct Cell {
 }
 
 impl Cell {
-    ghost use Rattle.textarea_screen.specs.Cell.{shown_cell, styled, style_of, fresh_cell};
+    ghost use Rattle.textarea_screen.specs.Cell.{cell_view, styled, style_of, fresh_cell};
 
     /// Returns a fresh cell: a blank in the terminal's own colours, without modifiers.
     pub fn fresh() -> Cell
-        ensures { shown_cell result ≡ fresh_cell }
+        ensures { cell_view result ≡ fresh_cell }
     {
         let mut blank = ArrayString::new();
         blank.push(' ');
@@ -86,7 +86,7 @@ impl Cell {
 
     /// Returns the text.
     pub fn symbol(&self) -> &str
-        ensures { result.now ≡ (shown_cell self.now).symbol }
+        ensures { result.now ≡ (cell_view self.now).symbol }
     {
         self.text.as_str()
     }
@@ -95,7 +95,7 @@ impl Cell {
     /// a text of more than `INLINE_BYTES` bytes, the cell is unchanged.
     pub fn set_symbol(&mut self, alloc: Global, text: &str) -> Result<(), AllocError>
         ensures ok { OnOk result
-            (shown_cell self.new ≡ record (shown_cell self.old) { symbol = text.now }) }
+            (cell_view self.new ≡ record (cell_view self.old) { symbol = text.now }) }
         ensures inline { length text.now ≤ INLINE_BYTES → IsOk result }
         ensures err { OnErr result (self.new ≡ self.old) }
     {
@@ -104,7 +104,7 @@ impl Cell {
 
     /// Returns the style that sets these colours and adds these modifiers.
     pub fn style(&self) -> Style
-        ensures { result ≡ style_of (shown_cell self.now) }
+        ensures { result ≡ style_of (cell_view self.now) }
     {
         Style {
             fg: Some(self.fg),
@@ -116,7 +116,7 @@ impl Cell {
 
     /// Applies a style: sets its colours, adds its modifiers, then removes those that it removes.
     pub fn set_style(&mut self, style: Style)
-        ensures { shown_cell self.new ≡ styled style (shown_cell self.old) }
+        ensures { cell_view self.new ≡ styled style (cell_view self.old) }
     {
         self.fg = style.fg.unwrap_or(self.fg);
         self.bg = style.bg.unwrap_or(self.bg);
@@ -128,9 +128,9 @@ impl Cell {
 }
 
 impl Default for Cell {
-    ghost use Rattle.textarea_screen.specs.Cell.{shown_cell, fresh_cell};
+    ghost use Rattle.textarea_screen.specs.Cell.{cell_view, fresh_cell};
 
-    ghost is_default = { λ cell. shown_cell cell ≡ fresh_cell };
+    ghost is_default = { λ cell. cell_view cell ≡ fresh_cell };
 
     fn default() -> Cell {
         Cell::fresh()

@@ -11,7 +11,7 @@ pub enum SpanText<'a> {
 }
 
 impl<'a> SpanText<'a> {
-    ghost use Rattle.textarea_screen.specs.Text.{text_bytes, IsBorrowed, shown_content};
+    ghost use Rattle.textarea_screen.specs.Text.{text_bytes, IsBorrowed, content_view};
 
     /// Returns the text.
     pub fn as_str(&self) -> &str
@@ -25,7 +25,7 @@ impl<'a> SpanText<'a> {
 
     /// Returns a copy of the text. It allocates only if the text is owned.
     pub fn clone(&self) -> Result<SpanText<'a>, AllocError>
-        ensures value { IfOk result (λ text. shown_content text ≡ shown_content self.now) }
+        ensures value { IfOk result (λ text. content_view text ≡ content_view self.now) }
         ensures lent { IsBorrowed self.now → IsOk result }
     {
         match self {
@@ -45,7 +45,7 @@ pub struct Span<'a> {
 impl<'a> Span<'a> {
     ghost use Rattle.textarea_screen.specs.declared.screen.text.SpanText.TheVariants.{Borrowed};
     ghost use Rattle.textarea_screen.specs.Style.{empty_style};
-    ghost use Rattle.textarea_screen.specs.Text.{IsBorrowed, shown_span};
+    ghost use Rattle.textarea_screen.specs.Text.{IsBorrowed, span_view};
 
     /// Returns a span of a borrowed text in the empty style. It allocates nothing.
     pub fn raw(text: &'a str) -> Span<'a>
@@ -66,7 +66,7 @@ impl<'a> Span<'a> {
 
     /// Returns a copy of the span. It allocates only if the text is owned.
     pub fn clone(&self) -> Result<Span<'a>, AllocError>
-        ensures value { IfOk result (λ span. shown_span span ≡ shown_span self.now) }
+        ensures value { IfOk result (λ span. span_view span ≡ span_view self.now) }
         ensures lent { IsBorrowed self.now.content → IsOk result }
     {
         Ok(Span {
@@ -86,7 +86,7 @@ pub struct Line<'a> {
 impl<'a> Line<'a> {
     ghost use Rattle.textarea_screen.specs.declared.screen.text.SpanText.TheVariants.{Owned};
     ghost use Rattle.textarea_screen.specs.Style.{empty_style};
-    ghost use Rattle.textarea_screen.specs.Text.{shown_line};
+    ghost use Rattle.textarea_screen.specs.Text.{line_view};
 
     /// Returns a line without spans, in the empty style. It allocates nothing.
     pub fn new(alloc: Global) -> Line<'a>
@@ -121,7 +121,7 @@ impl<'a> Line<'a> {
 
     /// Returns a copy of the line; the owned texts of its spans are copied.
     pub fn clone(&self) -> Result<Line<'a>, AllocError>
-        ensures { IfOk result (λ line. shown_line line ≡ shown_line self.now) }
+        ensures { IfOk result (λ line. line_view line ≡ line_view self.now) }
     {
         let mut spans = Vec::with_capacity(*self.spans.allocator(), self.spans.len())?;
         for span in &self.spans {
@@ -143,7 +143,7 @@ pub struct Text<'a> {
 
 impl<'a> Text<'a> {
     ghost use Rattle.textarea_screen.specs.Style.{empty_style};
-    ghost use Rattle.textarea_screen.specs.Text.{shown_text};
+    ghost use Rattle.textarea_screen.specs.Text.{text_view};
 
     /// Returns a text without lines, in the empty style. It allocates nothing.
     pub fn new(alloc: Global) -> Text<'a>
@@ -164,7 +164,7 @@ impl<'a> Text<'a> {
 
     /// Returns a copy of the text; the owned texts of its spans are copied.
     pub fn clone(&self) -> Result<Text<'a>, AllocError>
-        ensures { IfOk result (λ text. shown_text text ≡ shown_text self.now) }
+        ensures { IfOk result (λ text. text_view text ≡ text_view self.now) }
     {
         let mut lines = Vec::with_capacity(*self.lines.allocator(), self.lines.len())?;
         for line in &self.lines {

@@ -5,17 +5,17 @@ ghost use Rattle.std.specs.Prelude.{◌≡◌, ◌+◌, ◌<◌, ◌≤◌, leng
 ghost use Rattle.textarea_util.specs.Limit.{size_limit};
 ghost use Rattle.textarea_text.specs.Text.{lines_of};
 ghost use Rattle.textarea_text.specs.Place.{IsPlaceOf};
-ghost use Rattle.textarea_screen_map.specs.Layout.{AreRowsOf};
+ghost use Rattle.textarea_screen_map.specs.LineRows.{AreRowsOf};
 ghost use Rattle.textarea_blocks.specs.Sums.{range_at, row_total};
-ghost use Rattle.textarea_screen_map.specs.Rows.{greatest_column, row_at, row_width};
-ghost use Rattle.textarea_screen_map.specs.Shown.{HasFrontOfLine, shown_row};
-ghost use Rattle.textarea_screen_map.specs.Seen.{IsAbove, IsBelow, IsInFirstRow, IsInLastRow, IsPlaceAt, IsPlaceNear, IsVisualPosition};
+ghost use Rattle.textarea_screen_map.specs.VisualRows.{greatest_column, row_at, row_width};
+ghost use Rattle.textarea_screen_map.specs.RowTexts.{HasFrontOfLine, row_of_texts};
+ghost use Rattle.textarea_screen_map.specs.VisualPositions.{IsAbove, IsBelow, IsInFirstRow, IsInLastRow, IsPlaceAt, IsPlaceNear, IsVisualPosition};
 
 use super::ScreenMap;
 use crate::columns::{character_at_column, greatest_cursor_column};
 use crate::layout::VisualPosition;
 use textarea_text::rows::{byte_offset, column_count};
-use textarea_wrap::wrap::columns::display_column_behind_text;
+use textarea_wrap::wrap::columns::display_column_after_text;
 
 /// A visual row: its line, its index among the rows of that line, the text before it in that line,
 /// its own text, and whether it is the last row of its line. It begins at the line's byte
@@ -55,7 +55,7 @@ impl ScreenMap {
     pub fn row_at<'a>(&self, lines: &'a [String], row: usize) -> RowText<'a>
         requires rows { AreRowsOf self.now.wrapping (lines_of lines.now) self.now.rows }
         requires row { row < row_total self.now.rows }
-        ensures shown { shown_row result ≡ row_at (lines_of lines.now) self.now.rows row }
+        ensures shown { row_of_texts result ≡ row_at (lines_of lines.now) self.now.rows row }
         ensures number { row_total (take result.line self.now.rows) + result.number ≡ row }
         ensures line { result.line < length self.now.rows }
         ensures front { HasFrontOfLine (lines_of lines.now) result }
@@ -83,7 +83,7 @@ impl ScreenMap {
             ≡ row_width self.now.wrapping.tab_len (row_at (lines_of lines.now) self.now.rows row) }
     {
         let shown = self.row_at(lines, row);
-        display_column_behind_text(shown.text, 0, self.wrapping.tab_len)
+        display_column_after_text(shown.text, 0, self.wrapping.tab_len)
     }
 
     /// Returns the greatest display column of a visual row at which a cursor can be: the row's
@@ -111,7 +111,7 @@ impl ScreenMap {
         let ranges = self.rows_of(place.0);
         let row = row_holding(ranges, offset);
         let start = ranges[row].0;
-        let column = display_column_behind_text(&line[start..offset], 0, self.wrapping.tab_len);
+        let column = display_column_after_text(&line[start..offset], 0, self.wrapping.tab_len);
         VisualPosition {
             row: self.first_row(place.0) + row,
             column,

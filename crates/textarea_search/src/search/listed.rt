@@ -2,7 +2,7 @@
 ghost use Rattle.std.specs.Prelude.{◌≡◌, ◌+◌, ◌≤◌, ◌<◌, [], ◌∷◌, length, take, find, reverse, slice_get, option_map, encode_utf8_all, IsCharBoundary, IsUtf8, IfSome, MatchOption, OnOk};
 ghost use Rattle.std.specs.Str.{chars};
 ghost use Rattle.regex.specs.Strings.{matcher_pattern, match_span, match_haystack};
-ghost use Rattle.textarea_search.specs.Columns.{column_at};
+ghost use Rattle.textarea_search.specs.Columns.{column_of_byte};
 ghost use Rattle.textarea_search.specs.Spans.{spans_after, columns_in};
 ghost use Rattle.textarea_search.specs.Starts.{along, is_ahead_in_line, is_past};
 
@@ -80,7 +80,7 @@ fn first_ahead<'h>(
 
 /// Returns the last listed match that starts before the byte offset or, with `at_byte`, at it. It
 /// searches for none after the offset.
-fn last_behind<'h>(
+fn last_before<'h>(
     matcher: &mut Matcher<'_>,
     line: &'h str,
     byte: usize,
@@ -122,7 +122,7 @@ fn nearest<'h>(
 {
     match direction {
         Direction::Forward => first_ahead(matcher, line, byte, at_byte),
-        Direction::Back => last_behind(matcher, line, byte, at_byte),
+        Direction::Back => last_before(matcher, line, byte, at_byte),
     }
 }
 
@@ -140,9 +140,9 @@ fn byte_of(line: &str, column: usize) -> usize
 }
 
 /// Returns the number of characters of a line before a byte offset.
-fn column_of(line: &str, byte: usize) -> usize
+fn column_of_byte(line: &str, byte: usize) -> usize
     requires { IsCharBoundary line.now byte }
-    ensures { result ≡ column_at line.now byte }
+    ensures { result ≡ column_of_byte line.now byte }
 {
     line[..byte].chars().count()
 }
@@ -151,11 +151,11 @@ fn column_of(line: &str, byte: usize) -> usize
 fn start_column(line: &str, found: Option<Match<'_>>) -> Option<usize>
     requires { IfSome found (λ m. match_haystack m ≡ line.now) }
     ensures column { result
-        ≡ option_map (λ s. column_at line.now s.0) (option_map match_span found.entry) }
+        ≡ option_map (λ s. column_of_byte line.now s.0) (option_map match_span found.entry) }
     ensures within { IfSome result (λ start. start ≤ length (chars line.now)) }
 {
     let found = found?;
-    Some(column_of(line, found.start()))
+    Some(column_of_byte(line, found.start()))
 }
 
 /// Returns the first column in the search's direction from the given one or, with `at_column`, at
@@ -189,6 +189,6 @@ pub(crate) fn end_column(
 {
     match direction {
         Direction::Forward => start_column(line, first_ahead(matcher, line, 0, true)),
-        Direction::Back => start_column(line, last_behind(matcher, line, line.len(), true)),
+        Direction::Back => start_column(line, last_before(matcher, line, line.len(), true)),
     }
 }

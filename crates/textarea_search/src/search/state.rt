@@ -1,17 +1,17 @@
 ghost use Rattle.std.specs.Prelude.{◌≡◌, ◌≢◌, ◌<◌, [], length, option_map, IsNone, IsOk, IfOk, IfErr, OnOk, OnErr};
 ghost use Rattle.std.specs.Option.{option_copied};
-ghost use Rattle.textarea_search.specs.Failures.{IsPatternFailure, IsCarried, IsOwnFailure};
+ghost use Rattle.textarea_search.specs.PatternErrors.{IsPatternFailure, IsErrorFor, IsOwnFailure};
 ghost use Rattle.textarea_search.specs.Matches.{match_spans};
 ghost use Rattle.textarea_search.specs.Starts.{IsFound};
 ghost use Rattle.textarea_search.specs.declared.search.direction.Direction.TheVariants.{Forward, Back};
 
 use crate::error::SearchError;
 use crate::pattern::Pattern;
+use crate::search::caching_matcher::CachingMatcher;
 use crate::search::direction::Direction;
-use crate::search::keeping_matcher::KeepingMatcher;
-use crate::search::kept_matches::KeptMatches;
 use crate::search::line_matcher::LineMatcher;
 use crate::search::lines::found_start;
+use crate::search::match_cache::MatchCache;
 use crate::search::matches::Matches;
 use std::alloc::{AllocError, Global};
 use std::marker::Model;
@@ -37,7 +37,7 @@ impl Search {
         ensures set { pattern.now ≢ [] → OnOk result (self.new ≡ Some pattern.now) }
         ensures present { self.old ≡ Some pattern.now → IsOk result }
         ensures refused { IfErr result (IsPatternFailure pattern.now) }
-        ensures carried { IfErr result (IsCarried pattern.now) }
+        ensures carried { IfErr result (IsErrorFor pattern.now) }
         ensures own { IfErr result (IsOwnFailure pattern.now) }
         ensures err { OnErr result (self.new ≡ self.old) }
     {
@@ -89,18 +89,18 @@ impl Search {
 
     /// Returns a matcher that lists the matches of many lines, as `matches` does, and stores them
     /// in `kept`, for up to `count` successive lines, so that none is searched for twice.
-    pub fn keeping_matcher<'a, 'k>(
+    pub fn caching_matcher<'a, 'k>(
         &'a self,
-        kept: &'k mut KeptMatches,
+        kept: &'k mut MatchCache,
         count: usize,
-    ) -> Result<KeepingMatcher<'a, 'k>, AllocError>
+    ) -> Result<CachingMatcher<'a, 'k>, AllocError>
         ensures pattern { IfOk result (λ matcher. matcher ≡ self.now) }
         ensures no_pattern { IsNone self.now → IsOk result }
     {
         if self.pattern.is_some() {
             kept.reserve(count)?;
         }
-        Ok(KeepingMatcher::new(self, kept))
+        Ok(CachingMatcher::new(self, kept))
     }
 
     /// Returns the position (row, column in characters) of the next match start after the cursor

@@ -4,7 +4,7 @@ ghost use Rattle.std.specs.Prelude.{◌≡◌, true};
 ghost use Rattle.std.specs.Char.{IsScalar};
 ghost use Rattle.std.specs.Int.{IsInRange};
 ghost use Rattle.textarea_terminal.specs.InputReading.{Reads};
-ghost use Rattle.textarea_terminal.specs.InputCharacter.{character, second_byte, third_byte, fourth_byte, code_of_two, code_of_three, code_of_four, is_second, is_continuation};
+ghost use Rattle.textarea_terminal.specs.InputCharacter.{utf8_character, second_byte, third_byte, fourth_byte, code_of_two, code_of_three, code_of_four, is_second, is_continuation};
 
 // The character of a code.
 fn scalar(code: u32) -> char
@@ -69,7 +69,7 @@ fn four_bytes(first: u8, second: u8, third: u8, fourth: u8) -> char
 /// Reads the character that begins with a byte of at least 128 and goes on with these bytes, and the bytes after it. There is
 /// none where they end within it. Bytes that are no character are U+FFFD, one for each maximal part.
 pub fn read_character(first: u8, bytes: &[u8]) -> Option<(char, &[u8])>
-    ensures { Reads (λ x. (x.0, x.1.now)) result (character first bytes.now) }
+    ensures { Reads (λ x. (x.0, x.1.now)) result (utf8_character first bytes.now) }
 {
     if 0xC2 <= first && first <= 0xF4 {
         read_second(first, bytes)

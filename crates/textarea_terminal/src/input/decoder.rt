@@ -3,7 +3,7 @@
 ghost use Rattle.std.specs.Prelude.{◌≡◌, ◌≤◌, ◌++◌, [], ◌∷◌, length, take, drop, None, IfSome, IfOk, OnOk, OnErr, vec_len};
 ghost use Rattle.textarea_terminal.specs.InputReading.{Reads};
 ghost use Rattle.textarea_terminal.specs.InputUnit.{unit_at};
-ghost use Rattle.textarea_terminal.specs.InputStream.{Adds, AddsUpTo, events_of, rest_of, key_alone, keys_after_escape, idle_keys, values_of_keys, idle_decoding};
+ghost use Rattle.textarea_terminal.specs.InputStream.{Adds, AddsUpTo, events_of, begun_bytes, leading_key, keys_after_escape, idle_keys, values_of_keys, idle_decoding};
 
 use crate::input::event::Event;
 use crate::input::key::{alt_input, plain_input};
@@ -31,7 +31,7 @@ fn read_letter(bytes: &[u8]) -> Option<(u8, &[u8])>
 
 // Adds the letters at the front, and returns the bytes after them. An `Err` may leave some added.
 fn push_letters<'a>(bytes: &'a [u8], events: &mut Vec<Event>) -> Result<&'a [u8], AllocError>
-    ensures left { IfOk result (λ rest. rest_of rest.now ≡ rest_of bytes.now) }
+    ensures left { IfOk result (λ rest. begun_bytes rest.now ≡ begun_bytes bytes.now) }
     ensures events { IfOk result (λ rest. AddsUpTo events.old.items events.new.items (events_of rest.now) (events_of bytes.now)) }
     ensures front { take (vec_len events.old) events.new.items ≡ events.old.items }
     ensures shorter { IfOk result (λ rest. length rest.now ≤ length bytes.now) }
@@ -55,7 +55,7 @@ fn read_units<'a>(
 ) -> Result<&'a [u8], AllocError>
     requires within { begun ≤ length bytes.now }
     requires begun { unit_at (take begun bytes.now) ≡ None }
-    ensures rest { IfOk result (λ rest. rest.now ≡ rest_of bytes.now) }
+    ensures rest { IfOk result (λ rest. rest.now ≡ begun_bytes bytes.now) }
     ensures events { OnOk result (Adds events.old.items events.new.items (events_of bytes.now)) }
     ensures front { take (vec_len events.old) events.new.items ≡ events.old.items }
 {
@@ -89,7 +89,7 @@ fn read_fresh(
     events: &mut Vec<Event>,
 ) -> Result<(), AllocError>
     requires { pending.old.items ≡ [] }
-    ensures pending { OnOk result (pending.new.items ≡ rest_of bytes.now) }
+    ensures pending { OnOk result (pending.new.items ≡ begun_bytes bytes.now) }
     ensures events { OnOk result (Adds events.old.items events.new.items (events_of bytes.now)) }
     ensures err { OnErr result (pending.new.items ≡ pending.old.items) }
     ensures front { take (vec_len events.old) events.new.items ≡ events.old.items }
@@ -107,7 +107,7 @@ fn read_begun(
     events: &mut Vec<Event>,
 ) -> Result<(), AllocError>
     requires { unit_at pending.old.items ≡ None }
-    ensures pending { OnOk result (pending.new.items ≡ rest_of (pending.old.items ++ bytes.now)) }
+    ensures pending { OnOk result (pending.new.items ≡ begun_bytes (pending.old.items ++ bytes.now)) }
     ensures events { OnOk result (Adds events.old.items events.new.items (events_of (pending.old.items ++ bytes.now))) }
     ensures err { OnErr result (take (vec_len pending.old) pending.new.items ≡ pending.old.items) }
     ensures front { take (vec_len events.old) events.new.items ≡ events.old.items }
@@ -129,7 +129,7 @@ fn read_pieces(
     events: &mut Vec<Event>,
 ) -> Result<(), AllocError>
     requires { unit_at pending.old.items ≡ None }
-    ensures pending { OnOk result (pending.new.items ≡ rest_of (pending.old.items ++ bytes.now)) }
+    ensures pending { OnOk result (pending.new.items ≡ begun_bytes (pending.old.items ++ bytes.now)) }
     ensures events { OnOk result (Adds events.old.items events.new.items (events_of (pending.old.items ++ bytes.now))) }
     ensures err { OnErr result (take (vec_len pending.old) pending.new.items ≡ pending.old.items) }
     ensures front { take (vec_len events.old) events.new.items ≡ events.old.items }
@@ -149,7 +149,7 @@ fn feed_pending(
     events: &mut Vec<Event>,
 ) -> Result<(), AllocError>
     requires { unit_at pending.old.items ≡ None }
-    ensures pending { OnOk result (pending.new.items ≡ rest_of (pending.old.items ++ bytes.now)) }
+    ensures pending { OnOk result (pending.new.items ≡ begun_bytes (pending.old.items ++ bytes.now)) }
     ensures events { OnOk result (Adds events.old.items events.new.items (events_of (pending.old.items ++ bytes.now))) }
     ensures err { OnErr result ((pending.new.items ≡ pending.old.items) × (events.new.items ≡ events.old.items)) }
     ensures begun { unit_at pending.new.items ≡ None }
@@ -167,9 +167,9 @@ fn feed_pending(
 }
 
 // The key that begins a sequence, which the bytes after its ESC begin.
-#[tactic(auto, unfolding(crate::specs::InputStream::key_alone))]
-fn read_key_alone(bytes: &[u8]) -> Option<Input>
-    ensures { result ≡ key_alone bytes.now }
+#[tactic(auto, unfolding(crate::specs::InputStream::leading_key))]
+fn read_first_key(bytes: &[u8]) -> Option<Input>
+    ensures { result ≡ leading_key bytes.now }
 {
     match bytes {
         [] => Some(plain_input(Key::Esc)),
@@ -185,8 +185,8 @@ fn read_keys_after_escape(bytes: &[u8]) -> Option<(bool, Input)>
 {
     match bytes {
         [] => Some((false, plain_input(Key::Esc))),
-        [ESCAPE, rest @ ..] => Some((true, read_key_alone(rest)?)),
-        [_, ..] => Some((false, read_key_alone(bytes)?)),
+        [ESCAPE, rest @ ..] => Some((true, read_first_key(rest)?)),
+        [_, ..] => Some((false, read_first_key(bytes)?)),
     }
 }
 
@@ -274,7 +274,7 @@ impl Decoder {
     ///
     /// It fails only where memory runs out, and then changes neither the decoder nor the events.
     pub fn feed(&mut self, bytes: &[u8], events: &mut Vec<Event>) -> Result<(), AllocError>
-        ensures pending { OnOk result (self.new ≡ rest_of (self.old ++ bytes.now)) }
+        ensures pending { OnOk result (self.new ≡ begun_bytes (self.old ++ bytes.now)) }
         ensures events { OnOk result (Adds events.old.items events.new.items (events_of (self.old ++ bytes.now))) }
         ensures err { OnErr result ((self.new ≡ self.old) × (events.new.items ≡ events.old.items)) }
     {

@@ -5,9 +5,9 @@ ghost use Rattle.std.specs.List.{AllByRecursion, concat};
 ghost use Rattle.std.specs.Str.Lossy.{utf8_lossy};
 ghost use Rattle.textarea_terminal.specs.InputEvent.{EventValue, paste, unknown};
 ghost use Rattle.textarea_terminal.specs.InputSequence.{inner_limit, sequence_event};
-ghost use Rattle.textarea_terminal.specs.InputUnit.{paste_start, paste_end, index_of, unit_at};
-ghost use Rattle.textarea_terminal.specs.InputStream.{EndsIn, Takes, decoding, rest_of};
-ghost use Rattle.textarea_terminal.specs.InputRow.{AreInner, IsGeneral, IsWritten, bracket, bytes_of_rows, feeding};
+ghost use Rattle.textarea_terminal.specs.InputUnit.{paste_start, paste_end, mark_index, unit_at};
+ghost use Rattle.textarea_terminal.specs.InputStream.{EndsIn, Takes, decoding, begun_bytes};
+ghost use Rattle.textarea_terminal.specs.InputRow.{AreInner, IsGeneral, IsSentFor, bracket, bytes_of_rows, feeding};
 
 /// In pieces of any size, the events of bytes, and what is pending after them, are those of all bytes at once.
 pub fn any_pieces()
@@ -17,14 +17,14 @@ pub fn any_pieces()
 /// What terminals send for keys, characters, pasted texts, the mouse, sizes, cursors and the focus is read as just that, one
 /// after another in any order.
 pub fn rows_are_read()
-    ensures { (rows : List (List ℕ × EventValue)) → AllByRecursion (λ r. IsWritten r.0 r.1) rows
+    ensures { (rows : List (List ℕ × EventValue)) → AllByRecursion (λ r. IsSentFor r.0 r.1) rows
         → decoding (bytes_of_rows rows) ≡ (map (λ r. r.1) rows, []) }
 {}
 
 /// A pasted text is exactly the bytes between its marks, as UTF-8 with U+FFFD for what is none. It ends at the first mark of an
 /// end, and other sequences in it are text.
 pub fn pastes_are_their_bytes()
-    ensures { (text more : List ℕ) → index_of paste_end text ≡ None
+    ensures { (text more : List ℕ) → mark_index paste_end text ≡ None
         → unit_at (paste_start ++ text ++ paste_end ++ more) ≡ Some (paste (utf8_lossy text), more) }
 {}
 
@@ -32,7 +32,7 @@ pub fn pastes_are_their_bytes()
 /// left after the last event is the end of the bytes.
 pub fn no_byte_is_lost()
     ensures units { (bytes : List ℕ) (x : EventValue × List ℕ) → unit_at bytes ≡ Some x → Takes bytes x }
-    ensures rest { (bytes : List ℕ) → EndsIn bytes (rest_of bytes) × (unit_at (rest_of bytes) ≡ None) }
+    ensures rest { (bytes : List ℕ) → EndsIn bytes (begun_bytes bytes) × (unit_at (begun_bytes bytes) ≡ None) }
 {}
 
 /// What is pending is short, but for a pasted text.

@@ -2,7 +2,7 @@
 
 ghost use Rattle.std.specs.Prelude.{◌≡◌, ◌<◌, length, IfSome};
 ghost use Rattle.textarea_terminal.specs.InputReading.{Reads};
-ghost use Rattle.textarea_terminal.specs.InputParameter.{digit_at, number, parameters_of, after_first, after_second, after_third};
+ghost use Rattle.textarea_terminal.specs.InputParameter.{digit_at, number_at, parameters_of, after_first, after_second, after_third};
 
 /// The numbers of a control sequence. A number that is left out is 0, and one above 65,535 is that.
 #[derive(Clone, Copy, Debug, PartialEq, Eq)]
@@ -31,7 +31,7 @@ fn read_digit(bytes: &[u8]) -> Option<(u8, &[u8])>
 
 // The number at the front, and the bytes after it.
 fn read_number(bytes: &[u8]) -> (u16, &[u8])
-    ensures { (result.0, result.1.now) ≡ number bytes.now }
+    ensures { (result.0, result.1.now) ≡ number_at bytes.now }
 {
     let mut number = 0u16;
     let mut rest = bytes;
@@ -43,7 +43,7 @@ fn read_number(bytes: &[u8]) -> (u16, &[u8])
 }
 
 fn read_third(first: u16, second: u16, bytes: &[u8]) -> Parameters
-    ensures { result ≡ after_third first second (number bytes.now) }
+    ensures { result ≡ after_third first second (number_at bytes.now) }
 {
     match read_number(bytes) {
         (third, []) => Parameters::Three(first, second, third),
@@ -52,7 +52,7 @@ fn read_third(first: u16, second: u16, bytes: &[u8]) -> Parameters
 }
 
 fn read_second(first: u16, bytes: &[u8]) -> Parameters
-    ensures { result ≡ after_second first (number bytes.now) }
+    ensures { result ≡ after_second first (number_at bytes.now) }
 {
     match read_number(bytes) {
         (second, []) => Parameters::Two(first, second),

@@ -3,7 +3,7 @@
 ghost use Rattle.std.specs.Prelude.{◌≡◌, ◌≤◌, ◌+◌, length, take, None, IfOk, option_map, IfSome};
 ghost use Rattle.textarea_terminal.specs.InputReading.{Reads};
 ghost use Rattle.textarea_terminal.specs.InputEvent.{value_of};
-ghost use Rattle.textarea_terminal.specs.InputUnit.{paste_start, paste_end, after_mark, index_of, paste_at};
+ghost use Rattle.textarea_terminal.specs.InputUnit.{paste_start, paste_end, after_mark, mark_index, paste_at};
 
 use crate::input::event::Event;
 use memchr::memmem;
@@ -23,8 +23,8 @@ pub fn after_start(bytes: &[u8]) -> Option<&[u8]>
 // The index of the mark that ends a text. None is in its first `begun` bytes.
 fn find_end(text: &[u8], begun: usize) -> Option<usize>
     requires within { begun ≤ length text.now }
-    requires begun { index_of paste_end (take begun text.now) ≡ None }
-    ensures index { result ≡ index_of paste_end text.now }
+    requires begun { mark_index paste_end (take begun text.now) ≡ None }
+    ensures index { result ≡ mark_index paste_end text.now }
     ensures within { IfSome result (λ index. index + 6 ≤ length text.now) }
 {
     let from = begun.saturating_sub(END.len() - 1);
@@ -45,7 +45,7 @@ pub fn read_paste(
     begun: usize,
 ) -> Result<Option<(Event, &[u8])>, AllocError>
     requires within { begun ≤ length bytes.now }
-    requires begun { index_of paste_end (take begun bytes.now) ≡ None }
+    requires begun { mark_index paste_end (take begun bytes.now) ≡ None }
     ensures { IfOk result (λ found. Reads (λ x. (value_of x.0, x.1.now)) found (paste_at bytes.now)) }
 {
     match find_end(bytes, begun) {

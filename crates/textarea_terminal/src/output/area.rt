@@ -1,7 +1,7 @@
 //! The cells and the caret of an area.
 ghost use Rattle.std.specs.Prelude.{◌≡◌, ◌<◌, map, length, replicate, vec_len, IfOk, IfSome};
-ghost use Rattle.textarea_screen.specs.Cell.{shown_cell, fresh_cell};
-ghost use Rattle.textarea_terminal.specs.PaintArea.{size_of, caret_in};
+ghost use Rattle.textarea_screen.specs.Cell.{cell_view, fresh_cell};
+ghost use Rattle.textarea_terminal.specs.PaintArea.{cell_count, caret_in};
 
 use std::alloc::{AllocError, Global};
 use textarea_screen::screen::{Cell, Position, Rect};
@@ -10,7 +10,7 @@ use textarea_screen::screen::{Cell, Position, Rect};
 pub(super) fn fresh_cells(alloc: Global, count: usize) -> Result<Vec<Cell>, AllocError>
     ensures len { IfOk result (λ cells. vec_len cells ≡ count) }
     ensures cells { IfOk result (λ cells.
-        map shown_cell cells.items ≡ replicate count fresh_cell) }
+        map cell_view cells.items ≡ replicate count fresh_cell) }
 {
     let mut cells = Vec::with_capacity(alloc, count)?;
     for _ in 0..count {
@@ -21,7 +21,7 @@ pub(super) fn fresh_cells(alloc: Global, count: usize) -> Result<Vec<Cell>, Allo
 
 /// Makes each cell a fresh one.
 pub(super) fn erase(cells: &mut [Cell])
-    ensures { map shown_cell cells.new ≡ replicate (length cells.old) fresh_cell }
+    ensures { map cell_view cells.new ≡ replicate (length cells.old) fresh_cell }
 {
     for cell in cells.iter_mut() {
         *cell = Cell::fresh();
@@ -31,7 +31,7 @@ pub(super) fn erase(cells: &mut [Cell])
 /// The place of the caret among the cells of an area; one outside of it isn't shown.
 pub(super) fn caret_in(area: Rect, caret: Option<Position>) -> Option<usize>
     ensures value { result ≡ caret_in area caret }
-    ensures bound { IfSome result (λ place. place < size_of area) }
+    ensures bound { IfSome result (λ place. place < cell_count area) }
 {
     let position = caret?;
     if area.contains(position) {

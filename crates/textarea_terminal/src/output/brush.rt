@@ -1,6 +1,6 @@
 //! What is known of a terminal's cursor and pen, and what is written with it.
 ghost use Rattle.std.specs.Prelude.{◌≡◌, ℕ, ◌+◌, ◌<◌, ◌≤◌, ◌^◌, ◌++◌, ◌⊎◌, ◌%◌, ◌/◌, true, false, map, length, OnOk, IfOk, Some, None, IsTrue, ◌↔◌};
-ghost use Rattle.textarea_screen.specs.Cell.{shown_cell};
+ghost use Rattle.textarea_screen.specs.Cell.{cell_view};
 ghost use Rattle.textarea_terminal.specs.Pen.{look_of};
 ghost use Rattle.textarea_terminal.specs.PaintSpot.{IsSpot};
 ghost use Rattle.textarea_terminal.specs.PaintCells.{can_begin, is_half, are_whole, cluster_columns};
@@ -93,11 +93,11 @@ fn write_cell(
     requires columns { (0 < columns) × (columns < 2 ^ 16) }
     requires place { spot.place < 2 ^ 32 }
     requires spot { IsSpot columns spot }
-    requires begins { IsTrue (can_begin columns spot.place (shown_cell cell.now)) }
+    requires begins { IsTrue (can_begin columns spot.place (cell_view cell.now)) }
     ensures brush { OnOk result
-        (brush.new ≡ brush_after columns spot.place (shown_cell cell.now)) }
+        (brush.new ≡ brush_after columns spot.place (cell_view cell.now)) }
     ensures wrote { OnOk result (Wrote bytes.old.items bytes.new.items
-        (PrintsCell brush.old columns spot.place (shown_cell cell.now))) }
+        (PrintsCell brush.old columns spot.place (cell_view cell.now))) }
 {
     let look = look_of(cell);
     let width = cluster_columns(cell.symbol());
@@ -113,7 +113,7 @@ fn write_cell(
 
 /// Whether two cells show the same.
 fn is_alike(a: &Cell, b: &Cell) -> bool
-    ensures { IsTrue result ↔ (shown_cell a.now ≡ shown_cell b.now) }
+    ensures { IsTrue result ↔ (cell_view a.now ≡ cell_view b.now) }
 {
     is_same_symbol(a.symbol(), b.symbol()) && is_same_look(look_of(a), look_of(b))
 }
@@ -131,13 +131,13 @@ fn write_change(
     requires columns { (0 < columns) × (columns < 2 ^ 16) }
     requires place { spot.place < 2 ^ 32 }
     requires spot { IsSpot columns spot }
-    requires begins { is_half (shown_cell new.now) ≡ false
-        → IsTrue (can_begin columns spot.place (shown_cell new.now)) }
+    requires begins { is_half (cell_view new.now) ≡ false
+        → IsTrue (can_begin columns spot.place (cell_view new.now)) }
     ensures { OnOk result (Wrote bytes.old.items bytes.new.items (λ controls.
-        (((is_half (shown_cell new.now) ≡ true) ⊎ (shown_cell old.now ≡ shown_cell new.now))
-        × KeepsCell brush.old brush.new (shown_cell old.now) (shown_cell new.now) controls)
-        ⊎ ChangesCell brush.old brush.new columns spot.place (shown_cell old.now)
-        (shown_cell new.now) controls)) }
+        (((is_half (cell_view new.now) ≡ true) ⊎ (cell_view old.now ≡ cell_view new.now))
+        × KeepsCell brush.old brush.new (cell_view old.now) (cell_view new.now) controls)
+        ⊎ ChangesCell brush.old brush.new columns spot.place (cell_view old.now)
+        (cell_view new.now) controls)) }
 {
     if is_alike(old, new) || new.symbol().is_empty() {
         return Ok(());
@@ -157,10 +157,10 @@ pub(super) fn write_cells(
     requires columns { columns < 2 ^ 16 }
     requires length { length old.now ≡ length new.now }
     requires size { length new.now < 2 ^ 32 }
-    requires old_whole { IsTrue (are_whole columns 0 0 (map shown_cell old.now)) }
-    requires new_whole { IsTrue (are_whole columns 0 0 (map shown_cell new.now)) }
+    requires old_whole { IsTrue (are_whole columns 0 0 (map cell_view old.now)) }
+    requires new_whole { IsTrue (are_whole columns 0 0 (map cell_view new.now)) }
     ensures { IfOk result (λ after. Wrote bytes.old.items bytes.new.items (Repaints columns
-        (map shown_cell old.now) (map shown_cell new.now) start after)) }
+        (map cell_view old.now) (map cell_view new.now) start after)) }
 {
     let mut brush = start;
     let mut spot = Spot::first(columns);

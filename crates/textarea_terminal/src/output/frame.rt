@@ -1,10 +1,10 @@
 //! The cells that a terminal is to show of a buffer.
 ghost use Rattle.std.specs.Prelude.{◌≡◌, ℕ, ◌+◌, ◌-◌, ◌*◌, ◌/◌, ◌%◌, ◌<◌, ◌≤◌, ◌^◌, ◌++◌, ◌∷◌, ◌&&◌, [], map, take, length, nat_lt, nat_le, IfOk, IfSome, OnOk, OnErr, IsTrue, Some, None};
 ghost use Rattle.std.specs.Int.RustNames.{bit_and};
-ghost use Rattle.textarea_screen.specs.Cell.{shown_cell};
+ghost use Rattle.textarea_screen.specs.Cell.{cell_view};
 ghost use Rattle.textarea_terminal.specs.Pen.{in_look, look_of};
 ghost use Rattle.textarea_terminal.specs.PaintSpot.{IsSpot};
-ghost use Rattle.textarea_terminal.specs.PaintCells.{begins_empty, cell_in, cells_from, displayed, frame_of, is_half, nine_of};
+ghost use Rattle.textarea_terminal.specs.PaintCells.{begins_empty, cell_in, cells_from, displayed, frame_of_buffer, is_half, nine_of};
 
 use super::look::{Look, look_of};
 use super::spot::Spot;
@@ -40,7 +40,7 @@ pub(super) fn fill(
     buffer: &Buffer,
 ) -> Result<(), AllocError>
     requires { length cells.old ≡ area.height * area.width }
-    ensures { OnOk result (map shown_cell cells.new ≡ frame_of area buffer.now) }
+    ensures { OnOk result (map cell_view cells.new ≡ frame_of_buffer area buffer.now) }
 {
     let columns = usize::from(area.width);
     let mut halves = 0usize;
@@ -66,7 +66,7 @@ fn fill_cell(
     requires spot { IsSpot area.width spot }
     ensures { IfOk result (λ left. displayed area.width spot.place halves
         (cells_from area buffer.now spot.place (area.height * area.width - spot.place))
-        ≡ shown_cell cell.new ∷ displayed area.width (spot.place + 1) left
+        ≡ cell_view cell.new ∷ displayed area.width (spot.place + 1) left
         (cells_from area buffer.now (spot.place + 1)
         (area.height * area.width - (spot.place + 1)))) }
 {
@@ -88,7 +88,7 @@ fn fill_cell(
 
 /// Puts a text in a look into a cell.
 fn show(alloc: Global, cell: &mut Cell, symbol: &str, look: Look) -> Result<(), AllocError>
-    ensures { OnOk result (shown_cell cell.new ≡ in_look look symbol.now) }
+    ensures { OnOk result (cell_view cell.new ≡ in_look look symbol.now) }
 {
     if !is_same_symbol(cell.symbol(), symbol) {
         cell.set_symbol(alloc, symbol)?;

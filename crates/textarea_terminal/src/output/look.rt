@@ -1,8 +1,8 @@
 //! How a terminal writes.
 ghost use Rattle.std.specs.Prelude.{◌≡◌, ◌↔◌, Some, IsTrue};
-ghost use Rattle.textarea_screen.specs.Cell.{shown_cell};
+ghost use Rattle.textarea_screen.specs.Cell.{cell_view};
 ghost use Rattle.textarea_terminal.specs.Pen.{look_of};
-ghost use Rattle.textarea_terminal.specs.PenColors.{named, number_of, parts_of};
+ghost use Rattle.textarea_terminal.specs.PenColors.{named_color, number_of, color_parts};
 
 use textarea_screen::screen::{Cell, Color, Modifier};
 
@@ -16,7 +16,7 @@ pub struct Look {
 
 /// The look of a cell.
 pub(super) fn look_of(cell: &Cell) -> Look
-    ensures { result ≡ look_of (shown_cell cell.now) }
+    ensures { result ≡ look_of (cell_view cell.now) }
 {
     Look {
         fg: cell.fg,
@@ -37,7 +37,7 @@ struct ColorParts {
 impl ColorParts {
     /// One of the colours that have no numbers of their own.
     fn named(kind: u8) -> ColorParts
-        ensures { result ≡ named kind }
+        ensures { result ≡ named_color kind }
     {
         ColorParts {
             kind,
@@ -48,7 +48,7 @@ impl ColorParts {
     }
 
     fn new(color: Color) -> ColorParts
-        ensures { result ≡ parts_of color }
+        ensures { result ≡ color_parts color }
     {
         match color {
             Color::Reset => ColorParts::named(0),
@@ -87,7 +87,7 @@ impl ColorParts {
 /// A colour as one number.
 #[inline]
 fn number_of(color: Color) -> u32
-    ensures { result ≡ number_of (parts_of color) }
+    ensures { result ≡ number_of (color_parts color) }
 {
     let parts = ColorParts::new(color);
     u32::from(parts.kind)

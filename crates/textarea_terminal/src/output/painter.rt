@@ -1,6 +1,6 @@
 //! Paints buffers on a terminal.
 ghost use Rattle.std.specs.Prelude.{◌≡◌, ℕ, ◌*◌, ◌<◌, ◌≤◌, false, map, replicate, [], vec_len, IfOk, IfSome, OnOk, OnErr, IsTrue, Some, None};
-ghost use Rattle.textarea_screen.specs.Cell.{shown_cell, fresh_cell};
+ghost use Rattle.textarea_screen.specs.Cell.{cell_view, fresh_cell};
 ghost use Rattle.textarea_terminal.specs.PaintCells.{are_whole};
 
 use super::area::{caret_in, erase, fresh_cells};
@@ -24,19 +24,19 @@ pub struct Painter {
     is_known: bool,
     ghost shown_full: { vec_len shown ≡ area.height * area.width },
     ghost next_full: { vec_len next ≡ area.height * area.width },
-    ghost whole: { IsTrue (are_whole area.width 0 0 (map shown_cell shown.items)) },
+    ghost whole: { IsTrue (are_whole area.width 0 0 (map cell_view shown.items)) },
 }
 
 impl Painter {
     ghost use Rattle.textarea_terminal.specs.Paint.{Wrote, Paints};
-    ghost use Rattle.textarea_terminal.specs.PaintCells.{frame_of};
-    ghost use Rattle.textarea_terminal.specs.Painter.{area_of, painted};
-    ghost use Rattle.textarea_terminal.specs.PaintArea.{size_of, frame_in};
+    ghost use Rattle.textarea_terminal.specs.PaintCells.{frame_of_buffer};
+    ghost use Rattle.textarea_terminal.specs.Painter.{painter_area, painted};
+    ghost use Rattle.textarea_terminal.specs.PaintArea.{cell_count, frame_in};
 
     /// A painter on a terminal of which nothing is known, and whose cells are those of a rectangle: the first of them is the cell in
     /// the terminal's first column and row.
     pub fn new(alloc: Global, area: Rect) -> Result<Painter, AllocError>
-        ensures area { IfOk result (λ painter. area_of painter ≡ area) }
+        ensures area { IfOk result (λ painter. painter_area painter ≡ area) }
         ensures painted { IfOk result (λ painter. painted painter ≡ None) }
     {
         let count = usize::from(area.height) * usize::from(area.width);
@@ -63,15 +63,15 @@ impl Painter {
         caret: Option<Position>,
         out: &mut Vec<u8>,
     ) -> Result<(), AllocError>
-        ensures area { area_of self.new ≡ area_of self.old }
+        ensures area { painter_area self.new ≡ painter_area self.old }
         ensures painted { OnOk result
-            (painted self.new ≡ Some (frame_in (area_of self.old) buffer.now caret)) }
+            (painted self.new ≡ Some (frame_in (painter_area self.old) buffer.now caret)) }
         ensures wrote { OnOk result (Wrote out.old.items out.new.items
-            (Paints (area_of self.old).width (size_of (area_of self.old)) (painted self.old)
-            (frame_in (area_of self.old) buffer.now caret))) }
+            (Paints (painter_area self.old).width (cell_count (painter_area self.old)) (painted self.old)
+            (frame_in (painter_area self.old) buffer.now caret))) }
         // What is shown already is no byte.
         ensures unchanged { painted self.old
-            ≡ Some (frame_in (area_of self.old) buffer.now caret) → out.new.items ≡ out.old.items }
+            ≡ Some (frame_in (painter_area self.old) buffer.now caret) → out.new.items ≡ out.old.items }
         ensures unpainted { OnErr result (painted self.new ≡ painted self.old) }
         ensures unwritten { OnErr result (out.new.items ≡ out.old.items) }
     {
@@ -79,13 +79,13 @@ impl Painter {
         self.fill_next(buffer)?;
         self.write(place)?;
         out.extend_from_slice(self.bytes.as_slice())?;
-        self.turn(place);
+        self.swap_frames(place);
         Ok(())
     }
 
     /// Forgets what was painted: nothing is known of the terminal any more, and the next paint erases it.
     pub fn reset(&mut self)
-        ensures area { area_of self.new ≡ area_of self.old }
+        ensures area { painter_area self.new ≡ painter_area self.old }
         ensures painted { painted self.new ≡ None }
     {
         self.is_known = false;
@@ -93,7 +93,7 @@ impl Painter {
 
     /// The same for a terminal that has changed its size. Out of memory, nothing changes.
     pub fn resize(&mut self, area: Rect) -> Result<(), AllocError>
-        ensures area { OnOk result (area_of self.new ≡ area) }
+        ensures area { OnOk result (painter_area self.new ≡ area) }
         ensures painted { OnOk result (painted self.new ≡ None) }
         ensures err { OnErr result (self.new ≡ self.old) }
     {
@@ -109,9 +109,9 @@ impl Painter {
         ensures caret { self.new.caret ≡ self.old.caret }
         ensures painted { painted self.new ≡ painted self.old }
         ensures erased { OnOk result (self.new.is_known ≡ false
-            → map shown_cell self.new.shown.items ≡ replicate (size_of self.new.area) fresh_cell) }
+            → map cell_view self.new.shown.items ≡ replicate (cell_count self.new.area) fresh_cell) }
         ensures filled { OnOk result
-            (map shown_cell self.new.next.items ≡ frame_of self.old.area buffer.now) }
+            (map cell_view self.new.next.items ≡ frame_of_buffer self.old.area buffer.now) }
     {
         let alloc = *self.next.allocator();
         self.erase_unknown();
@@ -125,7 +125,7 @@ impl Painter {
         ensures caret { self.new.caret ≡ self.old.caret }
         ensures painted { painted self.new ≡ painted self.old }
         ensures erased { self.new.is_known ≡ false
-            → map shown_cell self.new.shown.items ≡ replicate (size_of self.new.area) fresh_cell }
+            → map cell_view self.new.shown.items ≡ replicate (cell_count self.new.area) fresh_cell }
     {
         if self.is_known {
             return;
@@ -135,16 +135,16 @@ impl Painter {
 
     /// Writes the bytes between the cells that are shown and those of the next frame.
     fn write(&mut self, caret: Option<usize>) -> Result<(), AllocError>
-        requires caret { IfSome caret (λ place. place < size_of self.old.area) }
-        requires whole { IsTrue (are_whole self.old.area.width 0 0 (map shown_cell self.old.next.items)) }
+        requires caret { IfSome caret (λ place. place < cell_count self.old.area) }
+        requires whole { IsTrue (are_whole self.old.area.width 0 0 (map cell_view self.old.next.items)) }
         requires erased { self.old.is_known ≡ false
-            → map shown_cell self.old.shown.items ≡ replicate (size_of self.old.area) fresh_cell }
+            → map cell_view self.old.shown.items ≡ replicate (cell_count self.old.area) fresh_cell }
         ensures area { self.new.area ≡ self.old.area }
         ensures next { self.new.next ≡ self.old.next }
         ensures painted { painted self.new ≡ painted self.old }
         ensures wrote { OnOk result (Wrote [] self.new.bytes.items
-            (Paints self.old.area.width (size_of self.old.area) (painted self.old)
-            (record { cells = map shown_cell self.old.next.items; caret = caret }))) }
+            (Paints self.old.area.width (cell_count self.old.area) (painted self.old)
+            (record { cells = map cell_view self.old.next.items; caret = caret }))) }
     {
         self.bytes.clear();
         write_frame(
@@ -159,11 +159,11 @@ impl Painter {
     }
 
     /// The next frame is what is shown.
-    fn turn(&mut self, caret: Option<usize>)
-        requires whole { IsTrue (are_whole self.old.area.width 0 0 (map shown_cell self.old.next.items)) }
+    fn swap_frames(&mut self, caret: Option<usize>)
+        requires whole { IsTrue (are_whole self.old.area.width 0 0 (map cell_view self.old.next.items)) }
         ensures area { self.new.area ≡ self.old.area }
         ensures painted { painted self.new
-            ≡ Some (record { cells = map shown_cell self.old.next.items; caret = caret }) }
+            ≡ Some (record { cells = map cell_view self.old.next.items; caret = caret }) }
     {
         mem::swap(&mut self.shown, &mut self.next);
         self.caret = caret;

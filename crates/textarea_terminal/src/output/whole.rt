@@ -1,8 +1,8 @@
 //! A whole frame: its cells, and around them the caret and the update.
 ghost use Rattle.std.specs.Prelude.{◌≡◌, ℕ, ◌*◌, ◌<◌, ◌≤◌, ◌^◌, false, map, length, replicate, OnOk, IfSome, Some, None, IsTrue, if◌then◌else◌, is_some};
-ghost use Rattle.textarea_screen.specs.Cell.{shown_cell, fresh_cell};
+ghost use Rattle.textarea_screen.specs.Cell.{cell_view, fresh_cell};
 ghost use Rattle.textarea_terminal.specs.PaintCells.{are_whole};
-ghost use Rattle.textarea_terminal.specs.Paint.{Wrote, Clears, SetsCursor, EndsUpdate, PutsCaret, Finishes, Paints};
+ghost use Rattle.textarea_terminal.specs.Paint.{Wrote, Clears, SetsCursor, EndsUpdate, PutsCaret, PaintsFrame, Paints};
 
 use super::brush::{Brush, move_to, write_cells};
 use super::look::Look;
@@ -79,11 +79,11 @@ fn write_rest(
     requires columns { columns < 2 ^ 16 }
     requires length { length old.now ≡ length new.now }
     requires size { length new.now < 2 ^ 32 }
-    requires old_whole { IsTrue (are_whole columns 0 0 (map shown_cell old.now)) }
-    requires new_whole { IsTrue (are_whole columns 0 0 (map shown_cell new.now)) }
+    requires old_whole { IsTrue (are_whole columns 0 0 (map cell_view old.now)) }
+    requires new_whole { IsTrue (are_whole columns 0 0 (map cell_view new.now)) }
     requires caret { IfSome caret (λ place. place < length new.now) }
-    ensures { OnOk result (Wrote bytes.old.items bytes.new.items (Finishes start known columns
-        (map shown_cell old.now) (record { cells = map shown_cell new.now; caret = caret }))) }
+    ensures { OnOk result (Wrote bytes.old.items bytes.new.items (PaintsFrame start known columns
+        (map cell_view old.now) (record { cells = map cell_view new.now; caret = caret }))) }
 {
     let brush = write_cells(bytes, start, columns, old, new)?;
     write_caret(bytes, brush.at, known, columns, caret)?;
@@ -106,15 +106,15 @@ pub(super) fn write_frame(
     requires columns { columns < 2 ^ 16 }
     requires length { length old.now ≡ length new.now }
     requires size { length new.now < 2 ^ 32 }
-    requires old_whole { IsTrue (are_whole columns 0 0 (map shown_cell old.now)) }
-    requires new_whole { IsTrue (are_whole columns 0 0 (map shown_cell new.now)) }
+    requires old_whole { IsTrue (are_whole columns 0 0 (map cell_view old.now)) }
+    requires new_whole { IsTrue (are_whole columns 0 0 (map cell_view new.now)) }
     requires caret { IfSome caret (λ place. place < length new.now) }
     requires erased { is_known ≡ false
-        → map shown_cell old.now ≡ replicate (length new.now) fresh_cell }
+        → map cell_view old.now ≡ replicate (length new.now) fresh_cell }
     ensures { OnOk result (Wrote bytes.old.items bytes.new.items
         (Paints columns (length new.now)
-        (if is_known then Some (record { cells = map shown_cell old.now; caret = old_caret }) else None)
-        (record { cells = map shown_cell new.now; caret = caret }))) }
+        (if is_known then Some (record { cells = map cell_view old.now; caret = old_caret }) else None)
+        (record { cells = map cell_view new.now; caret = caret }))) }
 {
     if is_known {
         let start = Brush {

@@ -4,22 +4,22 @@ ghost use Rattle.textarea_view.specs.Prelude.{lines_of, matches_in};
 
 use std::alloc::{AllocError, Global};
 use std::marker::Model;
-use textarea_search::search::{KeepingMatcher, KeptMatches, Search};
+use textarea_search::search::{CachingMatcher, MatchCache, Search};
 
 /// The matches of the last requested line, from the cache or found by one matcher.
 #[derive(Drop)]
-pub(super) struct FoundMatches<'a, 'k> {
-    matcher: KeepingMatcher<'a, 'k>,
+pub(super) struct LineMatches<'a, 'k> {
+    matcher: CachingMatcher<'a, 'k>,
     lines: &'a [String],
     line: Option<usize>,
     found: Vec<(usize, usize)>,
 }
 
-impl<'a, 'k> Model for FoundMatches<'a, 'k> {
+impl<'a, 'k> Model for LineMatches<'a, 'k> {
     ghost use Rattle.textarea_text.specs.Text.{lines_of};
-    ghost use Rattle.textarea_view.specs.Rows.{FoundIn, AreMatchesOf};
+    ghost use Rattle.textarea_view.specs.SceneRows.{KnownMatches, AreMatchesOf};
 
-    ghost Value = { FoundIn };
+    ghost Value = { KnownMatches };
 
     ghost view = { λ m. record {
       searched = record { pattern = m.matcher; lines = lines_of m.lines.now };
@@ -30,20 +30,20 @@ impl<'a, 'k> Model for FoundMatches<'a, 'k> {
         (record { pattern = m.matcher; lines = lines_of m.lines.now }) m.line m.found.items };
 }
 
-impl<'a, 'k> FoundMatches<'a, 'k> {
+impl<'a, 'k> LineMatches<'a, 'k> {
     /// Stores the matches of up to `count` successive lines in `kept`.
     pub(super) fn new(
         alloc: Global,
         search: &'a Search,
         lines: &'a [String],
-        kept: &'k mut KeptMatches,
+        kept: &'k mut MatchCache,
         count: usize,
-    ) -> Result<FoundMatches<'a, 'k>, AllocError>
+    ) -> Result<LineMatches<'a, 'k>, AllocError>
         ensures { IfOk result (λ m. m.searched
             ≡ record { pattern = search.now; lines = lines_of lines.now }) }
     {
-        Ok(FoundMatches {
-            matcher: search.keeping_matcher(kept, count)?,
+        Ok(LineMatches {
+            matcher: search.caching_matcher(kept, count)?,
             lines,
             line: None,
             found: Vec::new(alloc),
@@ -51,7 +51,7 @@ impl<'a, 'k> FoundMatches<'a, 'k> {
     }
 
     /// Finds the matches of this line, unless it is the line whose matches are there already.
-    pub(super) fn turn_to(&mut self, line: usize) -> Result<(), AllocError>
+    pub(super) fn search_line(&mut self, line: usize) -> Result<(), AllocError>
         requires { line < length self.old.searched.lines }
         ensures found { OnOk result (self.new.found ≡ matches_in self.old.searched line) }
         ensures same { self.new.searched ≡ self.old.searched }

@@ -1,8 +1,8 @@
 //! The highlights of a row, added one after another.
 ghost use Rattle.std.specs.Prelude.{◌≡◌, ◌<◌, chars, encode_utf8_all, length, OnOk};
-ghost use Rattle.textarea_view.specs.Prelude.{row_total, row_at, shown_row, IsPlaceOf, lines_of, byte_place, from_in, holds, matches_in, numbered, part_of, searched, to_in, with_cursor, with_customs, with_found, with_part, with_selected};
+ghost use Rattle.textarea_view.specs.Prelude.{row_total, row_at, row_of_texts, IsPlaceOf, lines_of, byte_place, from_in, holds_place, matches_in, with_number_shown, part_of, searched_lines, to_in, with_cursor, with_customs, with_matches_found, with_part, with_selected};
 
-use super::frame::Frame;
+use super::row_context::RowContext;
 use std::alloc::AllocError;
 use textarea_highlight::highlight::LineHighlighter;
 use textarea_screen::screen::Style;
@@ -23,7 +23,7 @@ pub(super) fn byte_place(lines: &[String], place: (usize, usize)) -> (usize, usi
     (place.0, byte_offset(lines[place.0].as_str(), place.1))
 }
 
-impl Frame<'_, '_> {
+impl RowContext<'_, '_> {
     // Adds the number in a line's first row, and blanks in its other rows, if lines are numbered.
     pub(super) fn add_number(
         &self,
@@ -32,7 +32,8 @@ impl Frame<'_, '_> {
     ) -> Result<(), AllocError>
         requires { shown.line < length self.now.rows.lines }
         ensures ok { OnOk result
-            (highlighter.new ≡ numbered self.now (shown_row shown.entry) highlighter.old) }
+            (highlighter.new ≡ with_number_shown self.now (row_of_texts shown.entry)
+            highlighter.old) }
     {
         let scene = self.scene;
         if !scene.line_numbers {
@@ -53,9 +54,9 @@ impl Frame<'_, '_> {
         shown: RowText<'_>,
     ) -> Result<(), AllocError>
         requires row { row < row_total self.now.rows.rows }
-        requires shown { shown_row shown ≡ row_at self.now.rows.lines self.now.rows.rows row }
+        requires shown { row_of_texts shown ≡ row_at self.now.rows.lines self.now.rows.rows row }
         ensures ok { OnOk result
-            (highlighter.new ≡ with_cursor self.now (shown_row shown.entry) highlighter.old) }
+            (highlighter.new ≡ with_cursor self.now (row_of_texts shown.entry) highlighter.old) }
     {
         let scene = self.scene;
         let style = scene.look.cursor_line_style;
@@ -71,7 +72,8 @@ impl Frame<'_, '_> {
     // Returns whether the cursor is in the visual row.
     fn is_cursor_row(&self, row: usize) -> bool
         requires { row < row_total self.now.rows.rows }
-        ensures { result ≡ holds (row_at self.now.rows.lines self.now.rows.rows row) self.now.cursor }
+        ensures { result ≡ holds_place (row_at self.now.rows.lines self.now.rows.rows row)
+            self.now.cursor }
     {
         row == self.cursor_row
     }
@@ -83,9 +85,10 @@ impl Frame<'_, '_> {
         shown: RowText<'_>,
         matches: &[(usize, usize)],
     ) -> Result<(), AllocError>
-        requires { matches.now ≡ matches_in (searched self.now) shown.line }
+        requires { matches.now ≡ matches_in (searched_lines self.now) shown.line }
         ensures ok { OnOk result
-            (highlighter.new ≡ with_found self.now (shown_row shown.entry) highlighter.old) }
+            (highlighter.new ≡ with_matches_found self.now (row_of_texts shown.entry)
+            highlighter.old) }
     {
         let scene = self.scene;
         let style = scene.look.search_style;
@@ -103,7 +106,7 @@ impl Frame<'_, '_> {
         shown: RowText<'_>,
     ) -> Result<(), AllocError>
         ensures ok { OnOk result
-            (highlighter.new ≡ with_selected self.now (shown_row shown.entry) highlighter.old) }
+            (highlighter.new ≡ with_selected self.now (row_of_texts shown.entry) highlighter.old) }
     {
         let Some(range) = self.selected else {
             return Ok(());
@@ -122,7 +125,7 @@ impl Frame<'_, '_> {
         shown: RowText<'_>,
     ) -> Result<(), AllocError>
         ensures ok { OnOk result
-            (highlighter.new ≡ with_customs self.now (shown_row shown.entry) highlighter.old) }
+            (highlighter.new ≡ with_customs self.now (row_of_texts shown.entry) highlighter.old) }
     {
         let scene = self.scene;
         for own in scene.highlights {
@@ -147,7 +150,7 @@ fn add_part(
     rank: u8,
 ) -> Result<(), AllocError>
     ensures ok { OnOk result
-        (highlighter.new ≡ with_part (shown_row shown.entry) range style rank highlighter.old) }
+        (highlighter.new ≡ with_part (row_of_texts shown.entry) range style rank highlighter.old) }
 {
     match part_of(shown, range) {
         Some((from, to)) => {
@@ -164,7 +167,7 @@ fn add_part(
 
 // Returns the row's section of a range, as byte offsets in the row, if its line is in the range.
 fn part_of(shown: RowText<'_>, range: Range) -> Option<(usize, usize)>
-    ensures { result ≡ part_of (shown_row shown.entry) range }
+    ensures { result ≡ part_of (row_of_texts shown.entry) range }
 {
     if shown.line < range.0.0 || range.1.0 < shown.line {
         return None;
@@ -175,7 +178,7 @@ fn part_of(shown: RowText<'_>, range: Range) -> Option<(usize, usize)>
 // Returns the byte offset in the row at which its section of a range begins. In rows of the lines
 // after the range's first line it is the row's start.
 fn from_in(shown: RowText<'_>, range: Range) -> usize
-    ensures { result ≡ from_in (shown_row shown.entry) range }
+    ensures { result ≡ from_in (row_of_texts shown.entry) range }
 {
     if shown.line == range.0.0 {
         range.0.1.saturating_sub(shown.before.len())
@@ -187,7 +190,7 @@ fn from_in(shown: RowText<'_>, range: Range) -> usize
 // Returns the byte offset in the row at which its section of a range ends (exclusive). In rows of
 // the lines before the range's last line it is the row's end.
 fn to_in(shown: RowText<'_>, range: Range) -> usize
-    ensures { result ≡ to_in (shown_row shown.entry) range }
+    ensures { result ≡ to_in (row_of_texts shown.entry) range }
 {
     if shown.line == range.1.0 {
         range.1.1.saturating_sub(shown.before.len())

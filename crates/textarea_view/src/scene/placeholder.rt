@@ -1,6 +1,6 @@
 //! A placeholder, drawn instead of the visual rows.
 ghost use Rattle.std.specs.Prelude.{◌≡◌, IfOk, IsOk, OnErr, OnOk, take};
-ghost use Rattle.textarea_view.specs.Prelude.{area_of, Changes, KeepsOutside, contains, is_in_row, shown_line, shown_text, AreInline, row_clusters, row_cell, lines_change, rows_above_end, AreLinesInline, behind_cursor, cell_of_line, in_style, lent_line, placeholder_lines};
+ghost use Rattle.textarea_view.specs.Prelude.{area_of, Changes, KeepsOutside, contains, is_in_row, line_view, text_view, AreInline, row_clusters, row_cell, lines_change, rows_above_end, AreLinesInline, after_cursor, cell_of_line, in_placeholder_style, borrowed_line, placeholder_lines};
 
 use super::rows_above_end;
 use std::alloc::{AllocError, Global};
@@ -21,11 +21,12 @@ pub fn draw_placeholder(
     cursor_cell: CursorCellRender,
 ) -> Result<(), AllocError>
     ensures ok { OnOk result (Changes buffer.old buffer.new
-        (lines_change (in_style rows placeholder.now.style) rows.area.y
+        (lines_change (in_placeholder_style rows placeholder.now.style) rows.area.y
         (take (rows_above_end rows.area (area_of buffer.old))
-        (placeholder_lines cursor_cell (shown_text placeholder.now).lines)))) }
+        (placeholder_lines cursor_cell (text_view placeholder.now).lines)))) }
     ensures inline { cursor_cell ≡ CursorCellRender.Hidden
-        → AreLinesInline (in_style rows placeholder.now.style).style (shown_text placeholder.now).lines
+        → AreLinesInline (in_placeholder_style rows placeholder.now.style).style
+        (text_view placeholder.now).lines
         → IsOk result }
     ensures err { OnErr result (KeepsOutside (contains rows.area) buffer.old buffer.new) }
 {
@@ -42,7 +43,7 @@ pub fn draw_placeholder(
 
 // Returns the rows with a style over their own.
 fn in_style(rows: RowArea, style: Style) -> RowArea
-    ensures { result ≡ in_style rows style }
+    ensures { result ≡ in_placeholder_style rows style }
 {
     RowArea {
         style: rows.style.patch(style),
@@ -71,14 +72,14 @@ fn draw_line(
     cursor_cell: CursorCellRender,
 ) -> Result<(), AllocError>
     ensures ok { OnOk result (Changes buffer.old buffer.new
-        (row_cell rows y (behind_cursor cursor_cell (shown_line line.now)))) }
+        (row_cell rows y (after_cursor cursor_cell (line_view line.now)))) }
     ensures inline { cursor_cell ≡ CursorCellRender.Hidden
-        → AreInline (row_clusters rows.style (shown_line line.now)) → IsOk result }
+        → AreInline (row_clusters rows.style (line_view line.now)) → IsOk result }
     ensures err { OnErr result (KeepsOutside (is_in_row rows.area y) buffer.old buffer.new) }
 {
     match cursor_cell {
         CursorCellRender::Draw(style) => {
-            let shown = behind_blank(alloc, line, style)?;
+            let shown = after_blank(alloc, line, style)?;
             draw_row(buffer, rows, y, &shown)
         }
         CursorCellRender::Hidden => draw_row(buffer, rows, y, line),
@@ -86,9 +87,9 @@ fn draw_line(
 }
 
 // Returns a line of one blank in a style and then the line's spans, their texts borrowed.
-fn behind_blank<'t>(alloc: Global, line: &'t Line<'_>, style: Style) -> Result<Line<'t>, AllocError>
-    ensures { IfOk result (λ shown. shown_line shown
-        ≡ behind_cursor (CursorCellRender.Draw style) (lent_line (shown_line line.now))) }
+fn after_blank<'t>(alloc: Global, line: &'t Line<'_>, style: Style) -> Result<Line<'t>, AllocError>
+    ensures { IfOk result (λ shown. line_view shown
+        ≡ after_cursor (CursorCellRender.Draw style) (borrowed_line (line_view line.now))) }
 {
     let mut spans = Vec::new(alloc);
     spans.push(Span::styled(" ", style))?;

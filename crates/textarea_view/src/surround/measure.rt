@@ -1,6 +1,6 @@
 //! The room that the block takes of an area, and the height that a text needs.
 ghost use Rattle.std.specs.Prelude.{◌≡◌, ◌≤◌, ℕ, IsTrue};
-ghost use Rattle.textarea_view.specs.Prelude.{contains, IsInner, AreBounds, chrome_of, measure_of, rows_shown, width_inside};
+ghost use Rattle.textarea_view.specs.Prelude.{contains, IsInner, AreBounds, chrome_of, measure_of, visible_row_count, width_inside};
 
 use crate::surround::Surround;
 use textarea_screen::screen::Rect;
@@ -59,7 +59,7 @@ impl<'a> Surround<'a> {
             × (result.preferred_rows ≤ result.max_rows) }
     {
         let chrome = self.chrome(width);
-        let shown = self.shown_rows(rows, is_empty);
+        let shown = self.visible_rows(rows, is_empty);
         let content_rows = shown.min(usize::from(u16::MAX)) as u16;
         let min_rows = self.min_rows.max(chrome.saturating_add(1));
         let max_rows = self.max_rows.max(min_rows);
@@ -76,8 +76,8 @@ impl<'a> Surround<'a> {
 
     // Returns the number of rows to draw: those of the placeholder if the text is empty and the
     // placeholder has lines, and else `rows`.
-    fn shown_rows(&self, rows: usize, is_empty: bool) -> usize
-        ensures { result ≡ rows_shown self.now.placeholder.lines rows is_empty }
+    fn visible_rows(&self, rows: usize, is_empty: bool) -> usize
+        ensures { result ≡ visible_row_count self.now.placeholder.lines rows is_empty }
     {
         if is_empty && self.placeholder_rows() > 0 {
             self.placeholder_rows()

@@ -1,6 +1,6 @@
 //! The placeholder, which is drawn instead of an empty text.
 ghost use Rattle.std.specs.Prelude.{◌≡◌, [], IfOk, IsOk, OnErr, OnOk, length, map};
-ghost use Rattle.textarea_view.specs.Prelude.{shown_line, shown_text, first_bytes, style_with_lines, plain_lines, with_placeholder_style, with_placeholder_text};
+ghost use Rattle.textarea_view.specs.Prelude.{line_view, text_view, first_bytes, style_with_lines, plain_lines, with_placeholder_style, with_placeholder_text};
 
 use crate::surround::Surround;
 use std::alloc::{AllocError, Global};
@@ -21,7 +21,7 @@ impl<'a> Surround<'a> {
 
     /// Sets the placeholder's lines and style. A text without lines means that none is drawn.
     pub fn set_styled_placeholder(&mut self, placeholder: Text<'a>)
-        ensures { self.new ≡ record self.old { placeholder = shown_text placeholder.entry } }
+        ensures { self.new ≡ record self.old { placeholder = text_view placeholder.entry } }
     {
         self.placeholder = placeholder;
     }
@@ -35,7 +35,7 @@ impl<'a> Surround<'a> {
 
     /// Returns the whole placeholder, its lines and its style, also if it has no line.
     pub fn placeholder(&self) -> &Text<'a>
-        ensures { shown_text result.now ≡ self.now.placeholder }
+        ensures { text_view result.now ≡ self.now.placeholder }
     {
         &self.placeholder
     }
@@ -74,7 +74,7 @@ impl<'a> Surround<'a> {
 
 // Returns one line of this text, including any line feed, or no line for the empty text.
 fn plain_lines<'a>(alloc: Global, text: &str) -> Result<Vec<Line<'a>>, AllocError>
-    ensures ok { IfOk result (λ lines. map shown_line lines.items ≡ plain_lines text.now) }
+    ensures ok { IfOk result (λ lines. map line_view lines.items ≡ plain_lines text.now) }
     ensures empty { text.now ≡ [] → IsOk result }
 {
     let mut lines = Vec::new(alloc);

@@ -4,7 +4,7 @@ ghost use Rattle.textarea_view.specs.Prelude.{Rect, caret_at, hit_column, hit_ro
 
 /// A hit test of the caret's cell gives the cursor's visual row and display column, if the row is
 /// one of the text's and the column one that a cursor can have in it.
-pub fn shown_caret_is_hit_back()
+pub fn caret_hit_is_row()
     ensures row { (view : RowView) (row column last_row x y : ℕ) →
         caret_at view row column ≡ Some (x, y) → row ≤ last_row →
         hit_row view.top_row view.inner_area last_row x y ≡ Some row }

@@ -19,7 +19,7 @@ pub fn plain_columns(c: char) -> usize
 
 /// Returns the column after a character that begins at `column`. A tab reaches to the next multiple
 /// of `tab_len`, and takes no column if that is 0.
-pub fn column_behind(c: char, column: usize, tab_len: u8) -> usize
+pub fn column_after(c: char, column: usize, tab_len: u8) -> usize
     requires { column < 2 ^ 63 }
     ensures value { result ≡ column_after tab_len column c }
     ensures after { column ≤ result }
@@ -36,7 +36,7 @@ pub fn column_behind(c: char, column: usize, tab_len: u8) -> usize
 }
 
 /// Returns the column after a text that begins at `column`.
-pub fn column_behind_text(text: &str, column: usize, tab_len: u8) -> usize
+pub fn column_after_text(text: &str, column: usize, tab_len: u8) -> usize
     requires { column + 255 * length text.now < 2 ^ 63 }
     ensures value { result ≡ end_column tab_len column (chars text.now) }
     ensures after { column ≤ result }
@@ -44,30 +44,30 @@ pub fn column_behind_text(text: &str, column: usize, tab_len: u8) -> usize
 {
     let mut end = column;
     for c in text.chars() {
-        end = column_behind(c, end, tab_len);
+        end = column_after(c, end, tab_len);
     }
     end
 }
 
-/// Returns the display column after a character that begins at `column`. As `column_behind`, but a
+/// Returns the display column after a character that begins at `column`. As `column_after`, but a
 /// tab takes one column if `tab_len` is 0.
-pub fn display_column_behind(c: char, column: usize, tab_len: u8) -> usize
+pub fn display_column_after(c: char, column: usize, tab_len: u8) -> usize
     requires { column < 2 ^ 63 }
     ensures value { result ≡ display_column_after tab_len column c }
     ensures after { column ≤ result }
     ensures near { result ≤ column + 255 }
 {
-    column_behind(c, column, tab_len.max(1))
+    column_after(c, column, tab_len.max(1))
 }
 
 /// Returns the display column after a text that begins at `column`.
-pub fn display_column_behind_text(text: &str, column: usize, tab_len: u8) -> usize
+pub fn display_column_after_text(text: &str, column: usize, tab_len: u8) -> usize
     requires { column + 255 * length text.now < 2 ^ 63 }
     ensures value { result ≡ display_end_column tab_len column (chars text.now) }
     ensures after { column ≤ result }
     ensures near { result ≤ column + 255 * length text.now }
 {
-    column_behind_text(text, column, tab_len.max(1))
+    column_after_text(text, column, tab_len.max(1))
 }
 
 /// Returns whether a text that begins at column 0 ends at or before the column `width`. Reads no
@@ -78,7 +78,7 @@ pub fn fits_width(text: &str, width: usize, tab_len: u8) -> bool
 {
     let mut column = 0;
     for c in text.chars() {
-        column = column_behind(c, column, tab_len);
+        column = column_after(c, column, tab_len);
         if width < column {
             return false;
         }

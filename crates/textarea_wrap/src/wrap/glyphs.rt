@@ -1,10 +1,10 @@
 //! Wrapping at the ends of grapheme clusters.
 ghost use Rattle.std.specs.Prelude.{◌≡◌, ℕ, ◌+◌, ◌*◌, ◌^◌, ◌<◌, ◌≤◌, List, ◌++◌, length, OnOk};
 ghost use Rattle.std.specs.List.{concat};
-ghost use Rattle.textarea_wrap.specs.Cutting.{IsGlyphCutting, ranges_from};
+ghost use Rattle.textarea_wrap.specs.WrapRules.{IsGlyphWrapping, ranges_from};
 
 use super::Ranges;
-use super::columns::column_behind_text;
+use super::columns::column_after_text;
 use std::alloc::AllocError;
 use unicode_segmentation::UnicodeSegmentation;
 
@@ -17,7 +17,7 @@ pub fn push_glyph_rows(
     tab_len: u8,
 ) -> Result<(), AllocError>
     requires { start + 255 * length text.now < 2 ^ 63 }
-    ensures { OnOk result ((texts : List (List ℕ)) × IsGlyphCutting tab_len width text.now texts
+    ensures { OnOk result ((texts : List (List ℕ)) × IsGlyphWrapping tab_len width text.now texts
         × (concat texts ≡ text.now)
         × (rows.new.items ≡ rows.old.items ++ ranges_from start texts)) }
 {
@@ -25,11 +25,11 @@ pub fn push_glyph_rows(
     let mut row_end = start;
     let mut column = 0;
     for cluster in text.graphemes(true) {
-        let end = column_behind_text(cluster, column, tab_len);
+        let end = column_after_text(cluster, column, tab_len);
         if row_start < row_end && width < end {
             rows.push((row_start, row_end))?;
             row_start = row_end;
-            column = column_behind_text(cluster, 0, tab_len);
+            column = column_after_text(cluster, 0, tab_len);
         } else {
             column = end;
         }

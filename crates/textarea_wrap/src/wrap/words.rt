@@ -1,11 +1,11 @@
 //! Wrapping at the ends of units.
 ghost use Rattle.std.specs.Prelude.{◌≡◌, ℕ, ◌+◌, ◌*◌, ◌^◌, ◌<◌, ◌≤◌, ◌↔◌, List, [], ◌∷◌, ◌++◌, length, map, IsTrue, IfOk, OnOk};
 ghost use Rattle.std.specs.List.{concat, flat_map, AllByRecursion};
-ghost use Rattle.textarea_wrap.specs.Cutting.{Stretch, Block, AreBlocks, HangsOver, begins_with_content, units_of, rows_of, ranges_from};
+ghost use Rattle.textarea_wrap.specs.WrapRules.{Stretch, UnitBlock, AreBlocks, HangsOver, begins_with_content, units_of, rows_of, ranges_from};
 ghost use Rattle.textarea_wrap.specs.WordWalk.{IsWordWalk};
 
 use super::Ranges;
-use super::columns::column_behind_text;
+use super::columns::column_after_text;
 use super::glyphs::push_glyph_rows;
 use super::units::is_all_whitespace;
 use std::alloc::AllocError;
@@ -56,7 +56,7 @@ fn place_unit(
     ensures near { IfOk result (λ placed. placed.column ≤ row.column + 255 * length unit.now) }
 {
     let end = row.end + unit.len();
-    let joined = column_behind_text(unit, row.column, tab_len);
+    let joined = column_after_text(unit, row.column, tab_len);
     let is_open = row.start < row.end;
     if joined <= width || is_open && hangs_over(unit, later, joined, width) {
         return Ok(OpenRow {
@@ -68,7 +68,7 @@ fn place_unit(
     if is_open {
         rows.push((row.start, row.end))?;
     }
-    let alone = column_behind_text(unit, 0, tab_len);
+    let alone = column_after_text(unit, 0, tab_len);
     if alone <= width {
         return Ok(OpenRow {
             start: row.end,
@@ -95,7 +95,7 @@ pub fn push_word_rows(
         (map (λ unit. unit.now) units.now) }
     requires short { 255 * length (concat (map (λ unit. unit.now) units.now)) < 2 ^ 62 }
     ensures { OnOk result
-        ((blocks : List Block) × (flat_map units_of blocks ≡ map (λ unit. unit.now) units.now)
+        ((blocks : List UnitBlock) × (flat_map units_of blocks ≡ map (λ unit. unit.now) units.now)
         × AreBlocks tab_len width blocks []
         × (rows.new.items ≡ rows.old.items ++ ranges_from 0 (flat_map rows_of blocks))) }
 {

@@ -1,23 +1,23 @@
 //! The laws of the caret, for a drawing that left this document.
 ghost use Rattle.std.specs.Prelude.{◌≡◌};
-ghost use Rattle.tui_textarea.specs.DrawingPrelude.{IsHitBack, Parts, IsRendered, IsCaretShown, Rect};
+ghost use Rattle.tui_textarea.specs.DrawingPrelude.{IsCaretHit, Parts, ArePartsRendered, IsCaretShown, Rect};
 
-use crate::drawing::laws::{caret_is_hit_back, caret_is_shown};
+use crate::drawing::laws::{caret_hit_is_cursor, caret_is_shown};
 use textarea_document::Document;
 
 // The hit test of a caret that is shown returns the document's cursor.
 pub(super) fn caret_leads_back(document: &Document)
     ensures { (old new : Parts) (area : Rect) → new.document ≡ document.now →
-        IsRendered old area new → IsHitBack new }
+        ArePartsRendered old area new → IsCaretHit new }
 {
-    caret_is_hit_back();
+    caret_hit_is_cursor();
     let _ = document.cursor();
 }
 
 // The caret is shown if there is room for it.
 pub(super) fn caret_has_room(document: &Document)
     ensures { (old new : Parts) (area : Rect) → new.document ≡ document.now →
-        IsRendered old area new → IsCaretShown new }
+        ArePartsRendered old area new → IsCaretShown new }
 {
     caret_is_shown();
     let _ = document.lines();

@@ -4,7 +4,7 @@ ghost use Rattle.tui_textarea.specs.DrawingPrelude.{parts_of, frame_of, HasPlace
 
 use super::Drawing;
 use textarea_document::Document;
-use textarea_screen_map::view::LaidOutView;
+use textarea_screen_map::view::TextLayoutView;
 use textarea_search::search::Search;
 use textarea_view::Surround;
 use textarea_view::frame::Frame;
@@ -15,7 +15,7 @@ impl Drawing {
     pub(super) fn frame<'f, 's>(
         &'f self,
         document: &'f Document,
-        rows: LaidOutView<'f>,
+        rows: TextLayoutView<'f>,
         surround: &'f Surround<'s>,
         search: &'f Search,
     ) -> Frame<'f, 's>

@@ -1,30 +1,32 @@
 //! Laws of drawings, each the contract of a function that does nothing.
 ghost use Rattle.std.specs.Prelude.{◌≡◌, ◌<◌, ◌^◌, ℕ, Option, is_some};
-ghost use Rattle.tui_textarea.specs.DrawingPrelude.{size_limit, DocumentState, IsHitBack, Parts, IsHit, IsInside, IsLastArea, IsDrawn, IsRendered, IsCaretShown, cell_at, contains, Buffer, Rect, IsPlace, Place, weight, ViewportState};
+ghost use Rattle.tui_textarea.specs.DrawingPrelude.{size_limit, DocumentState, IsCaretHit, Parts, IsHitTest, IsNearestShown, IsLastArea, IsDrawn, ArePartsRendered, IsCaretShown, cell_at, contains, Buffer, Rect, IsPlace, Place, weight, ViewportState};
 
 use textarea_lines::laws::{one_view, settings_stay};
 use textarea_screen_map::laws::{
-    cursors_within_width, few_columns, few_rows, found_again, one_place, seen_once, seen_within,
+    cursors_within_width, few_columns, few_rows, one_place, one_visual_position,
+    visual_position_within, visual_round_trip,
 };
 use textarea_view::scene::laws::{one_filling, one_row_start};
 use textarea_view::viewport::laws::{
-    placeholder_has_its_caret_in_the_corner, shown_caret_is_hit_back, wrapped_caret_is_shown,
+    caret_hit_is_row, placeholder_has_its_caret_in_the_corner, wrapped_caret_is_shown,
 };
 
 /// The visible position nearest to a document's cursor in a viewport is unique.
-pub fn one_place_inside()
+pub fn one_nearest_place()
     ensures { (document : DocumentState) (viewport : ViewportState) (place other : Place) →
-        IsInside document viewport place → IsInside document viewport other → place ≡ other }
+        IsNearestShown document viewport place → IsNearestShown document viewport other → place ≡
+        other }
 {
     one_view();
-    seen_once();
+    one_visual_position();
     one_place();
 }
 
 /// A cell shows at most one position.
 pub fn one_hit()
     ensures { (parts : Parts) (x y : ℕ) (found other : Option Place) →
-        IsHit parts x y found → IsHit parts x y other → found ≡ other }
+        IsHitTest parts x y found → IsHitTest parts x y other → found ≡ other }
 {
     one_view();
     one_place();
@@ -32,19 +34,19 @@ pub fn one_hit()
 }
 
 /// A cell shows a position exactly if it is in the inner area of the last drawing.
-pub fn hit_where_shown()
+pub fn hit_exactly_inside()
     ensures { (parts : Parts) (x y : ℕ) (found : Option Place) →
-        IsHit parts x y found → (inner : Rect) → IsLastArea parts.document parts.drawing inner →
+        IsHitTest parts x y found → (inner : Rect) → IsLastArea parts.document parts.drawing inner →
         is_some found ≡ contains inner x y }
 {}
 
 /// The parts after a drawing into an area are determined by those before.
 pub fn one_rendering()
     ensures { (old first second : Parts) (area : Rect) →
-        IsRendered old area first → IsRendered old area second → first ≡ second }
+        ArePartsRendered old area first → ArePartsRendered old area second → first ≡ second }
 {
     one_view();
-    seen_once();
+    one_visual_position();
     one_row_start();
 }
 
@@ -60,16 +62,16 @@ pub fn one_drawing()
 
 /// Right after a drawing the hit test of the caret's cell returns the cursor, if the caret is shown
 /// and no character of the cursor's visual row has display width 0.
-pub fn caret_is_hit_back()
-    ensures { (old new : Parts) (area : Rect) → IsRendered old area new →
-        IsPlace new.document.text new.document.cursor → IsHitBack new }
+pub fn caret_hit_is_cursor()
+    ensures { (old new : Parts) (area : Rect) → ArePartsRendered old area new →
+        IsPlace new.document.text new.document.cursor → IsCaretHit new }
 {
     one_view();
     one_row_start();
-    found_again();
-    seen_within();
+    visual_round_trip();
+    visual_position_within();
     settings_stay();
-    shown_caret_is_hit_back();
+    caret_hit_is_row();
     placeholder_has_its_caret_in_the_corner();
 }
 
@@ -80,11 +82,11 @@ pub fn caret_is_hit_back()
 /// fit each grapheme cluster, and a tab at its full length, and each whitespace cluster with a
 /// width must be one character.
 pub fn caret_is_shown()
-    ensures { (old new : Parts) (area : Rect) → IsRendered old area new →
+    ensures { (old new : Parts) (area : Rect) → ArePartsRendered old area new →
         weight new.document.text < size_limit → new.document.layout.settings.tab_len < 2 ^ 8 →
         IsCaretShown new }
 {
-    seen_within();
+    visual_position_within();
     cursors_within_width();
     few_columns();
     few_rows();

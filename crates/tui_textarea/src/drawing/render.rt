@@ -1,18 +1,18 @@
 //! Drawing into a buffer.
 ghost use Rattle.std.specs.Prelude.{◌≡◌, ℕ, IfOk, IsTrue, OnErr, OnOk};
-ghost use Rattle.tui_textarea.specs.DrawingPrelude.{parts_of, laid_out_of, IsHitBack, IsDrawn, IsRendered, drawn_into, IsCaretShown, IsDrawnAt, IsPrepared, KeepsOutside, contains};
+ghost use Rattle.tui_textarea.specs.DrawingPrelude.{parts_of, text_and_layout, IsCaretHit, IsDrawn, ArePartsRendered, drawn_into, IsCaretShown, IsDrawnAt, IsPrepared, KeepsOutside, contains};
 
 use super::Drawing;
 use super::caret::{caret_has_room, caret_leads_back};
 use std::alloc::{AllocError, Global};
 use std::mem::replace;
 use textarea_document::Document;
-use textarea_lines::laid_out::PreparedWidth;
+use textarea_lines::text_layout::PreparedWidth;
 use textarea_screen::screen::{Buffer, Position, Rect};
-use textarea_search::search::{KeptMatches, Search};
+use textarea_search::search::{MatchCache, Search};
 use textarea_view::Surround;
 use textarea_view::frame::draw_frame;
-use textarea_view::placing::Placing;
+use textarea_view::placement::Placement;
 
 impl Drawing {
     /// Draws the document with its surround and the matches of the search pattern into the area of
@@ -32,12 +32,14 @@ impl Drawing {
         buffer: &mut Buffer,
     ) -> Result<(), AllocError>
         ensures ok { OnOk result
-            (IsRendered (parts_of document.old search.now surround.now self.old) area
+            (ArePartsRendered (parts_of document.old search.now surround.now self.old) area
             (parts_of document.new search.now surround.now self.new)) }
         ensures cells { OnOk result (IsDrawn
             (parts_of document.new search.now surround.now self.new) area buffer.old buffer.new) }
-        ensures back { OnOk result (IsHitBack (parts_of document.new search.now surround.now self.new)) }
-        ensures shown { OnOk result (IsCaretShown (parts_of document.new search.now surround.now self.new)) }
+        ensures back { OnOk result
+            (IsCaretHit (parts_of document.new search.now surround.now self.new)) }
+        ensures shown { OnOk result
+            (IsCaretShown (parts_of document.new search.now surround.now self.new)) }
         ensures outside { KeepsOutside (contains area) buffer.old buffer.new }
         ensures err { OnErr result ((document.new ≡ document.old) × (self.new ≡ self.old)) }
     {
@@ -48,38 +50,38 @@ impl Drawing {
             self, document, &prepared, surround, search, &mut kept, buffer, area, inner,
         );
         self.put_matches(kept);
-        let placing = drawn?;
+        let placement = drawn?;
         document.put_width(prepared);
-        self.put(inner, placing);
+        self.put(inner, placement);
         caret_leads_back(document);
         caret_has_room(document);
         Ok(())
     }
 
     // Stores the viewport, the caret, and the inner area that was drawn into.
-    fn put(&mut self, inner: Rect, placing: Placing)
-        ensures { self.new ≡ drawn_into self.old inner placing }
+    fn put(&mut self, inner: Rect, placement: Placement)
+        ensures { self.new ≡ drawn_into self.old inner placement }
     {
-        self.viewport = placing.viewport;
+        self.viewport = placement.viewport;
         self.corner = Position {
             x: inner.x(),
             y: inner.y(),
         };
         self.height = inner.height();
-        self.caret = placing.caret;
+        self.caret = placement.caret;
     }
 
     // Takes the cached matches for a drawing, and leaves none until they are put back.
-    fn take_matches(&mut self, alloc: Global) -> KeptMatches
+    fn take_matches(&mut self, alloc: Global) -> MatchCache
         ensures { self.new ≡ self.old }
     {
-        replace(&mut self.kept_matches, KeptMatches::new(alloc))
+        replace(&mut self.match_cache, MatchCache::new(alloc))
     }
 
-    fn put_matches(&mut self, kept: KeptMatches)
+    fn put_matches(&mut self, kept: MatchCache)
         ensures { self.new ≡ self.old }
     {
-        self.kept_matches = kept;
+        self.match_cache = kept;
     }
 }
 
@@ -90,12 +92,12 @@ fn draw_at_width(
     prepared: &PreparedWidth,
     surround: &Surround<'_>,
     search: &Search,
-    kept: &mut KeptMatches,
+    kept: &mut MatchCache,
     buffer: &mut Buffer,
     area: Rect,
     inner: Rect,
-) -> Result<Placing, AllocError>
-    requires prepared { IsPrepared (laid_out_of document.now) prepared.now }
+) -> Result<Placement, AllocError>
+    requires prepared { IsPrepared (text_and_layout document.now) prepared.now }
     requires within { (x y : ℕ) → IsTrue (contains inner x y) → IsTrue (contains area x y) }
     ensures ok { IfOk result
         (IsDrawnAt (parts_of document.now search.now surround.now drawing.now)

@@ -1,26 +1,26 @@
 //! Laws of runs of calls, each the contract of a function that does nothing.
 ghost use Rattle.std.specs.Prelude.{◌≡◌, ◌≤◌, List};
 ghost use Rattle.textarea_text.specs.Splice.{CanApply};
-ghost use Rattle.textarea_document.specs.Cuts.{SplicedBy};
-ghost use Rattle.textarea_document.specs.Goes.{CutNone, GoesUncut};
+ghost use Rattle.textarea_document.specs.DocumentWraps.{SplicedBy};
+ghost use Rattle.textarea_document.specs.RangesOverSplices.{SplitNoRange, RangesStayWhole};
 ghost use Rattle.textarea_document.specs.Sound.{IsSound};
 ghost use Rattle.textarea_screen.specs.declared.screen.buffer.Buffer.{Buffer};
 ghost use Rattle.tui_textarea.specs.State.{State};
-ghost use Rattle.tui_textarea.specs.CallCuts.{CutsByCall};
+ghost use Rattle.tui_textarea.specs.CallWraps.{WrapsByCall};
 ghost use Rattle.textarea_calls.specs.declared.call.Call.{Call};
-ghost use Rattle.tui_textarea.specs.CallGoes.{GoesByCall, IsUndoOrRedo};
-ghost use Rattle.tui_textarea.specs.Outcomes.{IsAnswer, IsBehind, IsLeft};
+ghost use Rattle.tui_textarea.specs.RangesOverCalls.{RangesFollowCall, IsUndoOrRedo};
+ghost use Rattle.tui_textarea.specs.Outcomes.{IsAnswer, IsAfterCall, IsAfterOutOfMemory};
 ghost use Rattle.tui_textarea.specs.Run.{Leads, ShowsSame};
-ghost use Rattle.tui_textarea.specs.Said.{Said};
-ghost use Rattle.tui_textarea.specs.CallSplices.{OfLeft, splices_of};
+ghost use Rattle.tui_textarea.specs.CallResults.{CallResult};
+ghost use Rattle.tui_textarea.specs.CallSplices.{OfSplicesOutOfMemory, splices_of};
 
 use crate::drawing::laws::{one_drawing, one_rendering};
 use crate::laws::{one_input, one_move};
-use textarea_document::laws::{edits_cut, layouts_cut, ranges_go_along};
+use textarea_document::laws::{edits_wrap, layout_changes_wrap, ranges_follow_splices};
 
 /// Calls with these results lead to one state of the text area, whatever the buffers.
 pub fn one_end()
-    ensures { (calls : List Call) (answers : List Said) (old first second : State)
+    ensures { (calls : List Call) (answers : List CallResult) (old first second : State)
         (buffer other shown drawn : Buffer) →
         Leads old buffer calls answers first shown → Leads old other calls answers second drawn →
         first ≡ second }
@@ -32,7 +32,7 @@ pub fn one_end()
 
 /// From buffers with the same cells they lead to buffers with the same cells.
 pub fn one_screen()
-    ensures { (calls : List Call) (answers : List Said) (old first second : State)
+    ensures { (calls : List Call) (answers : List CallResult) (old first second : State)
         (buffer other shown drawn : Buffer) →
         Leads old buffer calls answers first shown → Leads old other calls answers second drawn →
         ShowsSame buffer other → ShowsSame shown drawn }
@@ -48,26 +48,26 @@ pub fn one_screen()
 /// that changes the layout, and a drawing that changes the width of the map of visual rows wrap all
 /// lines. Every other call wraps none, and leaves the text, its rows and the wrap counter. A call
 /// that runs out of memory has made no splice, or only the one that removes the selected text.
-pub fn each_call_cuts()
-    ensures made { (old new : State) (call : Call) (answer : Said) → IsSound old.document →
-        IsBehind old call answer new → CutsByCall old call new }
+pub fn each_call_wraps()
+    ensures made { (old new : State) (call : Call) (answer : CallResult) → IsSound old.document →
+        IsAfterCall old call answer new → WrapsByCall old call new }
     ensures refused { (old new : State) (call : Call) → IsSound old.document →
-        IsLeft old call new →
-        OfLeft old (λ splices. SplicedBy old.document splices new.document) }
+        IsAfterOutOfMemory old call new →
+        OfSplicesOutOfMemory old (λ splices. SplicedBy old.document splices new.document) }
 {
-    edits_cut();
-    layouts_cut();
+    edits_wrap();
+    layout_changes_wrap();
 }
 
 /// No call decreases the wrap counter, even if it runs out of memory.
 pub fn count_never_falls()
-    ensures made { (old new : State) (call : Call) (answer : Said) → IsSound old.document →
-        IsBehind old call answer new →
+    ensures made { (old new : State) (call : Call) (answer : CallResult) → IsSound old.document →
+        IsAfterCall old call answer new →
         old.document.layout.count ≤ new.document.layout.count }
     ensures refused { (old new : State) (call : Call) → IsSound old.document →
-        IsLeft old call new → old.document.layout.count ≤ new.document.layout.count }
+        IsAfterOutOfMemory old call new → old.document.layout.count ≤ new.document.layout.count }
 {
-    each_call_cuts();
+    each_call_wraps();
     textarea_lines::laws::count_never_falls();
 }
 
@@ -76,25 +76,25 @@ pub fn count_never_falls()
 /// redo may split a range. New lines and the call that clears the ranges leave none, and accepted
 /// ranges replace the old ones. A call that runs out of memory has made no splice, or only the one
 /// that removes the selected text.
-pub fn ranges_go_with_each_call()
-    ensures made { (old new : State) (call : Call) (answer : Said) → IsSound old.document →
-        IsAnswer old call answer → IsBehind old call answer new →
-        GoesByCall old call answer new }
+pub fn ranges_follow_each_call()
+    ensures made { (old new : State) (call : Call) (answer : CallResult) → IsSound old.document →
+        IsAnswer old call answer → IsAfterCall old call answer new →
+        RangesFollowCall old call answer new }
     ensures refused { (old new : State) (call : Call) → IsSound old.document →
-        IsLeft old call new →
-        OfLeft old (λ splices. GoesUncut old.document splices new.document) }
+        IsAfterOutOfMemory old call new →
+        OfSplicesOutOfMemory old (λ splices. RangesStayWhole old.document splices new.document) }
 {
-    ranges_go_along();
+    ranges_follow_splices();
 }
 
 /// In every state that a text area has, the splices of each call fit the text, one after another.
 /// Except for undo and redo, none splits a range: each inserts outside the inside of every range,
 /// and removes a range completely or not at all.
-pub fn splices_cut_none()
+pub fn splices_split_no_range()
     ensures fit { (state : State) (call : Call) → IsSound state.document →
         CanApply state.document.text (splices_of state call) }
     ensures cut_none { (state : State) (call : Call) → IsSound state.document →
-        ¬ IsUndoOrRedo call → CutNone state.document.ranges (splices_of state call) }
+        ¬ IsUndoOrRedo call → SplitNoRange state.document.ranges (splices_of state call) }
 {
-    ranges_go_along();
+    ranges_follow_splices();
 }

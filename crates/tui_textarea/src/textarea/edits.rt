@@ -3,16 +3,16 @@
 ghost use Rattle.std.specs.Prelude.{◌≡◌, ◌<◌, OnOk, OnErr, IsOk, IfOk, false, [], replicate, vec_len};
 ghost use Rattle.std.specs.Str.{chars};
 ghost use Rattle.textarea_text.specs.Text.{Character, text_of};
-ghost use Rattle.textarea_document.specs.Edits.{is_filled};
+ghost use Rattle.textarea_document.specs.Edits.{has_symbols};
 ghost use Rattle.textarea_document.specs.Selection.{is_selected};
-ghost use Rattle.textarea_text.specs.Given.{given};
+ghost use Rattle.textarea_text.specs.Fragment.{fragment_symbols};
 ghost use Rattle.tui_textarea.specs.Edits.{inserts_tab, inserts_text, symbols_or_none_inserted, spaces_to_stop, char_inserted, char_or_break_inserted, newline_inserted, tab_inserted, tab_or_spaces_inserted, str_inserted};
-ghost use Rattle.tui_textarea.specs.Selection.{IsLeft, selection_cancelled, unselected};
+ghost use Rattle.tui_textarea.specs.Selection.{IsInsertOutOfMemory, selection_cancelled, unselected};
 
 use crate::textarea::TextArea;
 use std::alloc::{AllocError, Global};
 use textarea_document::document::insertions::has_symbol;
-use textarea_text::given::{copy_pieces, pieces_of};
+use textarea_text::fragment::{copy_fragment, fragment_of};
 use textarea_text::tab::spaces_to_stop;
 use textarea_text::util::spaces;
 
@@ -21,9 +21,9 @@ impl TextArea<'_> {
     /// contains it, as typed; `\n` and `\r` break the line.
     pub fn insert_char(&mut self, c: char) -> Result<(), AllocError>
         ensures ok { OnOk result (self.new ≡ char_inserted self.old c) }
-        ensures err { OnErr result (IsLeft self.old self.new) }
+        ensures err { OnErr result (IsInsertOutOfMemory self.old self.new) }
     {
-        self.document.remove_selection(self.moment)?;
+        self.document.remove_selection(self.time)?;
         self.insert_char_or_break(c)
     }
 
@@ -33,19 +33,19 @@ impl TextArea<'_> {
         ensures err { OnErr result (self.new ≡ self.old) }
     {
         if c == '\n' || c == '\r' {
-            return self.document.insert_break(self.moment);
+            return self.document.insert_break(self.time);
         }
         self.document
-            .insert_character(c, self.settings.undo_coalescing, self.moment)
+            .insert_character(c, self.settings.undo_coalescing, self.time)
     }
 
     /// Breaks the line at the cursor, or at the end of the atomic range that strictly contains it.
     pub fn insert_newline(&mut self) -> Result<(), AllocError>
         ensures ok { OnOk result (self.new ≡ newline_inserted self.old) }
-        ensures err { OnErr result (IsLeft self.old self.new) }
+        ensures err { OnErr result (IsInsertOutOfMemory self.old self.new) }
     {
-        self.document.remove_selection(self.moment)?;
-        self.document.insert_break(self.moment)
+        self.document.remove_selection(self.time)?;
+        self.document.insert_break(self.time)
     }
 
     /// Inserts the text at the cursor, or at the end of the atomic range that strictly contains it,
@@ -53,42 +53,44 @@ impl TextArea<'_> {
     /// line; a carriage return directly before it is dropped.
     pub fn insert_str(&mut self, text: &str) -> Result<bool, AllocError>
         ensures inserted { IfOk result
-            (λ inserted. inserted ≡ inserts_text self.old (given (chars text.now))) }
-        ensures ok { OnOk result (self.new ≡ str_inserted self.old (given (chars text.now))) }
-        ensures err { OnErr result (IsLeft self.old self.new) }
-        ensures nothing { inserts_text self.old (given (chars text.now)) ≡ false → IsOk result }
+            (λ inserted. inserted ≡ inserts_text self.old (fragment_symbols (chars text.now))) }
+        ensures ok { OnOk result
+            (self.new ≡ str_inserted self.old (fragment_symbols (chars text.now))) }
+        ensures err { OnErr result (IsInsertOutOfMemory self.old self.new) }
+        ensures nothing { inserts_text self.old (fragment_symbols (chars text.now)) ≡ false → IsOk
+            result }
     {
         if !has_text(text) {
             return self.insert_nothing();
         }
-        let pieces = pieces_of(self.allocator(), text)?;
+        let pieces = fragment_of(self.allocator(), text)?;
         self.insert_over_selection(pieces)?;
         Ok(true)
     }
 
     /// Inserts the yanked text where `insert_str` inserts, and returns whether there was any.
     pub fn paste(&mut self) -> Result<bool, AllocError>
-        ensures inserted { IfOk result (λ inserted. inserted ≡ is_filled self.old.yank) }
+        ensures inserted { IfOk result (λ inserted. inserted ≡ has_symbols self.old.yank) }
         ensures ok { OnOk result (self.new ≡ str_inserted self.old self.old.yank) }
-        ensures err { OnErr result (IsLeft self.old self.new) }
+        ensures err { OnErr result (IsInsertOutOfMemory self.old self.new) }
         ensures nothing { inserts_text self.old self.old.yank ≡ false → IsOk result }
     {
         if !has_symbol(self.yank.as_slice()) {
             self.insert_nothing()?;
             return Ok(false);
         }
-        let pieces = copy_pieces(self.allocator(), self.yank.as_slice())?;
+        let pieces = copy_fragment(self.allocator(), self.yank.as_slice())?;
         self.insert_over_selection(pieces)
     }
 
     // Replaces the selected text by a fragment, and returns whether the fragment has a symbol.
     fn insert_over_selection(&mut self, pieces: Vec<String>) -> Result<bool, AllocError>
-        ensures inserted { IfOk result (λ inserted. inserted ≡ is_filled (text_of pieces.items)) }
+        ensures inserted { IfOk result (λ inserted. inserted ≡ has_symbols (text_of pieces.items)) }
         ensures ok { OnOk result (self.new ≡ str_inserted self.old (text_of pieces.items)) }
-        ensures err { OnErr result (IsLeft self.old self.new) }
+        ensures err { OnErr result (IsInsertOutOfMemory self.old self.new) }
     {
-        self.document.remove_selection(self.moment)?;
-        self.document.insert(pieces, self.moment)
+        self.document.remove_selection(self.time)?;
+        self.document.insert(pieces, self.time)
     }
 
     /// Inserts a tab at the cursor, or at the end of the atomic range that strictly contains it,
@@ -97,14 +99,14 @@ impl TextArea<'_> {
     pub fn insert_tab(&mut self) -> Result<bool, AllocError>
         ensures inserted { IfOk result (λ inserted. inserted ≡ inserts_tab self.old) }
         ensures ok { OnOk result (self.new ≡ tab_inserted self.old) }
-        ensures err { OnErr result (IsLeft self.old self.new) }
+        ensures err { OnErr result (IsInsertOutOfMemory self.old self.new) }
         ensures nothing { inserts_tab self.old ≡ false → IsOk result }
     {
         let tab_length = self.document.layout_settings().tab_len;
         if tab_length == 0 {
             return self.drop_selection();
         }
-        self.document.remove_selection(self.moment)?;
+        self.document.remove_selection(self.time)?;
         self.insert_tab_or_spaces(tab_length)?;
         Ok(true)
     }
@@ -118,7 +120,7 @@ impl TextArea<'_> {
         if self.settings.hard_tab_indent {
             return self
                 .document
-                .insert_character('\t', self.settings.undo_coalescing, self.moment);
+                .insert_character('\t', self.settings.undo_coalescing, self.time);
         }
         self.insert_spaces(tab_length)
     }
@@ -134,8 +136,8 @@ impl TextArea<'_> {
         let (row, column) = self.document.insertion_place();
         let line = self.document.lines()[row].as_str();
         let count = spaces_to_stop(line, column, tab_length);
-        let pieces = spaces_as_piece(self.allocator(), count)?;
-        self.document.insert(pieces, self.moment)?;
+        let pieces = spaces_as_fragment(self.allocator(), count)?;
+        self.document.insert(pieces, self.time)?;
         Ok(())
     }
 
@@ -147,7 +149,7 @@ impl TextArea<'_> {
         ensures err { OnErr result (self.new ≡ self.old) }
         ensures nothing { is_selected self.old.document ≡ false → IsOk result }
     {
-        let removed = self.document.remove_selection(self.moment)?;
+        let removed = self.document.remove_selection(self.time)?;
         self.document.insert_nothing();
         Ok(removed)
     }
@@ -159,20 +161,20 @@ impl TextArea<'_> {
         ensures err { OnErr result (self.new ≡ self.old) }
         ensures nothing { is_selected self.old.document ≡ false → IsOk result }
     {
-        let removed = self.document.remove_selection(self.moment)?;
+        let removed = self.document.remove_selection(self.time)?;
         self.document.set_anchor(None);
         Ok(removed)
     }
 }
 
 fn has_text(text: &str) -> bool
-    ensures { result ≡ is_filled (given (chars text.now)) }
+    ensures { result ≡ has_symbols (fragment_symbols (chars text.now)) }
 {
     !text.is_empty()
 }
 
 // Returns a fragment of one line, of `count` spaces.
-fn spaces_as_piece(alloc: Global, count: u8) -> Result<Vec<String>, AllocError>
+fn spaces_as_fragment(alloc: Global, count: u8) -> Result<Vec<String>, AllocError>
     ensures some { IfOk result (λ pieces. 0 < vec_len pieces) }
     ensures text { IfOk result (λ pieces. text_of pieces.items ≡ replicate count (Character 32)) }
 {

@@ -1,10 +1,10 @@
 //! Keys: each input asks for one of the calls, by one of the two key tables of `textarea_calls`.
 ghost use Rattle.std.specs.Prelude.{◌≡◌, IfOk, OnErr, OnOk};
-ghost use Rattle.textarea_calls.specs.Kinds.{call_of_edit};
+ghost use Rattle.textarea_calls.specs.CallGroups.{call_of_edit};
 ghost use Rattle.textarea_calls.specs.declared.action.Action.TheVariants as act;
-ghost use Rattle.tui_textarea.specs.Input.{IsActed, IsLeftBy, MayRefuseAct, acts, asked_by, asked_without_shortcuts};
-ghost use Rattle.tui_textarea.specs.Outcomes.{IsAnswer, IsBehind, Refused};
-ghost use Rattle.tui_textarea.specs.Said.{Flag};
+ghost use Rattle.tui_textarea.specs.Input.{IsAfterAction, IsInputOutOfMemory, ActMayRunOutOfMemory, action_flag, asked_by, asked_without_shortcuts};
+ghost use Rattle.tui_textarea.specs.Outcomes.{IsAnswer, IsAfterCall, RanOutOfMemory};
+ghost use Rattle.tui_textarea.specs.CallResults.{Flag};
 
 use crate::textarea::TextArea;
 use std::alloc::AllocError;
@@ -20,10 +20,10 @@ impl TextArea<'_> {
     /// table, which changes nothing. With Shift, a move or scroll extends the selection, or begins
     /// one; without Shift it drops the selection. A move without a target changes nothing.
     pub fn input(&mut self, input: Input) -> Result<bool, AllocError>
-        ensures answer { IfOk result (λ changed. changed ≡ acts self.old (asked_by input)) }
-        ensures ok { OnOk result (IsActed self.old (asked_by input) self.new) }
-        ensures err { OnErr result (IsLeftBy self.old (asked_by input) self.new) }
-        ensures may { OnErr result (MayRefuseAct self.old (asked_by input)) }
+        ensures answer { IfOk result (λ changed. changed ≡ action_flag self.old (asked_by input)) }
+        ensures ok { OnOk result (IsAfterAction self.old (asked_by input) self.new) }
+        ensures err { OnErr result (IsInputOutOfMemory self.old (asked_by input) self.new) }
+        ensures may { OnErr result (ActMayRunOutOfMemory self.old (asked_by input)) }
     {
         self.act(action_of(&input))
     }
@@ -33,20 +33,21 @@ impl TextArea<'_> {
     /// does: an open selection stays open, and the input's Shift is ignored.
     pub fn input_without_shortcuts(&mut self, input: Input) -> Result<bool, AllocError>
         ensures answer { IfOk result
-            (λ changed. changed ≡ acts self.old (asked_without_shortcuts input)) }
-        ensures ok { OnOk result (IsActed self.old (asked_without_shortcuts input) self.new) }
-        ensures err { OnErr result (IsLeftBy self.old (asked_without_shortcuts input) self.new) }
-        ensures may { OnErr result (MayRefuseAct self.old (asked_without_shortcuts input)) }
+            (λ changed. changed ≡ action_flag self.old (asked_without_shortcuts input)) }
+        ensures ok { OnOk result (IsAfterAction self.old (asked_without_shortcuts input) self.new) }
+        ensures err { OnErr result
+            (IsInputOutOfMemory self.old (asked_without_shortcuts input) self.new) }
+        ensures may { OnErr result (ActMayRunOutOfMemory self.old (asked_without_shortcuts input)) }
     {
         self.act(action_without_shortcuts(&input))
     }
 
     // Makes the action's call, and returns whether the text changed.
     fn act(&mut self, action: Action) -> Result<bool, AllocError>
-        ensures answer { IfOk result (λ changed. changed ≡ acts self.old action) }
-        ensures ok { OnOk result (IsActed self.old action self.new) }
-        ensures err { OnErr result (IsLeftBy self.old action self.new) }
-        ensures may { OnErr result (MayRefuseAct self.old action) }
+        ensures answer { IfOk result (λ changed. changed ≡ action_flag self.old action) }
+        ensures ok { OnOk result (IsAfterAction self.old action self.new) }
+        ensures err { OnErr result (IsInputOutOfMemory self.old action self.new) }
+        ensures may { OnErr result (ActMayRunOutOfMemory self.old action) }
     {
         match action {
             Action::Nothing => Ok(false),
@@ -74,12 +75,12 @@ impl TextArea<'_> {
     pub fn edit(&mut self, edit: Edit) -> Result<bool, AllocError>
         ensures answer { IfOk result (λ done. IsAnswer self.old (call_of_edit edit) (Flag done)) }
         ensures behind { IfOk result
-            (λ done. IsBehind self.old (call_of_edit edit) (Flag done) self.new) }
-        ensures refused { OnErr result (Refused self.old (call_of_edit edit) self.new) }
-        ensures changed { IfOk result (λ done. done ≡ acts self.old (act.Edit edit)) }
-        ensures ok { OnOk result (IsActed self.old (act.Edit edit) self.new) }
-        ensures err { OnErr result (IsLeftBy self.old (act.Edit edit) self.new) }
-        ensures may { OnErr result (MayRefuseAct self.old (act.Edit edit)) }
+            (λ done. IsAfterCall self.old (call_of_edit edit) (Flag done) self.new) }
+        ensures refused { OnErr result (RanOutOfMemory self.old (call_of_edit edit) self.new) }
+        ensures changed { IfOk result (λ done. done ≡ action_flag self.old (act.Edit edit)) }
+        ensures ok { OnOk result (IsAfterAction self.old (act.Edit edit) self.new) }
+        ensures err { OnErr result (IsInputOutOfMemory self.old (act.Edit edit) self.new) }
+        ensures may { OnErr result (ActMayRunOutOfMemory self.old (act.Edit edit)) }
     {
         match edit {
             Edit::InsertTab => self.insert_tab(),

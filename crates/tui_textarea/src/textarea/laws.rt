@@ -2,34 +2,34 @@
 ghost use Rattle.std.specs.Prelude.{ℕ, ◌≡◌, ◌<◌, ◌≤◌, Bool, length, true, IfSome};
 ghost use Rattle.textarea_text.specs.Place.{IsPlace};
 ghost use Rattle.textarea_text.specs.Splice.{Fits, Splice};
-ghost use Rattle.textarea_document.specs.Law.{GivesAllBack, GivesBack, ListsFit};
-ghost use Rattle.textarea_document.specs.Outcomes.{edited};
+ghost use Rattle.textarea_document.specs.DocumentLaw.{RestoresAll, RestoresDocument, ListsFit};
+ghost use Rattle.textarea_document.specs.Outcomes.{after_edit};
 ghost use Rattle.textarea_document.specs.Selection.{is_selected};
 ghost use Rattle.textarea_document.specs.Sound.{IsSound};
-ghost use Rattle.tui_textarea.specs.Law.{HasRowsAnew, PastesCopy};
+ghost use Rattle.tui_textarea.specs.TextAreaLaw.{HasRowsFromScratch, PastesCopy};
 
 use crate::textarea::TextArea;
 use textarea_lines::laws::one_list_of_rows;
-use textarea_wrap::laws::one_cutting;
+use textarea_wrap::laws::one_wrapping;
 
 /// The law of undo, for every text area: `count` undos, at most one for each done edit, give the
 /// text before the last `count` edits; then `count` redos restore the text and both lists of edits,
 /// and leave the cursor where the newest edit leaves it.
-pub fn undos_give_back(area: &TextArea<'_>)
+pub fn undos_restore(area: &TextArea<'_>)
     ensures { (count : ℕ) → count ≤ length area.now.document.log.done
-        → GivesBack area.now.document count }
+        → RestoresDocument area.now.document count }
 {
-    area.document.undos_give_back();
+    area.document.undos_restore();
 }
 
 /// The law of one edit, for every text area that remembers edits: after each edit that fits the
 /// text, an undo and a redo restore the text, both lists of edits, and the cursor.
-pub fn redo_gives_all_back(area: &TextArea<'_>)
+pub fn redo_restores_all(area: &TextArea<'_>)
     ensures { (splice : Splice) (typed : Bool) (now : ℕ) →
         Fits area.now.document.text splice → 0 < area.now.document.log.maximum
-        → GivesAllBack (edited area.now.document splice typed now) }
+        → RestoresAll (after_edit area.now.document splice typed now) }
 {
-    area.document.redo_gives_all_back();
+    area.document.redo_restores_all();
 }
 
 /// The law of both history lists, for every text area: the done edits can be undone one after
@@ -70,10 +70,10 @@ pub fn cursor_and_anchor_are_places(area: &TextArea<'_>)
 /// The law of visual rows, for every text area: there is exactly one correct list of visual rows of
 /// the text, with those that `line_ranges` returns for each line. The contracts of `measure`,
 /// `render`, `cursor_at_position` and the moves up and down are about these rows.
-pub fn rows_are_laid_out_anew(area: &TextArea<'_>)
-    ensures { HasRowsAnew area.now }
+pub fn rows_are_those_from_scratch(area: &TextArea<'_>)
+    ensures { HasRowsFromScratch area.now }
 {
     let _ = area.document.view();
     one_list_of_rows();
-    one_cutting();
+    one_wrapping();
 }

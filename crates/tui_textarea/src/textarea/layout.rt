@@ -1,11 +1,11 @@
 //! The layout of the text: wrap mode, tab stops, line numbers and alignment.
 ghost use Rattle.std.specs.Prelude.{◌≡◌, IsOk, OnErr, OnOk, false, true};
-ghost use Rattle.tui_textarea.specs.Layout.{
+ghost use Rattle.tui_textarea.specs.LayoutCalls.{
   alignment_set,
   mode_set,
   number_style,
-  numbers_set,
-  stays_cut,
+  line_numbers_set,
+  keeps_layout,
   tab_length,
   tab_length_set,
   with_alignment,
@@ -27,7 +27,7 @@ impl TextArea<'_> {
     pub fn set_wrap_mode(&mut self, mode: WrapMode) -> Result<(), AllocError>
         ensures ok { OnOk result (self.new ≡ with_wrap_mode self.old mode) }
         ensures err { OnErr result (self.new ≡ self.old) }
-        ensures no_memory { stays_cut self.old (mode_set self.old mode) ≡ true → IsOk result }
+        ensures no_memory { keeps_layout self.old (mode_set self.old mode) ≡ true → IsOk result }
     {
         let mut settings = self.document.layout_settings();
         settings.mode = mode;
@@ -46,7 +46,7 @@ impl TextArea<'_> {
     pub fn set_tab_length(&mut self, tab_length: u8) -> Result<(), AllocError>
         ensures ok { OnOk result (self.new ≡ with_tab_length self.old tab_length) }
         ensures err { OnErr result (self.new ≡ self.old) }
-        ensures no_memory { stays_cut self.old (tab_length_set self.old tab_length) ≡ true
+        ensures no_memory { keeps_layout self.old (tab_length_set self.old tab_length) ≡ true
             → IsOk result }
     {
         let mut settings = self.document.layout_settings();
@@ -66,7 +66,8 @@ impl TextArea<'_> {
     pub fn set_line_number_style(&mut self, style: Style) -> Result<(), AllocError>
         ensures ok { OnOk result (self.new ≡ with_line_numbers self.old style) }
         ensures err { OnErr result (self.new ≡ self.old) }
-        ensures no_memory { stays_cut self.old (numbers_set self.old true) ≡ true → IsOk result }
+        ensures no_memory { keeps_layout self.old (line_numbers_set self.old true) ≡ true → IsOk
+            result }
     {
         let mut settings = self.document.layout_settings();
         settings.line_numbers = true;
@@ -84,7 +85,8 @@ impl TextArea<'_> {
     pub fn remove_line_number(&mut self) -> Result<(), AllocError>
         ensures ok { OnOk result (self.new ≡ without_line_numbers self.old) }
         ensures err { OnErr result (self.new ≡ self.old) }
-        ensures no_memory { stays_cut self.old (numbers_set self.old false) ≡ true → IsOk result }
+        ensures no_memory { keeps_layout self.old (line_numbers_set self.old false) ≡ true → IsOk
+            result }
     {
         let mut settings = self.document.layout_settings();
         settings.line_numbers = false;
@@ -108,7 +110,7 @@ impl TextArea<'_> {
     pub fn set_alignment(&mut self, alignment: Alignment) -> Result<(), AllocError>
         ensures ok { OnOk result (self.new ≡ with_alignment self.old alignment) }
         ensures err { OnErr result (self.new ≡ self.old) }
-        ensures no_memory { stays_cut self.old (alignment_set self.old alignment) ≡ true
+        ensures no_memory { keeps_layout self.old (alignment_set self.old alignment) ≡ true
             → IsOk result }
     {
         if alignment != Alignment::Left {

@@ -1,6 +1,6 @@
 //! How the text area looks: styles, a mask, the cursor's cell, and custom highlights.
 ghost use Rattle.std.specs.Prelude.{◌≡◌, None, Some, OnErr, OnOk};
-ghost use Rattle.tui_textarea.specs.Drawing.{highlighted, unhighlighted, with_look};
+ghost use Rattle.tui_textarea.specs.Drawing.{highlighted, unhighlighted, with_look_set};
 
 use crate::textarea::TextArea;
 use std::alloc::AllocError;
@@ -11,7 +11,7 @@ impl TextArea<'_> {
     /// Sets the style of each cell of the inner area, under all others; a placeholder has its own.
     pub fn set_style(&mut self, style: Style)
         ensures { self.new
-            ≡ with_look self.old (record self.old.drawing.look { style = style }) }
+            ≡ with_look_set self.old (record self.old.drawing.look { style = style }) }
     {
         let look = self.drawing.look();
         self.drawing.set_look(Look { style, ..look });
@@ -27,7 +27,7 @@ impl TextArea<'_> {
     /// Sets the style of the cell at the cursor.
     pub fn set_cursor_style(&mut self, style: Style)
         ensures { self.new
-            ≡ with_look self.old (record self.old.drawing.look { cursor_style = style }) }
+            ≡ with_look_set self.old (record self.old.drawing.look { cursor_style = style }) }
     {
         let look = self.drawing.look();
         self.drawing.set_look(Look {
@@ -46,7 +46,7 @@ impl TextArea<'_> {
     /// Sets the style of the cursor's line, in all its visual rows, where no highlight is.
     pub fn set_cursor_line_style(&mut self, style: Style)
         ensures { self.new
-            ≡ with_look self.old (record self.old.drawing.look { cursor_line_style = style }) }
+            ≡ with_look_set self.old (record self.old.drawing.look { cursor_line_style = style }) }
     {
         let look = self.drawing.look();
         self.drawing.set_look(Look {
@@ -65,7 +65,7 @@ impl TextArea<'_> {
     /// Sets the style of selected text.
     pub fn set_selection_style(&mut self, style: Style)
         ensures { self.new
-            ≡ with_look self.old (record self.old.drawing.look { selection_style = style }) }
+            ≡ with_look_set self.old (record self.old.drawing.look { selection_style = style }) }
     {
         let look = self.drawing.look();
         self.drawing.set_look(Look {
@@ -84,7 +84,7 @@ impl TextArea<'_> {
     /// Sets the style of the search pattern's matches.
     pub fn set_search_style(&mut self, style: Style)
         ensures { self.new
-            ≡ with_look self.old (record self.old.drawing.look { search_style = style }) }
+            ≡ with_look_set self.old (record self.old.drawing.look { search_style = style }) }
     {
         let look = self.drawing.look();
         self.drawing.set_look(Look {
@@ -103,7 +103,8 @@ impl TextArea<'_> {
     /// Shows this character instead of each character of the text. The cursor's cell and
     /// `cursor_at_position` still follow the columns of the text itself.
     pub fn set_mask_char(&mut self, mask: char)
-        ensures { self.new ≡ with_look self.old (record self.old.drawing.look { mask = Some mask }) }
+        ensures { self.new ≡ with_look_set self.old
+            (record self.old.drawing.look { mask = Some mask }) }
     {
         let look = self.drawing.look();
         self.drawing.set_look(Look {
@@ -114,7 +115,7 @@ impl TextArea<'_> {
 
     /// Shows the text itself again.
     pub fn clear_mask_char(&mut self)
-        ensures { self.new ≡ with_look self.old (record self.old.drawing.look { mask = None }) }
+        ensures { self.new ≡ with_look_set self.old (record self.old.drawing.look { mask = None }) }
     {
         let look = self.drawing.look();
         self.drawing.set_look(Look { mask: None, ..look });
@@ -131,7 +132,7 @@ impl TextArea<'_> {
     /// terminal's own cursor is there.
     pub fn set_cursor_render_mode(&mut self, mode: CursorRenderMode)
         ensures { self.new
-            ≡ with_look self.old (record self.old.drawing.look { cursor_render_mode = mode }) }
+            ≡ with_look_set self.old (record self.old.drawing.look { cursor_render_mode = mode }) }
     {
         let look = self.drawing.look();
         self.drawing.set_look(Look {

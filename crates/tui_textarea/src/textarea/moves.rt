@@ -7,7 +7,7 @@ use crate::textarea::TextArea;
 use textarea_data::cursor::CursorMove;
 use textarea_data::range::AtomicCursorBias;
 use textarea_document::target::target;
-use textarea_ranges::held::move_out;
+use textarea_ranges::lookup::move_out;
 
 impl TextArea<'_> {
     /// Moves the cursor. An open selection follows it, and a run of typing ends. Up and Down move
@@ -57,7 +57,7 @@ impl TextArea<'_> {
         match cursor_move {
             CursorMove::Up => self.document.above(),
             CursorMove::Down => self.document.below(),
-            CursorMove::InViewport => Some(self.drawing.place_inside(&self.document)),
+            CursorMove::InViewport => Some(self.drawing.nearest_shown_place(&self.document)),
             _ => target(self.document.lines(), self.document.cursor(), cursor_move),
         }
     }

@@ -1,7 +1,7 @@
 //! Undo and redo.
 ghost use Rattle.std.specs.Prelude.{◌≡◌, OnOk, OnErr, IsOk, IfOk, None, is_some};
 ghost use Rattle.textarea_history.specs.Log.{newest, next};
-ghost use Rattle.textarea_document.specs.Outcomes.{redone, undone};
+ghost use Rattle.textarea_document.specs.Outcomes.{after_redo, after_undo};
 ghost use Rattle.tui_textarea.specs.State.{with_document};
 
 use crate::textarea::TextArea;
@@ -12,7 +12,8 @@ impl TextArea<'_> {
     /// restored text, or where the removed text began, and nothing is selected.
     pub fn undo(&mut self) -> Result<bool, AllocError>
         ensures undone { IfOk result (λ found. found ≡ is_some (newest self.old.document.log)) }
-        ensures ok { OnOk result (self.new ≡ with_document self.old (undone self.old.document)) }
+        ensures ok { OnOk result
+            (self.new ≡ with_document self.old (after_undo self.old.document)) }
         ensures err { OnErr result (self.new ≡ self.old) }
         ensures nothing { newest self.old.document.log ≡ None → IsOk result }
     {
@@ -23,7 +24,8 @@ impl TextArea<'_> {
     /// where that edit left it, and nothing is selected.
     pub fn redo(&mut self) -> Result<bool, AllocError>
         ensures redone { IfOk result (λ found. found ≡ is_some (next self.old.document.log)) }
-        ensures ok { OnOk result (self.new ≡ with_document self.old (redone self.old.document)) }
+        ensures ok { OnOk result
+            (self.new ≡ with_document self.old (after_redo self.old.document)) }
         ensures err { OnErr result (self.new ≡ self.old) }
         ensures nothing { next self.old.document.log ≡ None → IsOk result }
     {

@@ -1,12 +1,12 @@
 //! Atomic ranges: spans of characters in a line that are edited as a whole.
 ghost use Rattle.std.specs.Prelude.{◌≡◌, IfOk, IsOk, MatchResult, None, OnErr, OnOk, is_some};
 ghost use Rattle.textarea_text.specs.Text.{lines};
-ghost use Rattle.textarea_ranges.specs.Held.{inside};
+ghost use Rattle.textarea_ranges.specs.Lookup.{range_around};
 ghost use Rattle.textarea_ranges.specs.Order.{AreInOrder};
-ghost use Rattle.textarea_ranges.specs.Rejected.{AreRefused};
+ghost use Rattle.textarea_ranges.specs.Rejected.{AreRejected};
 ghost use Rattle.textarea_ranges.specs.Valid.{AreValid};
-ghost use Rattle.textarea_document.specs.Edits.{hit_at_cursor};
-ghost use Rattle.tui_textarea.specs.Ranges.{cursor_normalized, hit_range_removed, ranges_accepted, ranges_cleared};
+ghost use Rattle.textarea_document.specs.Edits.{range_at_cursor};
+ghost use Rattle.tui_textarea.specs.Ranges.{cursor_normalized, atomic_range_removed, ranges_accepted, ranges_cleared};
 
 use crate::textarea::TextArea;
 use std::alloc::AllocError;
@@ -42,7 +42,7 @@ impl TextArea<'_> {
     ) -> Result<Result<(), AtomicRangeError>, AllocError>
         ensures judged { IfOk result (λ outcome. MatchResult outcome
             (λ _. AreValid (lines self.old.document.text) ranges.items)
-            (λ error. AreRefused (lines self.old.document.text) ranges.items
+            (λ error. AreRejected (lines self.old.document.text) ranges.items
             error.rejected.items)) }
         ensures set { IfOk result
             (λ outcome. OnOk outcome (self.new ≡ ranges_accepted self.old ranges.items)) }
@@ -72,7 +72,7 @@ impl TextArea<'_> {
     /// Forward, and returns whether it moved. The selection stays, and a run of typing continues.
     pub fn normalize_cursor_around_atomic_ranges(&mut self, bias: AtomicCursorBias) -> bool
         ensures moved { result
-            ≡ is_some (inside self.old.document.ranges self.old.document.cursor) }
+            ≡ is_some (range_around self.old.document.ranges self.old.document.cursor) }
         ensures new { self.new ≡ cursor_normalized self.old bias }
     {
         self.document.normalize_cursor(bias)
@@ -81,7 +81,7 @@ impl TextArea<'_> {
     /// Returns the atomic range at the cursor: for Backward one that starts before the cursor and
     /// ends at or after it, for Forward one that starts at or before the cursor and ends after it.
     pub fn atomic_range_at_cursor(&self, direction: AtomicDeleteDirection) -> Option<AtomicRange>
-        ensures { result ≡ hit_at_cursor self.now.document direction }
+        ensures { result ≡ range_at_cursor self.now.document direction }
     {
         self.document.range_at_cursor(direction)
     }
@@ -93,11 +93,12 @@ impl TextArea<'_> {
         &mut self,
         direction: AtomicDeleteDirection,
     ) -> Result<Option<AtomicRange>, AllocError>
-        ensures removed { IfOk result (λ range. range ≡ hit_at_cursor self.old.document direction) }
-        ensures ok { OnOk result (self.new ≡ hit_range_removed self.old direction) }
+        ensures removed { IfOk result
+            (λ range. range ≡ range_at_cursor self.old.document direction) }
+        ensures ok { OnOk result (self.new ≡ atomic_range_removed self.old direction) }
         ensures err { OnErr result (self.new ≡ self.old) }
-        ensures nothing { hit_at_cursor self.old.document direction ≡ None → IsOk result }
+        ensures nothing { range_at_cursor self.old.document direction ≡ None → IsOk result }
     {
-        self.document.remove_range_at_cursor(direction, self.moment)
+        self.document.remove_range_at_cursor(direction, self.time)
     }
 }

@@ -1,8 +1,8 @@
 //! Removals. If text is selected, each of them but `clear` removes only that.
 ghost use Rattle.std.specs.Prelude.{◌≡◌, ◌<◌, OnOk, OnErr, IsOk, IfOk, IfSome, MatchOption, false, true};
 ghost use Rattle.textarea_text.specs.Place.{IsPlace, index_of, place_of};
-ghost use Rattle.textarea_document.specs.Edits.{is_filled};
-ghost use Rattle.tui_textarea.specs.Removals.{break_before_removed, text_cleared, has_ahead, has_before, has_behind, has_break_before, has_line_before, has_line_behind, has_word_before, has_word_behind, index_ahead, back_to_word_removed, on_to_word_end_removed, line_end_removed, line_head_removed, removes_or, symbol_before_removed, symbol_behind_removed, symbols_ahead_removed, unselected_or, word_before_removed, word_behind_removed, yanked};
+ghost use Rattle.textarea_document.specs.Edits.{has_symbols};
+ghost use Rattle.tui_textarea.specs.Removals.{break_before_removed, text_cleared, has_ahead, has_before, has_after, has_break_before, has_line_before, has_line_after, has_word_before, has_word_after, index_ahead, back_to_word_removed, on_to_word_end_removed, line_end_removed, line_head_removed, removes_or, symbol_before_removed, symbol_after_removed, symbols_ahead_removed, unselected_or, word_before_removed, word_after_removed, yanked};
 
 use crate::textarea::TextArea;
 use std::alloc::AllocError;
@@ -21,11 +21,11 @@ impl TextArea<'_> {
         ensures err { OnErr result (self.new ≡ self.old) }
         ensures nothing { removes_or self.old (has_before self.old) ≡ false → IsOk result }
     {
-        if self.document.remove_selection(self.moment)? {
+        if self.document.remove_selection(self.time)? {
             return Ok(true);
         }
         self.document
-            .remove_before(self.settings.undo_coalescing, self.moment)
+            .remove_before(self.settings.undo_coalescing, self.time)
     }
 
     /// Removes the atomic range that starts at the cursor or strictly contains it, or else the
@@ -33,17 +33,17 @@ impl TextArea<'_> {
     /// removed.
     pub fn delete_next_char(&mut self) -> Result<bool, AllocError>
         ensures removed { IfOk result
-            (λ removed. removed ≡ removes_or self.old (has_behind self.old)) }
+            (λ removed. removed ≡ removes_or self.old (has_after self.old)) }
         ensures ok { OnOk result
-            (self.new ≡ unselected_or self.old (symbol_behind_removed self.old)) }
+            (self.new ≡ unselected_or self.old (symbol_after_removed self.old)) }
         ensures err { OnErr result (self.new ≡ self.old) }
-        ensures nothing { removes_or self.old (has_behind self.old) ≡ false → IsOk result }
+        ensures nothing { removes_or self.old (has_after self.old) ≡ false → IsOk result }
     {
-        if self.document.remove_selection(self.moment)? {
+        if self.document.remove_selection(self.time)? {
             return Ok(true);
         }
         self.document
-            .remove_behind(self.settings.undo_coalescing, self.moment)
+            .remove_after(self.settings.undo_coalescing, self.time)
     }
 
     /// Removes the line break before the cursor's line. Returns whether text was removed.
@@ -55,10 +55,10 @@ impl TextArea<'_> {
         ensures err { OnErr result (self.new ≡ self.old) }
         ensures nothing { removes_or self.old (has_break_before self.old) ≡ false → IsOk result }
     {
-        if self.document.remove_selection(self.moment)? {
+        if self.document.remove_selection(self.time)? {
             return Ok(true);
         }
-        self.document.remove_break(self.moment)
+        self.document.remove_break(self.time)
     }
 
     /// Removes and yanks the next `count` characters after the cursor, or all if there are fewer;
@@ -71,7 +71,7 @@ impl TextArea<'_> {
         ensures err { OnErr result (self.new ≡ self.old) }
         ensures nothing { removes_or self.old (has_ahead self.old count) ≡ false → IsOk result }
     {
-        if self.document.remove_selection(self.moment)? {
+        if self.document.remove_selection(self.time)? {
             return Ok(true);
         }
         let Some(end) = self.place_ahead(count) else {
@@ -87,12 +87,12 @@ impl TextArea<'_> {
     /// `delete_next_char` does. Returns whether text was removed.
     pub fn delete_line_by_end(&mut self) -> Result<bool, AllocError>
         ensures removed { IfOk result
-            (λ removed. removed ≡ removes_or self.old (has_line_behind self.old)) }
+            (λ removed. removed ≡ removes_or self.old (has_line_after self.old)) }
         ensures ok { OnOk result (self.new ≡ unselected_or self.old (line_end_removed self.old)) }
         ensures err { OnErr result (self.new ≡ self.old) }
-        ensures nothing { removes_or self.old (has_line_behind self.old) ≡ false → IsOk result }
+        ensures nothing { removes_or self.old (has_line_after self.old) ≡ false → IsOk result }
     {
-        if self.document.remove_selection(self.moment)? {
+        if self.document.remove_selection(self.time)? {
             return Ok(true);
         }
         let cursor = self.document.cursor();
@@ -100,7 +100,7 @@ impl TextArea<'_> {
         if cursor.1 == end.1 {
             return self
                 .document
-                .remove_behind(self.settings.undo_coalescing, self.moment);
+                .remove_after(self.settings.undo_coalescing, self.time);
         }
         self.remove_and_yank(cursor, end)?;
         Ok(true)
@@ -115,12 +115,12 @@ impl TextArea<'_> {
         ensures err { OnErr result (self.new ≡ self.old) }
         ensures nothing { removes_or self.old (has_line_before self.old) ≡ false → IsOk result }
     {
-        if self.document.remove_selection(self.moment)? {
+        if self.document.remove_selection(self.time)? {
             return Ok(true);
         }
         let cursor = self.document.cursor();
         if cursor.1 == 0 {
-            return self.document.remove_break(self.moment);
+            return self.document.remove_break(self.time);
         }
         self.remove_and_yank((cursor.0, 0), cursor)?;
         Ok(true)
@@ -138,11 +138,11 @@ impl TextArea<'_> {
         ensures err { OnErr result (self.new ≡ self.old) }
         ensures nothing { removes_or self.old (has_word_before self.old) ≡ false → IsOk result }
     {
-        if self.document.remove_selection(self.moment)? {
+        if self.document.remove_selection(self.time)? {
             return Ok(true);
         }
         let hit = AtomicDeleteDirection::Backward;
-        if self.document.remove_hit(hit, self.moment)?.is_some() {
+        if self.document.remove_cursor_range(hit, self.time)?.is_some() {
             return Ok(true);
         }
         self.remove_to_word_start()
@@ -153,17 +153,17 @@ impl TextArea<'_> {
     /// line's end it does what `delete_next_char` does. Returns whether text was removed.
     pub fn delete_next_word(&mut self) -> Result<bool, AllocError>
         ensures removed { IfOk result
-            (λ removed. removed ≡ removes_or self.old (has_word_behind self.old)) }
+            (λ removed. removed ≡ removes_or self.old (has_word_after self.old)) }
         ensures ok { OnOk result
-            (self.new ≡ unselected_or self.old (word_behind_removed self.old)) }
+            (self.new ≡ unselected_or self.old (word_after_removed self.old)) }
         ensures err { OnErr result (self.new ≡ self.old) }
-        ensures nothing { removes_or self.old (has_word_behind self.old) ≡ false → IsOk result }
+        ensures nothing { removes_or self.old (has_word_after self.old) ≡ false → IsOk result }
     {
-        if self.document.remove_selection(self.moment)? {
+        if self.document.remove_selection(self.time)? {
             return Ok(true);
         }
         let hit = AtomicDeleteDirection::Forward;
-        if self.document.remove_hit(hit, self.moment)?.is_some() {
+        if self.document.remove_cursor_range(hit, self.time)?.is_some() {
             return Ok(true);
         }
         self.remove_to_word_end()
@@ -172,10 +172,10 @@ impl TextArea<'_> {
     /// Removes and yanks the whole text, as one edit, and returns whether there was any. An empty
     /// text area stays unchanged.
     pub fn clear(&mut self) -> Result<bool, AllocError>
-        ensures removed { IfOk result (λ removed. removed ≡ is_filled self.old.document.text) }
+        ensures removed { IfOk result (λ removed. removed ≡ has_symbols self.old.document.text) }
         ensures ok { OnOk result (self.new ≡ text_cleared self.old) }
         ensures err { OnErr result (self.new ≡ self.old) }
-        ensures nothing { is_filled self.old.document.text ≡ false → IsOk result }
+        ensures nothing { has_symbols self.old.document.text ≡ false → IsOk result }
     {
         if self.document.is_empty() {
             return Ok(false);
@@ -215,7 +215,7 @@ impl TextArea<'_> {
     {
         let cursor = self.document.cursor();
         if cursor.1 == 0 {
-            return self.document.remove_break(self.moment);
+            return self.document.remove_break(self.time);
         }
         let start = word_start_before(self.document.lines()[cursor.0].as_str(), cursor.1);
         self.remove_and_yank((cursor.0, start), cursor)?;
@@ -225,17 +225,17 @@ impl TextArea<'_> {
     // Removes up to the word's end, or the symbol after the line; returns whether text was.
     #[tactic(auto, unfolding(crate::specs::Removals::on_to_word_end_removed))]
     fn remove_to_word_end(&mut self) -> Result<bool, AllocError>
-        ensures removed { IfOk result (λ removed. removed ≡ has_line_behind self.old) }
+        ensures removed { IfOk result (λ removed. removed ≡ has_line_after self.old) }
         ensures ok { OnOk result (self.new ≡ on_to_word_end_removed self.old) }
         ensures err { OnErr result (self.new ≡ self.old) }
-        ensures nothing { has_line_behind self.old ≡ false → IsOk result }
+        ensures nothing { has_line_after self.old ≡ false → IsOk result }
     {
         let cursor = self.document.cursor();
         let line = self.document.lines()[cursor.0].as_str();
         if cursor.1 == line_end(self.document.lines(), cursor.0).1 {
             return self
                 .document
-                .remove_behind(self.settings.undo_coalescing, self.moment);
+                .remove_after(self.settings.undo_coalescing, self.time);
         }
         let end = word_end_after(line, cursor.1);
         self.remove_and_yank(cursor, (cursor.0, end))?;
@@ -256,7 +256,7 @@ impl TextArea<'_> {
         ensures ok { OnOk result (self.new ≡ yanked self.old from to) }
         ensures err { OnErr result (self.new ≡ self.old) }
     {
-        self.yank = self.document.take(from, to, self.moment)?;
+        self.yank = self.document.take(from, to, self.time)?;
         Ok(())
     }
 }

@@ -2,8 +2,8 @@
 ghost use Rattle.std.specs.Prelude.{◌≡◌, [], Some, None, OnOk, OnErr, IsOk, IfOk, IfErr, IfSome, is_some};
 ghost use Rattle.std.specs.Option.{option_copied};
 ghost use Rattle.textarea_text.specs.Place.{IsPlace};
-ghost use Rattle.textarea_search.specs.Failures.{IsCarried, IsOwnFailure, IsPatternFailure};
-ghost use Rattle.tui_textarea.specs.Search.{found_match, next_match, previous_match, searched, with_pattern};
+ghost use Rattle.textarea_search.specs.PatternErrors.{IsErrorFor, IsOwnFailure, IsPatternFailure};
+ghost use Rattle.tui_textarea.specs.Search.{found_match, next_match, previous_match, after_search, with_pattern};
 
 use crate::textarea::TextArea;
 use std::alloc::AllocError;
@@ -18,7 +18,7 @@ impl TextArea<'_> {
         ensures empty { pattern.now ≡ [] → IsOk result }
         ensures present { self.old.pattern ≡ Some pattern.now → IsOk result }
         ensures refused { IfErr result (IsPatternFailure pattern.now) }
-        ensures carried { IfErr result (IsCarried pattern.now) }
+        ensures carried { IfErr result (IsErrorFor pattern.now) }
         ensures own { IfErr result (IsOwnFailure pattern.now) }
     {
         let alloc = self.allocator();
@@ -37,7 +37,8 @@ impl TextArea<'_> {
     /// An open selection stays open, and a run of typing ends. Without a match nothing changes.
     pub fn search_forward(&mut self, match_cursor: bool) -> Result<bool, AllocError>
         ensures found { IfOk result (λ found. found ≡ is_some (next_match self.old match_cursor)) }
-        ensures ok { OnOk result (self.new ≡ searched self.old (next_match self.old match_cursor)) }
+        ensures ok { OnOk result
+            (self.new ≡ after_search self.old (next_match self.old match_cursor)) }
         ensures place { OnOk result
             (IfSome (next_match self.old match_cursor) (IsPlace self.old.document.text)) }
         ensures err { OnErr result (self.new ≡ self.old) }
@@ -54,7 +55,7 @@ impl TextArea<'_> {
         ensures found { IfOk result
             (λ found. found ≡ is_some (previous_match self.old match_cursor)) }
         ensures ok { OnOk result
-            (self.new ≡ searched self.old (previous_match self.old match_cursor)) }
+            (self.new ≡ after_search self.old (previous_match self.old match_cursor)) }
         ensures place { OnOk result
             (IfSome (previous_match self.old match_cursor) (IsPlace self.old.document.text)) }
         ensures err { OnErr result (self.new ≡ self.old) }
@@ -73,7 +74,8 @@ impl TextArea<'_> {
         ensures found { IfOk result
             (λ place. place ≡ found_match direction self.now match_cursor) }
         ensures place { OnOk result
-            (IfSome (found_match direction self.now match_cursor) (IsPlace self.now.document.text)) }
+            (IfSome (found_match direction self.now match_cursor)
+            (IsPlace self.now.document.text)) }
         ensures no_pattern { self.now.pattern ≡ None → IsOk result }
     {
         let cursor = self.document.cursor();
@@ -85,7 +87,7 @@ impl TextArea<'_> {
     fn go_to(&mut self, found: Option<(usize, usize)>) -> bool
         requires { IfSome found (IsPlace self.old.document.text) }
         ensures went { result ≡ is_some found }
-        ensures state { self.new ≡ searched self.old found }
+        ensures state { self.new ≡ after_search self.old found }
     {
         let Some(place) = found else {
             return false;

@@ -3,14 +3,14 @@ ghost use Rattle.std.specs.Prelude.{◌≡◌, OnOk, OnErr, IsOk, IfOk, IfSome, 
 ghost use Rattle.std.specs.Str.{chars};
 ghost use Rattle.textarea_text.specs.Place.{IsPlace};
 ghost use Rattle.textarea_document.specs.Selection.{is_selected, selection};
-ghost use Rattle.textarea_text.specs.Given.{given, written};
+ghost use Rattle.textarea_text.specs.Fragment.{fragment_symbols, fragment_text};
 ghost use Rattle.tui_textarea.specs.Selection.{all_selected, selection_copied, selection_cut, selection_cancelled, selection_started};
 
 use crate::textarea::TextArea;
 use std::alloc::AllocError;
-use textarea_text::given::{join_with_line_feeds, pieces_of};
-use textarea_text::part::between;
+use textarea_text::fragment::{fragment_of, join_with_line_feeds};
 use textarea_text::places::text_end;
+use textarea_text::text_slice::between;
 
 impl TextArea<'_> {
     /// Begins an empty selection at the cursor.
@@ -72,7 +72,7 @@ impl TextArea<'_> {
         ensures err { OnErr result (self.new ≡ self.old) }
         ensures nothing { is_selected self.old.document ≡ false → IsOk result }
     {
-        let Some(pieces) = self.document.take_selection(self.moment)? else {
+        let Some(pieces) = self.document.take_selection(self.time)? else {
             self.document.set_anchor(None);
             return Ok(false);
         };
@@ -82,7 +82,7 @@ impl TextArea<'_> {
 
     /// Returns the text that was yanked last, with a line feed for each line break; empty at first.
     pub fn yank_text(&self) -> Result<String, AllocError>
-        ensures { IfOk result (λ text. chars (string_bytes text) ≡ written self.now.yank) }
+        ensures { IfOk result (λ text. chars (string_bytes text) ≡ fragment_text self.now.yank) }
     {
         join_with_line_feeds(self.allocator(), self.yank.as_slice())
     }
@@ -90,10 +90,11 @@ impl TextArea<'_> {
     /// Sets the text that `paste` inserts. Each line feed becomes a line break; a carriage return
     /// directly before it is dropped.
     pub fn set_yank_text(&mut self, text: &str) -> Result<(), AllocError>
-        ensures ok { OnOk result (self.new ≡ record self.old { yank = given (chars text.now) }) }
+        ensures ok { OnOk result
+            (self.new ≡ record self.old { yank = fragment_symbols (chars text.now) }) }
         ensures err { OnErr result (self.new ≡ self.old) }
     {
-        self.yank = pieces_of(self.allocator(), text)?;
+        self.yank = fragment_of(self.allocator(), text)?;
         Ok(())
     }
 }

@@ -4,7 +4,7 @@ ghost use Rattle.std.specs.Duration.{as_nanos};
 ghost use Rattle.textarea_history.specs.Log.{empty_log};
 ghost use Rattle.textarea_document.specs.Outcomes.{run_ended};
 ghost use Rattle.tui_textarea.specs.State.{default_settings, with_document};
-ghost use Rattle.tui_textarea.specs.Layout.{indent_of};
+ghost use Rattle.tui_textarea.specs.LayoutCalls.{indent_of};
 
 use crate::textarea::TextArea;
 use std::time::Duration;
@@ -97,8 +97,8 @@ impl TextArea<'_> {
     /// Sets the time of the edits that follow, counted from any fixed time. A time before the last
     /// edit's counts as no pause.
     pub fn set_now(&mut self, now: Duration)
-        ensures { self.new ≡ record self.old { moment = as_nanos now } }
+        ensures { self.new ≡ record self.old { time = as_nanos now } }
     {
-        self.moment = now;
+        self.time = now;
     }
 }

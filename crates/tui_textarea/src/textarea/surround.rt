@@ -1,9 +1,9 @@
 //! The surround: a block around the text, a placeholder for an empty text, and height limits.
 ghost use Rattle.std.specs.Prelude.{◌≡◌, [], IsOk, None, OnErr, OnOk, Some};
 ghost use Rattle.std.specs.Option.{option_map};
-ghost use Rattle.textarea_screen.specs.Block.{shown_block};
-ghost use Rattle.textarea_screen.specs.Text.{shown_text};
-ghost use Rattle.textarea_view.specs.State.{AreBounds, first_bytes, style_with_lines};
+ghost use Rattle.textarea_screen.specs.Block.{block_view};
+ghost use Rattle.textarea_screen.specs.Text.{text_view};
+ghost use Rattle.textarea_view.specs.SurroundState.{AreBounds, first_bytes, style_with_lines};
 ghost use Rattle.textarea_view.specs.Outcomes.{with_max_rows, with_min_rows, with_placeholder_style, with_placeholder_text};
 ghost use Rattle.tui_textarea.specs.Measure.{with_surround};
 
@@ -16,7 +16,7 @@ impl<'b> TextArea<'b> {
     pub fn set_block(&mut self, block: Block<'b>)
         ensures { self.new
             ≡ with_surround self.old
-            (record self.old.surround { block = Some (shown_block block.entry) }) }
+            (record self.old.surround { block = Some (block_view block.entry) }) }
     {
         self.surround.set_block(block);
     }
@@ -30,7 +30,7 @@ impl<'b> TextArea<'b> {
 
     /// Returns the block around the text, if there is one.
     pub fn block(&self) -> Option<&Block<'b>>
-        ensures { option_map (λ block. shown_block block.now) result ≡ self.now.surround.block }
+        ensures { option_map (λ block. block_view block.now) result ≡ self.now.surround.block }
     {
         self.surround.block()
     }
@@ -51,7 +51,7 @@ impl<'b> TextArea<'b> {
     pub fn set_styled_placeholder(&mut self, placeholder: Text<'b>)
         ensures { self.new
             ≡ with_surround self.old
-            (record self.old.surround { placeholder = shown_text placeholder.entry }) }
+            (record self.old.surround { placeholder = text_view placeholder.entry }) }
     {
         self.surround.set_styled_placeholder(placeholder);
     }
@@ -66,7 +66,7 @@ impl<'b> TextArea<'b> {
 
     /// Returns the whole placeholder, lines and style, even if it has no line.
     pub fn placeholder(&self) -> &Text<'b>
-        ensures { shown_text result.now ≡ self.now.surround.placeholder }
+        ensures { text_view result.now ≡ self.now.surround.placeholder }
     {
         self.surround.placeholder()
     }

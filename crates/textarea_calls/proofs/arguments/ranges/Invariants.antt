@@ -1,10 +1,10 @@
 use Rattle.std.proofs.Common.{◌≡◌, ℕ, ◌+◌, ◌++◌, List, Option, Some, None, Bor, length, option_map}
 use Rattle.std.specs.Prelude.{option_copied}
-use Rattle.textarea_calls.specs.Ranges.{ranges, ranges_behind}
+use Rattle.textarea_calls.specs.Ranges.{ranges, ranges_after_space}
 use Rattle.textarea_calls.proofs.arguments.ranges.Given as goal
 
 abbrev pub invariant-loop-rest : goal.invariant-loop-rest
-invariant-loop-rest l = ranges l.fn.text ≡ option_map (λ more. l.ranges.items ++ more) (ranges_behind (option_copied l.rest))
+invariant-loop-rest l = ranges l.fn.text ≡ option_map (λ more. l.ranges.items ++ more) (ranges_after_space (option_copied l.rest))
 
 abbrev left : Option (Bor (List ℕ)) → ℕ
 left None = 0

@@ -1,7 +1,7 @@
 use Rattle.std.proofs.Common.{◌+◌, All, List, map, subst, sym, take}
 use Rattle.std.proofs.lemmas.List.{take_all}
 use Rattle.std.proofs.lemmas.List.Elements.{All-push}
-use Rattle.textarea_calls.specs.Made.{CanBeMade}
+use Rattle.textarea_calls.specs.Possible.{CanBeMade}
 use Rattle.textarea_calls.specs.Script.{AreCallsOf}
 use Rattle.textarea_calls.specs.declared.call.Call.{Call}
 use Rattle.textarea_calls.specs.declared.commands.Command.{Command}

@@ -1,5 +1,5 @@
 use Rattle.std.proofs.Common.{All, map, take}
-use Rattle.textarea_calls.specs.Made.{CanBeMade}
+use Rattle.textarea_calls.specs.Possible.{CanBeMade}
 use Rattle.textarea_calls.specs.Script.{AreCallsOf}
 use Rattle.textarea_calls.specs.declared.commands.Command.{Command}
 use Rattle.textarea_calls.proofs.commands.calls.Given as goal

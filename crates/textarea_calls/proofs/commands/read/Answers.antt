@@ -6,15 +6,15 @@ use Rattle.std.proofs.lemmas.Bool.Decides.{nat_tests}
 use Rattle.std.proofs.lemmas.Iterator.Splits.{YieldsList-from_slice_split}
 use Rattle.std.proofs.lemmas.Iterator.Consumers.{YieldsList-from_enumerate, YieldsList-turn, YieldsList-end, YieldsList-at}
 use Rattle.textarea_calls.specs.Commands.{Meaning}
-use Rattle.textarea_calls.specs.Script.{lines_of, filled_lines, meaning_of, meant_line, meant_lines, IsFilledLine, IsUnreadLine, NamesLine}
+use Rattle.textarea_calls.specs.Script.{lines_of_script, filled_lines, meaning_of, meaning_of_line, meanings_of_lines, IsFilledLine, IsUnparsedLine, NamesLine}
 use Rattle.textarea_calls.specs.declared.commands.Command.{Command}
-use Rattle.textarea_calls.proofs.Lines.{all_meant, meant_lines-empty, meant_lines-filled}
+use Rattle.textarea_calls.proofs.Lines.{all_meant, meanings_of_lines-empty, meanings_of_lines-filled}
 use Rattle.textarea_calls.proofs.Scripts.{names_line, turn_at, filled_lines-empty, filled_lines-filled}
 use Rattle.textarea_calls.proofs.commands.read.Goals as goal
 
 pub loop-index-preserved-then-is_empty : goal.loop-index-preserved-then-is_empty
 loop-index-preserved-then-is_empty c =
-    let lines = lines_of c.args.script.now in
+    let lines = lines_of_script c.args.script.now in
     let count = length c.loop-index.yielded in
     let line = c.in-Some.line.now in
     let t = YieldsList-turn (YieldsList-from_enumerate {s = c.into_iter-index-iterator.result} (YieldsList-at (cc) (YieldsList-from_slice_split {s = c.split.result} _ (λ byte. byte == 10) c.args.script.now c.split.ensures.rest c.split.ensures.done c.split.ensures.closure (λ x r q k. search (rules, tests)))) (cc)) c.loop-index.yielded _ c.loop-index.yielded_by _ _ (c.in-Some.index, c.in-Some.line) c.in-Some.is c.next.ensures.steps in
@@ -26,13 +26,13 @@ loop-index-preserved-then-is_empty c =
           ∙ sym (filled_lines-empty lines count c.in-Some.index line turn none)
           ∙ ap (λ k. filled_lines (take k lines)) more;
       means = c.loop-index.invariant.means
-          ∙ sym (meant_lines-empty lines count c.in-Some.index line turn none)
-          ∙ ap (λ k. meant_lines (take k lines)) more;
+          ∙ sym (meanings_of_lines-empty lines count c.in-Some.index line turn none)
+          ∙ ap (λ k. meanings_of_lines (take k lines)) more;
     }
 
 pub loop-index-preserved : goal.loop-index-preserved
 loop-index-preserved c =
-    let lines = lines_of c.args.script.now in
+    let lines = lines_of_script c.args.script.now in
     let count = length c.loop-index.yielded in
     let line = c.in-Some.line.now in
     let t = YieldsList-turn (YieldsList-from_enumerate {s = c.into_iter-index-iterator.result} (YieldsList-at (cc) (YieldsList-from_slice_split {s = c.split.result} _ (λ byte. byte == 10) c.args.script.now c.split.ensures.rest c.split.ensures.done c.split.ensures.closure (λ x r q k. search (rules, tests)))) (cc)) c.loop-index.yielded _ c.loop-index.yielded_by _ _ (c.in-Some.index, c.in-Some.line) c.in-Some.is c.next.ensures.steps in
@@ -48,14 +48,14 @@ loop-index-preserved c =
       means = ap seen c.in_ok-push.ensures.items
           ∙ map-append (λ (command : Command). Some (meaning_of command.content)) c.loop-index.commands.items (c.in_ok-read_line.field-0 ∷ [])
           ∙ ap (λ (meant : List (Option Meaning)). meant ++ Some (meaning_of c.in_ok-read_line.field-0.content) ∷ []) c.loop-index.invariant.means
-          ∙ ap (λ (one : Option Meaning). meant_lines (take count lines) ++ one ∷ []) (sym c.in_ok-read_line.ensures.means)
-          ∙ sym (meant_lines-filled lines count c.in-Some.index line turn some)
-          ∙ ap (λ k. meant_lines (take k lines)) more;
+          ∙ ap (λ (one : Option Meaning). meanings_of_lines (take count lines) ++ one ∷ []) (sym c.in_ok-read_line.ensures.means)
+          ∙ sym (meanings_of_lines-filled lines count c.in-Some.index line turn some)
+          ∙ ap (λ k. meanings_of_lines (take k lines)) more;
     }
 
 pub returns-in_err-read_line-clause-err : goal.returns-in_err-read_line-clause-err
 returns-in_err-read_line-clause-err c =
-    let lines = lines_of c.args.script.now in
+    let lines = lines_of_script c.args.script.now in
     let count = length c.loop-index.yielded in
     let line = c.in-Some.line.now in
     let t = YieldsList-turn (YieldsList-from_enumerate {s = c.into_iter-index-iterator.result} (YieldsList-at (cc) (YieldsList-from_slice_split {s = c.split.result} _ (λ byte. byte == 10) c.args.script.now c.split.ensures.rest c.split.ensures.done c.split.ensures.closure (λ x r q k. search (rules, tests)))) (cc)) c.loop-index.yielded _ c.loop-index.yielded_by _ _ (c.in-Some.index, c.in-Some.line) c.in-Some.is c.next.ensures.steps in
@@ -69,23 +69,23 @@ returns-in_err-read_line-clause-err c =
       within = omega (arith, turn.index_is, turn.within);
       filled = subst (λ (l : List ℕ). 0 < length l) (sym found) some;
     } in
-    let first : list_all (λ meant. is_some meant) (meant_lines (take (c.in-Some.index + 1 - 1) lines)) ≡ true =
-    ap (λ (k : ℕ). list_all (λ meant. is_some meant) (meant_lines (take k lines))) here
+    let first : list_all (λ meant. is_some meant) (meanings_of_lines (take (c.in-Some.index + 1 - 1) lines)) ≡ true =
+    ap (λ (k : ℕ). list_all (λ meant. is_some meant) (meanings_of_lines (take k lines))) here
     ∙ all_meant (λ (command : Command). meaning_of command.content) c.loop-index.commands.items _ c.loop-index.invariant.means in
-    let unread : IsUnreadLine (meant_line (get_or lines (c.in-Some.index + 1 - 1) [])) c.in_err-read_line.field-0.0 =
-    subst (λ (l : List ℕ). IsUnreadLine (meant_line l) c.in_err-read_line.field-0.0) (sym found) c.in_err-read_line.ensures.means in
+    let unread : IsUnparsedLine (meaning_of_line (get_or lines (c.in-Some.index + 1 - 1) [])) c.in_err-read_line.field-0.0 =
+    subst (λ (l : List ℕ). IsUnparsedLine (meaning_of_line l) c.in_err-read_line.field-0.0) (sym found) c.in_err-read_line.ensures.means in
     let named : NamesLine c.args.script.now c.in_err-read_line.field-0.0 =
     names_line c.args.script.now (c.in-Some.index + 1) c.in_err-read_line.field-0.0 is_filled first c.in_err-read_line.ensures.line unread in
     search rules
 
 pub returns-clause-ok : goal.returns-clause-ok
 returns-clause-ok c =
-    let lines = lines_of c.args.script.now in
+    let lines = lines_of_script c.args.script.now in
     let e = YieldsList-end (YieldsList-from_enumerate {s = c.into_iter-index-iterator.result} (YieldsList-at (cc) (YieldsList-from_slice_split {s = c.split.result} _ (λ byte. byte == 10) c.args.script.now c.split.ensures.rest c.split.ensures.done c.split.ensures.closure (λ x r q k. search (rules, tests)))) (cc)) c.loop-index.yielded _ c.loop-index.yielded_by _ _ c.in-None.is c.next.ensures.steps in
     c.loop-index.invariant.count ∙ ap filled_lines (take_all (length c.loop-index.yielded) lines (omega (arith, e.1, length-enumerate_from 0 lines)))
 
 pub returns-clause-means : goal.returns-clause-means
 returns-clause-means c =
-    let lines = lines_of c.args.script.now in
+    let lines = lines_of_script c.args.script.now in
     let e = YieldsList-end (YieldsList-from_enumerate {s = c.into_iter-index-iterator.result} (YieldsList-at (cc) (YieldsList-from_slice_split {s = c.split.result} _ (λ byte. byte == 10) c.args.script.now c.split.ensures.rest c.split.ensures.done c.split.ensures.closure (λ x r q k. search (rules, tests)))) (cc)) c.loop-index.yielded _ c.loop-index.yielded_by _ _ c.in-None.is c.next.ensures.steps in
-    c.loop-index.invariant.means ∙ ap meant_lines (take_all (length c.loop-index.yielded) lines (omega (arith, e.1, length-enumerate_from 0 lines)))
+    c.loop-index.invariant.means ∙ ap meanings_of_lines (take_all (length c.loop-index.yielded) lines (omega (arith, e.1, length-enumerate_from 0 lines)))

@@ -1,11 +1,11 @@
 use Rattle.std.proofs.Common.{rules}
-use Rattle.textarea_calls.specs.Keys.{keys, keys_without_shortcuts}
+use Rattle.textarea_calls.specs.Keys.{keys_with_shortcuts, keys_without_shortcuts}
 use Rattle.textarea_calls.proofs.Answers.{answers_of_rows, characters_inserted}
 use Rattle.textarea_calls.proofs.laws.answers_are_of_actions.Goals as goal
 
 pub returns-clause-with_shortcuts : goal.returns-clause-with_shortcuts
-unfolding keys
-returns-clause-with_shortcuts c = answers_of_rows keys (search (rules, characters_inserted))
+unfolding keys_with_shortcuts
+returns-clause-with_shortcuts c = answers_of_rows keys_with_shortcuts (search (rules, characters_inserted))
 
 pub returns-clause-without_shortcuts : goal.returns-clause-without_shortcuts
 unfolding keys_without_shortcuts

@@ -1,17 +1,17 @@
 use Rattle.std.proofs.Common.{◌≡◌, ◌≤◌, ◌∙◌, List, ap, arith, filter_map, subst, sym}
-use Rattle.textarea_document.specs.Prelude.{size_limit, Symbol, Place, IsPlace, LaidOut, applied, place_after, place_before, moved_by, moved_ranges}
+use Rattle.textarea_document.specs.Prelude.{size_limit, Symbol, Place, IsPlace, TextAndLayout, applied, place_after, place_before, moved_by, moved_ranges}
 use Rattle.textarea_text.proofs.TextPlaces.{takes_back}
 use Rattle.textarea_document.proofs.Moves.{movable}
 use Rattle.textarea_document.proofs.document.make_change.Goals as goal
 
 pub move_ranges-requires-clause-movable : goal.move_ranges-requires-clause-movable
-move_ranges-requires-clause-movable c = movable c.args.laid.now.text c.args.ranges.now.items c.lines-lines.ensures.small c.requires.valid
+move_ranges-requires-clause-movable c = movable c.args.text_layout.now.text c.args.ranges.now.items c.lines-lines.ensures.small c.requires.valid
 
 pub move_ranges-requires-clause-small : goal.move_ranges-requires-clause-small
 move_ranges-requires-clause-small c =
     let splice = c.args.change in
-    let text = c.args.laid.now.text in
-    let text_is : c.apply.new.self.text ≡ applied text splice = ap (λ (l : LaidOut). l.text) c.in_ok-apply.ensures.ok in
+    let text = c.args.text_layout.now.text in
+    let text_is : c.apply.new.self.text ≡ applied text splice = ap (λ (l : TextAndLayout). l.text) c.in_ok-apply.ensures.ok in
     let small = c.lines-changed.ensures.small (place_after splice) (subst (λ (t : List Symbol). IsPlace t (place_after splice)) (sym text_is) (takes_back text splice c.requires.fits).is_place) in
     subst (λ (p : Place). (p.0 ≤ size_limit) × (p.1 ≤ size_limit)) (sym c.cursor_after-new.ensures) (omega (arith, small.0), small.1)
 

@@ -1,7 +1,7 @@
 use Rattle.std.proofs.Common.{◌∙◌, ap, sym}
 use Rattle.textarea_text.specs.Paragraphs.{is_empty_line}
 use Rattle.textarea_text.proofs.StringRows.{line_at}
-use Rattle.textarea_document.proofs.Rows.{is_empty_line-string}
+use Rattle.textarea_document.proofs.RowLemmas.{is_empty_line-string}
 use Rattle.textarea_document.proofs.paragraphs.is_empty_row.Goals as goal
 
 pub returns : goal.returns

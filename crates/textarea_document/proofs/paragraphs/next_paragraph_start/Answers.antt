@@ -2,7 +2,7 @@ use Rattle.std.proofs.Common.{◌∙◌, sym, arith, length, true}
 use Rattle.std.proofs.lemmas.List.{length-map}
 use Rattle.textarea_document.specs.Prelude.{characters_of, lines_of, is_later_paragraph_start}
 use Rattle.textarea_text.proofs.NearestLemmas.{least_below-found, least_below-none}
-use Rattle.textarea_document.proofs.Rows.{is_later_paragraph_start-at}
+use Rattle.textarea_document.proofs.RowLemmas.{is_later_paragraph_start-at}
 use Rattle.textarea_document.proofs.paragraphs.next_paragraph_start.Goals as goal
 
 pub returns-then-is_paragraph_start-clause-value : goal.returns-then-is_paragraph_start-clause-value

@@ -2,7 +2,7 @@ use Rattle.std.proofs.Common.{◌≡◌, ◌+◌, ◌-◌, ◌∙◌, sym, arith
 use Rattle.std.proofs.lemmas.List.{length-map}
 use Rattle.textarea_document.specs.Prelude.{characters_of, lines_of, is_earlier_paragraph_start}
 use Rattle.textarea_text.proofs.NearestLemmas.{greatest_below-here, greatest_below-past}
-use Rattle.textarea_document.proofs.Rows.{is_earlier_paragraph_start-at}
+use Rattle.textarea_document.proofs.RowLemmas.{is_earlier_paragraph_start-at}
 use Rattle.textarea_document.proofs.paragraphs.previous_paragraph_start.Goals as goal
 
 pub returns-then-is_paragraph_start-clause-value : goal.returns-then-is_paragraph_start-clause-value

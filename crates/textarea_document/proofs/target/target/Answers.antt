@@ -1,6 +1,6 @@
 use Rattle.std.proofs.Common.{◌≡◌, ◌∙◌, ap, refl, ℕ, Some}
 use Rattle.textarea_document.specs.Prelude.{lines_of, last_row, line_end, End, Top, Bottom, WordForward, WordEnd, WordBack, ParagraphForward, ParagraphBack, Jump, paragraph_back, paragraph_forward, word_back, word_end, word_forward, clip}
-use Rattle.textarea_document.proofs.Rows.{leads}
+use Rattle.textarea_document.proofs.RowLemmas.{leads}
 use Rattle.textarea_document.proofs.target.target.Goals as goal
 
 pub returns-in-End-clause-value : goal.returns-in-End-clause-value

@@ -1,8 +1,8 @@
 use Rattle.std.proofs.Common.{◌≡◌, ◌∙◌, ap, sym, arith, length, Some, None, Option, ℕ, List}
 use Rattle.std.proofs.lemmas.List.{length-map}
-use Rattle.textarea_document.specs.Prelude.{characters_of, lines_of, last_row, line_end, line_of, next_word_last, first_word_end, found_or, is_later_word_row, next_word_row}
+use Rattle.textarea_document.specs.Prelude.{characters_of, lines_of, last_row, line_end, line_of, next_word_last, first_word_end, place_or, is_later_word_row, next_word_row}
 use Rattle.textarea_text.proofs.NearestLemmas.{least_below-found, least_below-none}
-use Rattle.textarea_document.proofs.Rows.{is_later_word_row-at}
+use Rattle.textarea_document.proofs.RowLemmas.{is_later_word_row-at}
 use Rattle.textarea_document.proofs.words.later_word_end.Goals as goal
 
 pub returns-in-Some-clause-value : goal.returns-in-Some-clause-value
@@ -15,7 +15,7 @@ returns-in-Some-clause-value c =
     least_below-found (is_later_word_row rows c.args.start) row (length rows) c.loop-row.invariant
     (is_later_word_row-at rows c.args.start row (Some c.in-Some.column) (omega arith) found)
     (omega (arith, length-map c.args.lines.now characters_of)) in
-    ap (λ (o : Option ℕ). found_or o row (line_end rows (last_row rows))) found ∙ ap (first_word_end rows) (sym first)
+    ap (λ (o : Option ℕ). place_or o row (line_end rows (last_row rows))) found ∙ ap (first_word_end rows) (sym first)
 
 pub returns-clause-value : goal.returns-clause-value
 returns-clause-value c =

@@ -1,4 +1,4 @@
-use Rattle.textarea_lines.proofs.Cutting.{all_grow, settings_grow, splices_grow, width_grows}
+use Rattle.textarea_lines.proofs.Wrapping.{all_grow, settings_grow, splices_grow, width_grows}
 use Rattle.textarea_lines.proofs.laws.count_never_falls.Goals as goal
 
 pub returns-clause-splices : goal.returns-clause-splices

@@ -1,4 +1,4 @@
-use Rattle.textarea_ranges.proofs.HeldLemmas.{hit-only, inside-only}
+use Rattle.textarea_ranges.proofs.LookupLemmas.{hit-only, inside-only}
 use Rattle.textarea_ranges.proofs.laws.only_one_is_found.Goals as goal
 
 pub returns-clause-inside : goal.returns-clause-inside

@@ -2,7 +2,7 @@ use Rattle.std.proofs.Common.{◌≡◌, ◌≢◌, ◌∙◌, [], ap, arith, eq
 use Rattle.std.proofs.lemmas.Bool.{eqb-false}
 use Rattle.std.proofs.lemmas.List.{nil_from_length}
 use Rattle.textarea_ranges.specs.Prelude.{lines_of, rejected_of}
-use Rattle.textarea_ranges.proofs.RejectedLemmas.{AreAccepted-in_order, AreRefused-in_order}
+use Rattle.textarea_ranges.proofs.RejectedLemmas.{AreAccepted-in_order, AreRejected-in_order}
 use Rattle.textarea_ranges.proofs.validate.validate.Goals as goal
 
 pub returns-then-is_empty : goal.returns-then-is_empty
@@ -21,4 +21,4 @@ returns-else-is_empty c =
     let listed : rejected.items ≡ rejected_of (lines_of c.args.lines.now) held.items = c.in_ok-rejected.ensures ∙ ap (rejected_of (lines_of c.args.lines.now)) c.as_slice.ensures.value in
     let filled : vec_len rejected ≢ 0 = eqb-false (vec_len rejected) 0 (sym c.is_empty.ensures ∙ c.if-is_empty.false) in
     let some : rejected.items ≢ [] = λ none. filled (omega (arith, rejected.ok, ap length none)) in
-    AreRefused-in_order (lines_of c.args.lines.now) c.args.ranges.items held.items rejected.items c.in_ok-ordered.ensures listed some
+    AreRejected-in_order (lines_of c.args.lines.now) c.args.ranges.items held.items rejected.items c.in_ok-ordered.ensures listed some

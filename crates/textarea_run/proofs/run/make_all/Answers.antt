@@ -1,18 +1,18 @@
 use Rattle.std.proofs.Common.{◌≡◌, ◌+◌, ◌<◌, ◌∷◌, [], ◌++◌, ◌∙◌, ap, cond, inr, length, map, refl, sym, subst, take, take_all, List, arith, is_ok, rules, true, vec_len, vec_capacity}
 use Rattle.std.proofs.lemmas.Option.{slice_get_read}
 use Rattle.tui_textarea.specs.Run.{Leads}
-use Rattle.tui_textarea.specs.Said.{said}
+use Rattle.tui_textarea.specs.CallResults.{call_result}
 use Rattle.textarea_calls.specs.declared.answer.Answer.{Answer}
 use Rattle.textarea_calls.specs.declared.call.Call.{Call}
-use Rattle.tui_textarea.proofs.CallGoing.{SoFar, at_start, ranges_at_end, ranges_at_refused, so_far_next}
+use Rattle.tui_textarea.proofs.RangesOverCalls.{SoFar, at_start, ranges_at_end, ranges_at_refused, so_far_next}
 use Rattle.tui_textarea.proofs.Runs.{leads_more}
 use Rattle.textarea_run.proofs.run.make_all.Goals as goal
 
 pub loop-index-init : goal.loop-index-init
 loop-index-init c =
     record {
-      led = subst (λ (all : List Answer). Leads c.args.area.now c.args.buffer.now [] (map said all) c.args.area.now c.args.buffer.now) (sym c.requires.none) (refl, refl);
-      ranges = subst (λ (all : List Answer). SoFar c.args.area.now c.args.buffer.now [] (map said all) c.args.area.now c.args.buffer.now) (sym c.requires.none)
+      led = subst (λ (all : List Answer). Leads c.args.area.now c.args.buffer.now [] (map call_result all) c.args.area.now c.args.buffer.now) (sym c.requires.none) (refl, refl);
+      ranges = subst (λ (all : List Answer). SoFar c.args.area.now c.args.buffer.now [] (map call_result all) c.args.area.now c.args.buffer.now) (sym c.requires.none)
           (at_start c.args.area.now c.args.buffer.now c.requires.sound);
       counted = search rules;
       room = search rules;
@@ -28,9 +28,9 @@ loop-index-preserved c =
     let items : c.push.new.self.items ≡ c.loop-index.answers.items ++ (c.in-Ok.answer ∷ []) =
     c.push.ensures.items ∙ ap (λ b. cond b (c.loop-index.answers.items ++ c.in-Ok.answer ∷ []) c.loop-index.answers.items) pushed in
     record {
-      led = subst (λ (all : List Answer). Leads c.args.area.now c.args.buffer.now (take (c.loop-index.index + 1) c.args.calls.now) (map said all) c.make.new.area c.make.new.buffer) (sym items)
+      led = subst (λ (all : List Answer). Leads c.args.area.now c.args.buffer.now (take (c.loop-index.index + 1) c.args.calls.now) (map call_result all) c.make.new.area c.make.new.buffer) (sym items)
           (leads_more c.args.area.now c.loop-index.area c.make.new.area c.args.buffer.now c.loop-index.buffer c.make.new.buffer c.args.calls.now c.loop-index.answers.items c.loop-index.index c.index-calls-index.result c.in-Ok.answer within c.index-calls-index.is before.led did.made);
-      ranges = subst (λ (all : List Answer). SoFar c.args.area.now c.args.buffer.now (take (c.loop-index.index + 1) c.args.calls.now) (map said all) c.make.new.area c.make.new.buffer) (sym items)
+      ranges = subst (λ (all : List Answer). SoFar c.args.area.now c.args.buffer.now (take (c.loop-index.index + 1) c.args.calls.now) (map call_result all) c.make.new.area c.make.new.buffer) (sym items)
           (so_far_next c.args.area.now c.loop-index.area c.make.new.area c.args.buffer.now c.loop-index.buffer c.make.new.buffer c.args.calls.now c.loop-index.answers.items c.loop-index.index c.index-calls-index.result c.in-Ok.answer within c.index-calls-index.is did.behind before.led did.made did.goes before.ranges);
       counted = c.push.ensures.len ∙ ap (λ b. cond b (vec_len c.loop-index.answers + 1) (vec_len c.loop-index.answers)) pushed ∙ ap (λ n. n + 1) before.counted;
       room = omega (arith, before.room, c.push.ensures.capacity);
@@ -56,7 +56,7 @@ returns-in-Err-clause-ranges c =
 
 pub returns-clause-led : goal.returns-clause-led
 returns-clause-led c =
-    subst (λ (made : List Call). Leads c.args.area.now c.args.buffer.now made (map said c.loop-index.answers.items) c.loop-index.area c.loop-index.buffer)
+    subst (λ (made : List Call). Leads c.args.area.now c.args.buffer.now made (map call_result c.loop-index.answers.items) c.loop-index.area c.loop-index.buffer)
     (take_all c.loop-index.index c.args.calls.now (omega (arith, c.loop-index-test.false))) c.loop-index.invariant.led
 
 pub returns-clause-ranges : goal.returns-clause-ranges

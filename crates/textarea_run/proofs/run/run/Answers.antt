@@ -1,6 +1,6 @@
 use Rattle.std.proofs.Common.{◌≡◌, ◌+◌, ◌<◌, ◌∙◌, Result, Ok, Err, arith, false, inl, length, refl, sym, true, vec_capacity, vec_len}
 use Rattle.std.specs.Result.{OnErr, is_err}
-use Rattle.tui_textarea.proofs.CallGoing.{ranges_at_first}
+use Rattle.tui_textarea.proofs.RangesOverCalls.{ranges_at_first}
 use Rattle.textarea_run.proofs.run.run.Goals as goal
 
 -- what holds after an error holds if there is an error

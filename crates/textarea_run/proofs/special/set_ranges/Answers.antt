@@ -3,17 +3,17 @@ use Rattle.std.specs.Result.{MatchResult, OnErr, OnOk}
 use Rattle.tui_textarea.specs.Ranges.{ranges_accepted}
 use Rattle.textarea_text.specs.Text.{lines}
 use Rattle.textarea_data.specs.declared.range.RejectedAtomicRange.{RejectedAtomicRange}
-use Rattle.textarea_ranges.specs.Rejected.{AreRefused}
+use Rattle.textarea_ranges.specs.Rejected.{AreRejected}
 use Rattle.textarea_ranges.specs.Valid.{AreValid}
 use Rattle.textarea_ranges.proofs.RejectedLemmas.{accepted_if_valid}
 use Rattle.tui_textarea.specs.Calls.{ranges_answer, rejected_ranges, with_ranges_if}
-use Rattle.textarea_run.proofs.Refusals.{with_rejected}
+use Rattle.textarea_run.proofs.OutOfMemory.{with_rejected}
 use Rattle.textarea_run.proofs.special.set_ranges.Goals as goal
 
 none : (c : goal.In-Ok) → rejected_ranges c.args.area.now c.args.ranges.items ≡ []
 none c =
     let rows = lines c.args.area.now.document.text in
-    let valid : AreValid rows c.args.ranges.items = subst (λ outcome. MatchResult outcome (λ _. AreValid rows c.args.ranges.items) (λ error. AreRefused rows c.args.ranges.items error.rejected.items)) c.in-Ok.is c.in_ok-try_set_atomic_ranges.ensures.judged in
+    let valid : AreValid rows c.args.ranges.items = subst (λ outcome. MatchResult outcome (λ _. AreValid rows c.args.ranges.items) (λ error. AreRejected rows c.args.ranges.items error.rejected.items)) c.in-Ok.is c.in_ok-try_set_atomic_ranges.ensures.judged in
     (accepted_if_valid rows c.args.ranges.items).1 valid
 
 pub returns-in-Ok-clause-answer : goal.returns-in-Ok-clause-answer
@@ -27,7 +27,7 @@ returns-in-Ok-clause-ok c =
 some : (c : goal.In-Err) → rejected_ranges c.args.area.now c.args.ranges.items ≢ []
 some c =
     let rows = lines c.args.area.now.document.text in
-    let refused : AreRefused rows c.args.ranges.items c.in-Err.error.rejected.items = subst (λ outcome. MatchResult outcome (λ _. AreValid rows c.args.ranges.items) (λ error. AreRefused rows c.args.ranges.items error.rejected.items)) c.in-Err.is c.in_ok-try_set_atomic_ranges.ensures.judged in
+    let refused : AreRejected rows c.args.ranges.items c.in-Err.error.rejected.items = subst (λ outcome. MatchResult outcome (λ _. AreValid rows c.args.ranges.items) (λ error. AreRejected rows c.args.ranges.items error.rejected.items)) c.in-Err.is c.in_ok-try_set_atomic_ranges.ensures.judged in
     subst (λ (rejected : List RejectedAtomicRange). rejected ≢ []) refused.listed refused.some
 
 pub returns-in-Err-clause-ok : goal.returns-in-Err-clause-ok

@@ -1,4 +1,4 @@
-use Rattle.textarea_run.proofs.Refusals.{pattern_told}
+use Rattle.textarea_run.proofs.OutOfMemory.{pattern_told}
 use Rattle.textarea_run.proofs.special.set_search_pattern.Goals as goal
 
 pub returns-clause-answer : goal.returns-clause-answer

@@ -9,11 +9,11 @@ use Rattle.textarea_screen_map.proofs.RowColumns.{column_at-more, leads_to_cover
 use Rattle.textarea_screen_map.proofs.columns.character_at_column.Goals as goal
 
 -- the column is the character's, or one that the character covers
-either : (c : goal.Joined-then-column-at) → (c.args.column ≤ c.loop-c.at) ⊎ ((c.loop-c.at < c.args.column) × (c.args.column < c.display_column_behind-next.result))
+either : (c : goal.Joined-then-column-at) → (c.args.column ≤ c.loop-c.at) ⊎ ((c.loop-c.at < c.args.column) × (c.args.column < c.display_column_after-next.result))
 either c = c.then-column-at.either
 
 -- the column is past the character
-further : (c : goal.Else-column-next) → c.display_column_behind-next.result ≤ c.args.column
+further : (c : goal.Else-column-next) → c.display_column_after-next.result ≤ c.args.column
 further c = c.if-column-next.false
 
 pub returns-then-column-at : goal.returns-then-column-at
@@ -26,8 +26,8 @@ returns-then-column-at c =
     elim (either c) [
       | inl h ↦ leads_to_first t cs c.args.column c.loop-c.index c.loop-c.at was.within was.at (omega (arith, h, was.reached)) was.before
       | inr h ↦
-          leads_to_covering t cs c.args.column c.loop-c.index c.loop-c.at c.display_column_behind-next.result step.0 was.at
-          (cc (c.display_column_behind-next.ensures.value, was.at, step.1, column_at-more t cs c.loop-c.index 0 step.0)) h.0 h.1
+          leads_to_covering t cs c.args.column c.loop-c.index c.loop-c.at c.display_column_after-next.result step.0 was.at
+          (cc (c.display_column_after-next.ensures.value, was.at, step.1, column_at-more t cs c.loop-c.index 0 step.0)) h.0 h.1
     ]
 
 pub loop-c-preserved : goal.loop-c-preserved
@@ -44,8 +44,8 @@ loop-c-preserved c =
       left = step.2;
       within = omega (arith, step.0);
       bytes = omega (arith, was.bytes, shorter);
-      at = cc (c.display_column_behind-next.ensures.value, was.at, step.1, column_at-more t cs c.loop-c.index 0 step.0);
-      fits = omega (arith, was.fits, c.display_column_behind-next.ensures.near, shorter);
+      at = cc (c.display_column_after-next.ensures.value, was.at, step.1, column_at-more t cs c.loop-c.index 0 step.0);
+      fits = omega (arith, was.fits, c.display_column_after-next.ensures.near, shorter);
       before = below_more _ _ was.before (omega (arith, was.at, c.if-column-at.false));
       reached = further c;
     }

@@ -1,7 +1,7 @@
 use Rattle.std.proofs.Common.{◌≡◌, ℕ, ◌+◌, ◌*◌, ◌<◌, ◌≤◌, drop, length}
 use Rattle.std.specs.Str.{chars, IsUtf8}
 use Rattle.std.specs.Str.Iter.{chars_rest}
-use Rattle.textarea_screen_map.specs.Rows.{column_at}
+use Rattle.textarea_screen_map.specs.VisualRows.{column_at}
 use Rattle.textarea_screen_map.proofs.columns.character_at_column.Given as goal
 
 -- the characters so far are before the column

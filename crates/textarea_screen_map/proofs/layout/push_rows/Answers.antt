@@ -1,7 +1,7 @@
 use Rattle.std.proofs.Common.{◌+◌, ◌++◌, List, sym, subst, arith, take}
 use Rattle.textarea_wrap.specs.RowsView.{RowsView}
 use Rattle.textarea_text.specs.Text.{lines_of}
-use Rattle.textarea_screen_map.specs.Layout.{AreRowsOf, ticks_of}
+use Rattle.textarea_screen_map.specs.LineRows.{AreRowsOf, ticks_of}
 use Rattle.textarea_screen_map.proofs.Layouts.{AreRowsOf-more, ticks_more}
 use Rattle.textarea_screen_map.proofs.layout.push_rows.Goals as goal
 

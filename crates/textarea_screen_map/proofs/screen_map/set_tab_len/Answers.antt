@@ -1,5 +1,5 @@
 use Rattle.std.proofs.Common.{subst, sym}
-use Rattle.textarea_screen_map.specs.Layout.{AreRowsOf, with_tab_len}
+use Rattle.textarea_screen_map.specs.LineRows.{AreRowsOf, with_tab_len}
 use Rattle.textarea_screen_map.specs.Map.{MapView}
 use Rattle.textarea_screen_map.proofs.Layouts.{whole_anywhere}
 use Rattle.textarea_screen_map.proofs.screen_map.set_tab_len.Goals as goal

@@ -3,4 +3,4 @@ use Rattle.textarea_script.proofs.Printed.{printed_same}
 use Rattle.textarea_script.proofs.modal.printed_of_inputs.Goals as goal
 
 pub returns : goal.returns
-returns c = printed_same c.printed_behind-printed.result (λ text. string_bytes text) (search rules) refl c.printed_behind-printed.ensures
+returns c = printed_same c.printed_run-printed.result (λ text. string_bytes text) (search rules) refl c.printed_run-printed.ensures

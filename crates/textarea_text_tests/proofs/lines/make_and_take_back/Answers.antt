@@ -1,14 +1,14 @@
 use Rattle.std.proofs.Common.{ap, subst, sym}
 use Rattle.textarea_text.specs.Splice.{Fits, applied, inverse}
 use Rattle.textarea_text.proofs.TextPlaces.{takes_back}
-use Rattle.textarea_lines.specs.Layout.{LaidOut}
+use Rattle.textarea_lines.specs.TextLayout.{TextAndLayout}
 use Rattle.textarea_text_tests.proofs.lines.make_and_take_back.Goals as goal
 
 -- an edit that was made can be undone
 pub apply-requires-2 : goal.apply-requires-2
 apply-requires-2 c =
-    let text = c.args.laid.now.text in
+    let text = c.args.text_layout.now.text in
     let splice = c.args.edit.now.splice in
     let back = subst (λ s. Fits (applied text s) (inverse splice)) (sym c.change.ensures) (takes_back text splice c.requires.fits).fits in
-    let text_is = sym (ap (λ (l : LaidOut). l.text) c.in_ok-apply.ensures.ok) in
+    let text_is = sym (ap (λ (l : TextAndLayout). l.text) c.in_ok-apply.ensures.ok) in
     subst (Fits _) (sym c.inverse.ensures) (subst (λ t. Fits t (inverse splice)) text_is back)

@@ -17,7 +17,7 @@ returns-then-not-is_empty-clause-items g c =
     let shared = c.min-shared.result in
     let below = c.len-then-not-is_empty.result - (start + shared) in
     let swapped = replaced c.args.items.now.items start shared (take shared c.args.new.items) in
-    c.move_behind.ensures.items
+    c.move_to_end.ensures.items
     ∙ ap (λ t. take (start + shared) t ++ (drop (start + shared + below) t ++ take below (drop (start + shared) t)))
     (c.append.ensures.items
     ∙ ap (λ b. cond b (c.swap_parts.new.items.items ++ c.remove_part.new.items.items) c.swap_parts.new.items.items) (c.append.ensures.succeeds (omega arith))

@@ -1,5 +1,5 @@
 use Rattle.std.proofs.Common.{◌∙◌}
-use Rattle.textarea_screen.specs.Text.{shown_line}
+use Rattle.textarea_screen.specs.Text.{line_view}
 use Rattle.textarea_view.proofs.Drawing.{drawn_inside, drawn_more, drawn_none, failed_inside}
 use Rattle.textarea_view.proofs.Layers.{also_on_err}
 use Rattle.textarea_view.proofs.scene.draw_rows.Goals as goal
@@ -21,6 +21,6 @@ pub loop-i-preserved : goal.loop-i-preserved
 loop-i-preserved c =
     let known = c.loop-i.invariant in (
       c.in_ok-show_in.ensures.same ∙ known.0,
-      drawn_more c.args.frame.now c.args.top c.args.rows c.args.buffer.now c.loop-i.buffer c.draw_below.new.buffer c.loop-i.i (shown_line c.show_in.new.line) known.1
+      drawn_more c.args.frame.now c.args.top c.args.rows c.args.buffer.now c.loop-i.buffer c.draw_below.new.buffer c.loop-i.i (line_view c.show_in.new.line) known.1
           c.in_ok-show_in.ensures.shown c.in_ok-draw_below.ensures.ok,
     )

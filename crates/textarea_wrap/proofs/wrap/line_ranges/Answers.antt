@@ -1,7 +1,7 @@
 use Rattle.std.proofs.Common.{length, max, sym, subst, ◌≡◌, ◌↔◌, refl, List, Result, Ok, Err, ℕ}
 use Rattle.std.specs.Result.{IfOk, IsOk}
 use Rattle.textarea_wrap.specs.RowsView.{RowsView}
-use Rattle.textarea_wrap.specs.Wrapped.{HasFewestRows}
+use Rattle.textarea_wrap.specs.WrapResult.{HasFewestRows}
 use Rattle.textarea_wrap.proofs.FewestRowLemmas.{HasFewestRows-wrapped}
 use Rattle.textarea_wrap.proofs.wrap.line_ranges.Goals as goal
 
@@ -13,6 +13,6 @@ if_counted (Err e) (Ok r) ranges P Q f p same ok = let no = ok.0 refl in absurd 
 
 pub returns-clause-fewest : goal.returns-clause-fewest
 returns-clause-fewest c = λ some.
-    if_counted c.cut_line-cut.result c.counted.result (λ t. t.items) _ (λ t. HasFewestRows c.args.mode c.args.tab_len (max c.args.width 1) c.args.line.now (length t))
+    if_counted c.wrap_line-cut.result c.counted.result (λ t. t.items) _ (λ t. HasFewestRows c.args.mode c.args.tab_len (max c.args.width 1) c.args.line.now (length t))
     (λ t h. subst (λ width. HasFewestRows c.args.mode c.args.tab_len width c.args.line.now (length t)) c.max.ensures (HasFewestRows-wrapped _ _ _ _ _ some h))
-    c.cut_line-cut.ensures.rows c.counted.ensures.ranges c.counted.ensures.refused
+    c.wrap_line-cut.ensures.rows c.counted.ensures.ranges c.counted.ensures.refused

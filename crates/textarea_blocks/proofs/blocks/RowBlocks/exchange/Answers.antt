@@ -45,26 +45,26 @@ exchanged c =
       come_is = come;
     }
 
-pub turn_from-requires-clause-enough : goal.turn_from-requires-clause-enough
-turn_from-requires-clause-enough c = λ k behind there.
-    let known = exchanged (goal.at.turn_from-requires-clause-enough c).After-replace_items in
+pub shift_from-requires-clause-enough : goal.shift_from-requires-clause-enough
+shift_from-requires-clause-enough c = λ k behind there.
+    let known = exchanged (goal.at.shift_from-requires-clause-enough c).After-replace_items in
     let blocks = rows_of_each c.self.inside.blocks.items in
     omega (arith, known.inside, c.self.invariant.lines_are.right k (omega (arith, there, c.self.invariant.lines_are.len)), before_ordered length lines_sum blocks (c.args.block + 1) k behind, before_more length lines_sum blocks c.args.block known.within)
 
-pub turn_from-requires-clause-small : goal.turn_from-requires-clause-small
-turn_from-requires-clause-small c = λ k behind there.
+pub shift_from-requires-clause-small : goal.shift_from-requires-clause-small
+shift_from-requires-clause-small c = λ k behind there.
     let blocks = rows_of_each c.self.inside.blocks.items in
     omega (arith, c.self.invariant.lines_are.right k (omega (arith, there, c.self.invariant.lines_are.len)), before_within length lines_sum blocks k, c.self.invariant.few_lines, c.requires.lines, c.len-come.ensures)
 
-pub turn_from-requires-2-clause-enough : goal.turn_from-requires-2-clause-enough
-turn_from-requires-2-clause-enough c = λ k behind there.
-    let known = exchanged (goal.at.turn_from-requires-2-clause-enough c).After-replace_items in
+pub shift_from-requires-2-clause-enough : goal.shift_from-requires-2-clause-enough
+shift_from-requires-2-clause-enough c = λ k behind there.
+    let known = exchanged (goal.at.shift_from-requires-2-clause-enough c).After-replace_items in
     let blocks = rows_of_each c.self.inside.blocks.items in
     omega (arith, known.part, c.self.invariant.rows_are.right k (omega (arith, there, c.self.invariant.rows_are.len)), before_ordered row_total rows_sum blocks (c.args.block + 1) k behind, before_more row_total rows_sum blocks c.args.block known.within)
 
-pub turn_from-requires-2-clause-small : goal.turn_from-requires-2-clause-small
-turn_from-requires-2-clause-small c = λ k behind there.
-    let known = exchanged (goal.at.turn_from-requires-2-clause-small c).After-replace_items in
+pub shift_from-requires-2-clause-small : goal.shift_from-requires-2-clause-small
+shift_from-requires-2-clause-small c = λ k behind there.
+    let known = exchanged (goal.at.shift_from-requires-2-clause-small c).After-replace_items in
     let blocks = rows_of_each c.self.inside.blocks.items in
     omega (arith, c.self.invariant.rows_are.right k (omega (arith, there, c.self.invariant.rows_are.len)), before_within row_total rows_sum blocks k, c.self.invariant.few_rows, c.requires.rows, known.come_is)
 
@@ -81,8 +81,8 @@ invariant_of-self c =
     let rows = c.self.invariant.rows_are in
     rw (blocks_set inside.blocks.items block c.replace_items.new.items)
     (record {
-      lines_are = totals_set length lines_sum blocks inside.lines.numbers c.turn_from.new.self.numbers block c.args.count c.len-come.result now lines known.within size c.turn_from.ensures.len c.turn_from.ensures.above c.turn_from.ensures.moved;
-      rows_are = totals_set row_total rows_sum blocks inside.rows.numbers c.turn_from-2.new.self.numbers block c.count_rows-rows_gone.result c.count_rows-rows_come.result now rows known.within known.turned c.turn_from-2.ensures.len c.turn_from-2.ensures.above c.turn_from-2.ensures.moved;
+      lines_are = totals_set length lines_sum blocks inside.lines.numbers c.shift_from.new.self.numbers block c.args.count c.len-come.result now lines known.within size c.shift_from.ensures.len c.shift_from.ensures.above c.shift_from.ensures.moved;
+      rows_are = totals_set row_total rows_sum blocks inside.rows.numbers c.shift_from-2.new.self.numbers block c.count_rows-rows_gone.result c.count_rows-rows_come.result now rows known.within known.turned c.shift_from-2.ensures.len c.shift_from-2.ensures.above c.shift_from-2.ensures.moved;
       few_lines = omega (arith, all_set length lines_sum blocks block now known.within, size, c.requires.lines, c.len-come.ensures, ap (λ (v : BlocksView). length (all_rows v.blocks)) c.self.view_is);
       few_rows = omega (arith, all_set row_total rows_sum blocks block now known.within, known.turned, known.come_is, c.requires.rows, ap (λ (v : BlocksView). row_total (all_rows v.blocks)) c.self.view_is);
     })

@@ -20,7 +20,7 @@ record Cut (blocks now : List (List RowsView)) (block at : ℕ) (rows : List Row
   few_lines : length (all_rows blocks) ≤ 562949953421312
   few_rows : row_total (all_rows blocks) ≤ 562949953421312
 
-cut : (c : In_ok-rows) → Cut c.args.self.now.blocks c.take_behind.new.self.blocks c.args.block c.args.at c.in_ok-rows.rows.items
+cut : (c : In_ok-rows) → Cut c.args.self.now.blocks c.split_block_off.new.self.blocks c.args.block c.args.at c.in_ok-rows.rows.items
 cut c =
     let blocks = c.args.self.now.blocks in
     let block = c.args.block in
@@ -28,7 +28,7 @@ cut c =
     let here = get_or blocks block [] in
     let same = c.in_ok-reserve-2.ensures.same in
     let rest : c.in_ok-rows.rows.items ≡ drop at here = c.in_ok-rows.ensures.taken ∙ ap (λ (t : List (List RowsView)). drop at (get_or t block [])) same in
-    let now : c.take_behind.new.self.blocks ≡ set blocks block (take at here) = c.in_ok-rows.ensures.kept ∙ ap (λ (t : List (List RowsView)). set t block (take at (get_or t block []))) same in
+    let now : c.split_block_off.new.self.blocks ≡ set blocks block (take at here) = c.in_ok-rows.ensures.kept ∙ ap (λ (t : List (List RowsView)). set t block (take at (get_or t block []))) same in
     record {
       rows_are = rest;
       now_is = now;
@@ -71,7 +71,7 @@ returns-clause-edge c =
     let block = c.args.block in
     let next = block + 1 in
     let here = get_or blocks block [] in
-    let now = c.take_behind.new.self.blocks in
+    let now = c.split_block_off.new.self.blocks in
     let new = c.put_first.new.self.blocks in
     let size : length now ≡ length blocks = ap length known.now_is ∙ length-set blocks block (take c.args.at here) in
     let within : next ≤ length now = omega (arith, size, c.requires.block) in (

@@ -1,6 +1,6 @@
 use Rattle.std.proofs.Common.{◌≡◌, ◌≤◌, ◌∙◌, ◌∷◌, [], ap, arith, false, subst, sym}
 use Rattle.std.proofs.lemmas.Result.{on_ok_weaker}
-use Rattle.textarea_document.specs.Prelude.{IfSome, as_nanos, Break, Place, Splice, insertion, edited}
+use Rattle.textarea_document.specs.Prelude.{IfSome, as_nanos, Break, Place, Splice, insertion, after_edit}
 use Rattle.textarea_document.proofs.Parts.{well_formed}
 use Rattle.textarea_document.proofs.document.Document.insert_break.Goals as goal
 
@@ -17,5 +17,5 @@ returns-clause-ok c =
     let is : c.between.result.splice ≡ insertion c.insertion_place-row.result (Break ∷ []) = c.between.ensures.splice in
     on_ok_weaker c.edit.result
     (λ e. e
-    ∙ ap (λ (s : Splice). edited document s false (as_nanos c.args.now)) (is ∙ ap (λ (p : Place). insertion p (Break ∷ [])) c.insertion_place-row.ensures.value))
+    ∙ ap (λ (s : Splice). after_edit document s false (as_nanos c.args.now)) (is ∙ ap (λ (p : Place). insertion p (Break ∷ [])) c.insertion_place-row.ensures.value))
     c.edit.ensures.ok

@@ -1,6 +1,6 @@
 use Rattle.std.proofs.Common.{◌≡◌, ◌≤◌, ◌∙◌, ◌∷◌, [], ap, arith, subst, sym}
 use Rattle.std.proofs.lemmas.Result.{on_ok_weaker}
-use Rattle.textarea_document.specs.Prelude.{IfSome, as_nanos, Character, Place, Splice, insertion, edited}
+use Rattle.textarea_document.specs.Prelude.{IfSome, as_nanos, Character, Place, Splice, insertion, after_edit}
 use Rattle.textarea_document.proofs.Parts.{well_formed}
 use Rattle.textarea_document.proofs.document.Document.insert_character.Goals as goal
 
@@ -17,5 +17,5 @@ returns-clause-ok c =
     let is : c.between.result.splice ≡ insertion c.insertion_place-row.result (Character c.args.c ∷ []) = c.between.ensures.splice in
     on_ok_weaker c.edit.result
     (λ e. e
-    ∙ ap (λ (s : Splice). edited document s c.args.typed (as_nanos c.args.now)) (is ∙ ap (λ (p : Place). insertion p (Character c.args.c ∷ [])) c.insertion_place-row.ensures.value))
+    ∙ ap (λ (s : Splice). after_edit document s c.args.typed (as_nanos c.args.now)) (is ∙ ap (λ (p : Place). insertion p (Character c.args.c ∷ [])) c.insertion_place-row.ensures.value))
     c.edit.ensures.ok

@@ -1,5 +1,5 @@
 use Rattle.std.proofs.Common.{◌≡◌, ◌∙◌, None, Option, Some, ap, sym, subst}
-use Rattle.textarea_document.specs.Prelude.{Splice, Fits, place_after, made_again, applied_to, moved_ranges, DocumentState, document_of, IsSound, redone, redone_by}
+use Rattle.textarea_document.specs.Prelude.{Splice, Fits, place_after, redone_log, applied_to, moved_ranges, DocumentState, document_of, IsSound, after_redo, after_redo_by}
 use Rattle.textarea_document.proofs.Sounds.{changed_is, next_fits, sound_redone}
 use Rattle.textarea_document.proofs.document.Document.redo.Goals as goal
 use Rattle.textarea_document.proofs.document.Document.redo.Goals.{After-step_forward}
@@ -7,16 +7,16 @@ use Rattle.textarea_document.proofs.document.Document.redo.Goals.{After-step_for
 pub make_change-requires-clause-fits : goal.make_change-requires-clause-fits
 make_change-requires-clause-fits c =
     let inside = c.self.inside in
-    let document = document_of inside.laid inside.cursor inside.anchor inside.ranges.items inside.history.log in
-    subst (Fits inside.laid.text) (sym c.change.ensures) (next_fits document c.in-Some.edit.now.splice c.self.invariant c.in-Some.ensures.edit)
+    let document = document_of inside.text_layout inside.cursor inside.anchor inside.ranges.items inside.history.log in
+    subst (Fits inside.text_layout.text) (sym c.change.ensures) (next_fits document c.in-Some.edit.now.splice c.self.invariant c.in-Some.ensures.edit)
 
 -- the resulting document is the one after the step
-left : (c : After-step_forward) → document_of c.make_change.new.laid c.in_ok-ahead.ahead None c.make_change.new.ranges.items c.step_forward.new.self.log ≡ redone_by (Some c.in-Some.edit.now.splice) (document_of c.self.inside.laid c.self.inside.cursor c.self.inside.anchor c.self.inside.ranges.items c.self.inside.history.log)
+left : (c : After-step_forward) → document_of c.make_change.new.text_layout c.in_ok-ahead.ahead None c.make_change.new.ranges.items c.step_forward.new.self.log ≡ after_redo_by (Some c.in-Some.edit.now.splice) (document_of c.self.inside.text_layout c.self.inside.cursor c.self.inside.anchor c.self.inside.ranges.items c.self.inside.history.log)
 left c =
     let inside = c.self.inside in
     let splice = c.in-Some.edit.now.splice in
-    changed_is inside.laid c.make_change.new.laid inside.cursor c.in_ok-ahead.ahead inside.anchor inside.ranges.items c.make_change.new.ranges.items inside.history.log c.step_forward.new.self.log (made_again inside.history.log splice) splice
-    (c.in_ok-ahead.ensures.laid ∙ ap (applied_to inside.laid) c.change.ensures)
+    changed_is inside.text_layout c.make_change.new.text_layout inside.cursor c.in_ok-ahead.ahead inside.anchor inside.ranges.items c.make_change.new.ranges.items inside.history.log c.step_forward.new.self.log (redone_log inside.history.log splice) splice
+    (c.in_ok-ahead.ensures.text_layout ∙ ap (applied_to inside.text_layout) c.change.ensures)
     (c.in_ok-ahead.ensures.cursor ∙ ap place_after c.change.ensures)
     (c.in_ok-ahead.ensures.ranges ∙ ap (moved_ranges inside.ranges.items) c.change.ensures)
     (c.step_forward.ensures splice c.in-Some.ensures.edit)
@@ -24,13 +24,13 @@ left c =
 pub invariant_of-self-2 : goal.invariant_of-self-2
 invariant_of-self-2 c =
     let inside = c.self.inside in
-    let document = document_of inside.laid inside.cursor inside.anchor inside.ranges.items inside.history.log in
+    let document = document_of inside.text_layout inside.cursor inside.anchor inside.ranges.items inside.history.log in
     subst IsSound (sym (left (goal.at.invariant_of-self-2 c).After-step_forward)) (sound_redone document c.in-Some.edit.now.splice c.self.invariant c.in-Some.ensures.edit)
 
 pub returns-clause-ok : goal.returns-clause-ok
 returns-clause-ok c =
     let inside = c.self.inside in
-    let document = document_of inside.laid inside.cursor inside.anchor inside.ranges.items inside.history.log in
+    let document = document_of inside.text_layout inside.cursor inside.anchor inside.ranges.items inside.history.log in
     left (goal.at.returns-clause-ok c).After-step_forward
-    ∙ ap (λ (o : Option Splice). redone_by o document) (sym c.in-Some.ensures.edit)
-    ∙ ap (λ (s : DocumentState). redone s) c.self.view_is
+    ∙ ap (λ (o : Option Splice). after_redo_by o document) (sym c.in-Some.ensures.edit)
+    ∙ ap (λ (s : DocumentState). after_redo s) c.self.view_is

@@ -1,6 +1,6 @@
 use Rattle.std.proofs.Common.{◌≤◌, ◌∙◌, List, ap, arith, false, subst, sym}
 use Rattle.std.proofs.lemmas.Result.{on_ok_weaker}
-use Rattle.textarea_document.specs.Prelude.{as_nanos, Symbol, Place, index_of, part_removed, removal, edited}
+use Rattle.textarea_document.specs.Prelude.{as_nanos, Symbol, Place, index_of, part_removed, removal, after_edit}
 use Rattle.textarea_document.proofs.document.Document.remove.Goals as goal
 
 pub between-requires-clause-ordered : goal.between-requires-clause-ordered
@@ -15,5 +15,5 @@ unfolding part_removed
 returns-clause-ok c =
     let document = c.args.self.now in
     on_ok_weaker c.remove_whole.result
-    (λ e. e ∙ ap (λ (w : Place × Place). edited document (removal document.text w.0 w.1) false (as_nanos c.args.now)) c.widen.ensures.value)
+    (λ e. e ∙ ap (λ (w : Place × Place). after_edit document (removal document.text w.0 w.1) false (as_nanos c.args.now)) c.widen.ensures.value)
     c.remove_whole.ensures.ok

@@ -1,7 +1,7 @@
 use Rattle.std.proofs.Common.{◌≡◌, ◌≢◌, ◌∙◌, ◌==◌, ◌-◌, ◌+◌, ◌<◌, ◌∷◌, ℕ, [], ap, cond, sym, subst, arith, false, length}
 use Rattle.std.proofs.lemmas.Bool.Decides.{nat_tests}
-use Rattle.textarea_document.specs.Prelude.{as_nanos, Break, lines, Place, line_end, Fits, Splice, break_removal, edited, unanchored, CutsNone}
-use Rattle.textarea_document.proofs.Behinds.{break_removal_fits}
+use Rattle.textarea_document.specs.Prelude.{as_nanos, Break, lines, Place, line_end, Fits, Splice, break_removal, after_edit, unanchored, SplitsNoRange}
+use Rattle.textarea_document.proofs.SymbolAfters.{break_removal_fits}
 use Rattle.textarea_document.proofs.Ranges.{whole_break}
 use Rattle.textarea_document.proofs.document.Document.remove_break.Goals as goal
 
@@ -28,20 +28,20 @@ pub edit-requires-clause-cuts_none : goal.edit-requires-clause-cuts_none
 edit-requires-clause-cuts_none c =
     let document = c.args.self.now in
     let row = document.cursor.0 - 1 in
-    subst (CutsNone document.ranges) (sym (removes c))
+    subst (SplitsNoRange document.ranges) (sym (removes c))
     (whole_break document.text document.ranges (line_end (lines document.text) row) c.lines.ensures.ranges (break_removal_fits document.text row (within c)))
 
 pub returns-clause-ok : goal.returns-clause-ok
 returns-clause-ok c =
     let document = c.args.self.now in
-    let moment = as_nanos c.args.now in
+    let time = as_nanos c.args.now in
     let row = c.cursor-row.result.0 in
     let same = ap (λ (p : Place). p.0) c.cursor-row.ensures.value in
     c.in_ok-edit.ensures.ok
-    ∙ ap (λ (s : Splice). edited document s false moment) c.between.ensures.splice
-    ∙ ap (λ (p : Place). edited document (record { place = p; symbols = Break ∷ []; inserts = false }) false moment) (c.line_end-start.ensures.value ∙ ap (λ rows. line_end rows (row - 1)) c.lines.ensures.lines)
-    ∙ ap (λ n. edited document (break_removal document.text (n - 1)) false moment) same
-    ∙ ap (λ b. cond b (unanchored document) (edited document (break_removal document.text (document.cursor.0 - 1)) false moment)) (sym (not_first document.cursor.0 (λ first. c.if-row-eq0.false (same ∙ first))))
+    ∙ ap (λ (s : Splice). after_edit document s false time) c.between.ensures.splice
+    ∙ ap (λ (p : Place). after_edit document (record { place = p; symbols = Break ∷ []; inserts = false }) false time) (c.line_end-start.ensures.value ∙ ap (λ rows. line_end rows (row - 1)) c.lines.ensures.lines)
+    ∙ ap (λ n. after_edit document (break_removal document.text (n - 1)) false time) same
+    ∙ ap (λ b. cond b (unanchored document) (after_edit document (break_removal document.text (document.cursor.0 - 1)) false time)) (sym (not_first document.cursor.0 (λ first. c.if-row-eq0.false (same ∙ first))))
   where
     not_first : (row : ℕ) → row ≢ 0 → (row == 0) ≡ false
     not_first row apart = grind (arith, nat_tests)

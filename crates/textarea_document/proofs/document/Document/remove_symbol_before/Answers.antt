@@ -1,6 +1,6 @@
 use Rattle.std.proofs.Common.{◌≡◌, ◌∙◌, ◌∷◌, [], ap, false, sym, subst}
-use Rattle.textarea_document.specs.Prelude.{as_nanos, symbol_in, IsSymbolBefore, Splice, TakesWhole, edited, CutsNone}
-use Rattle.textarea_document.proofs.Behinds.{before_cursor, removal_of_kind, symbol_removed_before_is}
+use Rattle.textarea_document.specs.Prelude.{as_nanos, symbol_in, IsSymbolBefore, Splice, TakesWhole, after_edit, SplitsNoRange}
+use Rattle.textarea_document.proofs.SymbolAfters.{before_cursor, removal_of_kind, symbol_removed_before_is}
 use Rattle.textarea_document.proofs.Ranges.{whole_before}
 use Rattle.textarea_document.proofs.document.Document.remove_symbol_before.Goals as goal
 
@@ -19,11 +19,11 @@ edit-requires-clause-cuts_none c =
     let document = c.args.self.now in
     let before = c.in-Some.before in
     let known = stands c in
-    subst (CutsNone document.ranges) (sym (removes c))
+    subst (SplitsNoRange document.ranges) (sym (removes c))
     (subst (TakesWhole document.ranges before.start) known.ends (whole_before document.text document.ranges document.cursor before.start (symbol_in before.character) c.lines.ensures.ranges c.requires.none_hit known))
 
 -- the edit is recorded as typed or not, as asked
-made : (c : goal.In_ok-edit) → c.edit.new.self ≡ edited c.args.self.now c.between.result.splice c.args.typed (as_nanos c.args.now)
+made : (c : goal.In_ok-edit) → c.edit.new.self ≡ after_edit c.args.self.now c.between.result.splice c.args.typed (as_nanos c.args.now)
 made c = c.in_ok-edit.ensures.ok
 
 pub returns-clause-ok : goal.returns-clause-ok
@@ -32,7 +32,7 @@ returns-clause-ok c =
     let before = c.in-Some.before in
     let symbol = symbol_in before.character in
     made c
-    ∙ ap (λ (s : Splice). edited document s c.args.typed (as_nanos c.args.now))
+    ∙ ap (λ (s : Splice). after_edit document s c.args.typed (as_nanos c.args.now))
     (c.between.ensures.splice ∙ removal_of_kind c.deletion_of-kind.result c.cursor-cursor.result before.start (symbol ∷ []) c.deletion_of-kind.ensures.inserts c.deletion_of-kind.ensures.symbols)
     ∙ symbol_removed_before_is document before.start symbol c.args.typed (as_nanos c.args.now)
     (before_cursor c.lines.result.now document.text c.cursor-cursor.result document.cursor before.start symbol c.lines.ensures.value c.cursor-cursor.ensures.value c.in-Some.ensures)

@@ -1,6 +1,6 @@
 use Rattle.std.proofs.Common.{◌≡◌, ◌∙◌, sym, ap, subst, arith, List, false}
 use Rattle.std.proofs.lemmas.Result.{on_ok_weaker}
-use Rattle.textarea_document.specs.Prelude.{as_nanos, OnOk, Symbol, Fits, Splice, TakesWhole, removal, edited, CutsNone}
+use Rattle.textarea_document.specs.Prelude.{as_nanos, OnOk, Symbol, Fits, Splice, TakesWhole, removal, after_edit, SplitsNoRange}
 use Rattle.textarea_document.proofs.Parts.{part_ends, part_some, removal_fits, some_pieces, well_formed}
 use Rattle.textarea_document.proofs.document.Document.remove_whole.Goals as goal
 
@@ -26,10 +26,10 @@ pub edit-requires-clause-cuts_none : goal.edit-requires-clause-cuts_none
 edit-requires-clause-cuts_none c =
     let text = c.args.self.now.text in
     let ranges = c.args.self.now.ranges in
-    subst (CutsNone ranges) (sym (removes c)) (subst (TakesWhole ranges c.args.from) (part_ends text c.args.from c.args.to c.requires.from c.requires.to (omega (arith, c.requires.ordered))) c.requires.whole)
+    subst (SplitsNoRange ranges) (sym (removes c)) (subst (TakesWhole ranges c.args.from) (part_ends text c.args.from c.args.to c.requires.from c.requires.to (omega (arith, c.requires.ordered))) c.requires.whole)
 
 -- the edit is recorded as not typed
-made : (c : goal.After-edit) → OnOk c.edit.result (c.edit.new.self ≡ edited c.args.self.now c.edit_of.result.splice false (as_nanos c.args.now))
+made : (c : goal.After-edit) → OnOk c.edit.result (c.edit.new.self ≡ after_edit c.args.self.now c.edit_of.result.splice false (as_nanos c.args.now))
 made c = c.edit.ensures.ok
 
 pub returns-clause-ok : goal.returns-clause-ok
@@ -37,6 +37,6 @@ returns-clause-ok c =
     let document = c.args.self.now in
     on_ok_weaker c.edit.result
     (λ e. e
-    ∙ ap (λ (s : Splice). edited document s false (as_nanos c.args.now)) c.edit_of.ensures.splice
-    ∙ ap (λ (s : List Symbol). edited document (record { place = c.args.from; symbols = s; inserts = false }) false (as_nanos c.args.now)) c.requires.pieces)
+    ∙ ap (λ (s : Splice). after_edit document s false (as_nanos c.args.now)) c.edit_of.ensures.splice
+    ∙ ap (λ (s : List Symbol). after_edit document (record { place = c.args.from; symbols = s; inserts = false }) false (as_nanos c.args.now)) c.requires.pieces)
     (made c)

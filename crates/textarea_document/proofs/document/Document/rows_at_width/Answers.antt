@@ -1,5 +1,5 @@
 use Rattle.std.proofs.Common.{◌≡◌, ℕ, subst, true}
-use Rattle.textarea_document.specs.Prelude.{IfOk, IsOk, is_cut_at, DocumentState, HasRowsAt, laid_out_of}
+use Rattle.textarea_document.specs.Prelude.{IfOk, IsOk, is_wrapped_at, DocumentState, HasRowsAt, text_and_layout}
 use Rattle.textarea_document.proofs.document.Document.rows_at_width.Goals as goal
 
 pub returns-clause-rows : goal.returns-clause-rows
@@ -9,4 +9,4 @@ returns-clause-rows c =
 
 pub returns-clause-no_memory : goal.returns-clause-no_memory
 returns-clause-no_memory c =
-    subst (λ (s : DocumentState). is_cut_at (laid_out_of s) c.args.inner_width ≡ true → IsOk c.rows_at_width.result) c.self.view_is c.rows_at_width.ensures.no_memory
+    subst (λ (s : DocumentState). is_wrapped_at (text_and_layout s) c.args.inner_width ≡ true → IsOk c.rows_at_width.result) c.self.view_is c.rows_at_width.ensures.no_memory

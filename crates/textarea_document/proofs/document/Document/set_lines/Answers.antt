@@ -7,21 +7,21 @@ use Rattle.textarea_document.proofs.document.Document.set_lines.Goals as goal
 pub invariant_of-self : goal.invariant_of-self
 invariant_of-self c =
     let inside = c.self.inside in
-    subst IsSound (sym (same_document inside.laid c.set_lines.new.self inside.cursor inside.anchor inside.ranges.items inside.ranges.items inside.history.log inside.history.log c.in_err-set_lines.ensures.err refl refl)) c.self.invariant
+    subst IsSound (sym (same_document inside.text_layout c.set_lines.new.self inside.cursor inside.anchor inside.ranges.items inside.ranges.items inside.history.log inside.history.log c.in_err-set_lines.ensures.err refl refl)) c.self.invariant
 
 pub invariant_of-self-2 : goal.invariant_of-self-2
 invariant_of-self-2 c =
     let items = c.args.lines.items in
     let cursor = c.clip-place.result in
-    sound_laid (text_of items) c.self.inside.laid.layout.settings c.self.inside.laid.layout.count cursor c.max_items.result c.set_lines.new.self c.clear.new.self.items c.new-history.result.log c.in_ok-set_lines.ensures.ok c.clear.ensures.items c.new-history.ensures (text_place items cursor (subst (λ t. IsPlaceOf (lines_of t) cursor) c.as_slice.ensures.value c.clip-place.ensures.is_place))
+    sound_laid (text_of items) c.self.inside.text_layout.layout.settings c.self.inside.text_layout.layout.count cursor c.max_items.result c.set_lines.new.self c.clear.new.self.items c.new-history.result.log c.in_ok-set_lines.ensures.ok c.clear.ensures.items c.new-history.ensures (text_place items cursor (subst (λ t. IsPlaceOf (lines_of t) cursor) c.as_slice.ensures.value c.clip-place.ensures.is_place))
 
 pub returns-clause-ok : goal.returns-clause-ok
 returns-clause-ok c =
     let inside = c.self.inside in
     let items = c.args.lines.items in
     let text = text_of items in
-    let settings = inside.laid.layout.settings in
-    let count = inside.laid.layout.count in
+    let settings = inside.text_layout.layout.settings in
+    let count = inside.text_layout.layout.count in
     let place = clip (lines_of items) c.args.cursor in
     fresh_is text settings count c.clip-place.result c.max_items.result c.set_lines.new.self c.clear.new.self.items c.new-history.result.log c.in_ok-set_lines.ensures.ok c.clear.ensures.items c.new-history.ensures
     ∙ ap (λ (p : Place). fresh_document text settings count p c.max_items.result) (c.clip-place.ensures.value ∙ ap (λ (l : List (List ℕ)). clip l c.args.cursor) (ap lines_of c.as_slice.ensures.value))

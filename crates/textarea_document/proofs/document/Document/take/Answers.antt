@@ -1,5 +1,5 @@
 use Rattle.std.proofs.Common.{◌∙◌, List, ap, false}
-use Rattle.textarea_document.specs.Prelude.{as_nanos, Symbol, joined, text_of, Place, part, part_removed, removal, edited}
+use Rattle.textarea_document.specs.Prelude.{as_nanos, Symbol, joined, text_of, Place, symbols_between, part_removed, removal, after_edit}
 use Rattle.textarea_document.proofs.document.Document.take.Goals as goal
 
 pub returns-clause-taken_symbols : goal.returns-clause-taken_symbols
@@ -9,12 +9,12 @@ returns-clause-taken_symbols c =
     ap joined c.in_ok-taken.ensures.same
     ∙ ap text_of c.as_slice.ensures.value
     ∙ c.in_ok-pieces.ensures.text
-    ∙ ap (λ (t : List Symbol). part t wide.0 wide.1) c.lines.ensures.value
-    ∙ ap (λ (w : Place × Place). part text w.0 w.1) c.widen.ensures.value
+    ∙ ap (λ (t : List Symbol). symbols_between t wide.0 wide.1) c.lines.ensures.value
+    ∙ ap (λ (w : Place × Place). symbols_between text w.0 w.1) c.widen.ensures.value
 
 pub returns-clause-ok : goal.returns-clause-ok
 unfolding part_removed
 returns-clause-ok c =
     let document = c.args.self.now in
     c.in_ok-remove_whole.ensures.ok
-    ∙ ap (λ (w : Place × Place). edited document (removal document.text w.0 w.1) false (as_nanos c.args.now)) c.widen.ensures.value
+    ∙ ap (λ (w : Place × Place). after_edit document (removal document.text w.0 w.1) false (as_nanos c.args.now)) c.widen.ensures.value

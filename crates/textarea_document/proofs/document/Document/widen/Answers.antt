@@ -1,6 +1,6 @@
 use Rattle.std.proofs.Common.{subst, arith}
 use Rattle.textarea_text.specs.Text.{lines}
-use Rattle.textarea_ranges.specs.Held.{IsWidened}
+use Rattle.textarea_ranges.specs.Lookup.{IsWidened}
 use Rattle.textarea_document.proofs.Ranges.{up_to_from_index, widened_ordered}
 use Rattle.textarea_document.proofs.document.Document.widen.Goals as goal
 

@@ -11,13 +11,13 @@ pub loop-c-preserved : goal.loop-c-preserved
 loop-c-preserved c =
     let t = YieldsList-turn (YieldsList-from_chars c.args.piece.now c.utf8.piece cc) c.loop-c.yielded _ c.loop-c.yielded_by _ _ c.in-Some.c c.in-Some.is c.next.ensures.steps in
     let n = length_push c.loop-c.yielded c.in-Some.c in (
-      rw (n, c.column_behind-next.ensures.value)
-          (expanded_more c.args.tab_len c.loop-c.at (chars c.args.piece.now) (length c.loop-c.yielded) c.in-Some.c t _ _ c.in_ok-push_shown.ensures ∙ c.loop-c.invariant.0),
-      omega (arith, c.loop-c.invariant.1, c.column_behind-next.ensures.near, n),
+      rw (n, c.column_after-next.ensures.value)
+          (expanded_more c.args.tab_len c.loop-c.at (chars c.args.piece.now) (length c.loop-c.yielded) c.in-Some.c t _ _ c.in_ok-push_display.ensures ∙ c.loop-c.invariant.0),
+      omega (arith, c.loop-c.invariant.1, c.column_after-next.ensures.near, n),
     )
 
-pub column_behind-next-requires : goal.column_behind-next-requires
-column_behind-next-requires c =
+pub column_after-next-requires : goal.column_after-next-requires
+column_after-next-requires c =
     let t = YieldsList-turn (YieldsList-from_chars c.args.piece.now c.utf8.piece cc) c.loop-c.yielded _ c.loop-c.yielded_by _ _ c.in-Some.c c.in-Some.is c.next.ensures.steps in
     omega (arith, c.loop-c.invariant.1, t.0, length_chars c.args.piece.now c.utf8.piece)
 

@@ -6,17 +6,17 @@ use Rattle.textarea_highlight.proofs.highlight.display.show_tabs.Goals as goal
 pub returns-in_ok-drop_tabs-clause-borrowed : goal.returns-in_ok-drop_tabs-clause-borrowed
 returns-in_ok-drop_tabs-clause-borrowed c = (
   λ none. absurd none,
-  λ same. changed_at_zero c.args.tab_len c.args.column c.args.piece.now c.utf8.piece c.if-tab_len-eq0.true (sym c.has_tab_behind_start.ensures ∙ c.if-has_tab_behind_start.true) same,
+  λ same. changed_at_zero c.args.tab_len c.args.column c.args.piece.now c.utf8.piece c.if-tab_len-eq0.true (sym c.has_tab_after_start.ensures ∙ c.if-has_tab_after_start.true) same,
 )
 
-pub returns-else-has_tab_behind_start-clause-text : goal.returns-else-has_tab_behind_start-clause-text
-returns-else-has_tab_behind_start-clause-text c =
+pub returns-else-has_tab_after_start-clause-text : goal.returns-else-has_tab_after_start-clause-text
+returns-else-has_tab_after_start-clause-text c =
     text_of_kept c.args.tab_len c.args.column c.args.piece.now c.utf8.piece
-    (kept_at_zero c.args.tab_len c.args.column c.args.piece.now c.utf8.piece c.if-tab_len-eq0.true (sym c.has_tab_behind_start.ensures ∙ c.if-has_tab_behind_start.false))
+    (kept_at_zero c.args.tab_len c.args.column c.args.piece.now c.utf8.piece c.if-tab_len-eq0.true (sym c.has_tab_after_start.ensures ∙ c.if-has_tab_after_start.false))
 
-pub returns-else-has_tab_behind_start-clause-borrowed : goal.returns-else-has_tab_behind_start-clause-borrowed
-returns-else-has_tab_behind_start-clause-borrowed c = (
-  λ _. kept_at_zero c.args.tab_len c.args.column c.args.piece.now c.utf8.piece c.if-tab_len-eq0.true (sym c.has_tab_behind_start.ensures ∙ c.if-has_tab_behind_start.false),
+pub returns-else-has_tab_after_start-clause-borrowed : goal.returns-else-has_tab_after_start-clause-borrowed
+returns-else-has_tab_after_start-clause-borrowed c = (
+  λ _. kept_at_zero c.args.tab_len c.args.column c.args.piece.now c.utf8.piece c.if-tab_len-eq0.true (sym c.has_tab_after_start.ensures ∙ c.if-has_tab_after_start.false),
   λ _. tt,
 )
 

@@ -1,5 +1,5 @@
 use Rattle.std.proofs.Common.{◌∙◌, Some, ap, sym, ℕ}
-use Rattle.textarea_history.specs.Prelude.{joined, grows_of, pieces_in, symbols_in}
+use Rattle.textarea_history.specs.Prelude.{joined, grows_of, line_count_in, symbols_in}
 use Rattle.textarea_text.proofs.Copies.{lines_copied}
 use Rattle.std.proofs.lemmas.List.Elements.{length_all_zip}
 use Rattle.textarea_history.proofs.edit.ContentClone.clone.Goals as goal
@@ -12,7 +12,7 @@ returns-in_ok-clone-in-Chunk c =
     record {
       cases = record {
         symbols = λ inserts. ap joined (lines_copied pieces.items copy.items same.0) ∙ ap (symbols_in inserts) (sym c.in-Chunk.is);
-        pieces = ap (λ (n : ℕ). Some n) (sym (length_all_zip _ pieces.items copy.items same.0)) ∙ ap pieces_in (sym c.in-Chunk.is);
+        pieces = ap (λ (n : ℕ). Some n) (sym (length_all_zip _ pieces.items copy.items same.0)) ∙ ap line_count_in (sym c.in-Chunk.is);
         grows = ap grows_of (sym c.in-Chunk.is);
       };
     }

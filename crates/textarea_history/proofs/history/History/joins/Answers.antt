@@ -1,6 +1,6 @@
 use Rattle.std.proofs.Common.{◌≡◌, ◌∙◌, ◌-◌, Some, sym, ap, arith, true, nat_lt}
 use Rattle.std.proofs.lemmas.Bool.Decides.{nat_tests}
-use Rattle.textarea_history.specs.Prelude.{as_nanos, Kept, pause}
+use Rattle.textarea_history.specs.Prelude.{as_nanos, StoredLog, pause}
 use Rattle.textarea_history.proofs.Stores.{joins_is, typed_is}
 use Rattle.textarea_history.proofs.history.History.joins.Goals as goal
 
@@ -13,4 +13,4 @@ returns-then-as_nanos-lt-PAUSE c =
     let same : c.as_nanos.result ≡ as_nanos c.args.now - as_nanos c.self.inside.last = c.as_nanos.ensures ∙ c.saturating_sub.ensures in
     let soon : nat_lt (as_nanos c.args.now - as_nanos c.self.inside.last) pause ≡ true = grind (arith, nat_tests) in
     c.continues.ensures
-    ∙ joins_is c.self.inside.items.items c.self.inside.index c.self.inside.max_items c.self.inside.run (as_nanos c.self.inside.last) (as_nanos c.args.now) c.in-Some-run.edge c.in-Some.c c.index-newest.result.now c.args.edit.now.splice c.args.coalesce c.args.self.now.log c.self.invariant c.in-Some-run.is (sym c.typed_character.ensures ∙ c.in-Some.is) soon c.index-newest.ensures (ap (λ (k : Kept). k.log) c.self.view_is)
+    ∙ joins_is c.self.inside.items.items c.self.inside.index c.self.inside.max_items c.self.inside.run (as_nanos c.self.inside.last) (as_nanos c.args.now) c.in-Some-run.edge c.in-Some.c c.index-newest.result.now c.args.edit.now.splice c.args.coalesce c.args.self.now.log c.self.invariant c.in-Some-run.is (sym c.typed_character.ensures ∙ c.in-Some.is) soon c.index-newest.ensures (ap (λ (k : StoredLog). k.log) c.self.view_is)

@@ -1,6 +1,6 @@
 use Rattle.std.proofs.Common.{◌∙◌, ◌-◌, sym, ap, arith, is_some, map, length}
 use Rattle.std.proofs.lemmas.Result.{on_ok_weaker}
-use Rattle.textarea_history.specs.Prelude.{as_nanos, Kept, log_at, splice_in}
+use Rattle.textarea_history.specs.Prelude.{as_nanos, StoredLog, log_at, splice_in}
 use Rattle.textarea_history.proofs.Stores.{formed_at, newest_grows, room_ready, run_some, splices_same, store_ready, store_same}
 use Rattle.textarea_history.proofs.history.History.reserve.Goals as goal
 
@@ -42,7 +42,7 @@ returns-then-is_some-clause-same c =
     ap (λ s. log_at s inside.index inside.max_items (is_some inside.run) (as_nanos inside.last))
     (splices_same c.reserve.new.self.items (inside.index - 1) c.index_mut.result.now c.reserve-then-is_some.new.self (omega (arith, run.0, run.1, ap length c.reserve.ensures.items)) c.index_mut.ensures.value c.reserve-then-is_some.ensures.splice
     ∙ ap (map splice_in) c.reserve.ensures.items)
-    ∙ ap (λ (k : Kept). k.log) c.self.view_is
+    ∙ ap (λ (k : StoredLog). k.log) c.self.view_is
 
 pub returns-then-is_some-clause-ok : goal.returns-then-is_some-clause-ok
 returns-then-is_some-clause-ok c =

@@ -1,11 +1,11 @@
 use Rattle.std.proofs.Common.{◌≡◌, ◌∙◌, List, Option, Some, ap, sym, option_map, rules}
 use Rattle.std.specs.Prelude.{String}
-use Rattle.textarea_history.specs.Prelude.{text_of, Symbol, Place, Splice, applied, inverse, place_after, place_before, Makes, Log, Undoes, logged_of, newest, taken_back, undone_by}
+use Rattle.textarea_history.specs.Prelude.{text_of, Symbol, Place, Splice, applied, inverse, place_after, place_before, MakesLines, Log, Undoes, logged_of, newest, undone_log, undone_by}
 use Rattle.textarea_history.proofs.history.History.undo.Goals as goal
 
 -- an undo: the inverse of the newest edit made the lines, the log is the one after it, and the
 -- cursor is where the inverse ends
-undoes : {Z : Type 0} (before after : List (String Z)) (old new : Log) (splice change : Splice) (back : Place) → newest old ≡ Some splice → change ≡ inverse splice → Makes change before after → new ≡ taken_back old splice → back ≡ place_after change → Undoes (logged_of before old) (logged_of after new) (Some back)
+undoes : {Z : Type 0} (before after : List (String Z)) (old new : Log) (splice change : Splice) (back : Place) → newest old ≡ Some splice → change ≡ inverse splice → MakesLines change before after → new ≡ undone_log old splice → back ≡ place_after change → Undoes (logged_of before old) (logged_of after new) (Some back)
 undoes before after old new splice change back found is made log place = record {
   is_undone = ap (λ (t : List Symbol). record { text = t; log = new }) (made ∙ ap (applied (text_of before)) is)
       ∙ ap (λ (l : Log). record { text = applied (text_of before) (inverse splice); log = l }) log

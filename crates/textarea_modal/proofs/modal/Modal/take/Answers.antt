@@ -10,9 +10,9 @@ returns-in_err-make_step-in-Some-clause-stays c = on_err c.from_residual.result 
 pub returns-in_ok-make_step-in-Some-clause-quits : goal.returns-in_ok-make_step-in-Some-clause-quits
 returns-in_ok-make_step-in-Some-clause-quits c = ap (λ (s : Step). s.quits) c.in-Some.ensures ∙ ap (λ (m : Mode). (step m c.args.input.now).quits) c.self.view_is
 
-pub returns-in_ok-hand_on-in-None-clause-mode : goal.returns-in_ok-hand_on-in-None-clause-mode
-returns-in_ok-hand_on-in-None-clause-mode c =
+pub returns-in_ok-pass_on-in-None-clause-mode : goal.returns-in_ok-pass_on-in-None-clause-mode
+returns-in_ok-pass_on-in-None-clause-mode c =
     sym c.self.view_is ∙ c.in-None.ensures.0 ∙ sym (ap (λ (s : Step). s.mode) c.in-None.ensures.1) ∙ ap (λ (m : Mode). (step m c.args.input.now).mode) c.self.view_is
 
-pub returns-in_ok-hand_on-in-None-clause-quits : goal.returns-in_ok-hand_on-in-None-clause-quits
-returns-in_ok-hand_on-in-None-clause-quits c = sym (ap (λ (s : Step). s.quits) c.in-None.ensures.1) ∙ ap (λ (m : Mode). (step m c.args.input.now).quits) c.self.view_is
+pub returns-in_ok-pass_on-in-None-clause-quits : goal.returns-in_ok-pass_on-in-None-clause-quits
+returns-in_ok-pass_on-in-None-clause-quits c = sym (ap (λ (s : Step). s.quits) c.in-None.ensures.1) ∙ ap (λ (m : Mode). (step m c.args.input.now).quits) c.self.view_is

@@ -2,7 +2,7 @@ use Rattle.std.proofs.lemmas.Grind.{common_steps}
 use Rattle.std.proofs.Common.{arith, List, ◌∷◌, ◌++◌, refl}
 use Rattle.std.proofs.lemmas.Bool.{cond-false}
 use Rattle.std.proofs.lemmas.Result.{on_ok_weaker, on_err_weaker}
-use Rattle.textarea_screen.specs.Block.{ShownBlock, shown_block}
+use Rattle.textarea_screen.specs.Block.{BlockView, block_view}
 use Rattle.textarea_screen.specs.Buffer.{Change, Changes}
 use Rattle.textarea_screen.specs.Cell.{styled}
 use Rattle.textarea_screen.specs.Rect.{contains}
@@ -16,22 +16,22 @@ pub returns-then-is_empty-clause-ok : goal.returns-then-is_empty-clause-ok
 unfolding block_cell
 returns-then-is_empty-clause-ok c = grind (arith, common_steps, Changes-none, cond-false)
 
-abbrev base : ShownBlock → Change
+abbrev base : BlockView → Change
 base block x y cell = styled block.style cell
 
-abbrev sides : ShownBlock → Rect → List Change
+abbrev sides : BlockView → Rect → List Change
 sides block area = side_changes block.borders block.border_style area
 
-abbrev corners : ShownBlock → Rect → List Change
+abbrev corners : BlockView → Rect → List Change
 corners block area = corner_changes block.borders block.border_style area
 
 -- all but the title
 with_corners : (c : goal.After-draw_title) →
     Changes c.args.buffer.now c.draw_corners.new.buffer
-    (in_area c.args.area (in_turn (base (shown_block c.args.block.now) ∷ sides (shown_block c.args.block.now) c.args.area ++ corners (shown_block c.args.block.now) c.args.area)))
+    (in_area c.args.area (in_turn (base (block_view c.args.block.now) ∷ sides (block_view c.args.block.now) c.args.area ++ corners (block_view c.args.block.now) c.args.area)))
 with_corners c =
     let area = c.args.area in
-    let block = shown_block c.args.block.now in
+    let block = block_view c.args.block.now in
     let with_sides =
     Changes-in_area area (base block) (in_turn (sides block area)) (in_turn (base block ∷ sides block area)) c.set_style.ensures c.in_ok-draw_sides.ensures.ok (λ x y cell. refl) in
     Changes-in_area area (in_turn (base block ∷ sides block area)) (in_turn (corners block area)) (in_turn (base block ∷ sides block area ++ corners block area)) with_sides
@@ -41,7 +41,7 @@ pub returns-clause-ok : goal.returns-clause-ok
 unfolding block_cell
 returns-clause-ok c =
     let area = c.args.area in
-    let block = shown_block c.args.block.now in
+    let block = block_view c.args.block.now in
     on_ok_weaker c.draw_title.result
     (λ last.
     Changes-in_area area (in_turn (base block ∷ sides block area ++ corners block area)) (title_change block area) (in_turn (block_changes block area)) (with_corners c) last

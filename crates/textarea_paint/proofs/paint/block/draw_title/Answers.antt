@@ -2,10 +2,10 @@ use Rattle.std.proofs.lemmas.Grind.{common_steps}
 use Rattle.std.proofs.Common.{◌≡◌, ◌+◌, ◌-◌, sym, ap, ◌∙◌, arith}
 use Rattle.std.specs.Option.{option_map}
 use Rattle.std.proofs.lemmas.Result.{on_ok_weaker, on_err_weaker}
-use Rattle.textarea_screen.specs.Block.{shown_block}
+use Rattle.textarea_screen.specs.Block.{block_view}
 use Rattle.textarea_screen.specs.Rect.{contains}
 use Rattle.textarea_screen.specs.Style.{empty_style}
-use Rattle.textarea_screen.specs.Text.{shown_line}
+use Rattle.textarea_screen.specs.Text.{line_view}
 use Rattle.textarea_screen.proofs.ChangeLemmas.{Changes-as, KeepsOutside-wider}
 use Rattle.textarea_paint.specs.Block.{in_area, title_row, title_change, title_cells}
 use Rattle.textarea_paint.specs.Cells.{is_in_cells, place_from, row_change}
@@ -23,19 +23,19 @@ pub returns-in-Some-clause-ok : goal.returns-in-Some-clause-ok
 returns-in-Some-clause-ok c =
     let borders = c.args.block.now.borders in
     let area = c.args.area in
-    let line = shown_line c.in-Some.title in
+    let line = line_view c.in-Some.title in
     on_ok_weaker c.draw_left.result
     (λ drawn.
-    Changes-as (in_area area (title_change (shown_block c.args.block.now) area)) drawn
+    Changes-as (in_area area (title_change (block_view c.args.block.now) area)) drawn
     (λ x y cell.
     title_in_area borders area _ (place_from 0 (row_clusters c.new.result line)) (cells_are c) c.requires.rows x y cell
     ∙ ap (λ s. in_area area (row_change (title_cells borders area) 0 (place_from 0 (row_clusters s line))) x y cell) c.new.ensures
-    ∙ ap (λ t. in_area area (title_row t (title_cells borders area)) x y cell) (sym (ap (option_map shown_line) c.in-Some.is))))
+    ∙ ap (λ t. in_area area (title_row t (title_cells borders area)) x y cell) (sym (ap (option_map line_view) c.in-Some.is))))
     c.draw_left.ensures.ok
 
 pub returns-in-Some-clause-inline : goal.returns-in-Some-clause-inline
 returns-in-Some-clause-inline c = λ short.
-    let of_title : AreInline (row_clusters empty_style (shown_line c.in-Some.title)) = rw c.in-Some.is at short in
+    let of_title : AreInline (row_clusters empty_style (line_view c.in-Some.title)) = rw c.in-Some.is at short in
     c.draw_left.ensures.inline (rw c.new.ensures of_title)
 
 pub returns-in-Some-clause-err : goal.returns-in-Some-clause-err

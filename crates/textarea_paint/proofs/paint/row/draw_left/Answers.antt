@@ -1,5 +1,5 @@
 use Rattle.std.proofs.Common.{ap, ◌∙◌, arith}
-use Rattle.textarea_screen.specs.Text.{shown_line}
+use Rattle.textarea_screen.specs.Text.{line_view}
 use Rattle.textarea_paint.specs.Clusters.{row_clusters}
 use Rattle.textarea_paint.specs.LineClusters.{clusters_left, styled_cluster}
 use Rattle.textarea_paint.proofs.ClusterLemmas.{AreInline-tail}
@@ -10,7 +10,7 @@ pub loop-cluster-init : goal.loop-cluster-init
 loop-cluster-init c =
     let all = ap clusters_left c.into_iter-cluster-iterator.ensures.into_iter_gives ∙ c.new-cluster-items.ensures in
     record {
-      drawing = drawing_start c.args.cells c.args.left 0 (row_clusters c.args.style (shown_line c.args.line.now)) c.args.buffer.now _ _
+      drawing = drawing_start c.args.cells c.args.left 0 (row_clusters c.args.style (line_view c.args.line.now)) c.args.buffer.now _ _
           (record { hidden = omega arith; x = omega arith }) all;
       short = λ short. rw all short;
     }

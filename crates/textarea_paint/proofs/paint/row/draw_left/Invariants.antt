@@ -1,4 +1,4 @@
-use Rattle.textarea_screen.specs.Text.{shown_line}
+use Rattle.textarea_screen.specs.Text.{line_view}
 use Rattle.textarea_paint.specs.Cells.{place_from}
 use Rattle.textarea_paint.specs.Clusters.{AreInline, row_clusters}
 use Rattle.textarea_paint.specs.LineClusters.{clusters_left}
@@ -7,6 +7,6 @@ use Rattle.textarea_paint.proofs.paint.row.draw_left.Given as goal
 
 abbrev pub invariant-loop-cluster : goal.invariant-loop-cluster
 invariant-loop-cluster l = record {
-  drawing : IsDrawing l.cells l.fn.left (place_from 0 (row_clusters l.fn.style (shown_line l.fn.line))) l.fn.buffer l.buffer l.pen (clusters_left l.cluster-iterator);
-  short : AreInline (row_clusters l.fn.style (shown_line l.fn.line)) → AreInline (clusters_left l.cluster-iterator);
+  drawing : IsDrawing l.cells l.fn.left (place_from 0 (row_clusters l.fn.style (line_view l.fn.line))) l.fn.buffer l.buffer l.pen (clusters_left l.cluster-iterator);
+  short : AreInline (row_clusters l.fn.style (line_view l.fn.line)) → AreInline (clusters_left l.cluster-iterator);
 }

@@ -2,17 +2,17 @@ use Rattle.std.proofs.lemmas.Grind.{common_steps}
 use Rattle.std.proofs.Common.{refl, sym, ap, ◌∙◌, arith}
 use Rattle.std.proofs.lemmas.Result.{on_ok_weaker, on_err_weaker}
 use Rattle.textarea_screen.specs.Rect.{contains}
-use Rattle.textarea_screen.specs.Text.{shown_line}
+use Rattle.textarea_screen.specs.Text.{line_view}
 use Rattle.textarea_screen.proofs.ChangeLemmas.{Changes-inside, Changes-none}
 use Rattle.textarea_paint.specs.Cells.{place_from}
 use Rattle.textarea_paint.specs.Clusters.{row_clusters}
-use Rattle.textarea_paint.specs.Row.{first_shown, placed_row, fitting, row_cell}
-use Rattle.textarea_paint.proofs.RowAreaLemmas.{first_shown-fitting, placed_row-fitting, row_start-within, unseen_row, row_cell-outside, shown_row, kept_outside, not_none}
+use Rattle.textarea_paint.specs.Row.{first_shown_column, placed_row, fitting, row_cell}
+use Rattle.textarea_paint.proofs.RowAreaLemmas.{first_shown-fitting, placed_row-fitting, row_start-within, unseen_row, row_cell-outside, row_of_texts, kept_outside, not_none}
 use Rattle.textarea_paint.proofs.paint.row.draw_row.Goals as goal
 
 pub returns-then-not-contains-clause-ok : goal.returns-then-not-contains-clause-ok
 returns-then-not-contains-clause-ok c =
-    let line = shown_line c.args.line.now in
+    let line = line_view c.args.line.now in
     Changes-inside (row_cell c.args.rows c.args.y line) (Changes-none c.args.buffer.now (λ column row cell. cell) (λ column row cell. refl))
     (λ column row cell inside.
     sym (row_cell-outside c.args.rows c.args.y line column row cell
@@ -22,10 +22,10 @@ returns-then-not-contains-clause-ok c =
 pub returns-in-Left-clause-ok : goal.returns-in-Left-clause-ok
 returns-in-Left-clause-ok c =
     let rows = c.args.rows in
-    let line = shown_line c.args.line.now in
+    let line = line_view c.args.line.now in
     on_ok_weaker c.draw_left.result
-    (shown_row c.args.rows c.area.result c.intersection-seen.result c.args.y c.intersection-seen.ensures (sym c.contains.ensures ∙ c.if-not-contains.false) line
-    rows.left (place_from 0 (row_clusters rows.style line)) (ap (λ a. first_shown a rows.left) c.in-Left.is)
+    (row_of_texts c.args.rows c.area.result c.intersection-seen.result c.args.y c.intersection-seen.ensures (sym c.contains.ensures ∙ c.if-not-contains.false) line
+    rows.left (place_from 0 (row_clusters rows.style line)) (ap (λ a. first_shown_column a rows.left) c.in-Left.is)
     (ap (λ a. placed_row a rows.area.width (row_clusters rows.style line)) c.in-Left.is))
     c.draw_left.ensures.ok
 
@@ -43,10 +43,10 @@ draw_fitting-requires-clause-within c = grind (arith, common_steps, row_start-wi
 pub returns-in_default-clause-ok : goal.returns-in_default-clause-ok
 returns-in_default-clause-ok c =
     let rows = c.args.rows in
-    let line = shown_line c.args.line.now in
+    let line = line_view c.args.line.now in
     let clusters = row_clusters rows.style line in
     on_ok_weaker c.draw_fitting.result
-    (shown_row c.args.rows c.area.result c.intersection-seen.result c.args.y c.intersection-seen.ensures (sym c.contains.ensures ∙ c.if-not-contains.false) line
+    (row_of_texts c.args.rows c.area.result c.intersection-seen.result c.args.y c.intersection-seen.ensures (sym c.contains.ensures ∙ c.if-not-contains.false) line
     0 (place_from c.row_start-start.result (fitting rows.area.width clusters)) (first_shown-fitting rows.alignment rows.left c.in_default.not-Left)
     (placed_row-fitting rows.alignment rows.area.width c.row_start-start.result clusters c.in_default.not-Left c.row_start-start.ensures))
     c.draw_fitting.ensures.ok

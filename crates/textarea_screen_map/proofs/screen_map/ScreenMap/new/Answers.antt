@@ -2,7 +2,7 @@ use Rattle.std.proofs.Common.{List, [], arith, subst, sym}
 use Rattle.textarea_text.specs.Text.{lines_of}
 use Rattle.textarea_wrap.specs.RowsView.{RowsView}
 use Rattle.textarea_blocks.specs.Blocks.{all_rows}
-use Rattle.textarea_screen_map.specs.Layout.{AreRowsOf}
+use Rattle.textarea_screen_map.specs.LineRows.{AreRowsOf}
 use Rattle.textarea_screen_map.proofs.RowSizes.{size_of_items}
 use Rattle.textarea_screen_map.proofs.screen_map.ScreenMap.new.Goals as goal
 use Rattle.textarea_screen_map.proofs.screen_map.ScreenMap.new.Goals.{In_ok-push_lines}

@@ -3,8 +3,8 @@ use Rattle.std.specs.Str.{chars}
 use Rattle.textarea_util.specs.Limit.{size_limit}
 use Rattle.textarea_text.specs.Text.{lines_of}
 use Rattle.textarea_screen_map.specs.Map.{MapView}
-use Rattle.textarea_screen_map.specs.Rows.{VisualRow}
-use Rattle.textarea_screen_map.specs.Seen.{IsPlaceAt, LeadsTo}
+use Rattle.textarea_screen_map.specs.VisualRows.{VisualRow}
+use Rattle.textarea_screen_map.specs.VisualPositions.{IsPlaceAt, LeadsTo}
 use Rattle.textarea_screen_map.proofs.ThereAndBack.{is_place, place_found}
 use Rattle.textarea_screen_map.proofs.screen_map.ScreenMap.place_at.Goals as goal
 use Rattle.textarea_screen_map.proofs.screen_map.ScreenMap.place_at.Goals.{After-column_count}

@@ -1,5 +1,5 @@
 use Rattle.std.proofs.Common.{ap, min, subst, ℕ, ◌∙◌}
-use Rattle.textarea_screen_map.specs.Seen.{IsPlaceAt}
+use Rattle.textarea_screen_map.specs.VisualPositions.{IsPlaceAt}
 use Rattle.textarea_text.specs.Text.{lines_of}
 use Rattle.textarea_screen_map.proofs.screen_map.ScreenMap.place_near.Goals as goal
 

@@ -2,7 +2,7 @@ use Rattle.std.proofs.Common.{List, sym, ap, subst, ◌∙◌}
 use Rattle.std.proofs.lemmas.Result.{IfOk-weaker}
 use Rattle.textarea_wrap.specs.RowsView.{RowsView}
 use Rattle.textarea_text.specs.Text.{lines_of}
-use Rattle.textarea_screen_map.specs.Layout.{AreRowsOf, ticks_of}
+use Rattle.textarea_screen_map.specs.LineRows.{AreRowsOf, ticks_of}
 use Rattle.textarea_screen_map.proofs.screen_map.ScreenMap.prepare.Goals as goal
 
 pub returns-clause-rows : goal.returns-clause-rows

@@ -5,7 +5,7 @@ use Rattle.textarea_text.specs.Text.{characters_of, lines_of}
 use Rattle.textarea_text.proofs.Columns.{offset_in}
 use Rattle.textarea_text.proofs.StringRows.{boundary_at, line_at, offset_of_line}
 use Rattle.textarea_wrap.specs.Columns.{display_end_column}
-use Rattle.textarea_wrap.specs.Wrapped.{IsWrapped}
+use Rattle.textarea_wrap.specs.WrapResult.{IsWrapped}
 use Rattle.textarea_blocks.specs.Blocks.{all_rows}
 use Rattle.textarea_blocks.specs.Sums.{range_at, ranges_at, row_total}
 use Rattle.textarea_screen_map.specs.Map.{MapView}
@@ -13,7 +13,7 @@ use Rattle.textarea_screen_map.proofs.Holding.{bytes_of_line, cut_of, first_begi
 use Rattle.textarea_screen_map.proofs.Layouts.{length-AreRowsOf}
 use Rattle.textarea_screen_map.proofs.VisualRows.{rows_below, seen_in}
 use Rattle.textarea_screen_map.proofs.screen_map.ScreenMap.visual_position.Goals as goal
-use Rattle.textarea_screen_map.proofs.screen_map.ScreenMap.visual_position.Goals.{After-rows_of-ranges, After-display_column_behind_text-column}
+use Rattle.textarea_screen_map.proofs.screen_map.ScreenMap.visual_position.Goals.{After-rows_of-ranges, After-display_column_after_text-column}
 
 cut : (c : After-rows_of-ranges) → IsWrapped c.args.self.now.wrapping.mode c.args.self.now.wrapping.tab_len (max c.args.self.now.wrapping.width 1) (encode_utf8_all (get_or (lines_of c.args.lines.now) c.args.place.0 [])) c.rows_of-ranges.result.now
 cut c = cut_of _ _ _ _ _ c.rows_of-ranges.ensures c.requires.rows c.requires.place.0
@@ -27,12 +27,12 @@ bytes c = bytes_of_line _ _ _ _ (within c) c.index-lines-place.is c.as_str-line.
 short : (c : After-rows_of-ranges) → c.byte_offset-offset.result ≤ length c.as_str-line.result.now
 short c = offset_within c.index-lines-place.result _ _ _ c.as_str-line.ensures.value c.byte_offset-offset.ensures
 
-there : (c : After-display_column_behind_text-column) → c.args.place.0 < length (all_rows c.self.inside.blocks.blocks)
+there : (c : After-display_column_after_text-column) → c.args.place.0 < length (all_rows c.self.inside.blocks.blocks)
 there c =
     omega (arith, c.requires.place.0, length-AreRowsOf c.args.self.now.wrapping (lines_of c.args.lines.now) c.args.self.now.rows c.requires.rows, ap (λ (v : MapView). length v.rows) c.self.view_is)
 
 -- the slice of the line begins with the row
-read : (c : After-display_column_behind_text-column) → c.range.result.now ≡ take (c.byte_offset-offset.result - (range_at c.rows_of-ranges.result.now c.row_holding-row.result).0) (drop (range_at c.rows_of-ranges.result.now c.row_holding-row.result).0 c.as_str-line.result.now)
+read : (c : After-display_column_after_text-column) → c.range.result.now ≡ take (c.byte_offset-offset.result - (range_at c.rows_of-ranges.result.now c.row_holding-row.result).0) (drop (range_at c.rows_of-ranges.result.now c.row_holding-row.result).0 c.as_str-line.result.now)
 read c = c.range.ensures.value
 
 pub rows_of-ranges-requires : goal.rows_of-ranges-requires
@@ -53,9 +53,9 @@ pub range-requires-clause-end_boundary : goal.range-requires-clause-end_boundary
 range-requires-clause-end_boundary c =
     boundary_at c.index-lines-place.result c.as_str-line.result.now c.args.place.1 c.byte_offset-offset.result c.as_str-line.ensures.value c.byte_offset-offset.ensures
 
-pub display_column_behind_text-column-requires : goal.display_column_behind_text-column-requires
-display_column_behind_text-column-requires c =
-    let known = (goal.at.display_column_behind_text-column-requires c).After-rows_of-ranges in
+pub display_column_after_text-column-requires : goal.display_column_after_text-column-requires
+display_column_after_text-column-requires c =
+    let known = (goal.at.display_column_after_text-column-requires c).After-rows_of-ranges in
     omega (arith, (rows_at _ _ _ _ c.requires.rows c.requires.place.0).short, ap length (bytes known), c.range.ensures.len, short known)
 
 pub first_row-requires : goal.first_row-requires
@@ -65,7 +65,7 @@ first_row-requires c =
 pub overflow_add-result : goal.overflow_add-result
 overflow_add-result c =
     let rows = (all_rows c.self.inside.blocks.blocks) in
-    let within = there (goal.at.overflow_add-result c).After-display_column_behind_text-column in
+    let within = there (goal.at.overflow_add-result c).After-display_column_after_text-column in
     let held : c.row_holding-row.result < length (ranges_at rows c.args.place.0) = omega (arith, c.row_holding-row.ensures.within, ap length c.rows_of-ranges.ensures, ap (λ (v : MapView). length (ranges_at v.rows c.args.place.0)) c.self.view_is) in
     omega (arith, c.first_row.ensures, ap (λ (v : MapView). row_total (take c.args.place.0 v.rows)) c.self.view_is, rows_below rows c.args.place.0 c.row_holding-row.result within held, c.self.invariant.all, c.self.invariant.limit.few)
 
@@ -83,6 +83,6 @@ returns c =
     (omega (arith, c.row_holding-row.ensures.from, start))
     (λ more. omega (arith, c.row_holding-row.ensures.next (omega (arith, more, ap length c.rows_of-ranges.ensures)), ap (λ (t : List (ℕ × ℕ)). (range_at t (row + 1)).0) c.rows_of-ranges.ensures))
     same (omega (arith, short known, ap length (bytes known))) c.first_row.ensures c.range.utf8
-    (read at.After-display_column_behind_text-column ∙ ap (λ (n : ℕ). take (offset - n) (drop n c.as_str-line.result.now)) start ∙ ap (λ (t : List ℕ). take (offset - first) (drop first t)) (bytes known))
-    (c.display_column_behind_text-column.ensures.value ∙ ap (λ (v : MapView). display_end_column v.wrapping.tab_len 0 (chars c.range.result.now)) c.self.view_is) in
+    (read at.After-display_column_after_text-column ∙ ap (λ (n : ℕ). take (offset - n) (drop n c.as_str-line.result.now)) start ∙ ap (λ (t : List ℕ). take (offset - first) (drop first t)) (bytes known))
+    (c.display_column_after_text-column.ensures.value ∙ ap (λ (v : MapView). display_end_column v.wrapping.tab_len 0 (chars c.range.result.now)) c.self.view_is) in
     record { row = found.0; visual = found.1 }

@@ -22,5 +22,5 @@ returns-in-Back-clause-found c =
     let line = c.args.line.now in
     rw c.in-Back.is
     (c.start_column-in-Back.ensures.column
-    ∙ ap (option_map (column_of_span line)) c.last_behind.ensures.found
+    ∙ ap (option_map (column_of_span line)) c.last_before.ensures.found
     ∙ find_end line (spans_after tree line 0) (spans_lie tree line 0) Back (length line) (λ s lies. grind (arith, nat_tests)))

@@ -1,6 +1,6 @@
 use Rattle.std.proofs.Common.{◌≡◌, ◌+◌, length, map, sym, ◌∙◌, arith}
 use Rattle.std.proofs.lemmas.List.{length-map}
-use Rattle.textarea_screen.specs.Cell.{shown_cell}
+use Rattle.textarea_screen.specs.Cell.{cell_view}
 use Rattle.textarea_terminal.proofs.ControlLemmas.{Wrote-none, Wrote-then, Wrote-as}
 use Rattle.textarea_terminal.specs.Paint.{Repaints}
 use Rattle.textarea_terminal.proofs.PaintSteps.{Reaches, Reaches-start, Reaches-end, Reaches-step, begins-at}
@@ -13,9 +13,9 @@ write_change-requires-clause-begins c =
 
 pub loop-place-init : goal.loop-place-init
 loop-place-init c =
-    let olds = map shown_cell c.args.old.now in
-    let news = map shown_cell c.args.new.now in
-    let long : length olds ≡ length news = length-map c.args.old.now shown_cell ∙ c.requires.length ∙ sym (length-map c.args.new.now shown_cell) in (
+    let olds = map cell_view c.args.old.now in
+    let news = map cell_view c.args.new.now in
+    let long : length olds ≡ length news = length-map c.args.old.now cell_view ∙ c.requires.length ∙ sym (length-map c.args.new.now cell_view) in (
       Wrote-none (Reaches-start c.args.start c.args.columns olds news c.requires.old_whole c.requires.new_whole long),
       c.first-spot.ensures.place,
       c.first-spot.ensures.is,
@@ -23,7 +23,7 @@ loop-place-init c =
 
 pub loop-place-preserved : goal.loop-place-preserved
 loop-place-preserved c = (
-  Wrote-then (Reaches c.args.start c.write_change.new.brush c.args.columns (c.loop-place.place + 1) (map shown_cell c.args.old.now) (map shown_cell c.args.new.now))
+  Wrote-then (Reaches c.args.start c.write_change.new.brush c.args.columns (c.loop-place.place + 1) (map cell_view c.args.old.now) (map cell_view c.args.new.now))
       c.loop-place.invariant.0 (rw c.loop-place.invariant.1 at c.in_ok-write_change.ensures)
       (λ xs ys reaches change.
       Reaches-step c.args.start c.loop-place.brush c.write_change.new.brush c.args.columns c.loop-place.place c.args.old.now c.args.new.now c.index-old-place.result
@@ -34,9 +34,9 @@ loop-place-preserved c = (
 
 pub returns : goal.returns
 returns c =
-    let olds = map shown_cell c.args.old.now in
-    let news = map shown_cell c.args.new.now in
-    let long : length olds ≡ length news = length-map c.args.old.now shown_cell ∙ c.requires.length ∙ sym (length-map c.args.new.now shown_cell) in
+    let olds = map cell_view c.args.old.now in
+    let news = map cell_view c.args.new.now in
+    let long : length olds ≡ length news = length-map c.args.old.now cell_view ∙ c.requires.length ∙ sym (length-map c.args.new.now cell_view) in
     Wrote-as (Repaints c.args.columns olds news c.args.start c.loop-place.brush) c.loop-place.invariant.0
     (λ xs reaches.
-    Reaches-end c.args.start c.loop-place.brush c.args.columns c.loop-place.place olds news xs (omega (arith, length-map c.args.new.now shown_cell)) long reaches)
+    Reaches-end c.args.start c.loop-place.brush c.args.columns c.loop-place.place olds news xs (omega (arith, length-map c.args.new.now cell_view)) long reaches)

@@ -1,5 +1,5 @@
 use Rattle.std.proofs.Common.{◌≡◌, map}
-use Rattle.textarea_screen.specs.Cell.{shown_cell}
+use Rattle.textarea_screen.specs.Cell.{cell_view}
 use Rattle.textarea_terminal.specs.PaintSpot.{IsSpot}
 use Rattle.textarea_terminal.specs.Paint.{Wrote}
 use Rattle.textarea_terminal.proofs.PaintSteps.{Reaches}
@@ -7,5 +7,5 @@ use Rattle.textarea_terminal.proofs.output.brush.write_cells.Given as goal
 
 abbrev pub invariant-loop-place : goal.invariant-loop-place
 invariant-loop-place l =
-    (Wrote l.initial.bytes.items l.bytes.items (Reaches l.initial.brush l.brush l.columns l.place (map shown_cell l.old) (map shown_cell l.new)))
+    (Wrote l.initial.bytes.items l.bytes.items (Reaches l.initial.brush l.brush l.columns l.place (map cell_view l.old) (map cell_view l.new)))
     × (l.spot.place ≡ l.place) × IsSpot l.columns l.spot

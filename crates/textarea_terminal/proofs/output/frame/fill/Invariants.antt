@@ -1,10 +1,10 @@
 use Rattle.std.proofs.Common.{◌≡◌, ◌-◌, ◌*◌, ◌++◌, map, take}
-use Rattle.textarea_screen.specs.Cell.{shown_cell}
+use Rattle.textarea_screen.specs.Cell.{cell_view}
 use Rattle.textarea_terminal.specs.PaintSpot.{IsSpot}
-use Rattle.textarea_terminal.specs.PaintCells.{displayed, cells_from, frame_of}
+use Rattle.textarea_terminal.specs.PaintCells.{displayed, cells_from, frame_of_buffer}
 use Rattle.textarea_terminal.proofs.output.frame.fill.Given as goal
 
 abbrev pub invariant-loop-place : goal.invariant-loop-place
 invariant-loop-place l =
-    (map shown_cell (take l.place l.cells) ++ displayed l.area.width l.place l.halves (cells_from l.area l.buffer l.place (l.area.height * l.area.width - l.place)) ≡ frame_of l.area l.buffer)
+    (map cell_view (take l.place l.cells) ++ displayed l.area.width l.place l.halves (cells_from l.area l.buffer l.place (l.area.height * l.area.width - l.place)) ≡ frame_of_buffer l.area l.buffer)
     × (l.spot.place ≡ l.place) × IsSpot l.area.width l.spot

@@ -3,4 +3,4 @@ use Rattle.textarea_terminal.specs.Control.Control.{BeginUpdate, SetPen, EraseAl
 use Rattle.textarea_terminal.proofs.output.whole.clear.Goals as goal
 
 pub returns : goal.returns
-returns c = record { controls = BeginUpdate ∷ SetPen [] ∷ EraseAll ∷ []; bytes = c.in_ok-extend_from_slice.ensures.items; holding = (refl, λ terminal. refl, refl, refl) }
+returns c = record { controls = BeginUpdate ∷ SetPen [] ∷ EraseAll ∷ []; bytes = c.in_ok-extend_from_slice.ensures.items; with_ranges = (refl, λ terminal. refl, refl, refl) }

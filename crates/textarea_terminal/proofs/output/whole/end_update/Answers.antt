@@ -6,5 +6,5 @@ pub returns-in_ok-extend_from_slice : goal.returns-in_ok-extend_from_slice
 returns-in_ok-extend_from_slice c = record {
   controls = EndUpdate ∷ [];
   bytes = c.in_ok-extend_from_slice.ensures.items;
-  holding = (refl, λ terminal updating. refl, λ still. cc (c.if-is_updating.true, still), refl, refl);
+  with_ranges = (refl, λ terminal updating. refl, λ still. cc (c.if-is_updating.true, still), refl, refl);
 }

@@ -7,7 +7,7 @@ pub returns-in_ok-extend_from_slice : goal.returns-in_ok-extend_from_slice
 returns-in_ok-extend_from_slice c = record {
   controls = ShowCursor ∷ [];
   bytes = c.in_ok-extend_from_slice.ensures.items;
-  holding = (
+  with_ranges = (
     refl,
     λ terminal known. ap (λ (b : Bool). record terminal { has_cursor_shown = b }) (sym c.if-wanted.true),
     λ there. absurd (not-known c.args.known c.args.wanted c.eq.result c.eq.ensures c.if-eq.false there),
@@ -20,7 +20,7 @@ pub returns-in_ok-extend_from_slice-2 : goal.returns-in_ok-extend_from_slice-2
 returns-in_ok-extend_from_slice-2 c = record {
   controls = HideCursor ∷ [];
   bytes = c.in_ok-extend_from_slice-2.ensures.items;
-  holding = (
+  with_ranges = (
     refl,
     λ terminal known. ap (λ (b : Bool). record terminal { has_cursor_shown = b }) (sym c.if-wanted.false),
     λ there. absurd (not-known c.args.known c.args.wanted c.eq.result c.eq.ensures c.if-eq.false there),

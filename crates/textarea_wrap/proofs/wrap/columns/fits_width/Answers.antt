@@ -14,9 +14,9 @@ returns-then-width-column c =
     let was = c.loop-c.invariant in
     let read = chars_past_char _ _ c.in-Some.c was.text c.in-Some.ensures.steps.0 in
     let left = chars (chars_rest c.next.new.self) in
-    let whole : end_column c.args.tab_len c.column_behind-column.result left ≡ end_column c.args.tab_len 0 (chars c.args.text.now) =
-    rw c.column_behind-column.ensures.value (rw read at was.left) in
-    let wider = end_column-after c.args.tab_len c.column_behind-column.result left in
+    let whole : end_column c.args.tab_len c.column_after-column.result left ≡ end_column c.args.tab_len 0 (chars c.args.text.now) =
+    rw c.column_after-column.ensures.value (rw read at was.left) in
+    let wider = end_column-after c.args.tab_len c.column_after-column.result left in
     let over = c.if-width-column.true in
     (λ h. absurd (false≢true h), λ h. absurd (omega (arith, sym whole)))
 
@@ -25,7 +25,7 @@ loop-c-preserved c =
     let was = c.loop-c.invariant in
     let step = c.in-Some.ensures.steps.0 in
     let read = chars_past_char _ _ c.in-Some.c was.text step in
-    let made = c.column_behind-column.ensures in
+    let made = c.column_after-column.ensures in
     record {
       text = IsUtf8-past_char _ _ c.in-Some.c was.text step;
       left = rw made.value (rw read at was.left);

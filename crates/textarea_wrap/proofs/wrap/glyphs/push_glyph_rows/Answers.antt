@@ -26,11 +26,11 @@ loop-cluster-preserved c =
     let walk = rw c.in-Some.ensures.steps at was.walk in
     let len : length (concat (graphemes_left c.loop-cluster.cluster-iterator)) ≡ length cluster + length (concat left) =
     ap (λ t. length (concat t)) c.in-Some.ensures.steps ∙ length-append cluster (concat left) in
-    let made = c.column_behind_text-end.ensures in
+    let made = c.column_after_text-end.ensures in
     let bytes : c.loop-cluster.row_end + length cluster + length (concat left) ≡ c.args.start + length c.args.text.now = omega (arith, was.bytes) in
     elim c.if-row_start-row_end.branch [
       | then-row_start-row_end+then-width-end+in_ok-push w ↦
-          let again = w.column_behind_text-column.ensures in
+          let again = w.column_after_text-column.ensures in
           rw (w.rows-is, w.in_ok-push.ensures.ok, w.row_start-is, w.column-is, again.value)
           record {
             walk = IsGlyphWalk-break _ _ _ _ _ _ _ _ _ _ _ _ walk w.if-row_start-row_end.true made.value w.if-width-end.true;

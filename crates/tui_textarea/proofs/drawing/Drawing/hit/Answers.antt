@@ -1,10 +1,10 @@
 use Rattle.std.proofs.Common.{ap, refl, subst}
-use Rattle.tui_textarea.specs.DrawingPrelude.{IfOk, parts_of, frame_of, FrameState, IsHit, IsHitOf, DrawingState, ViewportState}
+use Rattle.tui_textarea.specs.DrawingPrelude.{IfOk, parts_of, frame_of, FrameState, IsHitTest, IsHitOf, DrawingState, ViewportState}
 use Rattle.textarea_view.proofs.Layers.{if_ok}
 use Rattle.tui_textarea.proofs.drawing.Drawing.hit.Goals as goal
 use Rattle.tui_textarea.proofs.drawing.Drawing.hit.Goals.{After-hit}
 
-found : (c : After-hit) → IfOk c.hit.result (IsHit (parts_of c.args.document.now c.args.search.now c.args.surround.now c.args.self.now) c.args.position.x c.args.position.y)
+found : (c : After-hit) → IfOk c.hit.result (IsHitTest (parts_of c.args.document.now c.args.search.now c.args.surround.now c.args.self.now) c.args.position.x c.args.position.y)
 found c =
     let parts = parts_of c.args.document.now c.args.search.now c.args.surround.now c.args.self.now in
     if_ok c.hit.result c.hit.ensures.hit (λ found h. record {

@@ -5,4 +5,4 @@ use Rattle.tui_textarea.proofs.drawing.caret.caret_leads_back.Goals as goal
 pub returns : goal.returns
 returns c = λ old new area same rendered.
     let place : IsPlace c.args.document.now.text c.args.document.now.cursor = subst (λ (p : Place). IsPlace c.args.document.now.text p) c.cursor.ensures.value c.cursor.ensures.place in
-    c.caret_is_hit_back.ensures old new area rendered (subst (λ (d : DocumentState). IsPlace d.text d.cursor) (sym same) place)
+    c.caret_hit_is_cursor.ensures old new area rendered (subst (λ (d : DocumentState). IsPlace d.text d.cursor) (sym same) place)

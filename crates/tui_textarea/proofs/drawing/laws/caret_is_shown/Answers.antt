@@ -5,8 +5,8 @@ pub returns : goal.returns
 returns c = caret_shown (record {
   shown = c.caret_is_shown.ensures;
   wrapped_shown = c.wrapped_caret_is_shown.ensures;
-  seen_row = c.seen_within.ensures.row;
-  seen_column = c.seen_within.ensures.column;
+  seen_row = c.visual_position_within.ensures.row;
+  seen_column = c.visual_position_within.ensures.column;
   within = c.cursors_within_width.ensures;
   few_columns = c.few_columns.ensures;
   size = c.few_rows.ensures.size;

@@ -1,4 +1,4 @@
-use Rattle.tui_textarea.proofs.CallCuts.{Never, call_grows, left_grows}
+use Rattle.tui_textarea.proofs.CallWraps.{Never, call_grows, left_grows}
 use Rattle.tui_textarea.proofs.outcomes.laws.count_never_falls.Goals as goal
 
 pub returns : goal.returns
@@ -10,6 +10,6 @@ returns c =
       lines = c.count_never_falls.ensures.lines;
     } in
     record {
-      made = λ old new call answer sound h. call_grows never old new call (c.each_call_cuts.ensures.made old new call answer sound h);
-      refused = λ old new call sound h. left_grows never old new (c.each_call_cuts.ensures.refused old new call sound h);
+      made = λ old new call answer sound h. call_grows never old new call (c.each_call_wraps.ensures.made old new call answer sound h);
+      refused = λ old new call sound h. left_grows never old new (c.each_call_wraps.ensures.refused old new call sound h);
     }

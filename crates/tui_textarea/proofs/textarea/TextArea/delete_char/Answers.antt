@@ -6,5 +6,5 @@ use Rattle.tui_textarea.proofs.textarea.TextArea.delete_char.Goals as goal
 
 pub returns-clause-ok : goal.returns-clause-ok
 returns-clause-ok c =
-    made_unselected c.remove_before.result (λ (s : State). removed_before s.document s.settings.undo_coalescing s.moment) c.self.view_is c.remove_selection.new.self
+    made_unselected c.remove_before.result (λ (s : State). removed_before s.document s.settings.undo_coalescing s.time) c.self.view_is c.remove_selection.new.self
     c.remove_before.new.self c.in_ok-remove_selection.ensures.ok (sym c.in_ok-remove_selection.ensures.removed ∙ c.if-branch.false) c.remove_before.ensures.ok

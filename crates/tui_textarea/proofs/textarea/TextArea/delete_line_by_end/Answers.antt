@@ -11,10 +11,10 @@ returns-then-branch-clause-ok c =
 
 pub returns-then-cursor-end-clause-removed : goal.returns-then-cursor-end-clause-removed
 returns-then-cursor-end-clause-removed c =
-    answered_at_end c.remove_behind.result c.self.view_is c.remove_selection.new.self c.in_ok-remove_selection.ensures.ok
+    answered_at_end c.remove_after.result c.self.view_is c.remove_selection.new.self c.in_ok-remove_selection.ensures.ok
     (sym c.in_ok-remove_selection.ensures.removed ∙ c.if-branch.false) (lines_of c.lines.result.now) c.cursor-cursor.result c.line_end-end.result
     c.lines.ensures.lines c.cursor-cursor.ensures.value c.line_end-end.ensures.value
-    c.if-cursor-end.true c.remove_behind.ensures.removed
+    c.if-cursor-end.true c.remove_after.ensures.removed
 
 pub remove_and_yank-requires-clause-ordered : goal.remove_and_yank-requires-clause-ordered
 remove_and_yank-requires-clause-ordered c =

@@ -12,5 +12,5 @@ returns-clause-removed c =
 
 pub returns-clause-ok : goal.returns-clause-ok
 returns-clause-ok c =
-    made_unselected c.remove_break.result (λ (s : State). break_removed s.document s.moment) c.self.view_is c.remove_selection.new.self
+    made_unselected c.remove_break.result (λ (s : State). break_removed s.document s.time) c.self.view_is c.remove_selection.new.self
     c.remove_break.new.self c.in_ok-remove_selection.ensures.ok (sym c.in_ok-remove_selection.ensures.removed ∙ c.if-branch.false) c.remove_break.ensures.ok

@@ -1,17 +1,17 @@
 use Rattle.std.proofs.Common.{◌≡◌, subst}
 use Rattle.std.specs.Result.{IfOk, OnErr, OnOk}
 use Rattle.textarea_calls.specs.declared.action.Action.{Action}
-use Rattle.tui_textarea.specs.Input.{IsActed, IsLeftBy, MayRefuseAct, acts}
+use Rattle.tui_textarea.specs.Input.{IsAfterAction, IsInputOutOfMemory, ActMayRunOutOfMemory, action_flag}
 use Rattle.tui_textarea.proofs.textarea.TextArea.input_without_shortcuts.Goals as goal
 
 pub returns-clause-answer : goal.returns-clause-answer
-returns-clause-answer c = subst (λ (a : Action). IfOk c.act.result (λ changed. changed ≡ acts c.args.self.now a)) c.action_without_shortcuts.ensures c.act.ensures.answer
+returns-clause-answer c = subst (λ (a : Action). IfOk c.act.result (λ changed. changed ≡ action_flag c.args.self.now a)) c.action_without_shortcuts.ensures c.act.ensures.answer
 
 pub returns-clause-ok : goal.returns-clause-ok
-returns-clause-ok c = subst (λ (a : Action). OnOk c.act.result (IsActed c.args.self.now a c.act.new.self)) c.action_without_shortcuts.ensures c.act.ensures.ok
+returns-clause-ok c = subst (λ (a : Action). OnOk c.act.result (IsAfterAction c.args.self.now a c.act.new.self)) c.action_without_shortcuts.ensures c.act.ensures.ok
 
 pub returns-clause-err : goal.returns-clause-err
-returns-clause-err c = subst (λ (a : Action). OnErr c.act.result (IsLeftBy c.args.self.now a c.act.new.self)) c.action_without_shortcuts.ensures c.act.ensures.err
+returns-clause-err c = subst (λ (a : Action). OnErr c.act.result (IsInputOutOfMemory c.args.self.now a c.act.new.self)) c.action_without_shortcuts.ensures c.act.ensures.err
 
 pub returns-clause-may : goal.returns-clause-may
-returns-clause-may c = subst (λ (a : Action). OnErr c.act.result (MayRefuseAct c.args.self.now a)) c.action_without_shortcuts.ensures c.act.ensures.may
+returns-clause-may c = subst (λ (a : Action). OnErr c.act.result (ActMayRunOutOfMemory c.args.self.now a)) c.action_without_shortcuts.ensures c.act.ensures.may

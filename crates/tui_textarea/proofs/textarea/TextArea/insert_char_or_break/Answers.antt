@@ -13,5 +13,5 @@ returns-clause-ok c =
     let plain : breaks_line c.args.c ≡ false = ap (λ b. b || (c.args.c == 13)) (ne_eqb c.args.c 10 c.if-c-eq10.false) ∙ ne_eqb c.args.c 13 c.if-c-eq13.false in
     on_ok_weaker c.insert_character.result
     (λ e. e ∙ sym (cond-false (breaks_line c.args.c) (line_broken now) (typed_character_inserted now c.args.c) plain))
-    (document_lifted c.insert_character.result (λ (s : State). character_inserted s.document c.args.c s.settings.undo_coalescing s.moment) c.self.view_is
+    (document_lifted c.insert_character.result (λ (s : State). character_inserted s.document c.args.c s.settings.undo_coalescing s.time) c.self.view_is
     c.insert_character.new.self c.insert_character.ensures.ok)

@@ -1,7 +1,7 @@
 use Rattle.std.proofs.Common.{ℕ}
 use Rattle.textarea_text.specs.Text.{text_of}
 use Rattle.textarea_document.specs.Edits.{symbols_inserted}
-use Rattle.textarea_document.specs.State.{DocumentState}
+use Rattle.textarea_document.specs.DocumentState.{DocumentState}
 use Rattle.tui_textarea.proofs.Lifted.{unselected_lifted}
 use Rattle.tui_textarea.proofs.textarea.TextArea.insert_over_selection.Goals as goal
 

@@ -3,7 +3,7 @@ use Rattle.std.proofs.lemmas.Bool.{ne_eqb, true≢false}
 use Rattle.textarea_document.specs.Selection.{is_selected}
 use Rattle.textarea_lines.specs.declared.settings.LayoutSettings.{LayoutSettings}
 use Rattle.tui_textarea.specs.Edits.{inserts_tab}
-use Rattle.tui_textarea.specs.Layout.{tab_length}
+use Rattle.tui_textarea.specs.LayoutCalls.{tab_length}
 use Rattle.tui_textarea.specs.State.{State}
 use Rattle.tui_textarea.proofs.textarea.TextArea.insert_tab.Goals as goal
 

@@ -1,7 +1,7 @@
 use Rattle.std.proofs.Common.{◌≡◌, ◌∙◌, ℕ, List, Option, is_some, [], ap, false}
-use Rattle.textarea_document.specs.State.{DocumentState, new_document}
+use Rattle.textarea_document.specs.DocumentState.{DocumentState, new_document}
 use Rattle.tui_textarea.specs.DrawingState.{DrawingState, new_drawing}
-use Rattle.textarea_view.specs.State.{SurroundState, new_surround}
+use Rattle.textarea_view.specs.SurroundState.{SurroundState, new_surround}
 use Rattle.textarea_text.specs.Text.{Symbol, text_of}
 use Rattle.tui_textarea.specs.State.{default_layout, default_settings, new_state}
 use Rattle.tui_textarea.specs.declared.textarea.settings.Settings.{Settings}

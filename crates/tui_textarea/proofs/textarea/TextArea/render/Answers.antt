@@ -1,18 +1,18 @@
 use Rattle.std.proofs.Common.{◌≡◌, ◌∙◌, Err, Ok, Result, ap, ap₂, subst}
 use Rattle.std.specs.Result.{OnErr, OnOk}
-use Rattle.textarea_document.specs.State.{DocumentState}
+use Rattle.textarea_document.specs.DocumentState.{DocumentState}
 use Rattle.tui_textarea.specs.Rendered as below
 use Rattle.tui_textarea.specs.DrawingState.{DrawingState}
 use Rattle.textarea_screen.specs.declared.screen.rect.Rect.{Rect}
-use Rattle.tui_textarea.specs.Drawing.{IsRendered, parts_of}
+use Rattle.tui_textarea.specs.Drawing.{IsRendered, drawing_parts}
 use Rattle.tui_textarea.specs.State.{State}
 use Rattle.tui_textarea.proofs.textarea.TextArea.render.Goals as goal
 
 rendered : {T E : Type 0} (r : Result T E) {view old : State} → view ≡ old → (area : Rect) (document : DocumentState) (drawing : DrawingState)
-    → OnOk r (below.IsRendered (parts_of view) area (parts_of (record view { document = document; drawing = drawing })))
+    → OnOk r (below.IsRendered (drawing_parts view) area (drawing_parts (record view { document = document; drawing = drawing })))
     → OnOk r (IsRendered old area (record view { document = document; drawing = drawing }))
 rendered (Ok x) {view} is area document drawing h = record {
-  parts = subst (λ (s : State). below.IsRendered (parts_of s) area (parts_of (record view { document = document; drawing = drawing }))) is h;
+  parts = subst (λ (s : State). below.IsRendered (drawing_parts s) area (drawing_parts (record view { document = document; drawing = drawing }))) is h;
   rest = ap (λ (s : State). record s { document = document; drawing = drawing }) is;
 }
 rendered (Err e) is area document drawing h = h

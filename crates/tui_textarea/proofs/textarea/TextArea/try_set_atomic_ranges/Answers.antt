@@ -1,6 +1,6 @@
 use Rattle.std.proofs.Common.{◌≡◌, ◌∙◌, ap}
 use Rattle.std.proofs.lemmas.Result.{IfOk-weaker, on_err_weaker}
-use Rattle.textarea_document.specs.State.{DocumentState}
+use Rattle.textarea_document.specs.DocumentState.{DocumentState}
 use Rattle.tui_textarea.specs.State.{State, with_document}
 use Rattle.tui_textarea.proofs.textarea.TextArea.try_set_atomic_ranges.Goals as goal
 

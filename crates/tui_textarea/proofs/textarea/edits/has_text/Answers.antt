@@ -1,4 +1,4 @@
-use Rattle.tui_textarea.proofs.Given.{has_text_is}
+use Rattle.tui_textarea.proofs.FragmentTexts.{has_text_is}
 use Rattle.tui_textarea.proofs.textarea.edits.has_text.Goals as goal
 
 pub returns : goal.returns

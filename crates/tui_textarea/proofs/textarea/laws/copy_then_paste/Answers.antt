@@ -1,6 +1,6 @@
 use Rattle.std.proofs.Common.{◌≡◌, true, subst}
 use Rattle.textarea_document.specs.Selection.{is_selected}
-use Rattle.tui_textarea.specs.Law.{PastesCopy}
+use Rattle.tui_textarea.specs.TextAreaLaw.{PastesCopy}
 use Rattle.tui_textarea.specs.State.{State}
 use Rattle.tui_textarea.proofs.Copying.{ends_known, pastes_copy}
 use Rattle.tui_textarea.proofs.textarea.laws.copy_then_paste.Goals as goal

@@ -1,7 +1,7 @@
 use Rattle.std.proofs.lemmas.Grind.{common_steps}
 use Rattle.std.proofs.Common.{◌≡◌, ◌<◌, ◌∙◌, arith, get_or, length}
 use Rattle.textarea_blocks.proofs.InBlocks.{item_is}
-use Rattle.textarea_blocks.proofs.Turning.{length-turned, turned_above, turned_behind}
+use Rattle.textarea_blocks.proofs.Shifting.{length-turned, turned_above, turned_behind}
 use Rattle.textarea_blocks.proofs.blocks.numbers.Numbers.at.Goals as goal
 use Rattle.textarea_blocks.proofs.blocks.numbers.Numbers.at.Goals.{After-index-item}
 

@@ -1,6 +1,6 @@
 use Rattle.std.proofs.Common.{◌≡◌, ◌∙◌, ℕ, List, ap, arith, get_or, length}
-use Rattle.textarea_blocks.specs.Turned.{NumbersView}
-use Rattle.textarea_blocks.proofs.Turning.{not_turned, settled}
+use Rattle.textarea_blocks.specs.Shifted.{NumbersView}
+use Rattle.textarea_blocks.proofs.Shifting.{not_turned, settled}
 use Rattle.textarea_blocks.proofs.blocks.numbers.Numbers.exchange.Goals as goal
 use Rattle.textarea_blocks.proofs.blocks.numbers.Numbers.exchange.Goals.{After-move_numbers-2}
 

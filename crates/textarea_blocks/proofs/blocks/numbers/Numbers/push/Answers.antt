@@ -1,7 +1,7 @@
 use Rattle.std.proofs.Common.{◌++◌, ◌∷◌, ◌∙◌, [], ap, arith}
-use Rattle.textarea_blocks.specs.Turned.{NumbersView}
+use Rattle.textarea_blocks.specs.Shifted.{NumbersView}
 use Rattle.textarea_blocks.proofs.InBlocks.{pushed}
-use Rattle.textarea_blocks.proofs.Turning.{not_turned, settled}
+use Rattle.textarea_blocks.proofs.Shifting.{not_turned, settled}
 use Rattle.textarea_blocks.proofs.blocks.numbers.Numbers.push.Goals as goal
 
 pub returns : goal.returns

@@ -1,5 +1,5 @@
 use Rattle.std.proofs.Common.{◌∙◌, ◌≡◌, ◌+◌, [], Bool, false, ap, arith, length, refl, subst, sym}
-use Rattle.textarea_history.specs.Prelude.{offset_at, Splice, StandsAt, index_of, symbols_in, weight, Allows, lines_of, text_of}
+use Rattle.textarea_history.specs.Prelude.{offset_at, Splice, OccursAt, index_of, symbols_in, weight, Allows, lines_of, text_of}
 use Rattle.textarea_text.proofs.StringRows.{rows_place, stands_until}
 use Rattle.textarea_history.proofs.Changes.{Removing, characters_of_one, ends_inside, has_break, removing, symbols_of_change}
 use Rattle.textarea_history.proofs.Offsets.{offset_behind, offset_bound}
@@ -24,12 +24,12 @@ behind c =
     let splice = c.args.self.now in
     let start = c.start-start.result in
     let ends = ends_inside splice start c.end-end.result c.requires.inside c.start-start.ensures c.end-end.ensures in
-    let stands : StandsAt text splice.place splice.symbols = subst (λ (b : Bool). Allows b text splice.place splice.symbols) (removes c) c.requires.fits.allowed in
+    let stands : OccursAt text splice.place splice.symbols = subst (λ (b : Bool). Allows b text splice.place splice.symbols) (removes c) c.requires.fits.allowed in
     let until = stands_until text splice.place splice.symbols c.requires.fits.is_place stands in
     let index : index_of text (start.0, c.end-end.result.1) ≡ index_of text start + length splice.symbols =
     ap (index_of text) ends.0 ∙ until.1 ∙ ap (λ p. index_of text p + length splice.symbols) (sym c.start-start.ensures) in
     offset_behind rows start (start.0, c.end-end.result.1) splice.symbols (known c).from (known c).end_place refl
-    (subst (λ p. StandsAt text p splice.symbols) (sym c.start-start.ensures) stands) index
+    (subst (λ p. OccursAt text p splice.symbols) (sym c.start-start.ensures) stands) index
     ∙ ap (λ n. n + weight splice.symbols) (ap (offset_at rows) c.start-start.ensures ∙ sym c.requires.offset)
 
 pub overflow_add-offset : goal.overflow_add-offset

@@ -1,0 +1,69 @@
+-- Numbers stored as items, with a pending difference from one index on.
+use Rattle.std.proofs.lemmas.Grind.{common_steps}
+use Rattle.std.proofs.Common.{◌≡◌, ℕ, zero, suc, ◌+◌, ◌-◌, ◌^◌, ◌<◌, ◌≤◌, List, [], ◌∷◌, Vec, length, get_or, vec_len, sym, ap, refl, ◌∙◌, arith}
+use Rattle.std.proofs.lemmas.Bool.{cases_lt}
+use Rattle.std.proofs.lemmas.Grind.{same_number_lists}
+use Rattle.textarea_blocks.specs.Shifted.{CanShift, shifted_numbers}
+
+-- ---- the numbers one by one
+
+pub length-turned : (from less more : ℕ) (items : List ℕ) → length (shifted_numbers from less more items) ≡ length items
+length-turned from less more [] = refl
+length-turned zero less more (item ∷ items) = ap suc (length-turned zero less more items)
+length-turned (suc from) less more (item ∷ items) = ap suc (length-turned from less more items)
+
+pub turned_above : (from less more : ℕ) (items : List ℕ) (k : ℕ) → k < from → get_or (shifted_numbers from less more items) k 0 ≡ get_or items k 0
+turned_above from less more [] k above = refl
+turned_above zero less more (item ∷ items) k above = absurd (omega (arith, above))
+turned_above (suc from) less more (item ∷ items) zero above = refl
+turned_above (suc from) less more (item ∷ items) (suc k) above =
+    turned_above from less more items k (omega (arith, above))
+
+pub turned_behind : (from less more : ℕ) (items : List ℕ) (k : ℕ) → from ≤ k → k < length items → get_or (shifted_numbers from less more items) k 0 ≡ get_or items k 0 + more - less
+turned_behind from less more [] k behind there = absurd (omega (arith, there))
+turned_behind zero less more (item ∷ items) zero behind there = refl
+turned_behind zero less more (item ∷ items) (suc k) behind there =
+    turned_behind zero less more items k (omega arith) (omega (arith, there))
+turned_behind (suc from) less more (item ∷ items) zero behind there = absurd (omega (arith, behind))
+turned_behind (suc from) less more (item ∷ items) (suc k) behind there =
+    turned_behind from less more items k (omega (arith, behind)) (omega (arith, there))
+
+-- ---- a difference that is added to the items
+
+-- without a difference the numbers are the items
+pub not_turned : (from : ℕ) (items : List ℕ) → shifted_numbers from 0 0 items ≡ items
+not_turned from [] = refl
+not_turned zero (item ∷ items) = grind (arith, common_steps, not_turned zero items)
+not_turned (suc from) (item ∷ items) = ap (λ t. item ∷ t) (not_turned from items)
+
+-- once the difference is added, the items are the numbers
+pub settled : {A : Type 0} (items now : Vec ℕ A) (from less more : ℕ) → vec_len now ≡ vec_len items → ((k : ℕ) → k < from → get_or now.items k 0 ≡ get_or items.items k 0) → ((k : ℕ) → from ≤ k → k < vec_len items → get_or now.items k 0 + less ≡ get_or items.items k 0 + more) → now.items ≡ shifted_numbers from less more items.items
+settled {A} items now from less more size above moved =
+    grind (arith, common_steps, same_number_lists, length-turned from less more items.items, cases_lt, turned_above, turned_behind)
+
+-- ---- a second difference from the same index on
+
+-- the numbers with both differences: `l` and `m` combine them
+pub record AreJoined (items old : List ℕ) (from gone come l m : ℕ) : Type 0 where
+  pub can : CanShift items from l m
+  pub above : (k : ℕ) → k < from → get_or (shifted_numbers from l m items) k 0 ≡ get_or old k 0
+  pub moved : (k : ℕ) → from ≤ k → k < length old → get_or (shifted_numbers from l m items) k 0 + gone ≡ get_or old k 0 + come
+  pub len : length (shifted_numbers from l m items) ≡ length old
+
+pub joined : (items old : List ℕ) (from less more gone come l m : ℕ) → shifted_numbers from less more items ≡ old → CanShift items from less more → ((k : ℕ) → from ≤ k → k < length old → gone ≤ get_or old k 0 + come) → ((k : ℕ) → from ≤ k → k < length old → get_or old k 0 + come < 2 ^ 64) → l ≡ less + gone - (more + come) → m ≡ more + come - (less + gone) → AreJoined items old from gone come l m
+joined items old from less more gone come l m is can enough small l_is m_is =
+    let size : length items ≡ length old = sym (length-turned from less more items) ∙ ap length is in
+    record {
+      can = record {
+        enough = λ k behind there.
+            omega (arith, l_is, m_is, can.enough k behind there, enough k behind (omega (arith, there, size)), turned_behind from less more items k behind there, ap (λ t. get_or t k 0) is);
+        small = λ k behind there.
+            omega (arith, l_is, m_is, can.enough k behind there, can.small k behind there, small k behind (omega (arith, there, size)), turned_behind from less more items k behind there, ap (λ t. get_or t k 0) is);
+      };
+      above = λ k before.
+          turned_above from l m items k before ∙ sym (turned_above from less more items k before) ∙ ap (λ t. get_or t k 0) is;
+      moved = λ k behind there.
+          let inside : k < length items = omega (arith, there, size) in
+          omega (arith, l_is, m_is, can.enough k behind inside, enough k behind there, turned_behind from less more items k behind inside, ap (λ t. get_or t k 0) is, turned_behind from l m items k behind inside);
+      len = length-turned from l m items ∙ size;
+    }

@@ -1,0 +1,97 @@
+use Rattle.std.proofs.lemmas.Grind.{common_steps}
+use Rattle.std.proofs.Common.{◌≡◌, ◌+◌, ◌<◌, ◌≤◌, ◌∙◌, List, [], ap, arith, drop, get_or, length, take, ℕ}
+use Rattle.std.proofs.lemmas.List.{length-drop, length-take-le}
+use Rattle.textarea_wrap.specs.RowsView.{RowsView}
+use Rattle.textarea_blocks.specs.Blocks.{BlocksView, rows_of_each}
+use Rattle.textarea_blocks.specs.Sums.{row_total}
+use Rattle.textarea_blocks.proofs.InBlocks.{before_more, before_ordered, before_within, block_count, blocks_set, lines_sum, rows_are, rows_sum}
+use Rattle.textarea_blocks.proofs.Numbers.{row_total-take_drop}
+use Rattle.textarea_blocks.proofs.Totals.{all_set, totals_set}
+use Rattle.textarea_blocks.proofs.blocks.RowBlocks.split_block_off.Goals as goal
+use Rattle.textarea_blocks.proofs.blocks.RowBlocks.split_block_off.Goals.{After-len}
+
+-- the block before and after, and the rows that are removed from it
+record Taken (blocks : List (List RowsView)) (block at gone : ℕ) (kept rows : List RowsView) : Type 0 where
+  within : block < length blocks
+  inside : at ≤ length (get_or blocks block [])
+  kept_is : kept ≡ take at (get_or blocks block [])
+  rows_are : rows ≡ drop at (get_or blocks block [])
+  line_sum : length kept + gone ≡ length (get_or blocks block [])
+  row_sum : row_total kept + row_total rows ≡ row_total (get_or blocks block [])
+
+taken : (c : After-len) → Taken (rows_of_each c.self.inside.blocks.items) c.args.block c.args.at c.len.result c.split_off.new.self.items c.in_ok-rows.rows.items
+taken c =
+    let items = c.self.inside.blocks.items in
+    let blocks = rows_of_each items in
+    let block = c.args.block in
+    let at = c.args.at in
+    let here = get_or blocks block [] in
+    let within : block < length blocks = omega (arith, c.requires.block, ap (λ (v : BlocksView). length v.blocks) c.self.view_is) in
+    let inside : at ≤ length here = omega (arith, c.requires.at, ap (λ (v : BlocksView). length (get_or v.blocks block [])) c.self.view_is) in
+    let there = rows_are items block c.index_mut.result.now (omega (arith, within, block_count items)) c.index_mut.ensures.value in
+    let kept : c.split_off.new.self.items ≡ take at here = c.in_ok-rows.ensures.items ∙ ap (take at) there in
+    let rest : c.in_ok-rows.rows.items ≡ drop at here = c.in_ok-rows.ensures.tail ∙ ap (drop at) there in
+    record {
+      within = within;
+      inside = inside;
+      kept_is = kept;
+      rows_are = rest;
+      line_sum = omega (arith, ap length kept, ap length rest, length-take-le at here inside, length-drop at here, c.len.ensures, c.in_ok-rows.rows.ok.0);
+      row_sum = omega (arith, ap row_total kept, ap row_total rest, row_total-take_drop at here);
+    }
+
+pub shift_from-requires-clause-enough : goal.shift_from-requires-clause-enough
+shift_from-requires-clause-enough c = λ k behind there.
+    let known = taken (goal.at.shift_from-requires-clause-enough c).After-len in
+    let blocks = rows_of_each c.self.inside.blocks.items in
+    omega (arith, known.line_sum, c.self.invariant.lines_are.right k (omega (arith, there, c.self.invariant.lines_are.len)), before_ordered length lines_sum blocks (c.args.block + 1) k behind, before_more length lines_sum blocks c.args.block known.within)
+
+pub shift_from-requires-clause-small : goal.shift_from-requires-clause-small
+shift_from-requires-clause-small c = λ k behind there.
+    omega (arith, c.self.invariant.lines_are.right k (omega (arith, there, c.self.invariant.lines_are.len)), before_within length lines_sum (rows_of_each c.self.inside.blocks.items) k, c.self.invariant.few_lines)
+
+pub shift_from-requires-2-clause-enough : goal.shift_from-requires-2-clause-enough
+shift_from-requires-2-clause-enough c = λ k behind there.
+    let known = taken (goal.at.shift_from-requires-2-clause-enough c).After-len in
+    let blocks = rows_of_each c.self.inside.blocks.items in
+    omega (arith, known.row_sum, c.count_rows-rows_gone.ensures, ap row_total c.as_slice.ensures.value, c.self.invariant.rows_are.right k (omega (arith, there, c.self.invariant.rows_are.len)), before_ordered row_total rows_sum blocks (c.args.block + 1) k behind, before_more row_total rows_sum blocks c.args.block known.within)
+
+pub shift_from-requires-2-clause-small : goal.shift_from-requires-2-clause-small
+shift_from-requires-2-clause-small c = λ k behind there.
+    omega (arith, c.self.invariant.rows_are.right k (omega (arith, there, c.self.invariant.rows_are.len)), before_within row_total rows_sum (rows_of_each c.self.inside.blocks.items) k, c.self.invariant.few_rows)
+
+pub invariant_of-self-2 : goal.invariant_of-self-2
+invariant_of-self-2 c =
+    let known = taken (goal.at.invariant_of-self-2 c).After-len in
+    let inside = c.self.inside in
+    let blocks = rows_of_each inside.blocks.items in
+    let block = c.args.block in
+    let here = get_or blocks block [] in
+    let now = c.split_off.new.self.items in
+    let gone : c.count_rows-rows_gone.result ≡ row_total c.in_ok-rows.rows.items =
+    omega (arith, c.count_rows-rows_gone.ensures, ap row_total c.as_slice.ensures.value, known.row_sum, before_more row_total rows_sum blocks block known.within, before_within row_total rows_sum blocks (block + 1), c.self.invariant.few_rows) in
+    rw (blocks_set inside.blocks.items block c.split_off.new.self)
+    (record {
+      lines_are = totals_set length lines_sum blocks inside.lines.numbers c.shift_from.new.self.numbers block c.len.result 0 now c.self.invariant.lines_are known.within (omega (arith, known.line_sum)) c.shift_from.ensures.len c.shift_from.ensures.above c.shift_from.ensures.moved;
+      rows_are = totals_set row_total rows_sum blocks inside.rows.numbers c.shift_from-2.new.self.numbers block c.count_rows-rows_gone.result 0 now c.self.invariant.rows_are known.within (omega (arith, known.row_sum, gone)) c.shift_from-2.ensures.len c.shift_from-2.ensures.above c.shift_from-2.ensures.moved;
+      few_lines = omega (arith, all_set length lines_sum blocks block now known.within, known.line_sum, c.self.invariant.few_lines);
+      few_rows = omega (arith, all_set row_total rows_sum blocks block now known.within, known.row_sum, c.self.invariant.few_rows);
+    })
+
+pub returns-clause-kept : goal.returns-clause-kept
+returns-clause-kept c = grind (arith, common_steps, taken, blocks_set c.self.inside.blocks.items c.args.block c.split_off.new.self)
+
+pub index_mut-requires : goal.index_mut-requires
+index_mut-requires c =
+    omega (arith, c.requires.block, ap (λ (v : BlocksView). length v.blocks) c.self.view_is, block_count c.self.inside.blocks.items, c.self.inside.blocks.ok.0)
+
+pub split_off-requires : goal.split_off-requires
+split_off-requires c = grind (arith, common_steps, block_count, rows_are)
+
+pub overflow_add-block : goal.overflow_add-block
+overflow_add-block c =
+    omega (arith, c.requires.block, ap (λ (v : BlocksView). length v.blocks) c.self.view_is, block_count c.self.inside.blocks.items, c.self.inside.blocks.ok.0, c.self.inside.blocks.small)
+
+pub overflow_add-block-2 : goal.overflow_add-block-2
+overflow_add-block-2 c =
+    omega (arith, c.requires.block, ap (λ (v : BlocksView). length v.blocks) c.self.view_is, block_count c.self.inside.blocks.items, c.self.inside.blocks.ok.0, c.self.inside.blocks.small)

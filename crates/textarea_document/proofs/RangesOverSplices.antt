@@ -1,0 +1,193 @@
+-- How the atomic ranges of a document move with its text, over one splice after another.
+use Rattle.std.proofs.Common.{◌≡◌, ℕ, zero, suc, Bool, true, false, List, [], ◌∷◌, ◌++◌, get_or, filter_map, Contains, Option, None, Some, sym, ap, refl, subst, ◌∙◌, arith, inl, inr, ◌⊎◌, suc-le-suc}
+use Rattle.std.proofs.lemmas.Bool.Decides.{nat_tests}
+use Rattle.std.proofs.lemmas.List.Elements.{All-cons, All-contains, All-nil, Contains-get_or}
+use Rattle.textarea_document.specs.Prelude.{cons_option, Symbol, lines, Place, end, CanApply, Fits, Splice, IsTextBefore, applied, applied_all, inverse, newest, next, AtomicRange, IsBeside, IsInside, TakesRange, Overlaps, CoversTheSame, DisturbsBy, moved_range, moved_ranges, AreValid, IsPart, HasEffect, EditStep, splice_of_step, stepped, AllStayOrAreDropped, AllStemFrom, SplitNoRange, RangesFollowSplices, RangesStayWhole, IsDroppedBy, StemsFrom, carried_range, ranges_over, SplitsNoRange, SplitsNoRangeBy, after_redo, after_redo_by, after_undo, after_undo_by, IsSound, DocumentState}
+use Rattle.textarea_ranges.proofs.Moving.{covers_the_same, dropped, valid_moved}
+use Rattle.textarea_document.proofs.Sounds.{newest_fits, next_fits}
+use Rattle.textarea_document.proofs.StepLaw.{step_kept}
+
+-- ---- one splice
+
+one : (old : DocumentState) (splice : Splice) (new : DocumentState) → Fits old.text splice → new.text ≡ applied old.text splice → new.ranges ≡ moved_ranges old.ranges splice → RangesFollowSplices old (splice ∷ []) new
+one old splice new fits text ranges = record { text = record { can = (fits, tt); leads = sym text }; ranges = ranges }
+
+pub stepped_goes : (document : DocumentState) (step : EditStep) (typed : Bool) (now : ℕ) → IsSound document → HasEffect document step → RangesStayWhole document (splice_of_step document step ∷ []) (stepped document step typed now)
+stepped_goes document step typed now sound made =
+    let kept = step_kept document step sound made in
+    (one document (splice_of_step document step) (stepped document step typed now) kept.0 refl refl, (kept.1, tt))
+
+pub undone_goes : (document : DocumentState) (splice : Splice) → IsSound document → newest document.log ≡ Some splice → RangesFollowSplices document (inverse splice ∷ []) (after_undo document)
+undone_goes document splice sound is =
+    subst (λ (found : Option Splice). RangesFollowSplices document (inverse splice ∷ []) (after_undo_by found document)) (sym is)
+    (one document (inverse splice) (after_undo_by (Some splice) document) (newest_fits document splice sound is) refl refl)
+
+pub redone_goes : (document : DocumentState) (splice : Splice) → IsSound document → next document.log ≡ Some splice → RangesFollowSplices document (splice ∷ []) (after_redo document)
+redone_goes document splice sound is =
+    subst (λ (found : Option Splice). RangesFollowSplices document (splice ∷ []) (after_redo_by found document)) (sym is)
+    (one document splice (after_redo_by (Some splice) document) (next_fits document splice sound is) refl refl)
+
+-- ---- one after another
+
+CanApply-append : (text : List Symbol) (first second : List Splice) → CanApply text first → CanApply (applied_all text first) second → CanApply text (first ++ second)
+CanApply-append text [] second h k = k
+CanApply-append text (splice ∷ first) second h k = (h.0, CanApply-append (applied text splice) first second h.1 k)
+
+applied_all-append : (text : List Symbol) (first second : List Splice) → applied_all text (first ++ second) ≡ applied_all (applied_all text first) second
+applied_all-append text [] second = refl
+applied_all-append text (splice ∷ first) second = applied_all-append (applied text splice) first second
+
+stood_on : (one two three : List Symbol) (first second : List Splice) → IsTextBefore one two first → IsTextBefore two three second → IsTextBefore one three (first ++ second)
+stood_on one two three first second h k = record {
+  can = CanApply-append one first second h.can (subst (λ t. CanApply t second) (sym h.leads) k.can);
+  leads = applied_all-append one first second ∙ ap (λ t. applied_all t second) h.leads ∙ k.leads;
+}
+
+ranges_over-append : (ranges : List AtomicRange) (first second : List Splice) → ranges_over ranges (first ++ second) ≡ ranges_over (ranges_over ranges first) second
+ranges_over-append ranges [] second = refl
+ranges_over-append ranges (splice ∷ first) second = ranges_over-append (moved_ranges ranges splice) first second
+
+SplitNoRange-append : (ranges : List AtomicRange) (first second : List Splice) → SplitNoRange ranges first → SplitNoRange (ranges_over ranges first) second → SplitNoRange ranges (first ++ second)
+SplitNoRange-append ranges [] second h k = k
+SplitNoRange-append ranges (splice ∷ first) second h k = (h.0, SplitNoRange-append (moved_ranges ranges splice) first second h.1 k)
+
+pub goes_on : (old between new : DocumentState) (first second : List Splice) → RangesFollowSplices old first between → RangesFollowSplices between second new → RangesFollowSplices old (first ++ second) new
+goes_on old between new first second h k = record {
+  text = stood_on old.text between.text new.text first second h.text k.text;
+  ranges = k.ranges ∙ ap (λ (r : List AtomicRange). ranges_over r second) h.ranges ∙ sym (ranges_over-append old.ranges first second);
+}
+
+-- text and ranges stay
+pub stays : (old new : DocumentState) → new.text ≡ old.text → new.ranges ≡ old.ranges → RangesStayWhole old [] new
+stays old new text ranges = (record { text = record { can = tt; leads = sym text }; ranges = ranges }, tt)
+
+pub goes_uncut_on : (old between new : DocumentState) (first second : List Splice) → RangesStayWhole old first between → RangesStayWhole between second new → RangesStayWhole old (first ++ second) new
+goes_uncut_on old between new first second h k = (
+  goes_on old between new first second h.0 k.0,
+  SplitNoRange-append old.ranges first second h.1 (subst (λ (r : List AtomicRange). SplitNoRange r second) h.0.ranges k.1),
+)
+
+-- ---- each range comes from an old one
+
+record From {X Y : Type 0} (f : X → Option Y) (xs : List X) (y : Y) : Type 0 where
+  x : X
+  held : Contains xs x
+  is : f x ≡ Some y
+
+from_behind : {X Y : Type 0} (f : X → Option Y) (first : X) (xs : List X) (y : Y) → From f xs y → From f (first ∷ xs) y
+from_behind f first xs y found = record { x = found.x; held = (suc found.held.0, suc-le-suc found.held.1, found.held.2); is = found.is }
+
+from_cons : {X Y : Type 0} (f : X → Option Y) (first : X) (xs : List X) (y : Y) (found : Option Y) → f first ≡ found → (Contains (filter_map f xs) y → From f xs y) → Contains (cons_option found (filter_map f xs)) y → From f (first ∷ xs) y
+from_cons f first xs y None e rest h = from_behind f first xs y (rest h)
+from_cons f first xs y (Some z) e rest (zero, within, is) = record { x = first; held = (zero, omega arith, refl); is = e ∙ ap Some is }
+from_cons f first xs y (Some z) e rest (suc k, within, is) = from_behind f first xs y (rest (k, omega arith, is))
+
+from_list : {X Y : Type 0} (f : X → Option Y) (xs : List X) (y : Y) → Contains (filter_map f xs) y → From f xs y
+from_list f [] y h = absurd (omega (arith, h.1))
+from_list f (x ∷ xs) y h = from_cons f x xs y (f x) refl (from_list f xs y) h
+
+from_moved : (ranges : List AtomicRange) (splice : Splice) (range : AtomicRange) → Contains (moved_ranges ranges splice) range → From (moved_range splice) ranges range
+unfolding moved_ranges
+from_moved ranges splice range h = from_list (moved_range splice) ranges range h
+
+record Origin (text : List Symbol) (ranges : List AtomicRange) (splices : List Splice) (range : AtomicRange) : Type 0 where
+  origin : AtomicRange
+  held : Contains ranges origin
+  carried : carried_range (Some origin) splices ≡ Some range
+  covers : CoversTheSame text (applied_all text splices) origin range
+
+origin_over : (text : List Symbol) (ranges : List AtomicRange) (splices : List Splice) (range : AtomicRange) → AreValid (lines text) ranges → CanApply text splices → Contains (ranges_over ranges splices) range → Origin text ranges splices range
+origin_over text ranges [] range valid can h =
+    record { origin = range; held = h; carried = refl; covers = record { part = All-contains (IsPart (lines text)) ranges range valid.parts h; same = refl } }
+origin_over text ranges (splice ∷ rest) range valid can h =
+    let later = origin_over (applied text splice) (moved_ranges ranges splice) rest range (valid_moved text splice ranges can.0 valid) can.1 h in
+    let here = from_moved ranges splice later.origin later.held in
+    let part : IsPart (lines text) here.x = All-contains (IsPart (lines text)) ranges here.x valid.parts here.held in
+    let covers = covers_the_same text splice here.x later.origin can.0 part here.is in
+    record {
+      origin = here.x;
+      held = here.held;
+      carried = ap (λ (o : Option AtomicRange). carried_range o rest) here.is ∙ later.carried;
+      covers = record { part = later.covers.part; same = later.covers.same ∙ covers.same };
+    }
+
+pub stems_from : (old new : DocumentState) (splices : List Splice) → IsSound old → RangesFollowSplices old splices new → (range : AtomicRange) → Contains new.ranges range → StemsFrom old splices new range
+stems_from old new splices sound h range held =
+    let found = origin_over old.text old.ranges splices range sound.ranges h.text.can (subst (λ (r : List AtomicRange). Contains r range) h.ranges held) in
+    record {
+      origin = found.origin;
+      held = found.held;
+      carried = found.carried;
+      covers = subst (λ t. CoversTheSame old.text t found.origin range) h.text.leads found.covers;
+    }
+
+pub all_stem : (old new : DocumentState) (splices : List Splice) → IsSound old → RangesFollowSplices old splices new → AllStemFrom old splices new
+all_stem old new splices sound h k d within = stems_from old new splices sound h (get_or new.ranges k d) (Contains-get_or new.ranges k d within)
+
+-- ---- each old range is moved on, or one splice disturbs it
+
+contains_behind : {Y : Type 0} (found : Option Y) (ys : List Y) (y : Y) → Contains ys y → Contains (cons_option found ys) y
+contains_behind None ys y h = h
+contains_behind (Some z) ys y h = (suc h.0, suc-le-suc h.1, h.2)
+
+contains_first : {Y : Type 0} (found : Option Y) (ys : List Y) (y : Y) → found ≡ Some y → Contains (cons_option found ys) y
+contains_first found ys y e = subst (λ o. Contains (cons_option o ys) y) (sym e) (zero, omega arith, refl)
+
+to_list : {X Y : Type 0} (f : X → Option Y) (xs : List X) (x : X) (y : Y) → Contains xs x → f x ≡ Some y → Contains (filter_map f xs) y
+to_list f [] x y h e = absurd (omega (arith, h.1))
+to_list f (first ∷ xs) x y (zero, within, is) e = contains_first (f first) (filter_map f xs) y (ap f is ∙ e)
+to_list f (first ∷ xs) x y (suc k, within, is) e = contains_behind (f first) (filter_map f xs) y (to_list f xs x y (k, omega arith, is) e)
+
+to_moved : (ranges : List AtomicRange) (splice : Splice) (range new : AtomicRange) → Contains ranges range → moved_range splice range ≡ Some new → Contains (moved_ranges ranges splice) new
+unfolding moved_ranges
+to_moved ranges splice range new h e = to_list (moved_range splice) ranges range new h e
+
+abbrev StaysOrIsDropped : List AtomicRange → List Splice → AtomicRange → Type 0
+StaysOrIsDropped ranges splices range =
+    ((carried : AtomicRange) × (carried_range (Some range) splices ≡ Some carried) × Contains (ranges_over ranges splices) carried) ⊎ IsDroppedBy range splices
+
+over_first : (ranges : List AtomicRange) (splice : Splice) (rest : List Splice) (range : AtomicRange) (found : Option AtomicRange) → Contains ranges range → moved_range splice range ≡ found → ((next : AtomicRange) → Contains (moved_ranges ranges splice) next → StaysOrIsDropped (moved_ranges ranges splice) rest next) → StaysOrIsDropped ranges (splice ∷ rest) range
+over_first ranges splice rest range None h e later = inr (inl ((dropped splice range).0 e))
+over_first ranges splice rest range (Some next) h e later =
+    elim (later next (to_moved ranges splice range next h e)) [
+      | inl on ↦ inl (on.0, ap (λ (o : Option AtomicRange). carried_range o rest) e ∙ on.1, on.2)
+      | inr gone ↦ inr (inr (next, e, gone))
+    ]
+
+stays_or_dropped : (ranges : List AtomicRange) (splices : List Splice) (range : AtomicRange) → Contains ranges range → StaysOrIsDropped ranges splices range
+stays_or_dropped ranges [] range h = inl (range, refl, h)
+stays_or_dropped ranges (splice ∷ rest) range h =
+    over_first ranges splice rest range (moved_range splice range) h refl (stays_or_dropped (moved_ranges ranges splice) rest)
+
+pub all_stay_or_are_dropped : (old new : DocumentState) (splices : List Splice) → RangesFollowSplices old splices new → AllStayOrAreDropped old splices new
+all_stay_or_are_dropped old new splices h k d within =
+    let range = get_or old.ranges k d in
+    elim (stays_or_dropped old.ranges splices range (Contains-get_or old.ranges k d within)) [
+      | inl on ↦ inl (on.0, on.1, subst (λ (r : List AtomicRange). Contains r on.0) (sym h.ranges) on.2)
+      | inr gone ↦ inr gone
+    ]
+
+-- ---- which ranges an edit drops
+
+not_beside : (from to : Place) (range : AtomicRange) → Overlaps from to range → IsBeside from to range → ⊥
+not_beside from to range h (inl up) = grind (arith, nat_tests)
+not_beside from to range h (inr up) = grind (arith, nat_tests)
+
+taken_by : (inserts : Bool) (place to : Place) (range : AtomicRange) → SplitsNoRangeBy inserts (range ∷ []) place to → DisturbsBy inserts place to range → (inserts ≡ false) × TakesRange place to range
+taken_by true place to range cuts disturbs = absurd (cuts 0 range (omega arith) disturbs)
+taken_by false place to range cuts disturbs =
+    elim (cuts 0 range (omega arith)) [
+      | inl within ↦ (refl, within)
+      | inr beside ↦ absurd (not_beside place to range disturbs beside)
+    ]
+
+one_cuts : (inserts : Bool) (ranges : List AtomicRange) (place to : Place) (range : AtomicRange) → SplitsNoRangeBy inserts ranges place to → Contains ranges range → SplitsNoRangeBy inserts (range ∷ []) place to
+one_cuts true ranges place to range cuts held =
+    All-cons (λ r. ¬ IsInside place r) range [] (All-contains (λ r. ¬ IsInside place r) ranges range cuts held) (All-nil (λ r. ¬ IsInside place r))
+one_cuts false ranges place to range cuts held =
+    All-cons (λ r. TakesRange place to r ⊎ IsBeside place to r) range [] (All-contains (λ r. TakesRange place to r ⊎ IsBeside place to r) ranges range cuts held) (All-nil (λ r. TakesRange place to r ⊎ IsBeside place to r))
+
+pub only_taken : (ranges : List AtomicRange) (splice : Splice) (range : AtomicRange) → SplitsNoRange ranges splice → Contains ranges range → moved_range splice range ≡ None → (splice.inserts ≡ false) × TakesRange splice.place (end splice.place splice.symbols) range
+only_taken ranges splice range cuts held is =
+    let to = end splice.place splice.symbols in
+    taken_by splice.inserts splice.place to range (one_cuts splice.inserts ranges splice.place to range cuts held) ((dropped splice range).0 is)

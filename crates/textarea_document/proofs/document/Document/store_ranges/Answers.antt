@@ -1,0 +1,36 @@
+use Rattle.std.proofs.Common.{◌∙◌, List, Option, ap, sym, subst}
+use Rattle.textarea_document.specs.Prelude.{IfSome, lines, IsPlace, Place, AtomicRange, moved_out, AreValid, anchor_out, with_ranges, unless_empty, DocumentState, document_of}
+use Rattle.textarea_data.specs.declared.range.AtomicCursorBias.TheVariants.{Forward}
+use Rattle.textarea_document.proofs.Ranges.{anchor_place}
+use Rattle.textarea_document.proofs.document.Document.store_ranges.Goals as goal
+
+pub invariant_of-self : goal.invariant_of-self
+invariant_of-self c =
+    let text = c.self.inside.text_layout.text in
+    let given = c.args.ranges.items in
+    let valid : AreValid (lines text) given = subst (λ (s : DocumentState). AreValid (lines s.text) given) (sym c.self.view_is) c.requires.valid in
+    let first : AreValid (lines text) c.as_slice.result.now = subst (AreValid (lines text)) (sym c.as_slice.ensures.value) valid in
+    let old = c.self.invariant in
+    record {
+      cursor = c.move_out-cursor.ensures.place (lines text) first old.cursor;
+      anchor = subst (λ o. IfSome o (IsPlace text)) (sym c.unless_empty-self-inside.ensures)
+          (subst (λ o. IfSome (unless_empty o c.move_out-cursor.result) (IsPlace text)) (sym c.anchor_out-anchor.ensures)
+          (anchor_place text c.as_slice-2.result.now c.self.inside.anchor c.move_out-cursor.result (subst (AreValid (lines text)) (sym c.as_slice-2.ensures.value) valid) old.anchor));
+      ranges = valid;
+      in_order = c.requires.in_order;
+      undo = old.undo;
+      redo = old.redo;
+      bounded = old.bounded;
+    }
+
+pub returns : goal.returns
+returns c =
+    let inside = c.self.inside in
+    let given = c.args.ranges.items in
+    let at = c.move_out-cursor.result in
+    ap (λ (o : Option Place). document_of inside.text_layout at o given inside.history.log)
+    (c.unless_empty-self-inside.ensures
+    ∙ ap (λ (o : Option Place). unless_empty o at) (c.anchor_out-anchor.ensures ∙ ap (λ (r : List AtomicRange). anchor_out r inside.anchor) c.as_slice-2.ensures.value))
+    ∙ ap (λ (p : Place). document_of inside.text_layout p (unless_empty (anchor_out given inside.anchor) p) given inside.history.log)
+    (c.move_out-cursor.ensures.value ∙ ap (λ (r : List AtomicRange). moved_out r inside.cursor Forward) c.as_slice.ensures.value)
+    ∙ ap (λ (s : DocumentState). with_ranges s given) c.self.view_is

@@ -1,0 +1,17 @@
+use Rattle.textarea_document.proofs.RangesOverSplices.{all_stay_or_are_dropped, all_stem, redone_goes, stepped_goes, undone_goes}
+use Rattle.textarea_document.proofs.laws.ranges_follow_splices.Goals as goal
+
+pub returns-clause-stepped : goal.returns-clause-stepped
+returns-clause-stepped c = stepped_goes
+
+pub returns-clause-undone : goal.returns-clause-undone
+returns-clause-undone c = undone_goes
+
+pub returns-clause-redone : goal.returns-clause-redone
+returns-clause-redone c = redone_goes
+
+pub returns-clause-stem : goal.returns-clause-stem
+returns-clause-stem c = all_stem
+
+pub returns-clause-dropped : goal.returns-clause-dropped
+returns-clause-dropped c = all_stay_or_are_dropped

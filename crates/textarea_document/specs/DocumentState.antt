@@ -1,0 +1,49 @@
+-- The state of a document: a text, two positions in it, its ranges, and its history.
+use Rattle.std.specs.Prelude.{ℕ, List, [], length, Option, None}
+use Rattle.textarea_text.specs.Text.{Symbol, lines}
+use Rattle.textarea_text.specs.Place.{Place}
+use Rattle.textarea_history.specs.Log.{Log, Logged, empty_log}
+use Rattle.textarea_lines.specs.declared.settings.LayoutSettings.{LayoutSettings}
+use Rattle.textarea_lines.specs.TextLayout.{TextAndLayout, Layout, all_wrapped}
+use Rattle.textarea_data.specs.declared.range.AtomicRange.{AtomicRange}
+
+-- the text as one flat list of symbols; its layout, with the ticks of its lines' rows; the cursor;
+-- where the selection began, if there is one; the atomic ranges; and the done and undone edits
+pub record DocumentState : Type 0 where
+  pub text : List Symbol
+  pub layout : Layout
+  pub cursor : Place
+  pub anchor : Option Place
+  pub ranges : List AtomicRange
+  pub log : Log
+
+-- a document from a text with its layout, and the rest
+abbrev pub document_of : TextAndLayout → Place → Option Place → List AtomicRange → Log → DocumentState
+document_of text_layout cursor anchor ranges log = record {
+  text = text_layout.text;
+  layout = text_layout.layout;
+  cursor = cursor;
+  anchor = anchor;
+  ranges = ranges;
+  log = log;
+}
+
+-- the text of a document with the log of its edits
+abbrev pub logged : DocumentState → Logged
+logged document = record { text = document.text; log = document.log }
+
+-- a document without a history and without ranges, with this cursor; all lines are wrapped, from
+-- this value of the wrap counter on
+abbrev pub fresh_document : List Symbol → LayoutSettings → ℕ → Place → ℕ → DocumentState
+fresh_document text settings count cursor maximum = record {
+  text = text;
+  layout = all_wrapped settings count (length (lines text));
+  cursor = cursor;
+  anchor = None;
+  ranges = [];
+  log = empty_log maximum;
+}
+
+-- a new document: the cursor at the start
+abbrev pub new_document : List Symbol → LayoutSettings → ℕ → DocumentState
+new_document text settings maximum = fresh_document text settings 0 (0, 0) maximum

@@ -1,5 +1,0 @@
-use Rattle.textarea_text.proofs.TextPlaces.{takes_back}
-use Rattle.textarea_history.proofs.laws.undo_takes_back.Goals as goal
-
-pub returns : goal.returns
-returns c = λ text splice fits. let taken = takes_back text splice fits in record { fits = taken.fits; back = taken.back }

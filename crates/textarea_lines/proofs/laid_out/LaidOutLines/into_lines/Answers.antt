@@ -1,9 +1,0 @@
-use Rattle.std.proofs.Common.{ap, arith}
-use Rattle.textarea_lines.specs.Layout.{LaidOut}
-use Rattle.textarea_lines.proofs.laid_out.LaidOutLines.into_lines.Goals as goal
-
-pub returns-clause-text : goal.returns-clause-text
-returns-clause-text c = ap (λ (l : LaidOut). l.text) c.self.view_is
-
-pub returns-clause-some : goal.returns-clause-some
-returns-clause-some c = omega (arith, c.self.invariant.held.stored.some, c.self.inside.lines.ok.0)

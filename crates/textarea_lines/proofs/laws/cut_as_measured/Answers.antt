@@ -1,5 +1,0 @@
-use Rattle.textarea_lines.proofs.PutSettings.{measured_cut}
-use Rattle.textarea_lines.proofs.laws.cut_as_measured.Goals as goal
-
-pub returns : goal.returns
-returns c = measured_cut

@@ -1,0 +1,54 @@
+use Rattle.std.proofs.lemmas.Grind.{common_steps}
+use Rattle.std.proofs.Common.{◌≡◌, ◌≤◌, ◌∙◌, ap, arith, length, subst, sym}
+use Rattle.std.specs.Str.{chars}
+use Rattle.textarea_text.specs.Offset.{offset_at}
+use Rattle.textarea_text.specs.Place.{IsPlace, IsPlaceOf}
+use Rattle.textarea_text.specs.Text.{lines, lines_of}
+use Rattle.textarea_text.proofs.Insides.{column_within, offset_read}
+use Rattle.textarea_text.proofs.StringRows.{row_within, rows_place}
+use Rattle.textarea_lines.specs.TextLayout.{TextAndLayout}
+use Rattle.textarea_lines.proofs.Stores.{lines_held}
+use Rattle.textarea_lines.proofs.text_layout.TextLayout.offset_of.Goals as goal
+use Rattle.textarea_lines.proofs.text_layout.TextLayout.offset_of.Goals.{After-as_str-line}
+
+-- the position is one of the stored lines
+there : (c : After-as_str-line) → IsPlaceOf (lines_of c.self.inside.lines.items) c.args.place
+there c =
+    rows_place c.self.inside.lines.items c.args.place c.self.invariant.held.stored.some (subst (λ (l : TextAndLayout). IsPlace l.text c.args.place) (sym c.self.view_is) c.requires)
+
+column : (c : After-as_str-line) → c.args.place.1 ≤ length (chars c.as_str-line.result.now)
+column c =
+    omega (arith, column_within c.self.inside.lines.items c.args.place c.index.result.now (there c) c.index.ensures, ap (λ t. length (chars t)) c.as_str-line.ensures.value)
+
+-- the stored lines are those of the text
+same : (c : After-as_str-line) → offset_at (lines_of c.self.inside.lines.items) c.args.place ≡ offset_at (lines c.args.self.now.text) c.args.place
+same c = grind (arith, common_steps, lines_held c.self.inside.lines.items c.self.invariant.held.stored.some)
+
+pub index-requires : goal.index-requires
+index-requires c =
+    let here = rows_place c.self.inside.lines.items c.args.place c.self.invariant.held.stored.some (subst (λ (l : TextAndLayout). IsPlace l.text c.args.place) (sym c.self.view_is) c.requires) in
+    omega (arith, row_within c.self.inside.lines.items c.args.place here, c.self.inside.lines.ok.0)
+
+pub byte_offset_from-requires-clause-known : goal.byte_offset_from-requires-clause-known
+byte_offset_from-requires-clause-known c = grind (arith, common_steps, column_within)
+
+pub byte_offset_from-requires-clause-offset : goal.byte_offset_from-requires-clause-offset
+byte_offset_from-requires-clause-offset c = grind (arith, common_steps, offset_read)
+
+pub byte_offset_from-requires-clause-column : goal.byte_offset_from-requires-clause-column
+byte_offset_from-requires-clause-column c = column (goal.at.byte_offset_from-requires-clause-column c).After-as_str-line
+
+pub returns-then-self-place : goal.returns-then-self-place
+returns-then-self-place c =
+    let known = (goal.at.returns-then-self-place c).After-as_str-line in
+    offset_read c.self.inside.lines.items c.args.place c.index.result.now c.as_str-line.result.now c.byte_offset_from.result (there known) c.index.ensures c.as_str-line.ensures.value c.byte_offset_from.ensures
+    ∙ same known
+
+pub byte_offset-requires : goal.byte_offset-requires
+byte_offset-requires c = column (goal.at.byte_offset-requires c).After-as_str-line
+
+pub returns : goal.returns
+returns c =
+    let known = (goal.at.returns c).After-as_str-line in
+    offset_read c.self.inside.lines.items c.args.place c.index.result.now c.as_str-line.result.now c.byte_offset.result (there known) c.index.ensures c.as_str-line.ensures.value c.byte_offset.ensures
+    ∙ same known

@@ -1,0 +1,106 @@
+-- What contracts see of lines with their rows, and how a change of the text changes it.
+use Rattle.std.specs.Prelude.{ℕ, ◌+◌, ◌-◌, Bool, List, String, length, vec_len, if◌then◌else◌}
+use Rattle.std.specs.declared.alloc.Global.{Global}
+use Rattle.textarea_text.specs.Text.{Symbol, joined, lines, lines_of}
+use Rattle.textarea_util.specs.Replaced.{replaced}
+use Rattle.textarea_text.specs.Splice.{Splice, applied}
+use Rattle.textarea_text.specs.Touched.{new_line_count, replaced_line_count}
+use Rattle.textarea_text.specs.declared.rows.Replacement.{Replacement}
+use Rattle.textarea_wrap.specs.RowsView.{RowsView}
+use Rattle.textarea_screen_map.specs.LineRows.{ticks_after, ticks_of}
+use Rattle.textarea_screen_map.specs.declared.layout.Wrapping.{Wrapping}
+use Rattle.textarea_lines.specs.declared.settings.LayoutSettings.{LayoutSettings}
+use Rattle.textarea_lines.specs.Wrappings.{wrapped_at_width, is_same_wrapping, wrapping_for}
+
+-- The settings, the number of lines wrapped so far, and for each line the counter's number after
+-- the call that wrapped it. The rows are not included: they are right for the current text.
+pub record Layout : Type 0 where
+  pub settings : LayoutSettings
+  pub count : ℕ
+  pub ticks : List ℕ
+
+-- the layout of a text with these rows
+abbrev pub layout_of : LayoutSettings → ℕ → List RowsView → Layout
+layout_of settings count rows = record { settings = settings; count = count; ticks = ticks_of rows }
+
+pub record TextAndLayout : Type 0 where
+  pub text : List Symbol
+  pub layout : Layout
+
+-- all `line_count` lines are wrapped, from the first on
+abbrev pub all_wrapped : LayoutSettings → ℕ → ℕ → Layout
+all_wrapped settings count line_count = record { settings = settings; count = count + line_count; ticks = ticks_after count line_count }
+
+-- `coming` lines are wrapped and replace those from the row on; all others keep their rows
+abbrev pub some_wrapped : Layout → ℕ → ℕ → ℕ → Layout
+some_wrapped layout row going coming = record {
+  settings = layout.settings;
+  count = layout.count + coming;
+  ticks = replaced layout.ticks row going (ticks_after layout.count coming);
+}
+
+-- Some lines are replaced: only these are wrapped, or all lines if the wrapping changes.
+abbrev pub after_replacement : Layout → ℕ → ℕ → ℕ → ℕ → Layout
+after_replacement layout line_count row going coming =
+    let after : ℕ = line_count - going + coming in
+    if is_same_wrapping (wrapping_for layout.settings after) (wrapping_for layout.settings line_count) then some_wrapped layout row going coming else all_wrapped layout.settings layout.count after
+
+-- the layout of a text of `line_count` lines after a splice
+abbrev pub after_splice : Layout → ℕ → Splice → Layout
+after_splice layout line_count splice = after_replacement layout line_count splice.place.0 (replaced_line_count splice) (new_line_count splice)
+
+-- the text and its layout after a splice
+abbrev pub applied_to : TextAndLayout → Splice → TextAndLayout
+applied_to text_layout splice = record { text = applied text_layout.text splice; layout = after_splice text_layout.layout (length (lines text_layout.text)) splice }
+
+-- the text and its layout after some lines are replaced
+abbrev pub replaced_in : TextAndLayout → ℕ → ℕ → List (List ℕ) → TextAndLayout
+replaced_in text_layout row going coming = record {
+  text = joined (replaced (lines text_layout.text) row going coming);
+  layout = after_replacement text_layout.layout (length (lines text_layout.text)) row going (length coming);
+}
+
+-- the same for a prepared replacement
+abbrev pub with_replacement : TextAndLayout → Replacement → TextAndLayout
+with_replacement text_layout replacement = replaced_in text_layout replacement.row replacement.count (lines_of replacement.lines.items)
+
+-- the lines after a replacement, and their number
+abbrev pub lines_after : List (String Global) → Replacement → List (List ℕ)
+lines_after lines replacement = lines_of (replaced lines replacement.row replacement.count replacement.lines.items)
+
+abbrev pub count_after : ℕ → Replacement → ℕ
+count_after line_count replacement = line_count - replacement.count + vec_len replacement.lines
+
+-- a text whose lines are all wrapped from scratch, when the counter's number before is `count`
+abbrev pub layout_from_scratch : LayoutSettings → ℕ → List Symbol → TextAndLayout
+layout_from_scratch settings count text = record { text = text; layout = all_wrapped settings count (length (lines text)) }
+
+-- how the text is wrapped
+abbrev pub wrapping_of : TextAndLayout → Wrapping
+wrapping_of text_layout = wrapping_for text_layout.layout.settings (length (lines text_layout.text))
+
+-- how the text is wrapped in an inner area of this many columns
+abbrev pub wrapping_at : TextAndLayout → ℕ → Wrapping
+wrapping_at text_layout inner_width = wrapped_at_width text_layout.layout.settings inner_width (length (lines text_layout.text))
+
+-- whether the settings leave how the text is wrapped
+abbrev pub keeps_wrapping : TextAndLayout → LayoutSettings → Bool
+keeps_wrapping text_layout settings = is_same_wrapping (wrapping_for settings (length (lines text_layout.text))) (wrapping_of text_layout)
+
+-- whether the text is already wrapped as in an inner area of this many columns
+abbrev pub is_wrapped_at : TextAndLayout → ℕ → Bool
+is_wrapped_at text_layout inner_width = is_same_wrapping (wrapping_at text_layout inner_width) (wrapping_of text_layout)
+
+-- the settings with an inner area of this many columns
+abbrev pub at_width : TextAndLayout → ℕ → LayoutSettings
+at_width text_layout inner_width = record {
+  mode = text_layout.layout.settings.mode;
+  tab_len = text_layout.layout.settings.tab_len;
+  line_numbers = text_layout.layout.settings.line_numbers;
+  inner_width = inner_width;
+}
+
+-- the text with other settings; all lines are wrapped again if these wrap them in another way
+abbrev pub with_settings : TextAndLayout → LayoutSettings → TextAndLayout
+with_settings text_layout settings =
+    if keeps_wrapping text_layout settings then (record { text = text_layout.text; layout = record { settings = settings; count = text_layout.layout.count; ticks = text_layout.layout.ticks } }) else layout_from_scratch settings text_layout.layout.count text_layout.text

@@ -1,0 +1,372 @@
+//! The lines of a text with their visual rows.
+mod width;
+
+ghost use Rattle.std.specs.Prelude.{◌≡◌, ◌+◌, ◌-◌, ◌<◌, ◌≤◌, ◌↔◌, [], length, vec_len, false, true, IfOk, IfSome, IsOk, IsTrue, OnErr, OnOk, if◌then◌else◌};
+ghost use Rattle.textarea_util.specs.Limit.{size_limit};
+ghost use Rattle.textarea_text.specs.Offset.{offset_at};
+ghost use Rattle.textarea_text.specs.Place.{Place, IsPlace};
+ghost use Rattle.textarea_text.specs.Size.{size_of, weight};
+ghost use Rattle.textarea_text.specs.Splice.{Fits, applied};
+ghost use Rattle.textarea_text.specs.Text.{lines, lines_of, text_of};
+ghost use Rattle.textarea_text.specs.Touched.{breaks_of};
+ghost use Rattle.textarea_blocks.specs.Sums.{row_total};
+ghost use Rattle.textarea_screen_map.specs.Map.{IsRowCount};
+ghost use Rattle.textarea_screen_map.specs.VisualPositions.{IsVisualPosition};
+ghost use Rattle.textarea_lines.specs.TextRows.{IsFoundAbove, IsFoundBelow, IsRowCountAt, OfRows};
+ghost use Rattle.textarea_lines.specs.TextLayout.{applied_to, is_wrapped_at, layout_from_scratch, with_settings, keeps_wrapping, with_replacement};
+ghost use Rattle.textarea_lines.specs.Stored.{size_after};
+ghost use Rattle.textarea_lines.specs.Wrappings.{is_wrapped};
+
+use crate::rewrap::{Measured, WrappedRows, drop_measured, prepare_rows_for, put_whole_line};
+use crate::settings::{LayoutSettings, is_same, is_wrapped, wrapping_at, wrapping_for};
+use std::alloc::{AllocError, Global};
+use std::marker::Model;
+use textarea_history::edit::Change;
+use textarea_screen_map::layout::{VisualPosition, Wrapping, rows_in};
+use textarea_screen_map::screen_map::ScreenMap;
+use textarea_text::rows::{Replacement, byte_offset, byte_offset_from, size_within_limit};
+use textarea_text::util::Pos;
+use textarea_util::limit::within_limit;
+use textarea_wrap::wrap::WrapCount;
+pub use width::PreparedWidth;
+
+/// The lines of a text, at least one, with their visual rows. A change wraps the lines that it
+/// touches, or all lines if the new number of lines changes how lines are wrapped. Rows and columns
+/// count from 0, columns in characters. A call that runs out of memory changes nothing.
+#[derive(Drop)]
+pub struct TextLayout {
+    lines: Vec<String>,
+    size: usize,
+    map: ScreenMap,
+    count: WrapCount,
+    settings: LayoutSettings,
+    measured: Option<Measured>,
+    kept: Option<WrappedRows>,
+    found: Pos,
+}
+
+impl Model for TextLayout {
+    ghost use Rattle.textarea_text.specs.Text.{text_of};
+    ghost use Rattle.textarea_lines.specs.TextLayout.{TextAndLayout, layout_of};
+
+    ghost Value = { TextAndLayout };
+
+    ghost use Rattle.textarea_lines.specs.Stored.{KeepsRows};
+
+    ghost view = { λ text_layout. record {
+      text = text_of text_layout.lines.items;
+      layout = layout_of text_layout.settings text_layout.count text_layout.map.rows;
+    } };
+
+    ghost invariant = { λ text_layout.
+        KeepsRows text_layout.settings text_layout.lines.items text_layout.size text_layout.map
+        text_layout.measured
+        text_layout.count text_layout.kept text_layout.found };
+}
+
+impl Clone for TextLayout {
+    ghost is_clone = { λ text_layout copy. copy ≡ text_layout };
+
+    /// Returns the same lines with the same rows, or an error if memory runs out. Wraps no line.
+    fn clone(&self) -> Result<TextLayout, AllocError> {
+        Ok(TextLayout {
+            lines: self.lines.clone()?,
+            size: self.size,
+            map: self.map.clone()?,
+            count: self.count.clone()?,
+            settings: self.settings,
+            measured: self.measured,
+            kept: None,
+            found: Pos::new(self.found.row, self.found.col, self.found.offset),
+        })
+    }
+}
+
+impl TextLayout {
+    /// Returns these lines under the settings, each wrapped once. An empty list becomes one empty
+    /// line. A line feed inside a line remains a character of that line.
+    pub fn new(
+        alloc: Global,
+        mut lines: Vec<String>,
+        settings: LayoutSettings,
+    ) -> Result<TextLayout, AllocError>
+        ensures { IfOk result
+            (λ text_layout. text_layout ≡ layout_from_scratch settings 0 (text_of lines.items)) }
+    {
+        if lines.is_empty() {
+            lines.push(String::new(alloc))?;
+        }
+        TextLayout::wrap_lines(lines, settings, WrapCount::new())
+    }
+
+    // Wraps all lines from scratch, each adding one to `count`.
+    fn wrap_lines(
+        lines: Vec<String>,
+        settings: LayoutSettings,
+        mut count: WrapCount,
+    ) -> Result<TextLayout, AllocError>
+        requires { 0 < vec_len lines }
+        ensures { IfOk result
+            (λ text_layout. text_layout ≡ layout_from_scratch settings count
+            (text_of lines.items)) }
+    {
+        let size = size_within_limit(lines.as_slice())?;
+        let wrapping = wrapping_for(settings, lines.len());
+        let alloc = *lines.allocator();
+        let map = ScreenMap::new(alloc, lines.as_slice(), wrapping, &mut count)?;
+        Ok(TextLayout {
+            lines,
+            size,
+            map,
+            count,
+            settings,
+            measured: None,
+            kept: None,
+            found: Pos::new(0, 0, 0),
+        })
+    }
+
+    /// Returns the lines, at least one. Their bytes and their number together are at most 2^48, so
+    /// a position's row is less than 2^48, and its column is at most that.
+    pub fn lines(&self) -> &[String]
+        ensures value { text_of result.now ≡ self.now.text }
+        ensures lines { lines_of result.now ≡ lines self.now.text }
+        ensures some { 0 < length result.now }
+        ensures limit { size_of result.now ≤ size_limit }
+        ensures small { (place : Place) → IsPlace self.now.text place →
+            (place.0 < size_limit) × (place.1 ≤ size_limit) }
+    {
+        self.lines.as_slice()
+    }
+
+    /// Returns the allocator of the lines and their rows.
+    pub fn allocator(&self) -> Global {
+        *self.lines.allocator()
+    }
+
+    /// Returns the settings that determine how lines are wrapped.
+    pub fn layout_settings(&self) -> LayoutSettings
+        ensures { result ≡ self.now.layout.settings }
+    {
+        self.settings
+    }
+
+    /// Returns whether the text is one empty line.
+    pub fn is_empty(&self) -> bool
+        ensures { IsTrue result ↔ (self.now.text ≡ []) }
+    {
+        self.lines.len() == 1 && self.lines[0].is_empty()
+    }
+
+    /// Returns only the lines.
+    pub fn into_lines(self) -> Vec<String>
+        ensures text { text_of result.items ≡ self.text }
+        ensures some { 0 < vec_len result }
+    {
+        let TextLayout { lines, .. } = self;
+        lines
+    }
+
+    /// Replaces all lines, under the same settings. Wraps each line once.
+    pub fn set_lines(&mut self, lines: Vec<String>) -> Result<(), AllocError>
+        requires { 0 < vec_len lines }
+        ensures ok { OnOk result (self.new
+            ≡ layout_from_scratch self.old.layout.settings self.old.layout.count
+            (text_of lines.items)) }
+        ensures err { OnErr result (self.new ≡ self.old) }
+    {
+        let count = self.count.clone()?;
+        *self = TextLayout::wrap_lines(lines, self.settings, count)?;
+        Ok(())
+    }
+
+    /// Sets the layout settings. If this changes how lines are wrapped, all lines are wrapped, each
+    /// once. Otherwise this allocates nothing.
+    pub fn set_layout_settings(&mut self, settings: LayoutSettings) -> Result<(), AllocError>
+        ensures ok { OnOk result (self.new ≡ with_settings self.old settings) }
+        ensures err { OnErr result (self.new ≡ self.old) }
+        ensures no_memory { keeps_wrapping self.old settings ≡ true → IsOk result }
+    {
+        let cut = self.wrap_for(settings)?;
+        self.put(settings, cut);
+        Ok(())
+    }
+
+    /// Returns the number of visual rows.
+    pub fn row_count(&self) -> usize
+        ensures { OfRows self.now (λ rows. result ≡ row_total rows) }
+    {
+        self.map.row_count()
+    }
+
+    /// Returns the visual row and the display column of a position in the text.
+    pub fn visual_position(&self, place: (usize, usize)) -> VisualPosition
+        requires { IsPlace self.now.text place }
+        ensures { OfRows self.now (λ rows. IsVisualPosition
+            self.now.layout.settings.tab_len (lines self.now.text) rows place result) }
+    {
+        self.map.visual_position(self.lines.as_slice(), place)
+    }
+
+    /// Returns where a cursor moves one visual row up; `None` in the first visual row.
+    pub fn above(&self, place: (usize, usize)) -> Option<(usize, usize)>
+        requires { IsPlace self.now.text place }
+        ensures place { IfSome result (IsPlace self.now.text) }
+        ensures above { IsFoundAbove self.now place result }
+    {
+        self.map.above(self.lines.as_slice(), place)
+    }
+
+    /// Returns where a cursor moves one visual row down; `None` in the last visual row.
+    pub fn below(&self, place: (usize, usize)) -> Option<(usize, usize)>
+        requires { IsPlace self.now.text place }
+        ensures place { IfSome result (IsPlace self.now.text) }
+        ensures below { IsFoundBelow self.now place result }
+    {
+        self.map.below(self.lines.as_slice(), place)
+    }
+
+    /// Returns the number of visual rows in an inner area of this width, in columns. Allocates
+    /// nothing if the lines are already wrapped in that way, which they always are in the mode
+    /// `None`. The current rows and the count don't change. Rows that are wrapped for this are
+    /// cached, if memory suffices, until the lines change or are wrapped in a third way.
+    pub fn rows_at_width(&mut self, inner_width: u16) -> Result<usize, AllocError>
+        ensures same { self.new ≡ self.old }
+        ensures rows { IfOk result (IsRowCountAt self.old inner_width) }
+        ensures no_memory { is_wrapped_at self.old inner_width ≡ true → IsOk result }
+    {
+        let lines = self.lines.as_slice();
+        let wrapping = wrapping_at(self.settings, inner_width, lines.len());
+        if is_same(wrapping, self.map.wrapping()) {
+            return Ok(self.map.row_count());
+        }
+        if let Some(measured) = self.measured {
+            if is_same(wrapping, measured.wrapping) {
+                return Ok(measured.rows);
+            }
+        }
+        let rows = self.count_rows_at(wrapping)?;
+        self.measured = Some(Measured { wrapping, rows });
+        Ok(rows)
+    }
+
+    // Returns the number of visual rows at this wrapping. Wraps each line, and caches the rows if
+    // memory suffices.
+    fn count_rows_at(&mut self, wrapping: Wrapping) -> Result<usize, AllocError>
+        ensures same { self.new ≡ self.old }
+        ensures rows { IfOk result (IsRowCount wrapping (lines self.old.text)) }
+    {
+        drop_measured(&mut self.kept);
+        match self.wrap_all(wrapping) {
+            Ok(cut) => {
+                let rows = cut.map.row_count();
+                self.kept = Some(cut);
+                Ok(rows)
+            }
+            Err(_) => rows_in(*self.lines.allocator(), self.lines.as_slice(), wrapping),
+        }
+    }
+
+    /// Returns the bytes before a position in its line. Near the last in-place change, only the
+    /// text between the two positions is read, however long the line is.
+    pub fn offset_of(&self, place: (usize, usize)) -> usize
+        requires { IsPlace self.now.text place }
+        ensures { result ≡ offset_at (lines self.now.text) place }
+    {
+        let line = self.lines[place.0].as_str();
+        if self.found.row == place.0 {
+            return byte_offset_from(line, (self.found.col, self.found.offset), place.1);
+        }
+        byte_offset(line, place.1)
+    }
+
+    /// Makes a change that fits the text.
+    pub fn apply(&mut self, change: Change<'_>) -> Result<(), AllocError>
+        requires { Fits self.old.text change }
+        ensures ok { OnOk result (self.new ≡ applied_to self.old change.entry) }
+        ensures err { OnErr result (self.new ≡ self.old) }
+    {
+        let size = size_after(self.size, &change)?;
+        if !is_wrapped(self.settings) && change.is_inside_line() {
+            return self.apply_inside(change, size);
+        }
+        self.apply_by_lines(change, size)
+    }
+
+    // Makes a change by replacing the lines that it touches. `size` is that of all lines then.
+    fn apply_by_lines(&mut self, change: Change<'_>, size: usize) -> Result<(), AllocError>
+        requires fits { Fits self.old.text change }
+        requires size { size ≡ weight (applied self.old.text change) + 1 }
+        requires limit { size ≤ size_limit }
+        ensures ok { OnOk result (self.new ≡ applied_to self.old change.entry) }
+        ensures err { OnErr result (self.new ≡ self.old) }
+    {
+        let alloc = *self.lines.allocator();
+        let replacement = change.prepare(alloc, self.lines.as_slice())?;
+        self.replace(replacement, size)
+    }
+
+    // Makes a change inside one line in place, when lines aren't wrapped. The rest of the text
+    // isn't read. All that can run out of memory comes first.
+    fn apply_inside(&mut self, change: Change<'_>, size: usize) -> Result<(), AllocError>
+        requires fits { Fits self.old.text change }
+        requires inside { breaks_of change.symbols ≡ 0 }
+        requires whole { is_wrapped self.old.layout.settings ≡ false }
+        requires size { size ≡ weight (applied self.old.text change) + 1 }
+        requires limit { size ≤ size_limit }
+        ensures ok { OnOk result (self.new ≡ applied_to self.old change.entry) }
+        ensures err { OnErr result (self.new ≡ self.old) }
+    {
+        let (row, column) = change.start();
+        let offset = self.offset_of((row, column));
+        let alloc = self.allocator();
+        let rows = Vec::with_capacity(alloc, 1)?;
+        change.apply_inside(&mut self.lines, offset)?;
+        let lines = self.lines.as_slice();
+        put_whole_line(alloc, &mut self.map, rows, lines, row, &mut self.count);
+        self.size = size;
+        self.measured = None;
+        drop_measured(&mut self.kept);
+        self.found = Pos::new(row, column, offset);
+        Ok(())
+    }
+
+    // Replaces lines with their rows. `size` is that of all lines then. All memory is allocated
+    // before the first change.
+    fn replace(&mut self, replacement: Replacement, size: usize) -> Result<(), AllocError>
+        requires within { replacement.row + replacement.count ≤ length (lines self.old.text) }
+        requires some { 0 < vec_len replacement.lines }
+        requires size { size ≡ weight (with_replacement self.old replacement).text + 1 }
+        requires limit { size ≤ size_limit }
+        ensures ok { OnOk result (self.new ≡ with_replacement self.old replacement) }
+        ensures err { OnErr result (self.new ≡ self.old) }
+    {
+        let (prepared, count) = prepare_rows_for(
+            &mut self.lines,
+            &mut self.map,
+            &replacement,
+            self.settings,
+            &self.count,
+        )?;
+        replacement.replace_in(&mut self.lines);
+        self.map.replace(prepared);
+        self.size = size;
+        self.measured = None;
+        drop_measured(&mut self.kept);
+        self.found = Pos::new(0, 0, 0);
+        self.count = count;
+        Ok(())
+    }
+}
+
+// Returns the size of the lines after the change. Out of memory above the limit.
+fn size_after(size: usize, change: &Change<'_>) -> Result<usize, AllocError>
+    ensures size { IfOk result (λ after. after ≡ size_after size change.now) }
+    ensures limit { IsOk result ↔ (size_after size change.now ≤ size_limit) }
+{
+    let weight = change.weight();
+    if change.inserts() {
+        return within_limit(size.saturating_add(weight));
+    }
+    within_limit(size.saturating_sub(weight))
+}

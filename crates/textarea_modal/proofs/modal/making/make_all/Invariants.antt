@@ -1,8 +1,0 @@
-use Rattle.std.proofs.Common.{map, take}
-use Rattle.textarea_modal.specs.Calls.{call_of}
-use Rattle.textarea_modal.specs.Runs.{AllMade}
-use Rattle.textarea_modal.proofs.modal.making.make_all.Given as goal
-
-abbrev pub invariant-loop-call : goal.invariant-loop-call
-invariant-loop-call l =
-    AllMade l.initial.area (take l.call-index (map call_of l.calls)) l.area

@@ -1,0 +1,105 @@
+//! Searches in ranges: which one contains a position, which one is at it, and what a removal takes.
+//! A position is a row and a column, both from 0, the column in characters.
+ghost use Rattle.std.specs.Prelude.{◌≡◌, ℕ, List, All};
+ghost use Rattle.textarea_ranges.specs.Prelude.{IsPlaceOf, IsUpTo, IsInside, IsWidened, range_edge, range_at_place, range_around, is_range_at_place, is_inside, moved_out, widened, AreValid};
+
+use textarea_data::range::{AtomicCursorBias, AtomicDeleteDirection, AtomicRange};
+
+/// Returns the range that strictly contains the position: it starts before it and ends after it.
+pub fn range_around(ranges: &[AtomicRange], place: (usize, usize)) -> Option<AtomicRange>
+    ensures { result ≡ range_around ranges.now place }
+{
+    ranges
+        .iter()
+        .copied()
+        .find(|range| is_inside(*range, place))
+}
+
+fn is_inside(range: AtomicRange, place: (usize, usize)) -> bool
+    ensures { result ≡ is_inside place range }
+{
+    range.row == place.0 && range.start_col < place.1 && place.1 < range.end_col
+}
+
+/// Moves the position out of the range that strictly contains it: to its start for `Backward`, to
+/// its end for `Forward`. Any other position stays. If the ranges are valid for some lines, no
+/// range strictly contains the result, and it is a position of the lines if the given one is.
+pub fn move_out(
+    ranges: &[AtomicRange],
+    place: (usize, usize),
+    bias: AtomicCursorBias,
+) -> (usize, usize)
+    ensures value { result ≡ moved_out ranges.now place bias }
+    ensures outside { (rows : List (List ℕ)) → AreValid rows ranges.now →
+        All (λ range. ¬ IsInside result range) ranges.now }
+    ensures place { (rows : List (List ℕ)) → AreValid rows ranges.now →
+        IsPlaceOf rows place → IsPlaceOf rows result }
+{
+    match range_around(ranges, place) {
+        Some(range) => range_edge(range, bias),
+        None => place,
+    }
+}
+
+// The range's start for `Backward`, its end for `Forward`.
+fn range_edge(range: AtomicRange, bias: AtomicCursorBias) -> (usize, usize)
+    ensures { result ≡ range_edge range bias }
+{
+    match bias {
+        AtomicCursorBias::Backward => (range.row, range.start_col),
+        AtomicCursorBias::Forward => (range.row, range.end_col),
+    }
+}
+
+/// Returns the range at the position, in its row: for `Backward` one that starts before it and ends
+/// at or after it, for `Forward` one that starts at or before it and ends after it.
+pub fn range_at_place(
+    ranges: &[AtomicRange],
+    place: (usize, usize),
+    direction: AtomicDeleteDirection,
+) -> Option<AtomicRange>
+    ensures { result ≡ range_at_place ranges.now place direction }
+{
+    ranges
+        .iter()
+        .copied()
+        .find(|range| is_range_at_place(*range, place, direction))
+}
+
+// Whether the range is at the position in this direction.
+fn is_range_at_place(
+    range: AtomicRange,
+    place: (usize, usize),
+    direction: AtomicDeleteDirection,
+) -> bool
+    ensures { result ≡ is_range_at_place place direction range }
+{
+    let column = place.1;
+    range.row == place.0
+        && match direction {
+            AtomicDeleteDirection::Backward => range.start_col < column && column <= range.end_col,
+            AtomicDeleteDirection::Forward => range.start_col <= column && column < range.end_col,
+        }
+}
+
+/// Widens a removal: its start moves back and its end forward, out of the ranges that strictly
+/// contain them. If the ranges are valid for some lines and the removal starts at or before its
+/// end, the result contains each range that the removal overlaps, takes each range whole or not at
+/// all, and is the smallest that does.
+pub fn widen(
+    ranges: &[AtomicRange],
+    from: (usize, usize),
+    to: (usize, usize),
+) -> ((usize, usize), (usize, usize))
+    ensures value { result ≡ widened ranges.now from to }
+    ensures whole { (rows : List (List ℕ)) → AreValid rows ranges.now →
+        IsUpTo from to → IsWidened ranges.now from to result }
+    ensures places { (rows : List (List ℕ)) → AreValid rows ranges.now →
+        IsPlaceOf rows from → IsPlaceOf rows to →
+        IsPlaceOf rows result.0 × IsPlaceOf rows result.1 }
+{
+    (
+        move_out(ranges, from, AtomicCursorBias::Backward),
+        move_out(ranges, to, AtomicCursorBias::Forward),
+    )
+}

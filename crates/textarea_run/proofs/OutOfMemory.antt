@@ -1,0 +1,39 @@
+-- The states after a rejected pattern and after rejected atomic ranges.
+use Rattle.std.proofs.Common.{◌≡◌, ◌≢◌, ℕ, List, [], ◌∷◌, Some, Result, Ok, Err, IfErr, IfOk, IsOk, true, false, refl, subst, sym}
+use Rattle.textarea_data.specs.declared.range.AtomicRange.{AtomicRange}
+use Rattle.textarea_data.specs.declared.range.RejectedAtomicRange.{RejectedAtomicRange}
+use Rattle.textarea_search.specs.PatternErrors.{IsErrorFor, IsPatternFailure}
+use Rattle.textarea_search.specs.declared.error.SearchError.{SearchError}
+use Rattle.textarea_search.specs.declared.error.SearchError.TheVariants.{Memory, Pattern}
+use Rattle.tui_textarea.specs.State.{State}
+use Rattle.tui_textarea.specs.Calls.{with_ranges_if}
+use Rattle.tui_textarea.specs.Outcomes.{IsPatternAnswer}
+use Rattle.tui_textarea.specs.Patterns.{IsPatternResult}
+use Rattle.tui_textarea.specs.CallResults.{call_result}
+use Rattle.textarea_calls.specs.declared.answer.Answer.{Answer}
+
+-- if ranges are rejected, none is set
+pub with_rejected : (rejected : List RejectedAtomicRange) (state : State) (ranges : List AtomicRange) → rejected ≢ [] → with_ranges_if rejected state ranges ≡ state
+with_rejected [] state ranges some = absurd (some refl)
+with_rejected (range ∷ rejected) state ranges some = refl
+
+-- the result of setting a pattern is one that the call may return
+pub pattern_told : {T E : Type 0} (state : State) (text : List ℕ) (outcome : Result T SearchError) (told : Result Answer E)
+    → IsPatternResult outcome told → (text ≡ [] → IsOk outcome) → (state.pattern ≡ Some text → IsOk outcome)
+    → IfErr outcome (IsPatternFailure text) → IfErr outcome (IsErrorFor text)
+    → IfOk told (λ answer. IsPatternAnswer state text (call_result answer))
+pattern_told state text outcome (Err error) is empty present refused carried = tt
+pattern_told state text (Ok set) (Ok answer) is empty present refused carried =
+    subst (IsPatternAnswer state text) (sym is.1) refl
+pattern_told state text (Err (Memory error)) (Ok answer) is empty present refused carried =
+    let never : false ≡ true = is in cc
+pattern_told state text (Err (Pattern error)) (Ok answer) is empty present refused carried =
+    subst (IsPatternAnswer state text) (sym is.1) (record {
+      is_new = record {
+        some = λ none. let never : false ≡ true = empty none in cc;
+        other = λ same. let never : false ≡ true = present same in cc;
+      };
+      error = error;
+      because = refused;
+      carried = carried;
+    })

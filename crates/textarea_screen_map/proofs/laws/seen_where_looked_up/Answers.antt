@@ -1,5 +1,0 @@
-use Rattle.textarea_screen_map.proofs.ThereAndBack.{is_place, seen_near, seen_there}
-use Rattle.textarea_screen_map.proofs.laws.seen_where_looked_up.Goals as goal
-
-pub returns : goal.returns
-returns c = record { place = is_place; visual = seen_there; near = seen_near }

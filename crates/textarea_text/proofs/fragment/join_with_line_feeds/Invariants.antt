@@ -1,0 +1,7 @@
+use Rattle.std.proofs.Common.{◌≡◌, ◌++◌, take}
+use Rattle.textarea_text.specs.Text.{characters_of, following, lines_of}
+use Rattle.textarea_text.specs.Fragment.{fragment_text}
+use Rattle.textarea_text.proofs.fragment.join_with_line_feeds.Given as goal
+
+abbrev pub invariant-loop-piece : goal.invariant-loop-piece
+invariant-loop-piece l = characters_of l.text ≡ characters_of l.initial.text ++ fragment_text (following (take l.piece-index (lines_of l.rest)))

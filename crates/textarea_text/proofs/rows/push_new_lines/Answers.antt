@@ -1,0 +1,20 @@
+use Rattle.std.proofs.Common.{ap, arith, length}
+use Rattle.std.proofs.lemmas.Grind.{common_steps}
+use Rattle.std.proofs.lemmas.List.{length-map}
+use Rattle.textarea_text.specs.Text.{characters_of, lines_of}
+use Rattle.textarea_text.proofs.StringRows.{line_at, rows_all, rows_more, rows_none}
+use Rattle.textarea_text.proofs.rows.push_new_lines.Goals as goal
+
+pub loop-piece-init : goal.loop-piece-init
+loop-piece-init c = (
+  omega (arith, ap length c.requires.none, c.args.rows.now.ok.0),
+  rows_none c.args.rows.now.items c.args.line.now (lines_of c.args.rest.now) c.requires.none,
+)
+
+pub loop-piece-preserved : goal.loop-piece-preserved
+loop-piece-preserved c =
+    grind (arith, common_steps, rows_more, length-map c.args.rest.now characters_of, line_at)
+
+pub returns-clause-rows : goal.returns-clause-rows
+returns-clause-rows c =
+    rows_all c.loop-piece.rows.items c.loop-piece.line (characters_of c.args.line.now) (lines_of c.args.rest.now) c.loop-piece.piece-index c.loop-piece.invariant.1 (omega (arith, length-map c.args.rest.now characters_of))

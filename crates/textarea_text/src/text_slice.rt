@@ -1,0 +1,71 @@
+//! Copies of the text between two positions.
+ghost use Rattle.std.specs.Prelude.{◌≡◌, ◌+◌, ◌≤◌, ◌++◌, ◌∷◌, length, take, drop, vec_len, IfOk, OnOk, []};
+ghost use Rattle.std.specs.Str.{chars};
+ghost use Rattle.textarea_text.specs.Text.{lines_of, text_of};
+ghost use Rattle.textarea_text.specs.Place.{IsPlaceOf, index_of};
+ghost use Rattle.textarea_text.specs.Between.{symbols_between};
+
+use crate::rows::{byte_offset, byte_offset_from};
+use std::alloc::{AllocError, Global};
+
+/// Returns the text between two positions as a fragment, one string for each row that it touches.
+pub fn between(
+    alloc: Global,
+    lines: &[String],
+    from: (usize, usize),
+    to: (usize, usize),
+) -> Result<Vec<String>, AllocError>
+    requires from { IsPlaceOf (lines_of lines.now) from }
+    requires to { IsPlaceOf (lines_of lines.now) to }
+    requires ordered { index_of (text_of lines.now) from ≤ index_of (text_of lines.now) to }
+    ensures len { IfOk result (λ pieces. vec_len pieces + from.0 ≡ to.0 + 1) }
+    ensures text { IfOk result
+        (λ pieces. text_of pieces.items ≡ symbols_between (text_of lines.now) from to) }
+{
+    let mut pieces = Vec::with_capacity(alloc, to.0 - from.0 + 1)?;
+    let mut start = from.1;
+    for line in &lines[from.0..to.0] {
+        push_line(&mut pieces, text_from(line.as_str(), start))?;
+        start = 0;
+    }
+    push_line(&mut pieces, text_between(lines[to.0].as_str(), start, to.1))?;
+    Ok(pieces)
+}
+
+// Appends a copy of the text.
+fn push_line(pieces: &mut Vec<String>, text: &str) -> Result<(), AllocError>
+    ensures rows { OnOk result
+        (lines_of pieces.new.items ≡ lines_of pieces.old.items ++ chars text.now ∷ []) }
+    ensures len { OnOk result (vec_len pieces.new ≡ vec_len pieces.old + 1) }
+{
+    let piece = String::from_str(*pieces.allocator(), text)?;
+    pieces.push(piece)?;
+    Ok(())
+}
+
+/// The text of a line before the column.
+pub(crate) fn text_before(line: &str, column: usize) -> &str
+    requires { column ≤ length (chars line.now) }
+    ensures { chars result.now ≡ take column (chars line.now) }
+{
+    &line[..byte_offset(line, column)]
+}
+
+// The text of a line from the column on.
+fn text_from(line: &str, column: usize) -> &str
+    requires { column ≤ length (chars line.now) }
+    ensures { chars result.now ≡ drop column (chars line.now) }
+{
+    &line[byte_offset(line, column)..]
+}
+
+// The text of a line between two columns.
+fn text_between(line: &str, start: usize, end: usize) -> &str
+    requires start { start ≤ end }
+    requires end { end ≤ length (chars line.now) }
+    ensures { chars result.now ≡ drop start (take end (chars line.now)) }
+{
+    let from = byte_offset(line, start);
+    let to = byte_offset_from(line, (start, from), end);
+    &line[from..to]
+}

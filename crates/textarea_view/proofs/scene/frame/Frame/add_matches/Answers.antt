@@ -1,9 +1,0 @@
-use Rattle.std.proofs.Common.{sym, ap, ◌∙◌, arith}
-use Rattle.std.proofs.lemmas.List.Sums.{fold_more}
-use Rattle.textarea_view.specs.Prelude.{shown_row, with_match, with_part}
-use Rattle.textarea_view.proofs.scene.frame.Frame.add_matches.Goals as goal
-
-pub loop-found-preserved : goal.loop-found-preserved
-loop-found-preserved c =
-    let row = shown_row c.args.shown in
-    c.in_ok-add_part.ensures.ok ∙ ap (with_part row _ _ _) c.loop-found.invariant ∙ sym (fold_more (with_match _ row) c.args.highlighter.now c.args.matches.now c.loop-found.found-index _ (omega arith))

@@ -1,5 +1,0 @@
-use Rattle.std.proofs.lemmas.Str.{encodes-chars}
-use Rattle.textarea_view.proofs.scene.frame.Frame.begin.Goals as goal
-
-pub returns : goal.returns
-returns c = rw (encodes-chars c.args.text.now c.utf8.text, ← c.self.view_is, ← c.scene.view_is) (rw (c.cursor_cell.ensures, c.tab_len.ensures, ← c.scene.view_is) at c.restart.ensures)

@@ -1,0 +1,111 @@
+-- The lines that each call wraps, by the laws of the text area; the wrap counter never decreases.
+use Rattle.std.proofs.Common.{◌≡◌, ◌≤◌, ℕ, List, [], ◌∷◌, true, false, ap, refl, subst, sym, ◌∙◌, ⊎_elim}
+use Rattle.textarea_lines.specs.LineWraps.{WrapsForSplices, WrapsAllLines, WrapsForSettings, WrapsForWidth}
+use Rattle.textarea_lines.specs.TextLayout.{TextAndLayout}
+use Rattle.textarea_lines.specs.declared.settings.LayoutSettings.{LayoutSettings}
+use Rattle.textarea_text.specs.Between.{clip}
+use Rattle.textarea_data.specs.declared.range.AtomicRange.{AtomicRange}
+use Rattle.textarea_data.specs.declared.range.RejectedAtomicRange.{RejectedAtomicRange}
+use Rattle.textarea_text.specs.Place.{Place}
+use Rattle.textarea_text.specs.Splice.{Splice}
+use Rattle.textarea_text.specs.Text.{Symbol, lines_of, text_of}
+use Rattle.textarea_document.specs.DocumentWraps.{WrapsAll, WrapsBySettings, WrapsByWidth, SplicedBy}
+use Rattle.textarea_document.specs.DocumentRows.{text_and_layout}
+use Rattle.textarea_document.specs.Sound.{IsSound}
+use Rattle.textarea_document.specs.Splices.{selected_splices}
+use Rattle.textarea_document.specs.DocumentState.{DocumentState, fresh_document}
+use Rattle.tui_textarea.specs.Input.{asked_by, asked_without_shortcuts}
+use Rattle.tui_textarea.specs.LayoutCalls.{alignment_set, mode_set, line_numbers_set, tab_length_set, with_layout}
+use Rattle.tui_textarea.specs.State.{State}
+use Rattle.tui_textarea.specs.Calls.{rejected_ranges, with_ranges_if}
+use Rattle.tui_textarea.specs.CallWraps.{WrapsByCall}
+use Rattle.tui_textarea.specs.Outcomes.{IsAfterCall, IsAfterOutOfMemory}
+use Rattle.tui_textarea.specs.CallResults.{CallResult}
+use Rattle.tui_textarea.specs.CallSplices.{OfSplicesOutOfMemory, splices_of}
+use Rattle.textarea_calls.specs.declared.call.Call.{Call}
+use Rattle.textarea_calls.specs.declared.call.Call.TheVariants as call
+use Rattle.textarea_document.specs.DocumentRows.{with_inner_width, with_layout_settings}
+use Rattle.textarea_view.specs.Measure.{width_inside}
+use Rattle.tui_textarea.proofs.Acting.{by_any_act, calls_by, calls_left}
+use Rattle.tui_textarea.proofs.Wrapping.{RedosWrap, StepsWrap, UndosWrap, past_cut, reckoned}
+use Rattle.tui_textarea.proofs.Frames.{drawn_document}
+
+-- ---- the laws of the text area
+
+pub record TheLaws : Type 0 where
+  pub stepped : StepsWrap
+  pub undone : UndosWrap
+  pub redone : RedosWrap
+  pub width : (document : DocumentState) (inner_width : ℕ) → WrapsByWidth document (with_inner_width document inner_width)
+  pub settings : (document : DocumentState) (settings : LayoutSettings) → WrapsBySettings document settings (with_layout_settings document settings)
+  pub lines : (document : DocumentState) (text : List Symbol) (cursor : Place) (maximum : ℕ) → WrapsAll document (fresh_document text document.layout.settings document.layout.count cursor maximum)
+
+-- ---- each call
+
+-- the state after a call that runs out of memory, by the splices that it has made
+abbrev LeftBy : State → State → Type 0
+LeftBy old new = OfSplicesOutOfMemory old (λ splices. SplicedBy old.document splices new.document)
+
+ranges_kept : (rejected : List RejectedAtomicRange) (state : State) (ranges : List AtomicRange) → text_and_layout (with_ranges_if rejected state ranges).document ≡ text_and_layout state.document
+ranges_kept [] state ranges = refl
+ranges_kept (range ∷ rejected) state ranges = refl
+
+module _ (laws : TheLaws) where
+  set : (old new outcome : State) (settings : LayoutSettings) → new.document ≡ outcome.document → outcome ≡ with_layout old settings → WrapsBySettings old.document settings new.document
+  set old new outcome settings same is =
+      subst (WrapsBySettings old.document settings) (sym (same ∙ ap (λ (s : State). s.document) is)) (laws.settings old.document settings)
+
+  pub call_cuts : (old new : State) (made : Call) (answer : CallResult) → IsSound old.document → IsAfterCall old made answer new → WrapsByCall old made new
+  call_cuts old new (call.SetLines lines cursor) answer h k =
+      subst (λ (s : State). WrapsAll old.document s.document) (sym k)
+      (laws.lines old.document (text_of lines.now) (clip (lines_of lines.now) cursor) old.document.log.maximum)
+  call_cuts old new (call.SetTabLength columns) answer h k = set old new (with_layout old (tab_length_set old columns)) (tab_length_set old columns) (ap (λ (s : State). s.document) k) refl
+  call_cuts old new (call.SetWrapMode mode) answer h k = set old new (with_layout old (mode_set old mode)) (mode_set old mode) (ap (λ (s : State). s.document) k) refl
+  call_cuts old new (call.SetLineNumberStyle style) answer h k = set old new (with_layout old (line_numbers_set old true)) (line_numbers_set old true) (ap (λ (s : State). s.document) k) refl
+  call_cuts old new call.RemoveLineNumber answer h k = set old new (with_layout old (line_numbers_set old false)) (line_numbers_set old false) (ap (λ (s : State). s.document) k) refl
+  call_cuts old new (call.SetAlignment alignment) answer h k = set old new (with_layout old (alignment_set old alignment)) (alignment_set old alignment) (ap (λ (s : State). s.document) k) refl
+  call_cuts old new (call.Render area) answer h k =
+      subst (WrapsByWidth old.document) (sym (drawn_document old new area k)) (laws.width old.document (width_inside old.surround.block area.width))
+  call_cuts old new (call.TrySetAtomicRanges ranges) answer h k =
+      ap (λ (s : State). text_and_layout s.document) k ∙ ranges_kept (rejected_ranges old ranges.now) old ranges.now
+  call_cuts old new call.ClearAtomicRanges answer h k = ap (λ (s : State). text_and_layout s.document) k
+  call_cuts old new (call.Input input) answer h k =
+      by_any_act SplicedBy (asked_by input.now) old.document new.document _ (calls_by SplicedBy SplicedBy (reckoned laws.stepped) (past_cut laws.undone laws.redone) old new (call.Input input) answer h k)
+  call_cuts old new (call.InputWithoutShortcuts input) answer h k =
+      by_any_act SplicedBy (asked_without_shortcuts input.now) old.document new.document _ (calls_by SplicedBy SplicedBy (reckoned laws.stepped) (past_cut laws.undone laws.redone) old new (call.InputWithoutShortcuts input) answer h k)
+  call_cuts old new made answer h k = calls_by SplicedBy SplicedBy (reckoned laws.stepped) (past_cut laws.undone laws.redone) old new made answer h k
+
+  pub refused_cuts : (old new : State) (made : Call) → IsSound old.document → IsAfterOutOfMemory old made new → LeftBy old new
+  refused_cuts old new made h k = calls_left SplicedBy SplicedBy (reckoned laws.stepped) (past_cut laws.undone laws.redone) old new made h k
+
+-- ---- the wrap counter
+
+pub record Never : Type 0 where
+  pub splices : (old new : TextAndLayout) (splices : List Splice) → WrapsForSplices old splices new → old.layout.count ≤ new.layout.count
+  pub width : (old new : TextAndLayout) → WrapsForWidth old new → old.layout.count ≤ new.layout.count
+  pub settings : (old new : TextAndLayout) (settings : LayoutSettings) → WrapsForSettings old settings new → old.layout.count ≤ new.layout.count
+  pub lines : (old new : TextAndLayout) → WrapsAllLines old new → old.layout.count ≤ new.layout.count
+
+module _ (never : Never) where
+  splices_grow : (old new : DocumentState) (splices : List Splice) → SplicedBy old splices new → old.layout.count ≤ new.layout.count
+  splices_grow old new splices h = never.splices (text_and_layout old) (text_and_layout new) splices h
+
+  pub left_grows : (old new : State) → LeftBy old new → old.document.layout.count ≤ new.document.layout.count
+  left_grows old new h =
+      ⊎_elim
+      (λ none. splices_grow old.document new.document [] none)
+      (λ gone. splices_grow old.document new.document (selected_splices old.document) gone)
+      h
+
+  settings_grow : (old new : DocumentState) (settings : LayoutSettings) → WrapsBySettings old settings new → old.layout.count ≤ new.layout.count
+  settings_grow old new settings h = never.settings (text_and_layout old) (text_and_layout new) settings h
+
+  pub call_grows : (old new : State) (made : Call) → WrapsByCall old made new → old.document.layout.count ≤ new.document.layout.count
+  call_grows old new (call.SetLines lines cursor) h = never.lines (text_and_layout old.document) (text_and_layout new.document) h
+  call_grows old new (call.SetTabLength columns) h = settings_grow old.document new.document (tab_length_set old columns) h
+  call_grows old new (call.SetWrapMode mode) h = settings_grow old.document new.document (mode_set old mode) h
+  call_grows old new (call.SetLineNumberStyle style) h = settings_grow old.document new.document (line_numbers_set old true) h
+  call_grows old new call.RemoveLineNumber h = settings_grow old.document new.document (line_numbers_set old false) h
+  call_grows old new (call.SetAlignment alignment) h = settings_grow old.document new.document (alignment_set old alignment) h
+  call_grows old new (call.Render area) h = never.width (text_and_layout old.document) (text_and_layout new.document) h
+  call_grows old new made h = splices_grow old.document new.document (splices_of old made) h

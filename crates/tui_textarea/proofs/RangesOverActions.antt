@@ -1,0 +1,72 @@
+-- How the atomic ranges move with the text, over each edit.
+use Rattle.std.proofs.Common.{◌≡◌, ℕ, Bool, List, [], ◌∷◌, Option, None, Some, ap, refl, sym, subst, ◌∙◌}
+use Rattle.textarea_history.specs.Log.{newest, next}
+use Rattle.textarea_screen.specs.declared.screen.rect.Rect.{Rect}
+use Rattle.textarea_text.specs.Splice.{Splice, IsTextBefore, inverse}
+use Rattle.textarea_document.specs.Edits.{HasEffect, EditStep, splice_of_step, stepped}
+use Rattle.textarea_document.specs.RangesOverSplices.{RangesFollowSplices, RangesStayWhole}
+use Rattle.textarea_document.specs.Outcomes.{after_redo, after_redo_by, after_undo, after_undo_by}
+use Rattle.textarea_document.specs.Sound.{IsSound}
+use Rattle.textarea_document.specs.Splices.{redo_splices_by, undo_splices_by}
+use Rattle.textarea_document.specs.DocumentState.{DocumentState}
+use Rattle.textarea_document.proofs.RangesOverSplices.{goes_uncut_on, stays}
+use Rattle.tui_textarea.specs.Drawing.{IsRendered}
+use Rattle.tui_textarea.specs.State.{State}
+use Rattle.tui_textarea.proofs.Frames.{drawn_document}
+use Rattle.tui_textarea.proofs.Acting.{Past}
+use Rattle.tui_textarea.proofs.Stepping.{Reckoning, Seen, seen}
+
+-- the law of documents for a step, an undo and a redo
+abbrev pub StepsGo : Type 0
+StepsGo = (document : DocumentState) (step : EditStep) (typed : Bool) (now : ℕ) → IsSound document → HasEffect document step → RangesStayWhole document (splice_of_step document step ∷ []) (stepped document step typed now)
+
+abbrev pub UndosGo : Type 0
+UndosGo = (document : DocumentState) (splice : Splice) → IsSound document → newest document.log ≡ Some splice → RangesFollowSplices document (inverse splice ∷ []) (after_undo document)
+
+abbrev pub RedosGo : Type 0
+RedosGo = (document : DocumentState) (splice : Splice) → IsSound document → next document.log ≡ Some splice → RangesFollowSplices document (splice ∷ []) (after_redo document)
+
+still : (old new : DocumentState) → seen new ≡ seen old → RangesStayWhole old [] new
+still old new same = stays old new (ap (λ (s : Seen). s.0.text) same) (ap (λ (s : Seen). s.1) same)
+
+-- a document with the text and ranges of another is reached by the same splices
+goes_as : (old new other : DocumentState) (splices : List Splice) → seen other ≡ seen new → RangesStayWhole old splices new → RangesStayWhole old splices other
+goes_as old new other splices same h = (
+  record {
+    text = subst (λ t. IsTextBefore old.text t splices) (sym (ap (λ (s : Seen). s.0.text) same)) h.0.text;
+    ranges = ap (λ (s : Seen). s.1) same ∙ h.0.ranges;
+  },
+  h.1,
+)
+
+pub going : StepsGo → Reckoning RangesStayWhole
+going steps = record { none = still; same = goes_as; two = goes_uncut_on; one = steps }
+
+-- ---- undo and redo
+
+undone_goes : UndosGo → (document : DocumentState) (found : Option Splice) → IsSound document → newest document.log ≡ found → RangesFollowSplices document (undo_splices_by found) (after_undo document)
+undone_goes law document None h is =
+    let same : after_undo document ≡ document = ap (λ (f : Option Splice). after_undo_by f document) is in
+    (still document (after_undo document) (ap seen same)).0
+undone_goes law document (Some splice) h is = law document splice h is
+
+redone_goes : RedosGo → (document : DocumentState) (found : Option Splice) → IsSound document → next document.log ≡ found → RangesFollowSplices document (redo_splices_by found) (after_redo document)
+redone_goes law document None h is =
+    let same : after_redo document ≡ document = ap (λ (f : Option Splice). after_redo_by f document) is in
+    (still document (after_redo document) (ap seen same)).0
+redone_goes law document (Some splice) h is = law document splice h is
+
+-- ---- what leaves text and ranges unchanged
+
+pub drawing_goes : (old new : State) (area : Rect) → IsRendered old area new → RangesStayWhole old.document [] new.document
+drawing_goes old new area h =
+    let is = drawn_document old new area h in
+    stays old.document new.document (ap (λ (d : DocumentState). d.text) is) (ap (λ (d : DocumentState). d.ranges) is)
+
+-- ---- calls
+
+pub past_goes : UndosGo → RedosGo → Past RangesFollowSplices
+past_goes undos redos = record {
+  undos = λ document sound. undone_goes undos document (newest document.log) sound refl;
+  redos = λ document sound. redone_goes redos document (next document.log) sound refl;
+}

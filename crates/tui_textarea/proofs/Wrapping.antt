@@ -1,0 +1,58 @@
+-- The lines that an edit wraps are those that its splices wrap.
+use Rattle.std.proofs.Common.{◌≡◌, ℕ, Bool, List, [], ◌∷◌, ◌++◌, Option, None, Some, ap, refl, sym, subst, ◌∙◌}
+use Rattle.textarea_history.specs.Log.{newest, next}
+use Rattle.textarea_lines.specs.LineWraps.{WrapsForSplices}
+use Rattle.textarea_lines.specs.TextLayout.{TextAndLayout}
+use Rattle.textarea_text.specs.Splice.{Splice, inverse}
+use Rattle.textarea_document.specs.DocumentWraps.{SplicedBy, SplicesBy}
+use Rattle.textarea_document.specs.Edits.{HasEffect, EditStep, splice_of_step, stepped}
+use Rattle.textarea_document.specs.Outcomes.{after_redo, after_redo_by, after_undo, after_undo_by}
+use Rattle.textarea_document.specs.DocumentRows.{text_and_layout}
+use Rattle.textarea_document.specs.Sound.{IsSound}
+use Rattle.textarea_document.specs.Splices.{redo_splices_by, undo_splices_by}
+use Rattle.textarea_document.specs.DocumentState.{DocumentState}
+use Rattle.tui_textarea.proofs.Acting.{Past}
+use Rattle.tui_textarea.proofs.Stepping.{Reckoning, Seen}
+
+-- the law of documents for a step, an undo and a redo
+abbrev pub StepsWrap : Type 0
+StepsWrap = (document : DocumentState) (step : EditStep) (typed : Bool) (now : ℕ) → IsSound document → HasEffect document step → SplicesBy document (splice_of_step document step) (stepped document step typed now)
+
+abbrev pub UndosWrap : Type 0
+UndosWrap = (document : DocumentState) (splice : Splice) → IsSound document → newest document.log ≡ Some splice → SplicesBy document (inverse splice) (after_undo document)
+
+abbrev pub RedosWrap : Type 0
+RedosWrap = (document : DocumentState) (splice : Splice) → IsSound document → next document.log ≡ Some splice → SplicesBy document splice (after_redo document)
+
+-- ---- splices, one after another
+
+spliced_on : (old between new : TextAndLayout) (first second : List Splice) → WrapsForSplices old first between → WrapsForSplices between second new → WrapsForSplices old (first ++ second) new
+spliced_on old between new [] second h k = subst (λ (l : TextAndLayout). WrapsForSplices l second new) h k
+spliced_on old between new (splice ∷ first) second h k = (h.0, h.1, spliced_on h.0 between new first second h.2 k)
+
+-- the lines that are wrapped by a step's splice, by none, and by several
+pub reckoned : StepsWrap → Reckoning SplicedBy
+reckoned cut = record {
+  none = λ old new same. ap (λ (s : Seen). s.0) same;
+  same = λ old new other splices is h. subst (WrapsForSplices (text_and_layout old) splices) (sym (ap (λ (s : Seen). s.0) is)) h;
+  two = λ old between new first second h k. spliced_on (text_and_layout old) (text_and_layout between) (text_and_layout new) first second h k;
+  one = λ document step typed now h made. (text_and_layout (stepped document step typed now), cut document step typed now h made, refl);
+}
+
+-- ---- undo and redo
+
+undone_by_splices : UndosWrap → (document : DocumentState) (found : Option Splice) → IsSound document → newest document.log ≡ found → SplicedBy document (undo_splices_by found) (after_undo document)
+undone_by_splices cut document None h is = ap (λ (f : Option Splice). text_and_layout (after_undo_by f document)) is
+undone_by_splices cut document (Some splice) h is = (text_and_layout (after_undo document), cut document splice h is, refl)
+
+redone_by_splices : RedosWrap → (document : DocumentState) (found : Option Splice) → IsSound document → next document.log ≡ found → SplicedBy document (redo_splices_by found) (after_redo document)
+redone_by_splices cut document None h is = ap (λ (f : Option Splice). text_and_layout (after_redo_by f document)) is
+redone_by_splices cut document (Some splice) h is = (text_and_layout (after_redo document), cut document splice h is, refl)
+
+-- ---- calls
+
+pub past_cut : UndosWrap → RedosWrap → Past SplicedBy
+past_cut undos redos = record {
+  undos = λ document sound. undone_by_splices undos document (newest document.log) sound refl;
+  redos = λ document sound. redone_by_splices redos document (next document.log) sound refl;
+}

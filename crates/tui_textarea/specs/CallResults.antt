@@ -1,0 +1,61 @@
+-- The results of calls, without what a caller doesn't use: a text by its characters, without the
+-- capacity and address of its `String`; the cell of the caret by column and row.
+use Rattle.std.specs.Prelude.{ℕ, Bool, List, Option, string_bytes}
+use Rattle.std.specs.Option.{option_map}
+use Rattle.std.specs.Str.{chars}
+use Rattle.textarea_view.specs.Placements.{cell_of_position}
+use Rattle.textarea_view.specs.declared.look.CursorRenderMode as modes
+use Rattle.textarea_data.specs.declared.range.AtomicRange.{AtomicRange}
+use Rattle.textarea_data.specs.declared.range.RejectedAtomicRange.{RejectedAtomicRange}
+use Rattle.textarea_screen.specs.declared.screen.alignment.Alignment as alignments
+use Rattle.textarea_screen.specs.declared.screen.style.Style as styles
+use Rattle.textarea_view.specs.declared.surround.measure.TextAreaMeasure.{TextAreaMeasure}
+use Rattle.textarea_text.specs.Place as places
+use Rattle.textarea_wrap.specs.declared.wrap.WrapMode as modes_of_wrapping
+use Rattle.textarea_calls.specs.declared.answer.Answer.{Answer}
+use Rattle.textarea_calls.specs.declared.answer.Answer.TheVariants as answer
+
+-- done and nothing else; whether there was something to do; a text; the range that was found, if
+-- any; the rejected ranges; the measured heights; that the pattern is rejected; the position that a
+-- cell shows, if any; the column and row of the caret, if it is shown; a style; the mask, if there
+-- is one; how the cursor is drawn; the alignment of rows; a number that is set; the cursor; the two
+-- ends of the selection, if one is open; a style, if its part is shown; or how lines are wrapped
+pub data CallResult : Type 0 where
+  Done : CallResult
+  Flag : Bool → CallResult
+  Text : List ℕ → CallResult
+  Range : Option AtomicRange → CallResult
+  Rejected : List RejectedAtomicRange → CallResult
+  Measured : TextAreaMeasure → CallResult
+  PatternRefused : CallResult
+  Place : Option (ℕ × ℕ) → CallResult
+  Position : Option (ℕ × ℕ) → CallResult
+  Style : styles.Style → CallResult
+  Character : Option ℕ → CallResult
+  CursorRenderMode : modes.CursorRenderMode → CallResult
+  Alignment : alignments.Alignment → CallResult
+  Number : ℕ → CallResult
+  Cursor : places.Place → CallResult
+  Selection : Option (places.Place × places.Place) → CallResult
+  StyleIfShown : Option styles.Style → CallResult
+  WrapMode : modes_of_wrapping.WrapMode → CallResult
+
+abbrev pub call_result : Answer → CallResult
+call_result answer.Done = Done
+call_result (answer.Flag flag) = Flag flag
+call_result (answer.Text text) = Text (chars (string_bytes text))
+call_result (answer.Range range) = Range range
+call_result (answer.Rejected rejected) = Rejected rejected.items
+call_result (answer.Measured measure) = Measured measure
+call_result answer.PatternRefused = PatternRefused
+call_result (answer.Place place) = Place place
+call_result (answer.Position position) = Position (option_map cell_of_position position)
+call_result (answer.Style style) = Style style
+call_result (answer.Character character) = Character character
+call_result (answer.CursorRenderMode mode) = CursorRenderMode mode
+call_result (answer.Alignment alignment) = Alignment alignment
+call_result (answer.Number number) = Number number
+call_result (answer.Cursor cursor) = Cursor cursor
+call_result (answer.Selection selection) = Selection selection
+call_result (answer.StyleIfShown style) = StyleIfShown style
+call_result (answer.WrapMode mode) = WrapMode mode

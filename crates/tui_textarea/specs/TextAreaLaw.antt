@@ -1,0 +1,47 @@
+-- A copy followed by a paste, and the visual rows at any time.
+use Rattle.std.specs.Prelude.{◌≡◌, ◌<◌, ℕ, List, true, encode_utf8_all, length, max}
+use Rattle.textarea_text.specs.Place.{end, inserted, line_of}
+use Rattle.textarea_text.specs.Text.{lines}
+use Rattle.textarea_blocks.specs.Sums.{ranges_at}
+use Rattle.textarea_wrap.specs.WrapResult.{IsWrapped}
+use Rattle.textarea_screen_map.specs.declared.layout.Wrapping.{Wrapping}
+use Rattle.textarea_document.specs.Edits.{insertion_place, has_symbols}
+use Rattle.textarea_document.specs.DocumentRows.{text_and_layout}
+use Rattle.textarea_document.specs.Selection.{selected}
+use Rattle.textarea_lines.specs.TextLayout.{wrapping_of}
+use Rattle.textarea_lines.specs.TextRows.{HasLayout}
+use Rattle.textarea_wrap.specs.RowsView.{RowsView}
+use Rattle.tui_textarea.specs.State.{State}
+use Rattle.tui_textarea.specs.Edits.{str_inserted}
+use Rattle.tui_textarea.specs.Selection.{selection_copied}
+
+abbrev pub copied_and_pasted : State → State
+copied_and_pasted state = str_inserted (selection_copied state) (selection_copied state).yank
+
+-- A `paste` after a `copy` with selected text: the text has exactly the selected symbols inserted,
+-- at the cursor or at the end of the atomic range that strictly contains it; the cursor is after
+-- them; and the paste returns that there was something to insert.
+pub record PastesCopy (state : State) : Type 0 where
+  pub text : (copied_and_pasted state).document.text
+      ≡ inserted state.document.text (insertion_place state.document) (selected state.document)
+  pub cursor : (copied_and_pasted state).document.cursor
+      ≡ end (insertion_place state.document) (selected state.document)
+  pub answer : has_symbols (selection_copied state).yank ≡ true
+
+-- The ranges are those that `line_ranges` returns for the characters of this line, with that mode,
+-- width and tab length: the only correct ones.
+abbrev pub AreLineRanges : Wrapping → List ℕ → List (ℕ × ℕ) → Type 0
+AreLineRanges wrapping line ranges = IsWrapped wrapping.mode wrapping.tab_len (max wrapping.width 1) (encode_utf8_all line) ranges
+
+-- The visual rows of the text, computed from scratch. There is exactly one correct list: each line
+-- has the rows that `line_ranges` returns for it, with the mode, the tab length and the width
+-- beside the line numbers, and each line was last wrapped at the tick that the state records.
+pub record HasRowsFromScratch (state : State) : Type 0 where
+  pub rows : List RowsView
+  pub right : HasLayout (text_and_layout state.document) rows
+  pub only : (others : List RowsView) → HasLayout (text_and_layout state.document) others → others ≡ rows
+  pub of_lines : (index : ℕ) → index < length (lines state.document.text)
+      → AreLineRanges (wrapping_of (text_and_layout state.document)) (line_of (lines state.document.text) index) (ranges_at rows index)
+  pub of_lines_only : (index : ℕ) (ranges : List (ℕ × ℕ)) → index < length (lines state.document.text)
+      → AreLineRanges (wrapping_of (text_and_layout state.document)) (line_of (lines state.document.text) index) ranges
+      → ranges_at rows index ≡ ranges
