@@ -15,9 +15,9 @@ use Rattle.textarea_screen_map.specs.VisualPositions.{IsAbove, IsBelow, IsInFirs
 use Rattle.textarea_lines.specs.TextLayout.{TextAndLayout, wrapping_at, wrapping_of}
 
 -- these are the right rows of the current text, with the ticks of its layout
-pub record HasLayout (text_layout : TextAndLayout) (rows : List RowsView) : Type 0 where
-  pub text_layout : AreRowsOf (wrapping_of text_layout) (lines text_layout.text) rows
-  pub ticks : ticks_of rows ≡ text_layout.layout.ticks
+pub record HasLayout (text : TextAndLayout) (rows : List RowsView) : Type 0 where
+  pub text_layout : AreRowsOf (wrapping_of text) (lines text.text) rows
+  pub ticks : ticks_of rows ≡ text.layout.ticks
 
 -- a fact about the text's rows
 abbrev pub OfRows : TextAndLayout → (List RowsView → Type 0) → Type 0
