@@ -15,7 +15,7 @@ fn byte_of(high: u8, low: u8) -> Option<u8> {
     digit(high)?.checked_mul(16)?.checked_add(digit(low)?)
 }
 
-/// The bytes of a text of hexadecimal digits, two for each, or none where it is something else.
+/// The bytes of a text of hexadecimal digits, two for each byte; `None` for any other text.
 fn bytes_of_hex(alloc: Global, text: &str) -> Result<Option<Vec<u8>>, AllocError> {
     let mut bytes = Vec::new(alloc);
     for pair in text.as_bytes().chunks(2) {
@@ -30,7 +30,7 @@ fn bytes_of_hex(alloc: Global, text: &str) -> Result<Option<Vec<u8>>, AllocError
     Ok(Some(bytes))
 }
 
-/// The events of bytes where nothing comes after them.
+/// Returns the events of all bytes at once, with a call of `idle` at the end.
 pub fn events_at_once(alloc: Global, bytes: &[u8]) -> Result<Vec<Event>, AllocError> {
     let mut decoder = Decoder::new(alloc);
     let mut events = Vec::new(alloc);
@@ -39,8 +39,8 @@ pub fn events_at_once(alloc: Global, bytes: &[u8]) -> Result<Vec<Event>, AllocEr
     Ok(events)
 }
 
-/// The events of pieces of bytes where nothing comes after them, or nothing where they can't be read. A call to which memory is
-/// refused is made once more, and counted.
+/// Returns the events of slices of bytes that are fed one by one, with a call of `idle` at the end;
+/// `None` if the text is unparsed. A call that runs out of memory is repeated once, and counted.
 pub fn events_in_order(
     alloc: Global,
     hex: &str,

@@ -1,23 +1,24 @@
 //! Prints the events of terminals' bytes, and the bytes of painted frames.
 //!
-//! Standard input has a line for each of these, which are served in their order:
+//! Each line of standard input is one of these, which are served in order:
 //!
-//! - A case of the decoder: its name, which may have blanks, a tab, and bytes in hexadecimal digits, in pieces with a blank between
-//!   each two. What is printed is the name, and the events of the bytes where nothing comes after them, each after a semicolon and
-//!   a blank.
-//! - `random N`: that many random strings of bytes, whose events in random pieces are compared with those of all bytes at once, and
-//!   each byte by itself with those. What is printed is whether they are the same.
-//! - A command of the painter (`painting`), such as `paint`, for which bytes are printed.
-//! - A comment, which begins with `# ` and is printed as it is.
+//! - A case of the decoder: its name (which may contain blanks), a tab, and bytes as hexadecimal
+//!   digits, with a blank between the slices that are fed one by one. Prints the name, and each
+//!   event after a semicolon and a blank; `idle` is called after the last slice.
+//! - `random N`: decodes N random byte strings at once, in slices of random lengths and byte by
+//!   byte, and prints whether the events are the same.
+//! - A command of the painter (see `painting`), such as `paint`, which prints the painted bytes.
+//! - A comment, which begins with `# ` and is printed unchanged.
 //!
-//! `tools/terminal-vectors` makes the decoder's cases, from what terminals and tmux send and from `vectors.txt`; `tools/try-painter`
-//! shows painted frames in tmux.
+//! `tools/terminal-vectors` makes the decoder's cases from what terminals and tmux send and from
+//! `vectors.txt`; `tools/try-painter` shows painted frames in tmux.
 //!
-//! A call of the decoder or the painter to which memory is refused has to leave all as it was: it is made once more, and must then
-//! print the same. Standard error gets the number of such calls, if there are any (`tools/refused-memory`).
+//! A call of the decoder or the painter that runs out of memory must change nothing: it is repeated
+//! once, and must then print the same. Standard error gets the number of such calls, if there are
+//! any (see `tools/refused-memory`).
 //!
-//! The exit status is 0, 1 where a stream failed, 3 where memory was refused, and 4 where a line can't be read, or the events of
-//! pieces differ.
+//! The exit status is 0; 1 if a stream failed; 3 if memory ran out; 4 if a line is unparsed or the
+//! events of random strings differ.
 #![tactic(auto)]
 
 mod decode;
@@ -56,7 +57,7 @@ fn main(rt: HostRuntime) -> ExitCode {
     ExitCode::from(if served.is_right() { 0 } else { WRONG })
 }
 
-// Tells to how many calls memory was refused, if to any.
+// Prints how many calls ran out of memory, if any did.
 fn tell_out_of_memory(rt: &impl Eprint, refused: usize) -> io::Result<()> {
     if refused > 0 {
         eprintln!(rt; "{refused} refused")?;
@@ -64,7 +65,7 @@ fn tell_out_of_memory(rt: &impl Eprint, refused: usize) -> io::Result<()> {
     Ok(())
 }
 
-// Serves the lines of a text, or nothing where one can't be read.
+// Serves the lines of a text; `None` if one is unparsed.
 fn serve(alloc: Global, text: &str) -> Result<Option<Session>, AllocError> {
     let mut session = Session::new(alloc)?;
     for line in text.lines() {

@@ -1,11 +1,13 @@
 //! A buffer and a painter, and the commands on them.
 //!
-//! `size W H` makes a buffer and a painter of so many columns and rows; `cell X Y FG BG MODIFIER SYMBOL` sets a cell of the buffer,
-//! with the bits of its modifiers and the rest of the line as its text; `paint X Y` paints the buffer with the caret in that cell,
-//! and `paint` without one; `reset` and `resize W H` are the painter's. A colour is 0 for the terminal's own, 1 to 16 for one with a
-//! name, 256 and more for one of 256 by its number, and 16777216 and more for red, green and blue in 8 bits each.
+//! `size W H` makes a buffer and a painter of W columns and H rows.
+//! `cell X Y FG BG MODIFIER SYMBOL` sets a cell of the buffer; the bits of MODIFIER are the
+//! modifiers, and the rest of the line is the text. `paint X Y` paints the buffer with the caret in
+//! that cell, and `paint` without a caret. `reset` and `resize W H` are calls of the painter. A
+//! colour is 0 for the terminal's own, 1 to 16 for a named one, 256 + N for the indexed colour N,
+//! and 16777216 + 0xRRGGBB for RGB.
 //!
-//! For each paint a line `frame N` is printed, and then N bytes and a line feed.
+//! Each paint prints a line `frame N`, and then N bytes and a line feed.
 
 use std::alloc::{AllocError, Global};
 use textarea_screen::screen::{Buffer, Color, Modifier, Position, Rect, Style};
@@ -28,8 +30,8 @@ impl Painting {
         })
     }
 
-    /// Serves one line, and adds what it prints. Returns whether it is a command. A call of the painter to which memory is refused
-    /// is made once more, and counted.
+    /// Serves one line, and adds its output. Returns `false` if it is no command. A call of the
+    /// painter that runs out of memory is repeated once, and counted.
     pub fn serve(
         &mut self,
         alloc: Global,

@@ -4,14 +4,14 @@ use crate::decode::events_at_once;
 use std::alloc::{AllocError, Global};
 use textarea_terminal::input::{Decoder, Event};
 
-/// Numbers that follow each other as if by chance, always the same ones.
+/// A generator of pseudo-random numbers with a fixed seed.
 #[derive(Drop)]
 struct Numbers {
     state: u64,
 }
 
 impl Numbers {
-    // A number below a limit, or 0 where that is 0.
+    // A number below a limit, or 0 if the limit is 0.
     fn below(&mut self, limit: u64) -> u64 {
         self.state = self
             .state
@@ -21,7 +21,7 @@ impl Numbers {
     }
 }
 
-// Bytes that begin, go on with and end sequences.
+// Bytes that begin, continue and end sequences.
 const LIKELY: &[u8; 43] = b"\x1b\x1b\x1b\x1b\x1b[[[[[OO0012222345678;;;<~~~^$@MmRtIAaZ";
 
 fn push_byte(numbers: &mut Numbers, bytes: &mut Vec<u8>) -> Result<(), AllocError> {
@@ -47,7 +47,8 @@ fn next_string(numbers: &mut Numbers, bytes: &mut Vec<u8>) -> Result<(), AllocEr
     Ok(())
 }
 
-// The events of bytes in pieces of random sizes below a limit, and of one byte at least.
+// The events of bytes that are fed in slices of random lengths, of at least one byte and below a
+// limit.
 fn events_in_pieces(
     alloc: Global,
     numbers: &mut Numbers,
@@ -67,7 +68,7 @@ fn events_in_pieces(
     Ok(events)
 }
 
-// Whether the events of the bytes are the same in random pieces, and byte by byte.
+// Whether slices of random lengths and single bytes give the same events as all bytes at once.
 fn is_same_in_pieces(
     alloc: Global,
     numbers: &mut Numbers,
@@ -79,7 +80,8 @@ fn is_same_in_pieces(
     Ok(at_once.as_slice() == in_pieces.as_slice() && at_once.as_slice() == by_byte.as_slice())
 }
 
-/// The number of the first of so many random strings whose events in pieces differ from those of all bytes at once.
+/// Returns the number of the first of `count` random strings whose events depend on how it is
+/// split.
 pub fn first_differing(alloc: Global, count: u32) -> Result<Option<u32>, AllocError> {
     let mut numbers = Numbers { state: 51 };
     let mut bytes = Vec::new(alloc);

@@ -6,7 +6,7 @@ use crate::random::first_differing;
 use crate::text::push_events;
 use std::alloc::{AllocError, Global};
 
-/// What the lines so far print, and the painter of their frames.
+/// The output of the lines so far, and the painter of their frames.
 #[derive(Drop)]
 pub struct Session {
     painting: Painting,
@@ -16,7 +16,7 @@ pub struct Session {
 }
 
 impl Session {
-    /// A session of no lines.
+    /// A session with no output.
     pub fn new(alloc: Global) -> Result<Session, AllocError> {
         Ok(Session {
             painting: Painting::new(alloc)?,
@@ -26,22 +26,22 @@ impl Session {
         })
     }
 
-    /// What the lines print.
+    /// The output of the lines.
     pub fn printed(&self) -> &[u8] {
         self.printed.as_slice()
     }
 
-    /// To how many calls of the decoder and the painter memory was refused.
+    /// The number of calls of the decoder and the painter that ran out of memory.
     pub fn refused(&self) -> usize {
         self.refused
     }
 
-    /// Whether the events of random strings are the same in any pieces.
+    /// Whether the events of all random strings were the same, however they were split.
     pub fn is_right(&self) -> bool {
         self.is_right
     }
 
-    /// Serves one line. Returns whether it could be read.
+    /// Serves one line. Returns `false` if it is unparsed.
     pub fn serve(&mut self, alloc: Global, line: &str) -> Result<bool, AllocError> {
         if line.starts_with("# ") {
             return self.print(line);

@@ -45,7 +45,7 @@ keeps_map h bytes (Some x) f k =
     let kept = k.kept x refl in
     keeps_some bytes (h x.0, x.1) _ (record { front = kept.front; whole = kept.whole; same = λ more. ap (option_map (λ y. (h y.0, y.1))) (kept.same more) })
 
--- what is read from a place on
+-- what is read from an index on
 pub kept_from : {A : Type 0} (n : ℕ) (bytes : List ℕ) (x : A × List ℕ) (f g : List ℕ → Option (A × List ℕ)) → ((more : List ℕ) → g more ≡ f more) → Kept (drop n bytes) x f → Kept bytes x g
 kept_from n bytes x f g e h = record {
   front = take n bytes ++ h.front;

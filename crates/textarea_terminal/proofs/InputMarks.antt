@@ -1,4 +1,4 @@
--- Marks in bytes, and their places.
+-- Marks in bytes, and their indices.
 use Rattle.std.proofs.Common.{◌≡◌, ℕ, zero, suc, ◌+◌, ◌-◌, ◌<◌, ◌≤◌, Bool, true, false, cond, eqb, List, [], ◌∷◌, ◌++◌, length, get_or, take, drop, Option, Some, None, MatchOption, Bor, refl, sym, ap, ◌∙◌, arith, inl, inr, ⊎_elim, zero-add, length-drop}
 use Rattle.std.proofs.lemmas.Bool.{eq-eqb, eqb-true, cases_lt}
 use Rattle.std.proofs.lemmas.List.{get_or-take, get_or-drop, length-take}
@@ -26,7 +26,7 @@ Reads-after_mark mark bytes (Some x) h = after_mark-pointwise mark bytes ∙ ap 
 
 -- ---- where a mark occurs
 
--- the mark is at a place
+-- the mark is at an index
 pub record IsAt (bytes mark : List ℕ) (k : ℕ) : Type 0 where
   pub fits : k + length mark ≤ length bytes
   pub reads : (j : ℕ) → j < length mark → get_or bytes (k + j) 0 ≡ get_or mark j 0
@@ -80,7 +80,7 @@ true_or_false : (t : Bool) → (t ≡ true → ⊥) → t ≡ false
 true_or_false true h = absurd (h refl)
 true_or_false false h = refl
 
--- the first place where it occurs
+-- the first index at which it occurs
 pub index_of-first : (mark bytes : List ℕ) (k : ℕ) → 0 < length mark → IsAt bytes mark k → ((i : ℕ) → i < k → IsAt bytes mark i → ⊥) → mark_index mark bytes ≡ Some k
 unfolding mark_index
 index_of-first mark [] k some at before = absurd (omega (arith, at.fits))
@@ -101,7 +101,7 @@ no_place true o h = (cc)
 no_place false None h = (refl, refl)
 no_place false (Some k) h = (cc)
 
--- where it has no place, it does not occur
+-- without an index, it does not occur
 pub nowhere-index_of : (mark bytes : List ℕ) → 0 < length mark → mark_index mark bytes ≡ None → (i : ℕ) → IsAt bytes mark i → ⊥
 unfolding mark_index
 nowhere-index_of mark [] some none i at = absurd (omega (arith, at.fits))
@@ -112,7 +112,7 @@ nowhere-index_of mark (b ∷ bytes) some none zero at =
 nowhere-index_of mark (b ∷ bytes) some none (suc i) at =
     nowhere-index_of mark bytes some (no_place (is_some (after_mark mark (b ∷ bytes))) (mark_index mark bytes) none).1 i (IsAt-tail b bytes mark i at)
 
--- ---- a search from a place on, where none is before
+-- ---- a search from an index on, with no mark before it
 
 IsAt-take : (bytes mark : List ℕ) (n i : ℕ) → n ≤ length bytes → i + length mark ≤ n → IsAt bytes mark i → IsAt (take n bytes) mark i
 IsAt-take bytes mark n i h fits at = record {
@@ -183,7 +183,7 @@ after_mark-more (m ∷ mark) (b ∷ bytes) rest more e =
     let parts = chosen_rest (eqb b m) (after_mark mark bytes) rest e in
     rw parts.0 (after_mark-more mark bytes rest more parts.1)
 
--- Bytes that don't begin with a mark, and do with more bytes, are a part of the mark.
+-- Bytes that begin with a mark only when more bytes follow are a prefix of the mark.
 pub after_mark-part : (mark bytes more : List ℕ) (rest : List ℕ) → after_mark mark bytes ≡ None → after_mark mark (bytes ++ more) ≡ Some rest → (n : ℕ) × (n < length mark) × (bytes ≡ take n mark)
 unfolding after_mark
 after_mark-part [] bytes more rest none e = (cc)
@@ -201,15 +201,15 @@ unfolding after_mark
 after_mark-written [] rest = refl
 after_mark-written (m ∷ mark) rest = rw (eq-eqb m m refl) (after_mark-written mark rest)
 
--- ---- places with more bytes
+-- ---- indices with more bytes
 
--- the place that a test and what follows make
+-- the index by a test of the first byte and the index in the rest
 placed : (t : Bool) (o : Option ℕ) (k : ℕ) → cond t (Some 0) (option_map suc o) ≡ Some k → ((t ≡ true) × (k ≡ 0)) ⊎ ((t ≡ false) × ((j : ℕ) × (k ≡ suc j) × (o ≡ Some j)))
 placed true o k e = inl (refl, cc)
 placed false None k e = inl (cc)
 placed false (Some j) k e = inr (refl, (j, cc, refl))
 
--- a mark fits at its place
+-- a mark fits at its index
 pub index_of-fits : (mark bytes : List ℕ) (k : ℕ) → mark_index mark bytes ≡ Some k → k + length mark ≤ length bytes
 unfolding mark_index
 index_of-fits mark [] k e = (cc)
@@ -236,7 +236,7 @@ still_some (m ∷ mark) (b ∷ bytes) more e =
     let parts = equal_bytes (eqb b m) (after_mark mark bytes) e in
     rw parts.0 (still_some mark bytes more parts.1)
 
--- with more bytes a mark's first place stays
+-- with more bytes a mark's first index stays
 pub index_of-more : (mark bytes more : List ℕ) (k : ℕ) → mark_index mark bytes ≡ Some k → mark_index mark (bytes ++ more) ≡ Some k
 unfolding mark_index
 index_of-more mark [] more k e = (cc)

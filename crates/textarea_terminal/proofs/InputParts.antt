@@ -12,7 +12,7 @@ left_out : {A : Type 0} (t : Bool) (a : A) → cond t (Some a) None ≡ None →
 left_out true a e = (cc)
 left_out false a e = refl
 
--- a number goes on by the digit at the front
+-- a number continues with the digit at the front
 pub number_from-digit : (n : ℕ) (bytes : List ℕ) (x : ℕ × List ℕ) → digit_at bytes ≡ Some x → number_from n bytes ≡ number_from (min 65535 (10 * n + x.0)) x.1
 unfolding digit_at number_from
 number_from-digit n [] x e = (cc)

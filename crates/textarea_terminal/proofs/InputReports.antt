@@ -141,7 +141,7 @@ wheel_up-read column row ctrl alt shift h k = wheel-read key.MouseScrollUp 64 co
 pub wheel_down-read : (column row : ℕ) (ctrl alt shift : Bool) → column + 1 < 65536 → row + 1 < 65536 → unit_at (mouse_report (with_modifiers 65 ctrl alt shift) column row 77) ≡ Some (input (record { key = key.MouseScrollDown; ctrl = ctrl; alt = alt; shift = shift }), [])
 wheel_down-read column row ctrl alt shift h k = wheel-read key.MouseScrollDown 65 column row ctrl alt shift (is_wheel_down ctrl alt shift) h k
 
--- ---- answers to queries
+-- ---- replies to queries
 
 pub size-read : (columns rows : ℕ) → columns < 65536 → rows < 65536 → unit_at (size_report columns rows) ≡ Some (size columns rows, [])
 unfolding event_of_three

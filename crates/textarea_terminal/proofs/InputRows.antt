@@ -112,8 +112,8 @@ pub unit_at-letter : (bytes rest : List ℕ) (c : ℕ) → bytes ≡ c ∷ rest 
 unit_at-letter bytes rest c e h k =
     ap unit_at e ∙ unit_at-key c rest (λ e. omega arith) ∙ ap (option_map (λ x. (input x.0, x.1))) (key_at-byte c rest h (omega arith) (λ e. omega arith))
 
--- what holds of each row of a table holds of what the table has for a number
-entry-each : {A : Type 0} (P : ℕ → A → Type 0) (rows : List (ℕ × A)) → AllByRecursion (λ r. P r.0 r.1) rows → (n : ℕ) (x : A) → entry rows n ≡ Some x → P n x
+-- a property of each entry of a table is one of the entry for a number
+pub entry-each : {A : Type 0} (P : ℕ → A → Type 0) (rows : List (ℕ × A)) → AllByRecursion (λ r. P r.0 r.1) rows → (n : ℕ) (x : A) → entry rows n ≡ Some x → P n x
 entry-each P [] all n x e = cc e
 entry-each P (row ∷ rows) all n x e =
     ⊎_elim

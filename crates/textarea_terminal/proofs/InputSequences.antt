@@ -256,7 +256,7 @@ length-decimal n = by_five (ltb n 10) (ltb n 100) (ltb n 1000) (ltb n 10000)
 -- ---- two and three numbers
 
 -- inner bytes, one after others
-inner-append : (xs ys : List ℕ) → AreInner xs → AreInner ys → AreInner (xs ++ ys)
+pub inner-append : (xs ys : List ℕ) → AreInner xs → AreInner ys → AreInner (xs ++ ys)
 inner-append [] ys h k = k
 inner-append (x ∷ xs) ys h k = (h.0, inner-append xs ys h.1 k)
 

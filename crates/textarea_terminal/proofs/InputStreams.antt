@@ -1,4 +1,4 @@
--- What a decoder makes of bytes, event by event, and piece by piece.
+-- The decoding of bytes, event by event, and slice by slice.
 use Rattle.std.proofs.Common.{◌≡◌, ℕ, zero, suc, ◌-◌, ◌<◌, ◌≤◌, List, [], ◌∷◌, ◌++◌, length, take, drop, map, Some, None, refl, sym, ap, ◌∙◌, subst, arith}
 use Rattle.std.proofs.lemmas.List.{length-append, append_assoc, append-nil, map-append, take-append-drop, take-append-le}
 use Rattle.std.proofs.Math.Seq.{drop-append_seam, take-append_seam}
@@ -60,7 +60,7 @@ by_length : (P : List ℕ → Type 0) → ((bytes : List ℕ) → unit_at bytes 
 by_length P none some zero bytes h = absurd (omega arith)
 by_length P none some (suc n) bytes h = unit_step P bytes (unit_at bytes) none some (λ rest k. by_length P none some n rest (omega arith)) refl
 
--- what holds where an event is begun, and before an event where it holds after it, holds of all bytes
+-- induction over bytes: an incomplete event, and an event before bytes that have the property
 pub by_units : (P : List ℕ → Type 0) → ((bytes : List ℕ) → unit_at bytes ≡ None → P bytes) → ((bytes : List ℕ) (x : EventValue × List ℕ) → unit_at bytes ≡ Some x → P x.1 → P bytes) → (bytes : List ℕ) → P bytes
 by_units P none some bytes = by_length P none some (suc (length bytes)) bytes (omega arith)
 
@@ -152,7 +152,7 @@ rest_of-removed items all new rest n left same removed count kept is =
     let cut : n - left ≡ length items - length (begun_bytes items) = omega (arith, ap length is) in
     removed ∙ ap (λ (k : ℕ). drop k items) cut ∙ rest_of-drop items ∙ ap (λ (xs : List ℕ). begun_bytes xs) same
 
--- ---- pieces
+-- ---- slices
 
 pub feeding-concat : (pending : List ℕ) (pieces : List (List ℕ)) → unit_at pending ≡ None → feeding pending pieces ≡ decoding (pending ++ concat pieces)
 feeding-concat pending [] begun = sym (ap decoding (append-nil pending) ∙ decoding-none pending begun)

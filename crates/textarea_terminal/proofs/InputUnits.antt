@@ -311,7 +311,7 @@ index_of-begun bytes text n e none = begun_text text n (ap (λ (xs : List ℕ). 
 
 -- ---- all
 
--- the parts of the mark that begins a pasted text begin a sequence
+-- the prefixes of the start mark of a pasted text begin a sequence
 begun_mark : (n : ℕ) → n < 6 → key_or_sequence (take n paste_start) ≡ None
 unfolding key_or_sequence escape_at bracket_at shift_key_at shift_key_after_one shift_key_after_two control_at count_front after_inner
 begun_mark zero h = refl
@@ -375,7 +375,7 @@ unit_at-nil = refl
 
 -- ---- how many bytes may be pending
 
--- where nothing is read, the bytes are at most so many
+-- if nothing is read, the number of bytes is at most a limit
 record Waits {A : Type 0} (most : ℕ) (bytes : List ℕ) (o : Option A) : Type 0 where
   bound : o ≡ None → length bytes ≤ most
 

@@ -6,13 +6,13 @@ pub mod InputStreams
 pub mod InputSequences
 pub mod InputReports
 pub mod InputRows
+mod InputShort
 mod ControlLemmas
 mod PaintFill
 mod PaintFrames
 mod PaintSpots
 mod PaintSteps
 mod PaintWhole
-mod PenColors
 mod PenLemmas
 mod ScreenMoves
 mod ScreenPlain

@@ -1,8 +1,8 @@
--- The cells of a buffer as a terminal is to show them, from one place to the next; and that they are whole clusters.
-use Rattle.std.proofs.Common.{◌≡◌, ℕ, zero, suc, ◌+◌, ◌-◌, ◌*◌, ◌/◌, ◌%◌, ◌<◌, ◌≤◌, true, false, ◌&&◌, ◌⊎◌, inl, inr, ⊎_elim, List, [], ◌∷◌, ◌++◌, length, map, take, drop, replicate, refl, sym, ap, ◌∙◌, arith, ltb, leb}
+-- The cells of a buffer as a terminal shows them, from one cell to the next; and that they are whole clusters.
+use Rattle.std.proofs.Common.{◌≡◌, ℕ, zero, suc, ◌+◌, ◌-◌, ◌*◌, ◌/◌, ◌%◌, ◌<◌, ◌≤◌, true, false, ◌&&◌, ◌⊎◌, inl, inr, ⊎_elim, List, [], ◌∷◌, ◌++◌, length, map, take, replicate, refl, sym, ap, ◌∙◌, arith, ltb, leb}
 use Rattle.std.proofs.Common.{set, append_assoc}
 use Rattle.std.proofs.Math.Nat.{mod-lt, div-lt_iff_lt-mul, mul-le-mul_left}
-use Rattle.std.proofs.Math.Seq.{take-length, drop-length}
+use Rattle.std.proofs.Math.Seq.{take-length}
 use Rattle.std.proofs.lemmas.List.{append-nil, take_more_set, map-append, replicate_more}
 use Rattle.std.proofs.lemmas.Bool.{cases_Bool, cond-true, cond-false, and_parts, lt-ltb, le-leb}
 use Rattle.std.proofs.lemmas.Nat.{and_le_r}
@@ -14,7 +14,7 @@ use Rattle.textarea_terminal.specs.Pen.{look_of}
 use Rattle.textarea_terminal.specs.PaintCells.{cluster_columns, half, is_half, nine_of, shown_alike, blanked, begins_empty, fits_in_row, displayed, cell_in, cells_from, frame_of_buffer, can_begin, are_whole}
 use Rattle.textarea_terminal.proofs.ScreenPlain.{cluster_columns-blank}
 
--- ---- from one place to the next
+-- ---- from one cell to the next
 
 pub cells_from-next : (area : Rect) (buffer : Buffer) (place size : ℕ) → place < size →
     cells_from area buffer place (size - place) ≡ cell_in area buffer place ∷ cells_from area buffer (place + 1) (size - (place + 1))
@@ -152,15 +152,6 @@ pub fresh-more : (cells : List Cell) (cell : Cell) (count : ℕ) → cell_view c
 fresh-more cells cell count is all =
     map-append cell_view cells (cell ∷ []) ∙ ap (λ shown. map cell_view cells ++ shown ∷ []) is ∙ ap (λ shown. shown ++ fresh_cell ∷ []) all ∙ replicate_more count fresh_cell
 
-pub fresh-set : (cells : List Cell) (place : ℕ) (cell : Cell) → place < length cells → cell_view cell ≡ fresh_cell → map cell_view (take place cells) ≡ replicate place fresh_cell →
-    map cell_view (take (place + 1) (set cells place cell)) ≡ replicate (place + 1) fresh_cell
-fresh-set cells place cell within is all = ap (map cell_view) (take_more_set cells place cell within) ∙ fresh-more (take place cells) cell place is all
-
-pub fresh-all : (cells : List Cell) (place count : ℕ) → place ≡ length cells → length cells ≡ count → map cell_view (take place cells) ≡ replicate place fresh_cell →
-    map cell_view cells ≡ replicate count fresh_cell
-fresh-all cells place count at full all =
-    ap (map cell_view) (sym (take-length cells) ∙ ap (λ k. take k cells) (sym at)) ∙ all ∙ ap (λ k. replicate k fresh_cell) (at ∙ full)
-
 -- ---- whole clusters of an area, which may have no column
 
 zero_or : (n : ℕ) → (n ≡ 0) ⊎ (0 < n)
@@ -185,13 +176,7 @@ erased-whole height width =
     (λ some. fresh-whole width 0 (height * width) some)
     (zero_or width)
 
--- the same where the cells are those of a vector, of which all were erased
-pub erased-back : (height width : ℕ) (items cells : List Cell) (len : ℕ) → length cells ≡ length items → len ≡ length items → len ≡ height * width →
-    map cell_view cells ≡ replicate (length items) fresh_cell → are_whole width 0 0 (map cell_view (take len (cells ++ drop (length cells) items))) ≡ true
-erased-back height width items cells len same all full erased =
-    let none : drop (length cells) items ≡ [] = ap (λ k. drop k items) same ∙ drop-length items in
-    let back : take len (cells ++ drop (length cells) items) ≡ cells =
-    ap (λ rest. take len (cells ++ rest)) none ∙ ap (take len) (append-nil cells) ∙ ap (λ k. take k cells) (all ∙ sym same) ∙ take-length cells in
-    ap (λ shown. are_whole width 0 0 (map cell_view shown)) back
-    ∙ ap (are_whole width 0 0) (erased ∙ ap (λ k. replicate k fresh_cell) (sym all ∙ full))
-    ∙ erased-whole height width
+-- the same of a number of cells, which is 0 where there is no column
+pub fresh-cells-whole : (columns count : ℕ) → (0 < count → 0 < columns) → are_whole columns 0 0 (replicate count fresh_cell) ≡ true
+fresh-cells-whole columns zero some = refl
+fresh-cells-whole columns (suc count) some = fresh-whole columns 0 (suc count) (some (omega arith))

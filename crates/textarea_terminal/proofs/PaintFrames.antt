@@ -1,5 +1,5 @@
--- A frame in the midst of being painted: the terminal shows the new cells up to a place, and from there on the old ones, but for what
--- printing over a part of a cluster has left of it.
+-- A frame that is partly painted: the terminal shows the new cells up to an index, and from there on the old ones, except for the
+-- blanks of a cluster that was partly printed over.
 use Rattle.std.proofs.Common.{◌≡◌, ℕ, zero, suc, ◌+◌, ◌-◌, ◌%◌, ◌<◌, ◌≤◌, true, false, ◌&&◌, ◌==◌, ◌⊎◌, inl, inr, ⊎_elim, List, [], ◌∷◌, ◌++◌, length, drop, replicate, refl, sym, ap, subst, ◌∙◌, arith, ltb, leb}
 use Rattle.std.specs.Bool.{MatchBool}
 use Rattle.std.proofs.lemmas.Bool.{cases_Bool, and_parts, eqb-true, ltb-true}

@@ -2,12 +2,12 @@
 use Rattle.std.proofs.Common.{zero, cond, not, ◌==◌, true≢false, None, Some, Option, ◌≡◌, ℕ, suc, ◌+◌, ◌-◌, ◌%◌, ◌<◌, ◌≤◌, Bool, true, false, ◌&&◌, ◌⊎◌, inl, inr, ⊎_elim, List, [], ◌∷◌, ◌++◌, length, get_or, map, take, drop, replicate, IfSome, refl, sym, ap, subst, ◌∙◌, arith, ltb, leb, append_assoc, add-one, length-append}
 use Rattle.std.proofs.lemmas.Bool.{cases_Bool, cond-false, and_parts, ltb-true}
 use Rattle.std.specs.Bool.{MatchBool}
-use Rattle.std.proofs.lemmas.List.{take_more, get_or-map, drop-map, length-map, length-take-le, length-drop, append-nil}
+use Rattle.std.proofs.lemmas.List.{take_more, get_or-map, drop-map, length-map, length-take-le, length-drop, append-nil, drop-replicate, take-replicate, replicate_more}
 use Rattle.std.proofs.Math.Seq.{drop-cons, take-append_seam, drop-append_seam, take-length, drop-length}
 use Rattle.textarea_screen.specs.Cell.{CellView, cell_view}
 use Rattle.textarea_screen.specs.declared.screen.cell.Cell.{Cell}
 use Rattle.textarea_terminal.specs.Control.{Control}
-use Rattle.textarea_terminal.specs.Paint.{prints_of, moves_of, pens_of, AreChanges, HasRuns, HasLooks, Knows, Shows, Repaints, KeepsCell, ChangesCell, with_cell}
+use Rattle.textarea_terminal.specs.Paint.{prints_of, moves_of, pens_of, AreChanges, HasRuns, HasLooks, Knows, Shows, Repaints, KeepsCell, ChangesCell, IsStep, with_cell}
 use Rattle.textarea_terminal.specs.PaintCells.{cluster_columns, half, is_half, is_plain_half, can_begin, are_whole}
 use Rattle.textarea_terminal.specs.Pen.{look_of}
 use Rattle.textarea_terminal.specs.Screen.{Terminal, run, mended, printed, rest_of, cursor_after}
@@ -17,7 +17,7 @@ use Rattle.textarea_terminal.proofs.PaintFrames.{begins-whole, plain_half-half, 
 
 -- ---- one cell of a list
 
--- the cell at a place, and those after it
+-- the cell at an index, and those after it
 pub record Split (place : ℕ) (cells : List CellView) (cell : CellView) (after : List CellView) : Type 0 where
   pub here : drop place cells ≡ cell ∷ after
   pub next : drop (place + 1) cells ≡ after
@@ -36,9 +36,19 @@ Split-at items place item is within = record {
       ∙ ap (λ cell. take place (map cell_view items) ++ cell ∷ []) (get_or-map cell_view items place item (cell_view item) within ∙ ap cell_view (sym is));
 }
 
+-- the same of a list of one cell again and again
+pub Split-replicate : (count place : ℕ) (cell : CellView) → place < count → Split place (replicate count cell) cell (replicate (count - (place + 1)) cell)
+Split-replicate count place cell within =
+    let more : count - place ≡ suc (count - (place + 1)) = omega arith in
+    record {
+      here = drop-replicate place count cell ∙ ap (λ n. replicate n cell) more;
+      next = drop-replicate (place + 1) count cell;
+      done = take-replicate (place + 1) count cell (omega arith) ∙ sym (ap (λ cells. cells ++ cell ∷ []) (take-replicate place count cell (omega arith)) ∙ replicate_more place cell);
+    }
+
 -- ---- the cells of the terminal
 
--- they are the new ones up to a place, and what is ahead
+-- they are the new ones up to an index, and then those ahead
 pub record Between (place : ℕ) (old new cells : List CellView) : Type 0 where
   pub rest : List CellView
   pub cells_are : cells ≡ take place new ++ rest
@@ -119,7 +129,7 @@ columns-some columns place cell begins =
     let room = (and_parts (ltb 0 width && leb (place % columns + width) columns) (ltb cell.modifier.0 512) begins).0 in
     ltb-true 0 width (and_parts (ltb 0 width) (leb (place % columns + width) columns) room).0
 
--- there is a cell at the place
+-- there is a cell at the index
 on-screen : (place : ℕ) (old new cells : List CellView) (o n : CellView) (os ns : List CellView) → Split place old o os → Split place new n ns → place < length new →
     Between place old new cells → place < length cells
 on-screen place old new cells o n os ns old_at new_at within between =
@@ -186,7 +196,7 @@ Tracks-after columns place (suc halves) end (cell ∷ cells) whole at =
     let parts = and_parts (is_plain_half cell) (are_whole columns (place + 1) halves cells) whole in
     rw (plain_half-half cell parts.0) (Tracks-after columns (place + 1) halves end cells parts.1 (omega arith))
 
--- the controls so far bring a terminal from showing the old cells to this place, and print what has changed up to it
+-- the controls so far change a terminal that shows the old cells up to this index, and print what has changed there
 pub record Reaches (start brush : Brush) (columns place : ℕ) (old new : List CellView) (controls : List Control) : Type 0 where
   pub brings : (terminal : Terminal) (is_caret_shown : Bool) → Shows start columns old is_caret_shown terminal → Midway brush columns place old new is_caret_shown (run controls terminal)
   pub prints : (later : List (List ℕ)) → AreChanges (drop place old) (drop place new) later → AreChanges old new (prints_of controls ++ later)
@@ -339,25 +349,22 @@ Reaches-changed start before after columns place old new o n os ns xs ys old_at 
   still = λ as_new. absurd (changes.changed (first-same (sym old_at.here ∙ ap (drop place) as_new ∙ new_at.here)));
 }
 
--- the next cell, kept or changed
-pub Reaches-step : (start before after : Brush) (columns place : ℕ) (olds news : List Cell) (old new : Cell) (xs ys : List Control) →
-    old ≡ get_or olds place old → new ≡ get_or news place new → length olds ≡ length news → place < length news →
-    are_whole columns 0 0 (map cell_view olds) ≡ true → are_whole columns 0 0 (map cell_view news) ≡ true →
-    (((is_half (cell_view new) ≡ true) ⊎ (cell_view old ≡ cell_view new)) × KeepsCell before after (cell_view old) (cell_view new) ys)
-    ⊎ ChangesCell before after columns place (cell_view old) (cell_view new) ys →
-    Reaches start before columns place (map cell_view olds) (map cell_view news) xs →
-    Reaches start after columns (place + 1) (map cell_view olds) (map cell_view news) (xs ++ ys)
-Reaches-step start before after columns place olds news old new xs ys old_is new_is long within old_whole new_whole change reaches =
-    let old_at = Split-at olds place old old_is (omega arith) in
+-- the next cell
+pub Reaches-step : (start before after : Brush) (columns place : ℕ) (olds : List CellView) (old : CellView) (os : List CellView) (news : List Cell) (new : Cell) (xs ys : List Control) →
+    Split place olds old os → new ≡ get_or news place new → length olds ≡ length news → place < length news →
+    are_whole columns 0 0 olds ≡ true → are_whole columns 0 0 (map cell_view news) ≡ true →
+    IsStep before after columns place old (cell_view new) ys →
+    Reaches start before columns place olds (map cell_view news) xs →
+    Reaches start after columns (place + 1) olds (map cell_view news) (xs ++ ys)
+Reaches-step start before after columns place olds old os news new xs ys old_at new_is long within old_whole new_whole step reaches =
     let new_at = Split-at news place new new_is within in
-    let os = map cell_view (drop (place + 1) olds) in
     let ns = map cell_view (drop (place + 1) news) in
-    let long' : length (map cell_view olds) ≡ length (map cell_view news) = length-map olds cell_view ∙ long ∙ sym (length-map news cell_view) in
+    let long' : length olds ≡ length (map cell_view news) = long ∙ sym (length-map news cell_view) in
     let within' : place < length (map cell_view news) = omega (arith, length-map news cell_view) in
     ⊎_elim
-    (λ kept. Reaches-kept start before after columns place (map cell_view olds) (map cell_view news) (cell_view old) (cell_view new) os ns xs ys old_at new_at old_whole new_whole long' within' kept.0 kept.1 reaches)
-    (λ changed. Reaches-changed start before after columns place (map cell_view olds) (map cell_view news) (cell_view old) (cell_view new) os ns xs ys old_at new_at old_whole new_whole long' within' changed reaches)
-    change
+    (λ kept. Reaches-kept start before after columns place olds (map cell_view news) old (cell_view new) os ns xs ys old_at new_at old_whole new_whole long' within' kept.0 kept.1 reaches)
+    (λ changed. Reaches-changed start before after columns place olds (map cell_view news) old (cell_view new) os ns xs ys old_at new_at old_whole new_whole long' within' changed reaches)
+    step
 
 -- a cluster that begins in a cell of whole clusters can be shown
 pub begins-at : (columns place : ℕ) (items : List Cell) (item : Cell) → item ≡ get_or items place item → place < length items → are_whole columns 0 0 (map cell_view items) ≡ true →

@@ -7,7 +7,7 @@ use Rattle.std.proofs.lemmas.List.{length-map}
 use Rattle.textarea_screen.specs.declared.screen.cell.Cell.{Cell}
 use Rattle.textarea_screen.specs.Cell.{CellView, fresh_cell, cell_view}
 use Rattle.textarea_terminal.specs.Control.{Control}
-use Rattle.textarea_terminal.specs.Paint.{Wrote, prints_of, HasRuns, HasLooks, AreChanges, Repaints, PaintedFrame, IsCaret, ShowsFrame, Paints, MovesTo, Clears, SetsCursor, EndsUpdate, PutsCaret, PaintsFrame}
+use Rattle.textarea_terminal.specs.Paint.{Wrote, prints_of, HasRuns, HasLooks, AreChanges, Repaints, PaintedFrame, IsCaret, ShowsFrame, Paints, MovesTo, Clears, SetsCursor, EndsUpdate, PutsCaret, Ends, PaintsFrame}
 use Rattle.textarea_terminal.specs.Pen.{plain_look}
 use Rattle.textarea_terminal.specs.Screen.{Terminal, run}
 use Rattle.textarea_terminal.specs.declared.output.brush.Brush.{Brush}
@@ -125,18 +125,19 @@ paints-unknown columns size old new xs ys erased clears finish = record {
 
 -- ---- as bytes
 
-pub Wrote-frame : (start brush : Brush) (known : Option Bool) (columns : ℕ) (old new : List CellView) (caret : Option ℕ) {a b c d : List ℕ} →
-    IfSome caret (λ place. place < length new) → Wrote a b (Repaints columns old new start brush) → Wrote b c (PutsCaret brush.at known columns caret) →
-    Wrote c d (EndsUpdate brush.is_updating) → Wrote a d (PaintsFrame start known columns old (record { cells = new; caret = caret }))
-Wrote-frame start brush known columns old new caret within first second third =
-    let Q : List Control → Type 0 = λ rest. (ys : List Control) × ((zs : List Control) × ((rest ≡ ys ++ zs) × (PutsCaret brush.at known columns caret ys × EndsUpdate brush.is_updating zs))) in
+pub Wrote-end : (brush : Brush) (known : Option Bool) (columns : ℕ) (caret : Option ℕ) {a b c : List ℕ} → Wrote a b (PutsCaret brush.at known columns caret) →
+    Wrote b c (EndsUpdate brush.is_updating) → Wrote a c (Ends brush known columns caret)
+Wrote-end brush known columns caret first second =
+    Wrote-then (Ends brush known columns caret) first second (λ xs ys puts ends. record { first = xs; last = ys; whole = refl; puts = puts; ends = ends })
+
+pub Wrote-frame : (start brush : Brush) (known : Option Bool) (columns : ℕ) (old new : List CellView) (caret : Option ℕ) {a b c : List ℕ} →
+    IfSome caret (λ place. place < length new) → Wrote a b (Repaints columns old new start brush) → Wrote b c (Ends brush known columns caret) →
+    Wrote a c (PaintsFrame start known columns old (record { cells = new; caret = caret }))
+Wrote-frame start brush known columns old new caret within first second =
     let R : List Control → Type 0 = PaintsFrame start known columns old (record { cells = new; caret = caret }) in
-    Wrote-then R first (Wrote-then Q second third (λ ys zs puts ends. (ys, (zs, (refl, (puts, ends))))))
-    (λ xs rest repaints parts.
-    let ys = parts.0 in
-    let zs = parts.1.0 in
-    let same : xs ++ rest ≡ xs ++ (ys ++ zs) = ap (λ more. xs ++ more) parts.1.1.0 in
-    subst R (sym same) (finishes start brush known columns old new caret xs ys zs within repaints parts.1.1.1.0 parts.1.1.1.1))
+    Wrote-then R first second
+    (λ xs rest repaints end.
+    subst R (ap (λ more. xs ++ more) (sym end.whole)) (finishes start brush known columns old new caret xs end.first end.last within repaints end.puts end.ends))
 
 pub within-shown : (caret : Option ℕ) (items : List Cell) → IfSome caret (λ place. place < length items) → IfSome caret (λ place. place < length (map cell_view items))
 within-shown None items within = tt

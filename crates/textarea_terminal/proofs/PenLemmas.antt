@@ -50,7 +50,7 @@ renditions_bytes-of look =
     renditions_bytes-append (added look.modifier all_numbers ++ foreground look.fg) (background look.bg)
     ∙ ap (λ bytes. bytes ++ renditions_bytes (background look.bg)) (renditions_bytes-append (added look.modifier all_numbers) (foreground look.fg))
 
--- the bytes of a pen's control, part by part
+-- the bytes of a pen's control, one rendition after another
 pub SetPen-bytes : (look : Look) (before opened modified fore back closed : List ℕ) → opened ≡ before ++ 27 ∷ 91 ∷ 48 ∷ [] →
     modified ≡ opened ++ renditions_bytes (added look.modifier all_numbers) → fore ≡ modified ++ renditions_bytes (foreground look.fg) →
     back ≡ fore ++ renditions_bytes (background look.bg) → closed ≡ back ++ 109 ∷ [] →

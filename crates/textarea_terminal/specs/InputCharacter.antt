@@ -1,5 +1,5 @@
--- Characters in UTF-8 (Unicode, table 3-7), read from the front of bytes: a character and the bytes after it; none where the
--- bytes end within a character. Bytes that no character begins with are U+FFFD, as far as they could begin one.
+-- Characters in UTF-8 (Unicode, table 3-7), read from the front of bytes: a character and the rest of the bytes; None if more
+-- bytes are needed. A maximal subpart of invalid bytes is U+FFFD.
 use Rattle.std.specs.Prelude.{ℕ, ◌+◌, ◌-◌, ◌*◌, Bool, List, [], ◌∷◌, Option, Some, None, nat_lt, if◌then◌else◌}
 use Rattle.std.specs.Int.{is_in_range}
 use Rattle.std.specs.Str.Lossy.{second_byte_min, second_byte_max}
@@ -7,7 +7,7 @@ use Rattle.std.specs.Str.Lossy.{second_byte_min, second_byte_max}
 abbrev pub replacement : ℕ
 replacement = 0xFFFD
 
--- whether a byte may follow a first byte
+-- whether a byte may be the second one after this first one
 abbrev pub is_second : ℕ → ℕ → Bool
 is_second a b = is_in_range (second_byte_min a) (second_byte_max a) b
 

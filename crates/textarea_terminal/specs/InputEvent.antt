@@ -27,6 +27,6 @@ value_of event.FocusGained = focus_gained
 value_of event.FocusLost = focus_lost
 value_of event.Unknown = unknown
 
--- the event at the front of bytes, and the bytes after it; none where the bytes end within it
+-- the event at the front of bytes, and the rest of the bytes; None if more bytes are needed
 abbrev pub EventAndRest : Type 0
 EventAndRest = Option (EventValue × List ℕ)

@@ -20,20 +20,19 @@ ctrl_input c = record { key = key.Char c; ctrl = true; alt = false; shift = fals
 abbrev pub with_alt : Input → Input
 with_alt i = record { key = i.key; ctrl = i.ctrl; alt = true; shift = i.shift }
 
--- A key with the modifiers of a parameter (xterm, "Modifiers"): it is one more than the sum of 1 for Shift, 2 for Alt and 4
--- for Ctrl.
+-- A key with the modifiers of a parameter (xterm, "Modifiers"), which is 1 plus 1 for Shift, 2 for Alt and 4 for Ctrl.
 abbrev pub input_with : Key → ℕ → Input
 input_with k parameter = let bits = parameter - 1 in
     record { key = k; ctrl = not (bit_and bits 4 == 0); alt = not (bit_and bits 2 == 0); shift = not (bit_and bits 1 == 0) }
 
--- the event of a key, if there is one, and of a parameter of modifiers, from 1 to 8
+-- the event of a key, if there is one, and of a modifier parameter from 1 to 8
 abbrev pub key_event : Option Key → ℕ → EventValue
 key_event None parameter = unknown
 key_event (Some k) parameter = if is_in_range 1 8 parameter then input (input_with k parameter) else unknown
 
 -- ---- tables
 
--- what a table has for a number
+-- the entry of a table for a number
 abbrev pub entry : {A : Type 0} → List (ℕ × A) → ℕ → Option A
 entry [] n = None
 entry (row ∷ rows) n = if n == row.0 then Some row.1 else entry rows n

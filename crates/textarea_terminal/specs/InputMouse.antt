@@ -1,4 +1,4 @@
--- Reports of a mouse (xterm, "Mouse Tracking", SGR): ESC [ < code ; column ; row, and M, or m where a button goes up.
+-- Mouse reports (xterm, "Mouse Tracking", SGR): ESC [ < code ; column ; row, and M, or m if a button was released.
 use Rattle.std.specs.Prelude.{ℕ, ◌-◌, Bool, not, ◌==◌, ◌||◌, nat_le, Option, Some, None, bit_and, if◌then◌else◌}
 use Rattle.textarea_data.specs.declared.input.Key.{Key}
 use Rattle.textarea_data.specs.declared.input.Key.TheVariants as key
@@ -17,14 +17,13 @@ abbrev pub button_of : ℕ → Option MouseButton
 button_of code = let low = bit_and code 3 in
     if low == 0 then Some button.Left else (if low == 1 then Some button.Middle else (if low == 2 then Some button.Right else None))
 
--- What the mouse did, by its button, and by whether it moved and whether the report ends in M. A button is not let go while
--- the mouse moves, and without a button it only moves.
+-- What the mouse did, by its button, whether it moved, and whether the report ends in M. A report of a move never releases a
+-- button, and a report with no button is always one of a move.
 abbrev pub mouse_kind : Option MouseButton → Bool → Bool → Option MouseKind
 mouse_kind (Some b) moved down = if down then Some (if moved then kind.Drag b else kind.Press b) else (if moved then None else Some (kind.Release b))
 mouse_kind None moved down = if down then (if moved then Some kind.Move else None) else None
 
--- A step of the wheel, by a code's lowest two bits, with its modifiers: 0 up, 1 down. To the sides there is none, and a wheel
--- is not let go.
+-- A step of the wheel, by a code's lowest two bits: 0 up, 1 down. Steps to the sides and releases of the wheel are unknown.
 abbrev pub wheel_key : ℕ → Option Key
 wheel_key code = let low = bit_and code 3 in
     if low == 0 then Some key.MouseScrollUp else (if low == 1 then Some key.MouseScrollDown else None)
@@ -37,7 +36,7 @@ with_code code (Some k) = input (record { key = k; ctrl = has code 16; alt = has
 abbrev pub wheel_event : ℕ → Bool → EventValue
 wheel_event code down = if down then with_code code (wheel_key code) else unknown
 
--- the report of a mouse that did something, in a column and a row from 1
+-- the event of what a mouse did, in a column and a row from 1
 abbrev pub at_cell : ℕ → ℕ → ℕ → Option MouseKind → EventValue
 at_cell code column row None = unknown
 at_cell code column row (Some k) =
@@ -46,8 +45,8 @@ at_cell code column row (Some k) =
 abbrev pub button_event : ℕ → ℕ → ℕ → Bool → EventValue
 button_event code column row down = at_cell code column row (mouse_kind (button_of code) (has code 32) down)
 
--- The report with a code of bits: 1 and 2 the button, 4 Shift, 8 Alt, 16 Ctrl, 32 moved, 64 the wheel. Greater codes are of
--- buttons that no editor has, and columns and rows are counted from 1.
+-- The event of a report whose code has the bits 1 and 2 for the button, 4 Shift, 8 Alt, 16 Ctrl, 32 moved, 64 the wheel. Codes
+-- from 128 on, which are further buttons, are unknown. Columns and rows are counted from 1.
 unfoldable pub mouse_event : ℕ → ℕ → ℕ → ℕ → EventValue
 mouse_event code column row last =
     if not (last == 77 || last == 109) || nat_le 128 code || column == 0 || row == 0 then unknown

@@ -12,16 +12,16 @@ unfoldable pub digit_at : List ℕ → Option (ℕ × List ℕ)
 digit_at [] = None
 digit_at (b ∷ bytes) = if is_digit b then Some (b - 48, bytes) else None
 
--- the number that digits at the front make after a number, 65,535 where it is greater, and the bytes after them
+-- a number continued by the digits at the front, at most 65,535, and the rest of the bytes
 unfoldable pub number_from : ℕ → List ℕ → ℕ × List ℕ
 number_from n [] = (n, [])
 number_from n (b ∷ bytes) = if is_digit b then number_from (min 65535 (10 * n + (b - 48))) bytes else (n, b ∷ bytes)
 
--- the number at the front, 0 where no digit is there, and the bytes after it
+-- the number at the front, 0 if there is no digit, and the rest of the bytes
 abbrev pub number_at : List ℕ → ℕ × List ℕ
 number_at bytes = number_from 0 bytes
 
--- what the bytes after three numbers, two and one make of them
+-- the parameters after three numbers, two and one are read, by the rest of the bytes
 abbrev pub after_third : ℕ → ℕ → ℕ × List ℕ → Parameters
 after_third first second (third, []) = parameters.Three first second third
 after_third first second (third, b ∷ bytes) = parameters.Other
@@ -34,6 +34,6 @@ abbrev pub after_first : ℕ × List ℕ → Parameters
 after_first (first, []) = parameters.One first
 after_first (first, b ∷ bytes) = if b == 59 then after_second first (number_at bytes) else parameters.Other
 
--- up to three parameters; no row has more
+-- the parameters of a sequence; no known sequence has more than three
 unfoldable pub parameters_of : List ℕ → Parameters
 parameters_of bytes = after_first (number_at bytes)

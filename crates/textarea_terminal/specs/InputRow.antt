@@ -1,4 +1,4 @@
--- What terminals send, in rows: bytes and their event. And the events of pieces of bytes, one after another.
+-- A table of what terminals send: bytes and their event. And the events of bytes that arrive in slices.
 use Rattle.std.specs.Prelude.{◌≡◌, ◌≢◌, ℕ, ◌+◌, ◌-◌, ◌/◌, ◌%◌, ◌<◌, ◌≤◌, Bool, true, nat_lt, List, [], ◌∷◌, ◌++◌, length, map, None, codes, Contains, encode_utf8, if◌then◌else◌}
 use Rattle.std.specs.List.{flat_map, AllByRecursion}
 use Rattle.std.specs.Char.{IsScalar}
@@ -77,7 +77,7 @@ key_rows = byte_rows ++ letter_rows ++ numbered_rows ++ other_rows
 
 -- ---- reports
 
--- The code of what a mouse did: its button, and 32 where it moved.
+-- The code of what a mouse did: its button, and 32 if it moved.
 abbrev pub code_of_button : MouseButton → ℕ
 code_of_button button.Left = 0
 code_of_button button.Middle = 1
@@ -89,7 +89,7 @@ code_of_kind (kind.Release b) = code_of_button b
 code_of_kind (kind.Drag b) = 32 + code_of_button b
 code_of_kind kind.Move = 35
 
--- M, or m where a button goes up
+-- M, or m if a button is released
 abbrev pub last_of_kind : MouseKind → ℕ
 last_of_kind (kind.Release b) = 109
 last_of_kind _ = 77
@@ -102,7 +102,7 @@ with_modifiers code ctrl alt shift = code + (if ctrl then 16 else 0) + (if alt t
 abbrev pub mouse_report : ℕ → ℕ → ℕ → ℕ → List ℕ
 mouse_report code column row last = bracket (60 ∷ (decimal code ++ 59 ∷ (decimal (column + 1) ++ 59 ∷ (decimal (row + 1) ++ last ∷ []))))
 
--- the answers to a query of the size, and of the cursor's position
+-- the replies to a query of the size, and of the cursor's position
 abbrev pub size_report : ℕ → ℕ → List ℕ
 size_report columns rows = bracket (56 ∷ 59 ∷ (decimal rows ++ 59 ∷ (decimal columns ++ 116 ∷ [])))
 
@@ -140,8 +140,8 @@ bytes_of_rows rows = flat_map (λ r. r.0) rows
 abbrev pub AreInner : List ℕ → Type 0
 AreInner bytes = AllByRecursion (λ b. (is_inner b ≡ true) × (b ≢ 36)) bytes
 
--- Parameters and intermediate bytes, with no $, that begin no pasted text and no sequence of the Linux console with this final
--- byte.
+-- Parameters and intermediate bytes, with no $, that with this final byte are no start mark of a pasted text and begin no sequence
+-- of the Linux console.
 pub record IsGeneral (inner : List ℕ) (last : ℕ) : Type 0 where
   pub inner_bytes : AreInner inner
   pub short : length inner < inner_limit
@@ -149,9 +149,9 @@ pub record IsGeneral (inner : List ℕ) (last : ℕ) : Type 0 where
   pub no_paste : last ≡ 126 → inner ≢ 50 ∷ 48 ∷ 48 ∷ []
   pub no_console : last ≡ 91 → inner ≢ []
 
--- ---- pieces
+-- ---- slices
 
--- the events of pieces of bytes that come after pending ones, one piece after another, and what is pending after the last
+-- the events of pending bytes and of slices of bytes after them, fed one by one, and the pending bytes after the last
 abbrev pub feeding : List ℕ → List (List ℕ) → Decoding
 feeding pending [] = ([], pending)
 feeding pending (piece ∷ pieces) =

@@ -1,5 +1,5 @@
 -- Control sequences (ECMA-48, 5.4): ESC [, then parameters and intermediate bytes, which are 32 to 63, then a final byte from
--- 64 to 126. What is read begins after ESC [.
+-- 64 to 126. The definitions take the bytes after ESC [.
 use Rattle.std.specs.Prelude.{ℕ, zero, suc, ◌+◌, ◌-◌, ◌*◌, Bool, ◌&&◌, ◌||◌, not, ◌==◌, nat_le, List, [], ◌∷◌, Option, Some, None, take, drop, if◌then◌else◌}
 use Rattle.std.specs.Int.{is_in_range}
 use Rattle.textarea_data.specs.declared.input.Key.{Key}
@@ -35,15 +35,15 @@ event_of_one number last =
 abbrev pub cursor_event : ℕ → ℕ → EventValue
 cursor_event row column = if row == 0 || column == 0 then unknown else cursor (column - 1) (row - 1)
 
--- A key with modifiers, or the answer to a query of the cursor's position, R. F3 ends in R too: with a first 1 and a parameter
--- of modifiers from 2 to 8 it is F3, since no terminal that is of use to an editor has its cursor there and only one row.
+-- A key with modifiers, or the reply to a query of the cursor's position, which ends in R. F3 with modifiers ends in R too: a first
+-- 1 and a second number from 2 to 8 is F3, and not the cursor in the first row and one of these columns.
 unfoldable pub event_of_two : ℕ → ℕ → ℕ → EventValue
 event_of_two first second last =
     if last == 126 then key_event (entry numbered_keys first) second
     else (if last == 82 && not (first == 1 && is_in_range 2 8 second) then cursor_event first second
     else (if first == 1 then key_event (entry letter_keys last) second else unknown))
 
--- the answer to a query of the size in cells, t: 8, the rows and the columns (xterm, "Window manipulation")
+-- the reply to a query of the size in cells, which ends in t: 8, the rows and the columns (xterm, "Window manipulation")
 unfoldable pub event_of_three : ℕ → ℕ → ℕ → ℕ → EventValue
 event_of_three first second third last = if last == 116 && first == 8 then size third second else unknown
 
@@ -58,7 +58,7 @@ abbrev pub mouse_event_of : Parameters → ℕ → EventValue
 mouse_event_of (parameters.Three code column row) last = mouse_event code column row last
 mouse_event_of _ last = unknown
 
--- by the bytes between ESC [ and the final byte; a mouse's begin with <
+-- the event by the bytes between ESC [ and the final byte; those of a mouse report begin with <
 unfoldable pub sequence_event : List ℕ → ℕ → EventValue
 sequence_event [] last = event_of (parameters_of []) last
 sequence_event (b ∷ bytes) last = if b == 60 then mouse_event_of (parameters_of bytes) last else event_of (parameters_of (b ∷ bytes)) last
@@ -72,17 +72,17 @@ is_inner b = is_in_range 32 63 b
 abbrev pub is_final : ℕ → Bool
 is_final b = is_in_range 64 126 b
 
--- how many bytes at the front pass, at most so many
+-- the number of bytes at the front that pass a test, at most a limit
 unfoldable pub count_front : (ℕ → Bool) → ℕ → List ℕ → ℕ
 count_front test zero bytes = 0
 count_front test (suc most) [] = 0
 count_front test (suc most) (b ∷ bytes) = if test b then suc (count_front test most bytes) else 0
 
--- A sequence is given up where its first 4,096 bytes, ESC [ among them, bring no end.
+-- A sequence without an end in its first 4,096 bytes, with ESC [, is unknown.
 abbrev pub inner_limit : ℕ
 inner_limit = 4094
 
--- ESC and [ that begin no sequence are Alt with that key; a sequence that is broken off is unknown.
+-- ESC [ that begins no sequence is Alt with [; an interrupted sequence is unknown.
 abbrev pub broken_event : List ℕ → EventValue
 broken_event [] = input (with_alt (input_of_key (key.Char 91)))
 broken_event (b ∷ bytes) = unknown
@@ -97,7 +97,7 @@ unfoldable pub final_at : List ℕ → ℕ → List ℕ → EventAndRest
 final_at [] last bytes = if last == 91 then console_at bytes else Some (sequence_event [] last, bytes)
 final_at (b ∷ inner) last bytes = Some (sequence_event (b ∷ inner) last, bytes)
 
--- A byte that is neither inner nor final breaks a sequence off, and begins what comes next.
+-- A byte that is neither inner nor final interrupts a sequence, and begins the next event.
 unfoldable pub after_inner : List ℕ → List ℕ → EventAndRest
 after_inner inner [] = None
 after_inner inner (b ∷ bytes) = if is_final b then final_at inner b bytes else Some (broken_event inner, b ∷ bytes)
@@ -106,7 +106,7 @@ unfoldable pub control_at : List ℕ → EventAndRest
 control_at bytes = let n = count_front is_inner inner_limit bytes in
     if n == inner_limit then Some (unknown, drop n bytes) else after_inner (take n bytes) (drop n bytes)
 
--- rxvt's keys with Shift end in $, which ECMA-48 has as an intermediate byte: one digit or two of a key, and $.
+-- rxvt's keys with Shift are one digit or two and $, which is an intermediate byte of ECMA-48.
 abbrev pub shift_key : Option Key → List ℕ → EventAndRest
 shift_key None bytes = None
 shift_key (Some k) bytes = Some (input (input_with k 2), bytes)

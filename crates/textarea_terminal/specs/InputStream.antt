@@ -1,4 +1,4 @@
--- The events of bytes, and the bytes of an event that is begun.
+-- The events of bytes, and the bytes of an incomplete event after them.
 use Rattle.std.specs.Prelude.{◌≡◌, ◌<◌, ℕ, zero, suc, Bool, true, false, List, [], ◌∷◌, ◌++◌, ◌==◌, length, map, option_map, Option, Some, None, if◌then◌else◌}
 use Rattle.textarea_data.specs.declared.input.Input.{Input}
 use Rattle.textarea_data.specs.declared.input.Key.TheVariants as key
@@ -7,26 +7,26 @@ use Rattle.textarea_terminal.specs.InputEvent.{EventValue, input, value_of}
 use Rattle.textarea_terminal.specs.InputKey.{input_of_key, with_alt}
 use Rattle.textarea_terminal.specs.InputUnit.{unit_at}
 
--- events, and the bytes after them
+-- events, and the rest of the bytes
 abbrev pub Decoding : Type 0
 Decoding = List EventValue × List ℕ
 
 abbrev pub with_event : EventValue → Decoding → Decoding
 with_event value decoding = (value ∷ decoding.0, decoding.1)
 
--- the events at the front of the bytes, at most so many
+-- the events at the front of the bytes, at most a limit
 unfoldable pub decoding_within : ℕ → List ℕ → Decoding
 decoding_within zero bytes = ([], bytes)
 decoding_within (suc most) bytes = elim (unit_at bytes) [ None ↦ ([], bytes) | Some x ↦ with_event x.0 (decoding_within most x.1) ]
 
--- all of them, since each takes a byte at least
+-- all events, since each takes at least one byte
 unfoldable pub decoding : List ℕ → Decoding
 decoding bytes = decoding_within (length bytes) bytes
 
 abbrev pub events_of : List ℕ → List EventValue
 events_of bytes = (decoding bytes).0
 
--- the bytes of an event that is begun
+-- the bytes of an incomplete event
 abbrev pub begun_bytes : List ℕ → List ℕ
 begun_bytes bytes = (decoding bytes).1
 
@@ -35,7 +35,7 @@ pub record EndsIn (bytes rest : List ℕ) : Type 0 where
   pub front : List ℕ
   pub whole : bytes ≡ front ++ rest
 
--- the event that is read takes a byte at least, from the front, and is the same where more bytes come after the rest
+-- the event takes at least one byte from the front, and is the same if more bytes come after the rest
 pub record Takes (bytes : List ℕ) (x : EventValue × List ℕ) : Type 0 where
   pub front : List ℕ
   pub some : 0 < length front
@@ -48,29 +48,28 @@ pub record Adds (old new : List Event) (values : List EventValue) : Type 0 where
   pub whole : new ≡ old ++ added
   pub values_are : map value_of added ≡ values
 
--- the new events are the old ones, and then some that make all with those that are to come
+-- the new events are the old ones and then some, which with those to come are all
 pub record AddsUpTo (old new : List Event) (to_come all : List EventValue) : Type 0 where
   pub added : List Event
   pub whole : new ≡ old ++ added
   pub values_are : map value_of added ++ to_come ≡ all
 
--- ---- where nothing more comes for now
+-- ---- when no more bytes arrive for now
 
--- the key that begins a sequence, which the bytes after its ESC begin
+-- the key that an incomplete sequence is, by the bytes after its ESC
 unfoldable pub leading_key : List ℕ → Option Input
 leading_key [] = Some (input_of_key key.Esc)
 leading_key (b ∷ []) =
     if b == 91 then Some (with_alt (input_of_key (key.Char 91))) else (if b == 79 then Some (with_alt (input_of_key (key.Char 79))) else None)
 leading_key (b ∷ c ∷ bytes) = None
 
--- the same with one ESC more before it, which is Esc
+-- the same after one more ESC, which is the key Esc
 unfoldable pub keys_after_escape : List ℕ → Option (Bool × Input)
 keys_after_escape [] = Some (false, input_of_key key.Esc)
 keys_after_escape (b ∷ bytes) =
     if b == 27 then option_map (λ i. (true, i)) (leading_key bytes) else option_map (λ i. (false, i)) (leading_key (b ∷ bytes))
 
--- The keys that bytes which begin a sequence are where nothing more comes: whether Esc is first, and the key after it. Longer
--- sequences stay begun.
+-- The keys that an incomplete sequence is: whether Esc is first, and the key after it. A longer sequence stays pending.
 unfoldable pub idle_keys : List ℕ → Option (Bool × Input)
 idle_keys [] = None
 idle_keys (b ∷ bytes) = if b == 27 then keys_after_escape bytes else None
@@ -79,7 +78,7 @@ abbrev pub values_of_keys : Bool → Input → List EventValue
 values_of_keys true i = input (input_of_key key.Esc) ∷ input i ∷ []
 values_of_keys false i = input i ∷ []
 
--- the events of begun bytes where nothing more comes, and the bytes that stay begun
+-- the events of pending bytes, and the bytes that stay pending
 abbrev pub idle_of : List ℕ → Option (Bool × Input) → Decoding
 idle_of bytes None = ([], bytes)
 idle_of bytes (Some keys) = (values_of_keys keys.0 keys.1, [])

@@ -16,19 +16,19 @@ unfoldable pub key_at : ℕ → List ℕ → Option (Input × List ℕ)
 key_at a bytes =
     if nat_lt a 128 then Some (byte_input a, bytes) else option_map (λ x. (input_of_key (key.Char x.0), x.1)) (utf8_character a bytes)
 
--- what is after ESC O: a byte from 32 to 126, or it is Alt and O
+-- the event of ESC O and these bytes: by a byte from 32 to 126, or else Alt with O
 unfoldable pub single_at : List ℕ → EventAndRest
 single_at [] = None
 single_at (b ∷ bytes) =
     if is_in_range 32 126 b then Some (single_event b, bytes) else Some (input (with_alt (input_of_key (key.Char 79))), b ∷ bytes)
 
--- an ESC before a sequence: with a key's or the wheel's it is that with Alt, and before another, which begins at `sequence`, it is
+-- an ESC before a sequence: Alt with the sequence's key or step of the wheel; before another sequence, which begins at `sequence`,
 -- the key Esc
 abbrev pub with_escape : List ℕ → EventValue × List ℕ → EventValue × List ℕ
 with_escape sequence (input i, bytes) = (input (with_alt i), bytes)
 with_escape sequence (other, bytes) = (input (input_of_key key.Esc), sequence)
 
--- what is after ESC ESC; `second` begins at the second one
+-- the event of ESC ESC and these bytes; `second` begins at the second ESC
 unfoldable pub second_escape_at : List ℕ → List ℕ → EventAndRest
 second_escape_at second [] = None
 second_escape_at second (b ∷ bytes) =
@@ -36,7 +36,7 @@ second_escape_at second (b ∷ bytes) =
     else (if b == 79 then option_map (with_escape second) (single_at bytes)
     else Some (input (input_of_key key.Esc), second))
 
--- what is after ESC: a sequence, or a key with Alt
+-- the event of ESC and these bytes: a sequence, or a key with Alt
 unfoldable pub escape_at : List ℕ → EventAndRest
 escape_at [] = None
 escape_at (b ∷ bytes) =
@@ -69,7 +69,7 @@ unfoldable pub mark_index : List ℕ → List ℕ → Option ℕ
 mark_index mark [] = None
 mark_index mark (b ∷ bytes) = if is_some (after_mark mark (b ∷ bytes)) then Some 0 else option_map suc (mark_index mark bytes)
 
--- a pasted text ends at the first mark of an end, whatever its bytes are
+-- a pasted text ends at the first end mark, whatever its bytes are
 abbrev pub paste_before : List ℕ → ℕ → EventValue × List ℕ
 paste_before bytes index = (paste (utf8_lossy (take index bytes)), drop (index + 6) bytes)
 

@@ -8,6 +8,7 @@ pub mod InputSequence
 pub mod InputUnit
 pub mod InputStream
 pub mod InputRow
+pub mod InputShort
 pub mod Control
 pub mod Paint
 pub mod PaintArea
@@ -15,5 +16,4 @@ pub mod PaintCells
 pub mod PaintSpot
 pub mod Painter
 pub mod Pen
-pub mod PenColors
 pub mod Screen

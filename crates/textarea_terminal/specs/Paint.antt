@@ -1,4 +1,4 @@
--- What painting does to a terminal, and how the bytes say it.
+-- What painting does to a terminal, and which bytes it takes.
 use Rattle.std.specs.Prelude.{◌≡◌, ℕ, ◌+◌, ◌%◌, ◌<◌, ◌≤◌, true, false, Bool, not, ◌&&◌, ◌==◌, List, [], ◌∷◌, ◌++◌, ◌⊎◌, ◌≢◌, length, take, drop, replicate, Option, None, Some, IfSome, is_some, if◌then◌else◌}
 use Rattle.std.specs.Option.{option_or}
 use Rattle.textarea_screen.specs.Cell.{CellView, fresh_cell}
@@ -10,7 +10,7 @@ use Rattle.textarea_terminal.specs.Screen.{Terminal, run, printed, rest_of, curs
 use Rattle.textarea_terminal.specs.declared.output.brush.Brush.{Brush}
 use Rattle.textarea_terminal.specs.declared.output.look.Look.{Look}
 
--- the bytes after are those before, followed by those of controls of which this holds
+-- the bytes after are those before and then those of controls with this property
 pub record Wrote (before after : List ℕ) (holds : List Control → Type 0) : Type 0 where
   pub controls : List Control
   pub bytes : after ≡ before ++ bytes_of controls
@@ -28,7 +28,7 @@ prints_of (HideCursor ∷ controls) = prints_of controls
 prints_of (BeginUpdate ∷ controls) = prints_of controls
 prints_of (EndUpdate ∷ controls) = prints_of controls
 
--- how often controls move the cursor
+-- the number of moves of the cursor
 abbrev pub moves_of : List Control → ℕ
 moves_of [] = 0
 moves_of (Print text ∷ controls) = moves_of controls
@@ -40,7 +40,7 @@ moves_of (HideCursor ∷ controls) = moves_of controls
 moves_of (BeginUpdate ∷ controls) = moves_of controls
 moves_of (EndUpdate ∷ controls) = moves_of controls
 
--- how often controls change the pen
+-- the number of changes of the pen
 abbrev pub pens_of : List Control → ℕ
 pens_of [] = 0
 pens_of (Print text ∷ controls) = pens_of controls
@@ -61,7 +61,7 @@ BeginsUpdate is_updating controls =
     × ((terminal : Terminal) → terminal.is_updating ≡ is_updating → run controls terminal ≡ record terminal { is_updating = true })
     × (moves_of controls ≡ 0) × (pens_of controls ≡ 0)
 
--- they bring the cursor to a place, from this one if it is known
+-- they move the cursor to the cell of an index, from this one if it is known
 abbrev pub MovesTo : Option ℕ → ℕ → ℕ → List Control → Type 0
 MovesTo at columns place controls =
     (prints_of controls ≡ [])
@@ -70,7 +70,7 @@ MovesTo at columns place controls =
     × (at ≡ Some place → controls ≡ [])
     × (moves_of controls ≤ 1) × (pens_of controls ≡ 0)
 
--- so many changes of the pen: one, unless it is known to have the look
+-- the needed number of changes of the pen: one, unless it is known to have the look
 abbrev pub IsNeeded : Option Look → Look → ℕ → Type 0
 IsNeeded pen look count = ((pen ≡ Some look) × (count ≡ 0)) ⊎ ((pen ≢ Some look) × (count ≡ 1))
 
@@ -81,13 +81,13 @@ TakesLook pen look controls =
     × ((terminal : Terminal) → IfSome pen (λ known. terminal.pen ≡ known) → run controls terminal ≡ record terminal { pen = look })
     × (moves_of controls ≡ 0) × IsNeeded pen look (pens_of controls)
 
--- what is known of the terminal is so
+-- the terminal is as the brush knows it
 pub record Knows (brush : Brush) (terminal : Terminal) : Type 0 where
   pub cursor : IfSome brush.at (λ place. terminal.cursor ≡ Some place)
   pub pen : IfSome brush.pen (λ look. terminal.pen ≡ look)
   pub updating : terminal.is_updating ≡ brush.is_updating
 
--- the terminal with the cell's cluster printed at a place
+-- the terminal with the cell's grapheme cluster printed at an index
 abbrev pub with_cell : ℕ → ℕ → CellView → Terminal → Terminal
 with_cell columns place cell terminal = record terminal {
   cells = printed (rest_of terminal.rest_look (look_of cell)) cell (cluster_columns cell.symbol) (take place terminal.cells) (drop place terminal.cells);
@@ -96,7 +96,7 @@ with_cell columns place cell terminal = record terminal {
   is_updating = true;
 }
 
--- what is known after that
+-- the known state after that
 abbrev pub brush_after : ℕ → ℕ → CellView → Brush
 brush_after columns place cell = record {
   at = cursor_after columns (place + cluster_columns cell.symbol);
@@ -104,7 +104,7 @@ brush_after columns place cell = record {
   is_updating = true;
 }
 
--- the controls print the cell's cluster at a place
+-- the controls print the cell's cluster at an index
 abbrev pub PrintsCell : Brush → ℕ → ℕ → CellView → List Control → Type 0
 PrintsCell brush columns place cell controls =
     (prints_of controls ≡ cell.symbol ∷ [])
@@ -117,12 +117,17 @@ pub record KeepsCell (before after : Brush) (old new : CellView) (controls : Lis
   pub none : controls ≡ []
   pub brush : after ≡ before
 
--- the cell is another one: it is printed
+-- the cell has changed: it is printed
 pub record ChangesCell (before after : Brush) (columns place : ℕ) (old new : CellView) (controls : List Control) : Type 0 where
   pub whole : is_half new ≡ false
   pub changed : old ≢ new
   pub prints : PrintsCell before columns place new controls
   pub brush : after ≡ brush_after columns place new
+
+-- the next cell is written only if it has changed
+abbrev pub IsStep : Brush → Brush → ℕ → ℕ → CellView → CellView → List Control → Type 0
+IsStep before after columns place old new controls =
+    (((is_half new ≡ true) ⊎ (old ≡ new)) × KeepsCell before after old new controls) ⊎ ChangesCell before after columns place old new controls
 
 -- ---- a frame
 
@@ -133,7 +138,7 @@ pub record Shows (brush : Brush) (width : ℕ) (frame : List CellView) (is_caret
   pub cells : terminal.cells ≡ frame
   pub caret : terminal.has_cursor_shown ≡ is_caret_shown
 
--- these texts, in order, are those of the clusters of the new cells that begin in a cell which is not as it was
+-- these texts, in order, are those of the new clusters that begin in a changed cell
 abbrev pub AreChanges : List CellView → List CellView → List (List ℕ) → Type 0
 AreChanges [] [] texts = texts ≡ []
 AreChanges (old ∷ olds) (new ∷ news) texts =
@@ -141,7 +146,7 @@ AreChanges (old ∷ olds) (new ∷ news) texts =
     ⊎ ((is_half new ≡ false) × (old ≢ new) × ((later : List (List ℕ)) × (texts ≡ new.symbol ∷ later) × AreChanges olds news later))
 AreChanges olds news texts = ⊥
 
--- so many runs of changed clusters, each run in one row; `follows` where the cluster before these cells has changed
+-- the number of runs of changed clusters, each in one row; `follows` if the cluster before these cells has changed
 abbrev pub HasRuns : ℕ → ℕ → Bool → List CellView → List CellView → ℕ → Type 0
 HasRuns columns place follows [] [] runs = runs ≡ 0
 HasRuns columns place follows (old ∷ olds) (new ∷ news) runs =
@@ -151,7 +156,7 @@ HasRuns columns place follows (old ∷ olds) (new ∷ news) runs =
     × ((later : ℕ) × (runs ≡ (if follows && not (place % columns == 0) then later else later + 1)) × HasRuns columns (place + 1) true olds news later)))
 HasRuns columns place follows olds news runs = ⊥
 
--- so many changes of the look among changed clusters, from the look of the pen
+-- the number of changes of the look among changed clusters, from the look of the pen on
 abbrev pub HasLooks : Option Look → List CellView → List CellView → ℕ → Type 0
 HasLooks pen [] [] looks = looks ≡ 0
 HasLooks pen (old ∷ olds) (new ∷ news) looks =
@@ -160,9 +165,9 @@ HasLooks pen (old ∷ olds) (new ∷ news) looks =
     × ((later : ℕ) × ((count : ℕ) × (IsNeeded pen (look_of new) count × (looks ≡ count + later) × HasLooks (Some (look_of new)) olds news later))))
 HasLooks pen olds news looks = ⊥
 
--- the controls bring a terminal from showing the old cells to showing the new ones, and leave its cursor as visible as it was; they
--- print what has changed and nothing else, with one move for each run at most, and a change of the pen only where the look changes; and
--- where nothing has changed there are none
+-- The controls change a terminal that shows the old cells to show the new ones, and neither show nor hide its cursor. They print
+-- only changed clusters, with at most one move for each run, and change the pen only if the look changes. There are none if
+-- nothing has changed.
 pub record Repaints (columns : ℕ) (old new : List CellView) (before after : Brush) (controls : List Control) : Type 0 where
   pub brings : (terminal : Terminal) (is_caret_shown : Bool) → Shows before columns old is_caret_shown terminal →
       Shows after columns new is_caret_shown (run controls terminal)
@@ -173,42 +178,42 @@ pub record Repaints (columns : ℕ) (old new : List CellView) (before after : Br
 
 -- ---- what a painter promises
 
--- what was painted last: the cells, row after row, and the place of the caret among them, if it is shown
+-- a painted frame: the cells, row after row, and the index of the caret's cell, if the caret is shown
 pub record PaintedFrame : Type 0 where
   pub cells : List CellView
   pub caret : Option ℕ
 
--- the cursor is shown at this place, or not shown
+-- the cursor is shown at this index, or not shown
 abbrev pub IsCaret : Option ℕ → Terminal → Type 0
 IsCaret None terminal = terminal.has_cursor_shown ≡ false
 IsCaret (Some place) terminal = (terminal.has_cursor_shown ≡ true) × (terminal.cursor ≡ Some place)
 
--- the terminal shows exactly these cells and this caret, and holds nothing back
+-- the terminal shows exactly these cells and this caret, and no update is open
 pub record ShowsFrame (width : ℕ) (frame : PaintedFrame) (terminal : Terminal) : Type 0 where
   pub columns : terminal.columns ≡ width
   pub cells : terminal.cells ≡ frame.cells
   pub caret : IsCaret frame.caret terminal
   pub updating : terminal.is_updating ≡ false
 
--- the terminal has so many columns and cells; and where a frame is known it shows that
+-- the terminal has these numbers of columns and cells, and shows the frame if one is known
 abbrev pub ShowsKnown : ℕ → ℕ → Option PaintedFrame → Terminal → Type 0
 ShowsKnown columns size None terminal = (terminal.columns ≡ columns) × (length terminal.cells ≡ size)
 ShowsKnown columns size (Some frame) terminal = ShowsFrame columns frame terminal
 
--- the cells from which the next frame starts: where nothing is known, those of an erased terminal
+-- the cells before the next frame; if nothing is known, those of an erased terminal
 abbrev pub first_cells : ℕ → Option PaintedFrame → List CellView
 first_cells size None = replicate size fresh_cell
 first_cells size (Some frame) = frame.cells
 
--- the look of the pen before the first cell, where it is known: that of an erased terminal
+-- the look of the pen before the first cell, if it is known: that of an erased terminal
 abbrev pub first_pen : Option PaintedFrame → Option Look
 first_pen None = Some plain_look
 first_pen (Some frame) = None
 
--- the controls bring any terminal that shows what was painted last to show the frame, and any terminal of that size where nothing is
--- known of it; they print each cluster that begins in a cell which has changed once, and nothing else, with one move for each run of such
--- clusters and one for the caret at most, and a change of the pen where the look changes and one more at most; and where neither a cell
--- nor the caret has changed there are none
+-- The controls make a terminal show the frame, if it shows the frame before, or, if that is unknown, has this size. They print each
+-- changed cluster once and nothing else. They move the cursor at most once for each run of changed clusters and once for the caret,
+-- and change the pen at most once for each change of the look and once more. There are none if neither a cell nor the caret has
+-- changed.
 pub record Paints (columns size : ℕ) (before : Option PaintedFrame) (frame : PaintedFrame) (controls : List Control) : Type 0 where
   pub brings : (terminal : Terminal) → ShowsKnown columns size before terminal → ShowsFrame columns frame (run controls terminal)
   pub prints : AreChanges (first_cells size before) frame.cells (prints_of controls)
@@ -218,7 +223,7 @@ pub record Paints (columns size : ℕ) (before : Option PaintedFrame) (frame : P
 
 -- ---- around the cells
 
--- a terminal, whatever it shows, is erased in its own colours, in an update
+-- a terminal that shows anything is erased in its own colours, in an update
 abbrev pub Clears : List Control → Type 0
 Clears controls =
     (prints_of controls ≡ [])
@@ -226,7 +231,7 @@ Clears controls =
     ≡ record terminal { cells = replicate (length terminal.cells) fresh_cell; pen = plain_look; is_updating = true })
     × (moves_of controls ≡ 0) × (pens_of controls ≡ 1)
 
--- the cursor is shown or hidden as wanted; `known` is how it was, where that is known
+-- the cursor is shown or hidden as wanted; `known` is whether it was shown, if that is known
 abbrev pub SetsCursor : Option Bool → Bool → List Control → Type 0
 SetsCursor known wanted controls =
     (prints_of controls ≡ [])
@@ -242,7 +247,7 @@ EndsUpdate is_updating controls =
     × (is_updating ≡ false → controls ≡ [])
     × (moves_of controls ≡ 0) × (pens_of controls ≡ 0)
 
--- the cursor is brought to the caret and shown, or hidden
+-- the cursor is moved to the caret and shown, or hidden
 pub record PutsCaret (at : Option ℕ) (known : Option Bool) (width : ℕ) (caret : Option ℕ) (controls : List Control) : Type 0 where
   pub brings : (terminal : Terminal) → IfSome at (λ here. terminal.cursor ≡ Some here) → IfSome known (λ is_shown. terminal.has_cursor_shown ≡ is_shown) →
       terminal.columns ≡ width → IfSome caret (λ place. place < length terminal.cells) →
@@ -252,7 +257,15 @@ pub record PutsCaret (at : Option ℕ) (known : Option Bool) (width : ℕ) (care
   pub pens : pens_of controls ≡ 0
   pub still : known ≡ Some (is_some caret) → IfSome caret (λ place. at ≡ Some place) → controls ≡ []
 
--- the cells and then the caret are brought from what is known to the frame
+-- the cursor is moved to the caret or hidden, and then the update ends
+pub record Ends (brush : Brush) (known : Option Bool) (width : ℕ) (caret : Option ℕ) (controls : List Control) : Type 0 where
+  pub first : List Control
+  pub last : List Control
+  pub whole : controls ≡ first ++ last
+  pub puts : PutsCaret brush.at known width caret first
+  pub ends : EndsUpdate brush.is_updating last
+
+-- the cells and then the caret are changed from the known state to the frame
 pub record PaintsFrame (brush : Brush) (known : Option Bool) (width : ℕ) (old : List CellView) (frame : PaintedFrame) (controls : List Control) : Type 0 where
   pub brings : (terminal : Terminal) → Knows brush terminal → IfSome known (λ is_shown. terminal.has_cursor_shown ≡ is_shown) → terminal.columns ≡ width →
       terminal.cells ≡ old → ShowsFrame width frame (run controls terminal)

@@ -12,7 +12,7 @@ use Rattle.textarea_terminal.specs.PaintCells.{frame_of_buffer}
 abbrev pub cell_count : Rect → ℕ
 cell_count area = area.height * area.width
 
--- the place of the caret among the cells of the area; one outside of it isn't shown
+-- the index of the caret's cell in the area; a caret outside of it isn't shown
 abbrev pub caret_in : Rect → Option Position → Option ℕ
 caret_in area None = None
 caret_in area (Some position) = if contains area position.x position.y then Some (place_in area position.x position.y) else None

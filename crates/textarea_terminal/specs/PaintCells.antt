@@ -1,4 +1,4 @@
--- The cells that a terminal is to show: those of a buffer, where a terminal can show them.
+-- The cells of a buffer as a terminal can show them.
 use Rattle.std.specs.Prelude.{ℕ, zero, suc, ◌+◌, ◌-◌, ◌*◌, ◌/◌, ◌%◌, true, false, Bool, ◌&&◌, ◌==◌, nat_lt, nat_le, List, [], ◌∷◌, length, unwrap_or, if◌then◌else◌}
 use Rattle.std.specs.Int.RustNames.{bit_and}
 use Rattle.textarea_paint.specs.Columns.{columns_of}
@@ -12,11 +12,11 @@ use Rattle.textarea_terminal.specs.Pen.{look_of, in_look}
 use Rattle.textarea_terminal.specs.declared.output.look.Look.{Look}
 use Rattle.unicode_segmentation.specs.Grapheme.{graphemes}
 
--- the columns in which a terminal shows a text that is one grapheme cluster; 0 where it is none, or can't be shown
+-- the columns of a text that is one grapheme cluster; 0 for other texts, and for clusters that can't be shown
 unfoldable pub cluster_columns : List ℕ → ℕ
 cluster_columns text = if length (graphemes true text) == 1 then columns_of text else 0
 
--- a cell that a cluster takes which begins in a cell before it: that one has the look of both
+-- a cell that is covered by a cluster in a cell before it, which has the look of both
 abbrev pub half : CellView
 half = record { symbol = []; fg = Reset; bg = Reset; modifier = record { 0 = 0 } }
 
@@ -30,18 +30,18 @@ nine_of look = record look { modifier = record { 0 = bit_and look.modifier.0 511
 abbrev pub shown_alike : CellView → CellView
 shown_alike cell = in_look (nine_of (look_of cell)) cell.symbol
 
--- the cell with a blank in the place of what can't be shown
+-- the cell with a blank instead of its text
 abbrev pub blanked : CellView → CellView
 blanked cell = in_look (nine_of (look_of cell)) (32 ∷ [])
 
--- so many of the cells, from the first on, hold the empty text
+-- the texts of the first `count` cells are empty
 abbrev pub begins_empty : ℕ → List CellView → Bool
 begins_empty zero cells = true
 begins_empty (suc count) [] = false
 begins_empty (suc count) (cell ∷ cells) = is_half cell && begins_empty count cells
 
--- a terminal of so many columns can show the text in the cell at this place, before these cells: the text is a cluster that
--- doesn't reach past the row's end, and the cells that it takes after its own hold the empty text
+-- a terminal of this number of columns can show the text of the cell at this index, before these cells: the text is a cluster that
+-- ends in its row, and the texts of the cells that it covers are empty
 abbrev pub fits_in_row : ℕ → ℕ → CellView → List CellView → Bool
 fits_in_row columns place cell cells =
     nat_lt 0 (cluster_columns cell.symbol)
@@ -57,16 +57,16 @@ displayed columns place zero (cell ∷ cells) =
     then shown_alike cell ∷ displayed columns (place + 1) (cluster_columns cell.symbol - 1) cells
     else blanked cell ∷ displayed columns (place + 1) 0 cells
 
--- the cell of the buffer at a place of an area, row after row; where the buffer has none, a fresh one
+-- the buffer's cell at an index in an area, counted row after row; a fresh one if the buffer has none
 abbrev pub cell_in : Rect → Buffer → ℕ → CellView
 cell_in area buffer place = unwrap_or (cell_at buffer (area.x + place % area.width) (area.y + place / area.width)) fresh_cell
 
--- so many cells from a place on
+-- a number of cells from an index on
 abbrev pub cells_from : Rect → Buffer → ℕ → ℕ → List CellView
 cells_from area buffer place zero = []
 cells_from area buffer place (suc count) = cell_in area buffer place ∷ cells_from area buffer (place + 1) count
 
--- what a terminal of this area is to show of a buffer
+-- the cells that a terminal of this area shows of a buffer
 abbrev pub frame_of_buffer : Rect → Buffer → List CellView
 frame_of_buffer area buffer = displayed area.width 0 0 (cells_from area buffer 0 (area.height * area.width))
 
@@ -79,13 +79,13 @@ is_own color = false
 abbrev pub is_plain_half : CellView → Bool
 is_plain_half cell = is_half cell && is_own cell.fg && is_own cell.bg && (cell.modifier.0 == 0)
 
--- a terminal of so many columns can show the cluster that begins in this cell: it ends in its row
+-- a terminal of this number of columns can show the cluster that begins in this cell: it ends in its row
 abbrev pub can_begin : ℕ → ℕ → CellView → Bool
 can_begin columns place cell =
     nat_lt 0 (cluster_columns cell.symbol) && nat_le (place % columns + cluster_columns cell.symbol) columns && nat_lt cell.modifier.0 512
 
--- the cells are those of clusters that a terminal of so many columns can show, each whole in its row; the first `halves` of them
--- belong to a cluster that began before them
+-- the cells are those of clusters that a terminal of this number of columns can show, each whole in its row; the first `halves` of
+-- them belong to a cluster that began before them
 abbrev pub are_whole : ℕ → ℕ → ℕ → List CellView → Bool
 are_whole columns place halves [] = halves == 0
 are_whole columns place (suc halves) (cell ∷ cells) = is_plain_half cell && are_whole columns (place + 1) halves cells

@@ -1,8 +1,8 @@
--- A place among the cells of a terminal, with its row and its column.
+-- The index of a terminal's cell, with its row and column.
 use Rattle.std.specs.Prelude.{◌≡◌, ℕ, ◌+◌, ◌*◌, ◌<◌, ◌≤◌}
 use Rattle.textarea_terminal.specs.declared.output.spot.Spot.{Spot}
 
--- the row and the column are those of the place, where a row has so many columns
+-- the row and the column are those of the index, in rows of this number of columns
 pub record IsSpot (columns : ℕ) (spot : Spot) : Type 0 where
   pub place : spot.place ≡ spot.row * columns + spot.column
   pub column : 0 < columns → spot.column < columns

@@ -1,4 +1,4 @@
--- What clauses see of a painter.
+-- The state of a painter in clauses.
 use Rattle.std.specs.Prelude.{Option, Some, None, map, if◌then◌else◌}
 use Rattle.textarea_screen.specs.Cell.{cell_view}
 use Rattle.textarea_screen.specs.declared.screen.rect.Rect.{Rect}
@@ -9,6 +9,6 @@ use Rattle.textarea_terminal.specs.declared.output.painter.Painter.{Painter}
 abbrev pub painter_area : Painter → Rect
 painter_area painter = painter.area
 
--- what was painted last, unless nothing is known of the terminal
+-- the frame that was painted last, unless the terminal's content is unknown
 abbrev pub painted : Painter → Option PaintedFrame
 painted painter = if painter.is_known then Some (record { cells = map cell_view painter.shown.items; caret = painter.caret }) else None

@@ -9,16 +9,16 @@ use Rattle.textarea_terminal.specs.declared.output.look.Look.{Look}
 
 pub record Terminal : Type 0 where
   pub columns : ℕ
-  -- what each cell shows, row after row, where no cluster reaches past its row's end; a terminal of which nothing is known has none
+  -- what each cell shows, row after row; every cluster ends in its row; there are none if the content is unknown
   pub cells : List CellView
-  -- the place of the cursor among the cells, where it is known
+  -- the index of the cursor's cell, if it is known
   pub cursor : Option ℕ
   pub has_cursor_shown : Bool
   -- the look of what is printed next
   pub pen : Look
   -- an update has begun, and has not ended
   pub is_updating : Bool
-  -- the look of the blank that stays of a cluster of which a part is printed over, by the look of the pen and by what was there:
+  -- the look of the blank that is left of a cluster that is partly printed over, by the look of the pen and the cell before;
   -- terminals differ in it
   pub rest_look : Look → CellView → Look
 
@@ -41,21 +41,21 @@ abbrev pub begins_half : List CellView → Bool
 begins_half [] = false
 begins_half (cell ∷ cells) = is_half cell
 
--- the cells before and from the cursor on, with a cluster of so many columns printed there
+-- the cells before the cursor and from it on, with a cluster of this number of columns printed there
 abbrev pub printed : (CellView → CellView) → CellView → ℕ → List CellView → List CellView → List CellView
 printed rest cell width before after =
     (if begins_half after then reverse (mended_back rest (reverse before)) else before)
     ++ cell ∷ replicate (width - 1) half ++ mended rest (drop width after)
 
--- the cursor after printing up to a place: in the last column terminals differ
+-- the cursor after printing up to an index: in the last column terminals differ
 abbrev pub cursor_after : ℕ → ℕ → Option ℕ
 cursor_after columns place = if place % columns == 0 then None else Some place
 
--- a terminal of which it isn't known what it shows
+-- a terminal whose content is unknown
 abbrev pub unknown : Terminal → Terminal
 unknown terminal = record terminal { cells = []; cursor = None }
 
--- a cluster of so many columns, printed where the cursor is
+-- a cluster of this number of columns, printed at the cursor
 abbrev pub print_at : List ℕ → ℕ → Option ℕ → Terminal → Terminal
 print_at text width None terminal = unknown terminal
 print_at text width (Some place) terminal =

@@ -1,4 +1,4 @@
-//! From the cells of a buffer to the bytes that a terminal is sent.
+//! Cells of a buffer as the bytes that a terminal is sent.
 
 mod area;
 mod brush;

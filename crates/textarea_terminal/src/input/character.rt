@@ -1,4 +1,4 @@
-//! Characters in UTF-8, read from the front of bytes that go on.
+//! Characters in UTF-8, read from the front of bytes.
 
 ghost use Rattle.std.specs.Prelude.{◌≡◌, true};
 ghost use Rattle.std.specs.Char.{IsScalar};
@@ -6,7 +6,7 @@ ghost use Rattle.std.specs.Int.{IsInRange};
 ghost use Rattle.textarea_terminal.specs.InputReading.{Reads};
 ghost use Rattle.textarea_terminal.specs.InputCharacter.{utf8_character, second_byte, third_byte, fourth_byte, code_of_two, code_of_three, code_of_four, is_second, is_continuation};
 
-// The character of a code.
+// The character of a scalar value.
 fn scalar(code: u32) -> char
     requires { IsScalar code }
     ensures { result ≡ code }
@@ -14,7 +14,7 @@ fn scalar(code: u32) -> char
     char::from_u32(code).unwrap()
 }
 
-// Whether a byte may follow the first one.
+// Whether a byte may be the second one after this first one (RFC 3629).
 fn may_be_second(first: u8, second: u8) -> bool
     ensures { result ≡ is_second first second }
 {
@@ -66,8 +66,9 @@ fn four_bytes(first: u8, second: u8, third: u8, fourth: u8) -> char
     scalar(high + u32::from(third - 0x80) * 64 + u32::from(fourth - 0x80))
 }
 
-/// Reads the character that begins with a byte of at least 128 and goes on with these bytes, and the bytes after it. There is
-/// none where they end within it. Bytes that are no character are U+FFFD, one for each maximal part.
+/// Returns the character of a first byte from 128 on and the bytes after it, and the rest of the
+/// bytes; `None` if more bytes are needed. Invalid UTF-8 is U+FFFD, one for each maximal subpart
+/// (Unicode, "U+FFFD Substitution of Maximal Subparts").
 pub fn read_character(first: u8, bytes: &[u8]) -> Option<(char, &[u8])>
     ensures { Reads (λ x. (x.0, x.1.now)) result (utf8_character first bytes.now) }
 {

@@ -7,6 +7,7 @@ ghost use Rattle.textarea_terminal.specs.InputStream.{Adds, AddsUpTo, events_of,
 
 use crate::input::event::Event;
 use crate::input::key::{alt_input, plain_input};
+use crate::input::short::read_quick;
 use crate::input::unit::read_unit;
 use std::alloc::{AllocError, Global};
 use std::marker::Model;
@@ -14,39 +15,25 @@ use textarea_data::input::{Input, Key};
 
 const ESCAPE: u8 = 0x1b;
 
-// The letter at the front, or another character from a space to `~`, and the bytes after it.
-#[inline]
-fn read_letter(bytes: &[u8]) -> Option<(u8, &[u8])>
-    ensures whole { IfSome result (λ x. bytes.now ≡ x.0 ∷ x.1.now) }
-    ensures low { IfSome result (λ x. 32 ≤ x.0) }
-    ensures high { IfSome result (λ x. x.0 ≤ 126) }
-{
-    let (byte, rest) = bytes.split_first()?;
-    if 32 <= *byte && *byte <= 126 {
-        Some((*byte, rest))
-    } else {
-        None
-    }
-}
-
-// Adds the letters at the front, and returns the bytes after them. An `Err` may leave some added.
-fn push_letters<'a>(bytes: &'a [u8], events: &mut Vec<Event>) -> Result<&'a [u8], AllocError>
+// Adds the keys at the front that `read_quick` reads, and returns the rest of the bytes. After an
+// `Err` some may have been added.
+fn push_short<'a>(bytes: &'a [u8], events: &mut Vec<Event>) -> Result<&'a [u8], AllocError>
     ensures left { IfOk result (λ rest. begun_bytes rest.now ≡ begun_bytes bytes.now) }
-    ensures events { IfOk result (λ rest. AddsUpTo events.old.items events.new.items (events_of rest.now) (events_of bytes.now)) }
+    ensures events { IfOk result (λ rest. AddsUpTo events.old.items events.new.items
+        (events_of rest.now) (events_of bytes.now)) }
     ensures front { take (vec_len events.old) events.new.items ≡ events.old.items }
     ensures shorter { IfOk result (λ rest. length rest.now ≤ length bytes.now) }
 {
     let mut rest = bytes;
-    while let Some((letter, after)) = read_letter(rest) {
-        let key = Key::Char(char::from(letter));
-        events.push(Event::Input(plain_input(key)))?;
+    while let Some((input, after)) = read_quick(rest) {
+        events.push(Event::Input(input))?;
         rest = after;
     }
     Ok(rest)
 }
 
-// Adds the events of the bytes, and returns the bytes of an event that is begun. Of the bytes, the first `begun` are known to
-// end within an event. An `Err` may leave some events added.
+// Adds the events of the bytes, and returns the bytes of the last event if it is incomplete. The
+// first `begun` bytes are known to be incomplete. After an `Err` some events may have been added.
 fn read_units<'a>(
     alloc: Global,
     bytes: &'a [u8],
@@ -63,7 +50,7 @@ fn read_units<'a>(
     let mut begun = begun;
     while let Some((event, after)) = read_unit(alloc, rest, begun)? {
         events.push(event)?;
-        rest = push_letters(after, events)?;
+        rest = push_short(after, events)?;
         begun = 0;
     }
     Ok(rest)
@@ -82,7 +69,8 @@ fn remove_front(bytes: &mut Vec<u8>, count: usize)
     bytes.truncate(len - count);
 }
 
-// Adds the events of bytes where none is pending, and keeps those of an event that is begun. An `Err` may leave some events added.
+// Adds the events of bytes when none are pending, and stores the bytes of an incomplete event.
+// After an `Err` some events may have been added.
 fn read_fresh(
     pending: &mut Vec<u8>,
     bytes: &[u8],
@@ -99,16 +87,18 @@ fn read_fresh(
     pending.extend_from_slice(rest)
 }
 
-// Adds the events of bytes that come after the pending ones, and keeps those of an event that is begun. An `Err` may leave some
-// bytes and events added.
+// Adds the events of the pending bytes and these after them, and stores the bytes of an incomplete
+// event. After an `Err` some bytes and events may have been added.
 fn read_begun(
     pending: &mut Vec<u8>,
     bytes: &[u8],
     events: &mut Vec<Event>,
 ) -> Result<(), AllocError>
     requires { unit_at pending.old.items ≡ None }
-    ensures pending { OnOk result (pending.new.items ≡ begun_bytes (pending.old.items ++ bytes.now)) }
-    ensures events { OnOk result (Adds events.old.items events.new.items (events_of (pending.old.items ++ bytes.now))) }
+    ensures pending { OnOk result
+        (pending.new.items ≡ begun_bytes (pending.old.items ++ bytes.now)) }
+    ensures events { OnOk result (Adds events.old.items events.new.items
+        (events_of (pending.old.items ++ bytes.now))) }
     ensures err { OnErr result (take (vec_len pending.old) pending.new.items ≡ pending.old.items) }
     ensures front { take (vec_len events.old) events.new.items ≡ events.old.items }
 {
@@ -122,15 +112,17 @@ fn read_begun(
     Ok(())
 }
 
-// The same, whether any are pending or not.
+// The same, whether bytes are pending or not.
 fn read_pieces(
     pending: &mut Vec<u8>,
     bytes: &[u8],
     events: &mut Vec<Event>,
 ) -> Result<(), AllocError>
     requires { unit_at pending.old.items ≡ None }
-    ensures pending { OnOk result (pending.new.items ≡ begun_bytes (pending.old.items ++ bytes.now)) }
-    ensures events { OnOk result (Adds events.old.items events.new.items (events_of (pending.old.items ++ bytes.now))) }
+    ensures pending { OnOk result
+        (pending.new.items ≡ begun_bytes (pending.old.items ++ bytes.now)) }
+    ensures events { OnOk result (Adds events.old.items events.new.items
+        (events_of (pending.old.items ++ bytes.now))) }
     ensures err { OnErr result (take (vec_len pending.old) pending.new.items ≡ pending.old.items) }
     ensures front { take (vec_len events.old) events.new.items ≡ events.old.items }
 {
@@ -141,17 +133,20 @@ fn read_pieces(
     }
 }
 
-// Adds the events of bytes that come after the pending ones, and keeps those of an event that is begun. An `Err` changes
-// nothing.
+// Adds the events of the pending bytes and these after them, and stores the bytes of an incomplete
+// event. An `Err` changes nothing.
 fn feed_pending(
     pending: &mut Vec<u8>,
     bytes: &[u8],
     events: &mut Vec<Event>,
 ) -> Result<(), AllocError>
     requires { unit_at pending.old.items ≡ None }
-    ensures pending { OnOk result (pending.new.items ≡ begun_bytes (pending.old.items ++ bytes.now)) }
-    ensures events { OnOk result (Adds events.old.items events.new.items (events_of (pending.old.items ++ bytes.now))) }
-    ensures err { OnErr result ((pending.new.items ≡ pending.old.items) × (events.new.items ≡ events.old.items)) }
+    ensures pending { OnOk result
+        (pending.new.items ≡ begun_bytes (pending.old.items ++ bytes.now)) }
+    ensures events { OnOk result (Adds events.old.items events.new.items
+        (events_of (pending.old.items ++ bytes.now))) }
+    ensures err { OnErr result ((pending.new.items ≡ pending.old.items)
+        × (events.new.items ≡ events.old.items)) }
     ensures begun { unit_at pending.new.items ≡ None }
 {
     let begun = pending.len();
@@ -166,7 +161,7 @@ fn feed_pending(
     }
 }
 
-// The key that begins a sequence, which the bytes after its ESC begin.
+// The key that an incomplete sequence is when no more bytes come, by the bytes after its ESC.
 #[tactic(auto, unfolding(crate::specs::InputStream::leading_key))]
 fn read_first_key(bytes: &[u8]) -> Option<Input>
     ensures { result ≡ leading_key bytes.now }
@@ -190,7 +185,8 @@ fn read_keys_after_escape(bytes: &[u8]) -> Option<(bool, Input)>
     }
 }
 
-// The keys of a begun sequence where nothing more comes: whether Esc is first, and the key after it.
+// The keys that an incomplete sequence is when no more bytes come: whether Esc is first, and the
+// key after it.
 #[tactic(auto, unfolding(crate::specs::InputStream::idle_keys))]
 fn read_idle_keys(bytes: &[u8]) -> Option<(bool, Input)>
     ensures { result ≡ idle_keys bytes.now }
@@ -201,9 +197,10 @@ fn read_idle_keys(bytes: &[u8]) -> Option<(bool, Input)>
     }
 }
 
-// Adds Esc, if it is first, and a key. An `Err` may leave Esc added.
+// Adds Esc, if it is first, and a key. After an `Err` Esc may have been added.
 fn push_keys(is_escape_first: bool, key: Input, events: &mut Vec<Event>) -> Result<(), AllocError>
-    ensures events { OnOk result (Adds events.old.items events.new.items (values_of_keys is_escape_first key)) }
+    ensures events { OnOk result (Adds events.old.items events.new.items
+        (values_of_keys is_escape_first key)) }
     ensures front { take (vec_len events.old) events.new.items ≡ events.old.items }
 {
     if is_escape_first {
@@ -213,13 +210,15 @@ fn push_keys(is_escape_first: bool, key: Input, events: &mut Vec<Event>) -> Resu
     Ok(())
 }
 
-// Adds the keys of a begun sequence where nothing more comes. An `Err` changes nothing.
+// Adds the keys that an incomplete sequence is when no more bytes come. An `Err` changes nothing.
 #[tactic(auto, unfolding(crate::specs::InputStream::idle_decoding))]
 fn idle_pending(pending: &mut Vec<u8>, events: &mut Vec<Event>) -> Result<(), AllocError>
     requires { unit_at pending.old.items ≡ None }
     ensures pending { OnOk result (pending.new.items ≡ (idle_decoding pending.old.items).1) }
-    ensures events { OnOk result (Adds events.old.items events.new.items (idle_decoding pending.old.items).0) }
-    ensures err { OnErr result ((pending.new.items ≡ pending.old.items) × (events.new.items ≡ events.old.items)) }
+    ensures events { OnOk result (Adds events.old.items events.new.items
+        (idle_decoding pending.old.items).0) }
+    ensures err { OnErr result ((pending.new.items ≡ pending.old.items)
+        × (events.new.items ≡ events.old.items)) }
     ensures begun { unit_at pending.new.items ≡ None }
 {
     let Some((is_escape_first, key)) = read_idle_keys(pending.as_slice()) else {
@@ -238,12 +237,12 @@ fn idle_pending(pending: &mut Vec<u8>, events: &mut Vec<Event>) -> Result<(), Al
     }
 }
 
-/// Reads the events of a terminal's bytes, in pieces of any size.
+/// Decodes the bytes of a terminal into events, however the bytes are split.
 ///
-/// In a clause it is the list of the bytes of an event that is begun. These are at most 4,097, but for a pasted text.
+/// In a clause it is the list of the pending bytes, which are those of an incomplete event. They
+/// are at most 4,097 bytes, except in a pasted text, which is stored until its end arrives.
 ///
-/// A sequence whose first 4,096 bytes bring no end is an unknown event of those bytes. A pasted text is kept until its end
-/// comes.
+/// A sequence without an end in its first 4,096 bytes is one unknown event of those bytes.
 #[derive(Drop)]
 pub struct Decoder {
     pending: Vec<u8>,
@@ -261,7 +260,7 @@ impl Model for Decoder {
 }
 
 impl Decoder {
-    /// A decoder with no event begun.
+    /// Returns a decoder with no pending bytes.
     pub fn new(alloc: Global) -> Decoder
         ensures { result ≡ [] }
     {
@@ -270,25 +269,31 @@ impl Decoder {
         }
     }
 
-    /// Takes the next bytes of the terminal, and adds the events that are whole now. An event that is begun waits for more bytes.
+    /// Decodes the next bytes of the terminal, and adds the events that are complete. The bytes of
+    /// an incomplete event are stored until more bytes arrive.
     ///
-    /// It fails only where memory runs out, and then changes neither the decoder nor the events.
+    /// Returns an error only if memory runs out, and then changes neither the decoder nor the
+    /// events.
     pub fn feed(&mut self, bytes: &[u8], events: &mut Vec<Event>) -> Result<(), AllocError>
         ensures pending { OnOk result (self.new ≡ begun_bytes (self.old ++ bytes.now)) }
-        ensures events { OnOk result (Adds events.old.items events.new.items (events_of (self.old ++ bytes.now))) }
+        ensures events { OnOk result (Adds events.old.items events.new.items
+            (events_of (self.old ++ bytes.now))) }
         ensures err { OnErr result ((self.new ≡ self.old) × (events.new.items ≡ events.old.items)) }
     {
         feed_pending(&mut self.pending, bytes, events)
     }
 
-    /// Adds the keys that begun bytes are where nothing more comes for now: a lone ESC is the key Esc, and `ESC [` and `ESC O` are
-    /// Alt with `[` and `O`; each of them after one ESC more is Esc and then that key. Longer sequences, a pasted text and a
-    /// character that are begun wait on.
+    /// Adds the keys that the pending bytes are when no more bytes arrive for now: a lone ESC is
+    /// the key Esc, and `ESC [` and `ESC O` are Alt with `[` and `O`. After one more ESC, each of
+    /// them is Esc and then that key. A longer sequence, a pasted text and a character stay
+    /// pending.
     ///
-    /// It fails only where memory runs out, and then changes neither the decoder nor the events.
+    /// Returns an error only if memory runs out, and then changes neither the decoder nor the
+    /// events.
     pub fn idle(&mut self, events: &mut Vec<Event>) -> Result<(), AllocError>
         ensures pending { OnOk result (self.new ≡ (idle_decoding self.old).1) }
-        ensures events { OnOk result (Adds events.old.items events.new.items (idle_decoding self.old).0) }
+        ensures events { OnOk result (Adds events.old.items events.new.items
+            (idle_decoding self.old).0) }
         ensures err { OnErr result ((self.new ≡ self.old) × (events.new.items ≡ events.old.items)) }
     {
         idle_pending(&mut self.pending, events)

@@ -7,7 +7,7 @@ use textarea_data::input::Input;
 pub enum MouseButton {
     /// The left one.
     Left,
-    /// The middle one, or the wheel where it is pressed.
+    /// The middle one, or the wheel if it is pressed.
     Middle,
     /// The right one.
     Right,
@@ -26,7 +26,7 @@ pub enum MouseKind {
     Move,
 }
 
-/// A report of a mouse, other than of its wheel.
+/// A report of a mouse, except of its wheel.
 #[derive(Clone, Copy, Debug, PartialEq, Eq)]
 pub struct Mouse {
     /// What it did.
@@ -35,35 +35,35 @@ pub struct Mouse {
     pub column: u16,
     /// The row of that cell, from 0.
     pub row: u16,
-    /// Whether Control is held down.
+    /// Whether Control is down.
     pub ctrl: bool,
-    /// Whether Alt is held down.
+    /// Whether Alt is down.
     pub alt: bool,
-    /// Whether Shift is held down.
+    /// Whether Shift is down.
     pub shift: bool,
 }
 
 /// An event that a terminal reports.
 #[derive(Debug, Drop, PartialEq, Eq)]
 pub enum Event {
-    /// A key, or a step of the mouse's wheel: [`Key::MouseScrollUp`](textarea_data::input::Key::MouseScrollUp) or
-    /// [`Key::MouseScrollDown`](textarea_data::input::Key::MouseScrollDown), whatever cell the mouse
-    /// is at.
+    /// A key, or a step of the mouse's wheel, in any cell:
+    /// [`Key::MouseScrollUp`](textarea_data::input::Key::MouseScrollUp) or
+    /// [`Key::MouseScrollDown`](textarea_data::input::Key::MouseScrollDown).
     ///
-    /// Shift is reported only with keys that have no character of their own: a capital letter is that letter without Shift.
+    /// Shift is set only with keys that type no character: a capital letter has no Shift.
     Input(Input),
-    /// A pasted text. Bytes that are not UTF-8 are U+FFFD, one for each maximal part.
+    /// A pasted text. Invalid UTF-8 is U+FFFD, one for each maximal subpart.
     Paste(String),
     /// The mouse was pressed, released or moved.
     Mouse(Mouse),
-    /// The terminal's size in cells, as an answer to a query.
+    /// The terminal's size in cells, as the reply to a query.
     Size {
         /// The number of columns.
         columns: u16,
         /// The number of rows.
         rows: u16,
     },
-    /// The position of the terminal's cursor, as an answer to a query.
+    /// The position of the terminal's cursor, as the reply to a query.
     Cursor {
         /// The column, from 0.
         column: u16,

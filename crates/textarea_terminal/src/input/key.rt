@@ -39,7 +39,7 @@ pub fn alt_input(input: Input) -> Input
     Input { alt: true, ..input }
 }
 
-/// The input of a key with the modifiers of a parameter from 1 to 8, or with none of parameter 0.
+/// The input of a key with the modifiers of a parameter from 1 to 8; parameter 0 is no modifier.
 pub fn modified_input(key: Key, parameter: u16) -> Input
     ensures { result ≡ input_with key parameter }
 {
@@ -52,8 +52,8 @@ pub fn modified_input(key: Key, parameter: u16) -> Input
     }
 }
 
-/// The event of a key with the modifiers of a parameter: one more than the sum of 1 for Shift, 2 for Alt and 4 for Ctrl. It is
-/// unknown where there is no key, or where the parameter is none of 1 to 8.
+/// The event of a key with the modifiers of a parameter, which is 1 plus 1 for Shift, 2 for Alt and
+/// 4 for Ctrl (xterm). It is unknown if there is no key, or if the parameter isn't from 1 to 8.
 pub fn pressed_key(key: Option<Key>, parameter: u16) -> Event
     ensures { value_of result ≡ key_event key parameter }
 {
@@ -88,7 +88,7 @@ pub fn letter_key(letter: u8) -> Option<Key>
     }
 }
 
-/// The key of a number in a sequence that ends in `~`.
+/// The key of a number before a final `~`.
 pub fn numbered_key(number: u16) -> Option<Key>
     ensures { result ≡ entry numbered_keys number }
 {
@@ -125,7 +125,7 @@ pub fn numbered_key(number: u16) -> Option<Key>
     }
 }
 
-/// The arrow of a small letter, as rxvt sends it.
+/// The arrow of a small letter (rxvt).
 pub fn small_letter_key(letter: u8) -> Option<Key>
     ensures { result ≡ entry small_letter_keys letter }
 {
@@ -138,7 +138,7 @@ pub fn small_letter_key(letter: u8) -> Option<Key>
     }
 }
 
-/// The function key of a letter after `ESC [ [`, as the Linux console sends it.
+/// The function key of a letter after `ESC [ [` (Linux console).
 pub fn console_key(letter: u8) -> Option<Key>
     ensures { result ≡ entry console_keys letter }
 {
@@ -152,7 +152,7 @@ pub fn console_key(letter: u8) -> Option<Key>
     }
 }
 
-/// The input of a byte below 128 that begins no sequence.
+/// The input of a byte below 128 that begins no sequence (C0 of ECMA-48, and ASCII).
 #[inline]
 pub fn single_byte(byte: u8) -> Input
     requires { byte < 128 }

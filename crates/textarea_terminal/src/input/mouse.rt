@@ -1,4 +1,4 @@
-//! Reports of a mouse.
+//! SGR mouse reports (xterm, mode 1006).
 
 ghost use Rattle.std.specs.Prelude.{◌≡◌, ◌<◌};
 ghost use Rattle.textarea_terminal.specs.InputEvent.{value_of};
@@ -67,7 +67,7 @@ fn read_button(code: u16, column: u16, row: u16, down: bool) -> Event
     }
 }
 
-/// The event of a mouse's report: its code, its column and row from 1, and the byte that ends it.
+/// The event of an SGR mouse report: its code, its column and row from 1, and its final byte.
 #[tactic(auto, unfolding(crate::specs::InputMouse::mouse_event))]
 pub fn read_mouse(code: u16, column: u16, row: u16, last: u8) -> Event
     ensures { value_of result ≡ mouse_event code column row last }

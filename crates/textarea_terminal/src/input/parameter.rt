@@ -4,7 +4,7 @@ ghost use Rattle.std.specs.Prelude.{◌≡◌, ◌<◌, length, IfSome};
 ghost use Rattle.textarea_terminal.specs.InputReading.{Reads};
 ghost use Rattle.textarea_terminal.specs.InputParameter.{digit_at, number_at, parameters_of, after_first, after_second, after_third};
 
-/// The numbers of a control sequence. A number that is left out is 0, and one above 65,535 is that.
+/// The numbers of a control sequence. A missing number is 0, and a number above 65,535 is 65,535.
 #[derive(Clone, Copy, Debug, PartialEq, Eq)]
 pub enum Parameters {
     /// One number.
@@ -13,11 +13,11 @@ pub enum Parameters {
     Two(u16, u16),
     /// Three numbers.
     Three(u16, u16, u16),
-    /// More, or something else than numbers between semicolons.
+    /// More than three, or no numbers separated by semicolons.
     Other,
 }
 
-// The digit at the front, if there is one, and the bytes after it.
+// The digit at the front, if there is one, and the rest of the bytes.
 #[tactic(auto, unfolding(crate::specs::InputParameter::digit_at))]
 fn read_digit(bytes: &[u8]) -> Option<(u8, &[u8])>
     ensures digit { Reads (λ x. (x.0, x.1.now)) result (digit_at bytes.now) }
@@ -29,7 +29,7 @@ fn read_digit(bytes: &[u8]) -> Option<(u8, &[u8])>
     }
 }
 
-// The number at the front, and the bytes after it.
+// The number at the front, and the rest of the bytes.
 fn read_number(bytes: &[u8]) -> (u16, &[u8])
     ensures { (result.0, result.1.now) ≡ number_at bytes.now }
 {
@@ -61,7 +61,7 @@ fn read_second(first: u16, bytes: &[u8]) -> Parameters
     }
 }
 
-/// Reads the parameters that bytes write.
+/// Parses the parameter bytes of a control sequence (ECMA-48, 5.4.2).
 #[tactic(auto, unfolding(crate::specs::InputParameter::parameters_of))]
 pub fn read_parameters(bytes: &[u8]) -> Parameters
     ensures { result ≡ parameters_of bytes.now }

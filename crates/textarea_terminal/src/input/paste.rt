@@ -1,4 +1,4 @@
-//! Pasted texts.
+//! Pasted texts (xterm, "Bracketed Paste Mode").
 
 ghost use Rattle.std.specs.Prelude.{◌≡◌, ◌≤◌, ◌+◌, length, take, None, IfOk, option_map, IfSome};
 ghost use Rattle.textarea_terminal.specs.InputReading.{Reads};
@@ -13,14 +13,14 @@ const START: &[u8; 6] = b"\x1b[200~";
 
 const END: &[u8; 6] = b"\x1b[201~";
 
-/// The bytes after the mark that begins a pasted text, where they begin with it.
+/// The bytes after the start mark of a pasted text, if they begin with it.
 pub fn after_start(bytes: &[u8]) -> Option<&[u8]>
     ensures { Reads (λ x. x.now) result (after_mark paste_start bytes.now) }
 {
     bytes.strip_prefix(START)
 }
 
-// The index of the mark that ends a text. None is in its first `begun` bytes.
+// The index of the end mark. The first `begun` bytes contain none.
 fn find_end(text: &[u8], begun: usize) -> Option<usize>
     requires within { begun ≤ length text.now }
     requires begun { mark_index paste_end (take begun text.now) ≡ None }
@@ -35,9 +35,10 @@ fn find_end(text: &[u8], begun: usize) -> Option<usize>
     }
 }
 
-/// Reads a pasted text, which begins after its mark, and the bytes after it. There is none where the bytes end within it.
+/// Returns the pasted text whose start mark is before these bytes, and the bytes after its end
+/// mark; `None` if there is no end mark.
 ///
-/// The first `begun` bytes are known to be without the mark that ends it.
+/// The first `begun` bytes are known to contain no end mark, and are not searched again.
 #[tactic(auto, unfolding(crate::specs::InputUnit::paste_at))]
 pub fn read_paste(
     alloc: Global,
@@ -46,7 +47,8 @@ pub fn read_paste(
 ) -> Result<Option<(Event, &[u8])>, AllocError>
     requires within { begun ≤ length bytes.now }
     requires begun { mark_index paste_end (take begun bytes.now) ≡ None }
-    ensures { IfOk result (λ found. Reads (λ x. (value_of x.0, x.1.now)) found (paste_at bytes.now)) }
+    ensures { IfOk result (λ found.
+        Reads (λ x. (value_of x.0, x.1.now)) found (paste_at bytes.now)) }
 {
     match find_end(bytes, begun) {
         Some(index) => {

@@ -1,4 +1,4 @@
-//! Control sequences.
+//! Control sequences (ECMA-48, 5.4), which begin with `ESC [`.
 
 ghost use Rattle.std.specs.Prelude.{◌≡◌, ◌≤◌, ◌<◌, length};
 ghost use Rattle.textarea_terminal.specs.InputReading.{Reads};
@@ -15,7 +15,7 @@ use crate::input::mouse::read_mouse;
 use crate::input::parameter::{Parameters, read_parameters};
 use textarea_data::input::Key;
 
-/// The greatest number of bytes between `ESC [` and the end of a sequence, and one more.
+/// One more than the greatest number of bytes between `ESC [` and the final byte.
 pub const INNER_LIMIT: usize = 4094;
 
 fn letter(last: u8) -> Event
@@ -213,7 +213,8 @@ fn read_control(bytes: &[u8]) -> Option<(Event, &[u8])>
 }
 
 fn shift_key_event(number: u8, rest: &[u8]) -> Option<(Event, &[u8])>
-    ensures { Reads (λ x. (value_of x.0, x.1.now)) result (shift_key (entry numbered_keys number) rest.now) }
+    ensures { Reads (λ x. (value_of x.0, x.1.now)) result
+        (shift_key (entry numbered_keys number) rest.now) }
 {
     match numbered_key(u16::from(number)) {
         Some(key) => Some((Event::Input(modified_input(key, 2)), rest)),
@@ -256,8 +257,8 @@ fn read_shifted(bytes: &[u8]) -> Option<(Event, &[u8])>
     }
 }
 
-/// Reads the sequence that begins with `ESC [` and goes on with these bytes, and the bytes after it. There is none where they
-/// end within it.
+/// Returns the event of the control sequence whose bytes after `ESC [` are these, and the rest of
+/// the bytes; `None` if more bytes are needed.
 #[tactic(auto, unfolding(crate::specs::InputSequence::bracket_at))]
 pub fn read_bracket(bytes: &[u8]) -> Option<(Event, &[u8])>
     ensures { Reads (λ x. (value_of x.0, x.1.now)) result (bracket_at bytes.now) }

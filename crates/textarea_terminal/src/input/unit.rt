@@ -7,9 +7,10 @@ ghost use Rattle.textarea_terminal.specs.InputUnit.{key_at, single_at, with_esca
 
 use crate::input::character::read_character;
 use crate::input::event::Event;
-use crate::input::key::{alt_input, letter_key, plain_input, single_byte, single_letter};
+use crate::input::key::{alt_input, plain_input, single_byte, single_letter};
 use crate::input::paste::{after_start, read_paste};
 use crate::input::sequence::read_bracket;
+use crate::input::short::read_short;
 use std::alloc::{AllocError, Global};
 use textarea_data::input::{Input, Key};
 
@@ -48,7 +49,8 @@ fn read_single(bytes: &[u8]) -> Option<(Event, &[u8])>
 
 // The event of a sequence with another ESC before it. Where that is Esc, the sequence is left.
 fn escape_before<'a>(sequence: &'a [u8], event: Event, rest: &'a [u8]) -> (Event, &'a [u8])
-    ensures { (value_of result.0, result.1.now) ≡ with_escape sequence.now (value_of event, rest.now) }
+    ensures { (value_of result.0, result.1.now)
+        ≡ with_escape sequence.now (value_of event, rest.now) }
 {
     match event {
         Event::Input(input) => (Event::Input(alt_input(input)), rest),
@@ -119,21 +121,6 @@ fn read_key_or_sequence(bytes: &[u8]) -> Option<(Event, &[u8])>
     }
 }
 
-// The key whose sequence is a letter after `ESC [`, of which the ESC is read, and the bytes after it.
-#[inline]
-fn read_letter_key(bytes: &[u8]) -> Option<(Input, &[u8])>
-    ensures unit { IfSome result (λ x. unit_at (27 ∷ bytes.now) ≡ Some (input x.0, x.1.now)) }
-    ensures shorter { IfSome result (λ x. length x.1.now < length bytes.now) }
-{
-    let (bracket, after) = bytes.split_first()?;
-    if *bracket != b'[' {
-        return None;
-    }
-    let (letter, rest) = after.split_first()?;
-    let key = letter_key(*letter)?;
-    Some((plain_input(key), rest))
-}
-
 // A pasted text, a key or a sequence. Of the bytes, the first `begun` are known to end within it.
 #[tactic(auto, unfolding(crate::specs::InputUnit::unit_at))]
 fn read_escape(
@@ -143,7 +130,8 @@ fn read_escape(
 ) -> Result<Option<(Event, &[u8])>, AllocError>
     requires within { begun ≤ length bytes.now }
     requires begun { unit_at (take begun bytes.now) ≡ None }
-    ensures { IfOk result (λ found. Reads (λ x. (value_of x.0, x.1.now)) found (unit_at bytes.now)) }
+    ensures { IfOk result (λ found.
+        Reads (λ x. (value_of x.0, x.1.now)) found (unit_at bytes.now)) }
 {
     match after_start(bytes) {
         Some(text) => read_paste(alloc, text, begun.saturating_sub(6)),
@@ -151,9 +139,10 @@ fn read_escape(
     }
 }
 
-/// Reads the event at the front of bytes, and the bytes after it. There is none where they end within it.
+/// Returns the event at the front of bytes, and the rest of the bytes; `None` if more bytes are
+/// needed.
 ///
-/// Of the bytes, the first `begun` are known to end within an event, so that a pasted text is not searched again.
+/// The first `begun` bytes are known to be incomplete, so that a pasted text is not searched again.
 pub fn read_unit(
     alloc: Global,
     bytes: &[u8],
@@ -161,11 +150,12 @@ pub fn read_unit(
 ) -> Result<Option<(Event, &[u8])>, AllocError>
     requires within { begun ≤ length bytes.now }
     requires begun { unit_at (take begun bytes.now) ≡ None }
-    ensures { IfOk result (λ found. Reads (λ x. (value_of x.0, x.1.now)) found (unit_at bytes.now)) }
+    ensures { IfOk result (λ found.
+        Reads (λ x. (value_of x.0, x.1.now)) found (unit_at bytes.now)) }
 {
     match bytes {
         [] => Ok(None),
-        [ESCAPE, rest @ ..] => match read_letter_key(rest) {
+        [ESCAPE, rest @ ..] => match read_short(rest) {
             Some((input, rest)) => Ok(Some((Event::Input(input), rest))),
             None => read_escape(alloc, bytes, begun),
         },

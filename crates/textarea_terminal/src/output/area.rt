@@ -6,7 +6,7 @@ ghost use Rattle.textarea_terminal.specs.PaintArea.{cell_count, caret_in};
 use std::alloc::{AllocError, Global};
 use textarea_screen::screen::{Cell, Position, Rect};
 
-/// So many fresh cells.
+/// Returns `count` fresh cells.
 pub(super) fn fresh_cells(alloc: Global, count: usize) -> Result<Vec<Cell>, AllocError>
     ensures len { IfOk result (λ cells. vec_len cells ≡ count) }
     ensures cells { IfOk result (λ cells.
@@ -19,16 +19,7 @@ pub(super) fn fresh_cells(alloc: Global, count: usize) -> Result<Vec<Cell>, Allo
     Ok(cells)
 }
 
-/// Makes each cell a fresh one.
-pub(super) fn erase(cells: &mut [Cell])
-    ensures { map cell_view cells.new ≡ replicate (length cells.old) fresh_cell }
-{
-    for cell in cells.iter_mut() {
-        *cell = Cell::fresh();
-    }
-}
-
-/// The place of the caret among the cells of an area; one outside of it isn't shown.
+/// The index of the caret's cell in an area; `None` for a caret outside of it.
 pub(super) fn caret_in(area: Rect, caret: Option<Position>) -> Option<usize>
     ensures value { result ≡ caret_in area caret }
     ensures bound { IfSome result (λ place. place < cell_count area) }

@@ -1,32 +1,32 @@
-//! What is known of a terminal's cursor and pen, and what is written with it.
-ghost use Rattle.std.specs.Prelude.{◌≡◌, ℕ, ◌+◌, ◌<◌, ◌≤◌, ◌^◌, ◌++◌, ◌⊎◌, ◌%◌, ◌/◌, true, false, map, length, OnOk, IfOk, Some, None, IsTrue, ◌↔◌};
-ghost use Rattle.textarea_screen.specs.Cell.{cell_view};
+//! The known state of a terminal's cursor and pen, and the bytes of changed cells.
+ghost use Rattle.std.specs.Prelude.{◌≡◌, ℕ, ◌+◌, ◌<◌, ◌≤◌, ◌^◌, ◌++◌, ◌⊎◌, ◌%◌, ◌/◌, true, ◌≢◌, false, map, length, replicate, OnOk, IfOk, Some, None, IsTrue, ◌↔◌};
+ghost use Rattle.textarea_screen.specs.Cell.{CellView, cell_view, fresh_cell};
 ghost use Rattle.textarea_terminal.specs.Pen.{look_of};
 ghost use Rattle.textarea_terminal.specs.PaintSpot.{IsSpot};
 ghost use Rattle.textarea_terminal.specs.PaintCells.{can_begin, is_half, are_whole, cluster_columns};
 ghost use Rattle.textarea_terminal.specs.Screen.{cursor_after};
-ghost use Rattle.textarea_terminal.specs.Paint.{Wrote, BeginsUpdate, MovesTo, TakesLook, PrintsCell, KeepsCell, ChangesCell, Repaints, brush_after};
+ghost use Rattle.textarea_terminal.specs.Paint.{Wrote, BeginsUpdate, MovesTo, TakesLook, PrintsCell, IsStep, Repaints, brush_after};
 
 use super::controls::{write_move, write_pen};
-use super::look::{Look, has_look, is_same_look, look_of};
+use super::look::{Look, PLAIN, has_look, is_same_look, look_of};
 use super::spot::Spot;
 use super::symbol::{is_same_symbol, write_symbol};
 use super::width::cluster_columns;
 use std::alloc::AllocError;
 use textarea_screen::screen::Cell;
 
-/// What is known of a terminal's cursor and pen.
+/// The known state of a terminal's cursor and pen.
 #[derive(Clone, Copy)]
 pub(super) struct Brush {
-    /// The place of the cursor, where it is known.
+    /// The index of the cell that the cursor is at, if it is known.
     pub(super) at: Option<usize>,
-    /// The look of the pen, where it is known.
+    /// The look of the pen, if it is known.
     pub(super) pen: Option<Look>,
     /// An update has begun.
     pub(super) is_updating: bool,
 }
 
-/// Begins an update, if none has begun.
+/// Begins an update, if none has begun (xterm, private mode 2026).
 fn begin_update(bytes: &mut Vec<u8>, is_updating: bool) -> Result<(), AllocError>
     ensures { OnOk result (Wrote bytes.old.items bytes.new.items (BeginsUpdate is_updating)) }
 {
@@ -36,7 +36,7 @@ fn begin_update(bytes: &mut Vec<u8>, is_updating: bool) -> Result<(), AllocError
     Ok(())
 }
 
-/// Moves the cursor to a place, if it isn't there.
+/// Moves the cursor to a cell, if it isn't there.
 #[inline]
 pub(super) fn move_to(
     bytes: &mut Vec<u8>,
@@ -56,18 +56,35 @@ pub(super) fn move_to(
     Ok(())
 }
 
-/// Gives the pen a look, if it hasn't that look.
-fn take_look(bytes: &mut Vec<u8>, pen: Option<Look>, look: Look) -> Result<(), AllocError>
-    requires { look.modifier.0 < 512 }
-    ensures { OnOk result (Wrote bytes.old.items bytes.new.items (TakesLook pen look)) }
+/// Changes the pen to a look that it doesn't have.
+#[inline(never)]
+fn change_look(bytes: &mut Vec<u8>, pen: &mut Option<Look>, look: Look) -> Result<(), AllocError>
+    requires modifier { look.modifier.0 < 512 }
+    requires other { pen.old ≢ Some look }
+    ensures pen { OnOk result (pen.new ≡ Some look) }
+    ensures wrote { OnOk result (Wrote bytes.old.items bytes.new.items (TakesLook pen.old look)) }
 {
-    if !has_look(pen, look) {
-        write_pen(bytes, look)?;
-    }
+    write_pen(bytes, look)?;
+    *pen = Some(look);
     Ok(())
 }
 
-/// The cursor after printing a cluster of so many columns, which after the last column isn't known.
+/// Changes the pen to a look, if it doesn't have it.
+#[inline]
+fn take_look(bytes: &mut Vec<u8>, pen: &mut Option<Look>, look: Look) -> Result<(), AllocError>
+    requires { look.modifier.0 < 512 }
+    ensures pen { OnOk result (pen.new ≡ Some look) }
+    ensures wrote { OnOk result (Wrote bytes.old.items bytes.new.items (TakesLook pen.old look)) }
+{
+    if has_look(*pen, look) {
+        return Ok(());
+    }
+    change_look(bytes, pen, look)?;
+    Ok(())
+}
+
+/// The cursor after a grapheme cluster of `width` columns is printed. After the last column it
+/// isn't known.
 fn cursor_after(columns: usize, spot: Spot, width: usize) -> Option<usize>
     requires place { spot.place < 2 ^ 32 }
     requires spot { IsSpot columns spot }
@@ -99,53 +116,61 @@ fn write_cell(
     ensures wrote { OnOk result (Wrote bytes.old.items bytes.new.items
         (PrintsCell brush.old columns spot.place (cell_view cell.now))) }
 {
-    let look = look_of(cell);
-    let width = cluster_columns(cell.symbol());
     begin_update(bytes, brush.is_updating)?;
-    move_to(bytes, brush.at, columns, spot)?;
-    take_look(bytes, brush.pen, look)?;
-    write_symbol(bytes, cell.symbol())?;
-    brush.at = cursor_after(columns, spot, width);
-    brush.pen = Some(look);
     brush.is_updating = true;
+    move_to(bytes, brush.at, columns, spot)?;
+    take_look(bytes, &mut brush.pen, look_of(cell))?;
+    write_symbol(bytes, cell.symbol())?;
+    brush.at = cursor_after(columns, spot, cluster_columns(cell.symbol()));
     Ok(())
 }
 
 /// Whether two cells show the same.
+#[inline]
 fn is_alike(a: &Cell, b: &Cell) -> bool
     ensures { IsTrue result ↔ (cell_view a.now ≡ cell_view b.now) }
 {
     is_same_symbol(a.symbol(), b.symbol()) && is_same_look(look_of(a), look_of(b))
 }
 
-/// Prints the cluster that begins in a cell of the new frame, unless the cell is as in the old one.
+/// Whether a cell shows the same as a cell of an erased terminal.
+#[inline]
+fn is_fresh(cell: &Cell) -> bool
+    ensures { IsTrue result ↔ (fresh_cell ≡ cell_view cell.now) }
+{
+    is_same_symbol(" ", cell.symbol()) && is_same_look(PLAIN, look_of(cell))
+}
+
+/// Prints the cluster that begins in a cell, unless the terminal shows that cell already.
 #[inline]
 fn write_change(
     bytes: &mut Vec<u8>,
     brush: &mut Brush,
     columns: usize,
     spot: Spot,
-    old: &Cell,
-    new: &Cell,
+    is_shown: bool,
+    cell: &Cell,
 ) -> Result<(), AllocError>
     requires columns { (0 < columns) × (columns < 2 ^ 16) }
     requires place { spot.place < 2 ^ 32 }
     requires spot { IsSpot columns spot }
-    requires begins { is_half (cell_view new.now) ≡ false
-        → IsTrue (can_begin columns spot.place (cell_view new.now)) }
-    ensures { OnOk result (Wrote bytes.old.items bytes.new.items (λ controls.
-        (((is_half (cell_view new.now) ≡ true) ⊎ (cell_view old.now ≡ cell_view new.now))
-        × KeepsCell brush.old brush.new (cell_view old.now) (cell_view new.now) controls)
-        ⊎ ChangesCell brush.old brush.new columns spot.place (cell_view old.now)
-        (cell_view new.now) controls)) }
+    requires begins { is_half (cell_view cell.now) ≡ false
+        → IsTrue (can_begin columns spot.place (cell_view cell.now)) }
+    ensures { OnOk result ((old : CellView) → IsTrue is_shown ↔ (old ≡ cell_view cell.now)
+        → Wrote bytes.old.items bytes.new.items
+        (IsStep brush.old brush.new columns spot.place old (cell_view cell.now))) }
 {
-    if is_alike(old, new) || new.symbol().is_empty() {
+    if is_shown {
         return Ok(());
     }
-    write_cell(bytes, brush, columns, spot, new)
+    if cell.symbol().is_empty() {
+        return Ok(());
+    }
+    write_cell(bytes, brush, columns, spot, cell)?;
+    Ok(())
 }
 
-/// Writes what brings a terminal from the cells of the old frame to those of the new one.
+/// Writes the changes from the cells of the old frame to those of the new one.
 pub(super) fn write_cells(
     bytes: &mut Vec<u8>,
     start: Brush,
@@ -165,7 +190,34 @@ pub(super) fn write_cells(
     let mut brush = start;
     let mut spot = Spot::first(columns);
     for place in 0..new.len() {
-        write_change(bytes, &mut brush, columns, spot, &old[place], &new[place])?;
+        let cell = &new[place];
+        let is_shown = is_alike(&old[place], cell);
+        write_change(bytes, &mut brush, columns, spot, is_shown, cell)?;
+        spot = spot.next(columns);
+    }
+    Ok(brush)
+}
+
+/// Writes the cells of a frame to a terminal that was erased.
+pub(super) fn write_all_cells(
+    bytes: &mut Vec<u8>,
+    start: Brush,
+    columns: usize,
+    new: &[Cell],
+) -> Result<Brush, AllocError>
+    requires some { 0 < length new.now → 0 < columns }
+    requires columns { columns < 2 ^ 16 }
+    requires size { length new.now < 2 ^ 32 }
+    requires whole { IsTrue (are_whole columns 0 0 (map cell_view new.now)) }
+    ensures { IfOk result (λ after. Wrote bytes.old.items bytes.new.items (Repaints columns
+        (replicate (length new.now) fresh_cell) (map cell_view new.now) start after)) }
+{
+    let mut brush = start;
+    let mut spot = Spot::first(columns);
+    for place in 0..new.len() {
+        let cell = &new[place];
+        let is_shown = is_fresh(cell);
+        write_change(bytes, &mut brush, columns, spot, is_shown, cell)?;
         spot = spot.next(columns);
     }
     Ok(brush)

@@ -8,7 +8,7 @@ use super::look::Look;
 use std::alloc::AllocError;
 use textarea_screen::screen::{Color, Modifier};
 
-/// The numbers of the modifiers that a terminal has, each of which is the bit of one place less.
+/// The SGR numbers of the modifiers. Number N is bit N - 1 of a `Modifier`.
 const MODIFIERS: [u8; 9] = [1, 2, 3, 4, 5, 6, 7, 8, 9];
 
 /// Writes a number in decimal.
@@ -102,7 +102,7 @@ fn write_background(bytes: &mut Vec<u8>, color: Color) -> Result<(), AllocError>
     write_color(bytes, 40, color)
 }
 
-/// Writes a colour, where the first of the eight has the number `base`.
+/// Writes the SGR numbers of a colour. `base` is the number of the first of the eight colours.
 fn write_color(bytes: &mut Vec<u8>, base: u64, color: Color) -> Result<(), AllocError>
     requires { base < 256 }
     ensures { OnOk result (bytes.new.items ≡ bytes.old.items ++ color_bytes base color) }

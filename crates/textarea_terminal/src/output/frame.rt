@@ -1,4 +1,4 @@
-//! The cells that a terminal is to show of a buffer.
+//! The cells of a buffer as a terminal can show them.
 ghost use Rattle.std.specs.Prelude.{◌≡◌, ℕ, ◌+◌, ◌-◌, ◌*◌, ◌/◌, ◌%◌, ◌<◌, ◌≤◌, ◌^◌, ◌++◌, ◌∷◌, ◌&&◌, [], map, take, length, nat_lt, nat_le, IfOk, IfSome, OnOk, OnErr, IsTrue, Some, None};
 ghost use Rattle.std.specs.Int.RustNames.{bit_and};
 ghost use Rattle.textarea_screen.specs.Cell.{cell_view};
@@ -6,22 +6,15 @@ ghost use Rattle.textarea_terminal.specs.Pen.{in_look, look_of};
 ghost use Rattle.textarea_terminal.specs.PaintSpot.{IsSpot};
 ghost use Rattle.textarea_terminal.specs.PaintCells.{begins_empty, cell_in, cells_from, displayed, frame_of_buffer, is_half, nine_of};
 
-use super::look::{Look, look_of};
+use super::look::{Look, PLAIN, look_of};
 use super::spot::Spot;
 use super::symbol::is_same_symbol;
 use super::width::cluster_columns;
 use std::alloc::{AllocError, Global};
-use textarea_screen::screen::{Buffer, Cell, Color, Modifier, Rect};
+use textarea_screen::screen::{Buffer, Cell, Modifier, Rect};
 
 /// The modifiers that a terminal has.
 const NINE: u16 = 511;
-
-/// The look of a cell of a terminal that was erased.
-const PLAIN: Look = Look {
-    fg: Color::Reset,
-    bg: Color::Reset,
-    modifier: Modifier(0),
-};
 
 /// The text and the look of a buffer's cell.
 #[derive(Clone, Copy)]
@@ -30,9 +23,9 @@ struct Source<'a> {
     look: Look,
 }
 
-/// Fills cells with what a terminal of an area is to show of a buffer.
+/// Fills cells with those of a buffer, as a terminal of this area can show them.
 ///
-/// Out of memory, some of the cells may be filled.
+/// After an `Err` some of the cells may have been filled.
 pub(super) fn fill(
     alloc: Global,
     cells: &mut [Cell],
@@ -52,8 +45,8 @@ pub(super) fn fill(
     Ok(())
 }
 
-/// Fills the cell at a spot. So many cells, with this one, belong to a cluster that began before it; returns how many of those after
-/// it belong to one.
+/// Fills the cell at a spot. This cell and those after it, `halves` cells in all, belong to a
+/// cluster that began before it. Returns the number of cells after it that belong to one.
 fn fill_cell(
     alloc: Global,
     cell: &mut Cell,
@@ -86,7 +79,7 @@ fn fill_cell(
     }
 }
 
-/// Puts a text in a look into a cell.
+/// Gives a cell a text and a look.
 fn show(alloc: Global, cell: &mut Cell, symbol: &str, look: Look) -> Result<(), AllocError>
     ensures { OnOk result (cell_view cell.new ≡ in_look look symbol.now) }
 {
@@ -109,7 +102,7 @@ fn nine_of(look: Look) -> Look
     }
 }
 
-/// The buffer's cell at a spot of an area; where the buffer has none, a fresh one.
+/// The buffer's cell at a spot of an area; a fresh one if the buffer has none.
 fn source_at<'a>(buffer: &'a Buffer, area: Rect, spot: Spot) -> Source<'a>
     requires place { spot.place < area.height * area.width }
     requires spot { IsSpot area.width spot }
@@ -129,8 +122,8 @@ fn source_at<'a>(buffer: &'a Buffer, area: Rect, spot: Spot) -> Source<'a>
     }
 }
 
-/// Whether a terminal can show a cluster of so many columns at a spot: it doesn't reach past the row's end, and the cells after its
-/// first hold the empty text.
+/// Whether a terminal can show a cluster of this number of columns at a spot: it ends in its row,
+/// and the texts of the cells after its first are empty.
 fn can_show(buffer: &Buffer, area: Rect, spot: Spot, columns: usize) -> bool
     requires place { spot.place < area.height * area.width }
     requires spot { IsSpot area.width spot }
@@ -147,7 +140,7 @@ fn can_show(buffer: &Buffer, area: Rect, spot: Spot, columns: usize) -> bool
     are_empty(buffer, area, spot.place + 1, columns - 1)
 }
 
-/// Whether so many cells of the buffer, from a place of an area on, hold the empty text.
+/// Whether the texts of `count` cells of the buffer are empty, from an index in the area on.
 fn are_empty(buffer: &Buffer, area: Rect, from: usize, count: usize) -> bool
     requires { from + count ≤ area.height * area.width }
     ensures { result ≡ begins_empty count

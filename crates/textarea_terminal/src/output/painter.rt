@@ -3,22 +3,22 @@ ghost use Rattle.std.specs.Prelude.{◌≡◌, ℕ, ◌*◌, ◌<◌, ◌≤◌,
 ghost use Rattle.textarea_screen.specs.Cell.{cell_view, fresh_cell};
 ghost use Rattle.textarea_terminal.specs.PaintCells.{are_whole};
 
-use super::area::{caret_in, erase, fresh_cells};
+use super::area::{caret_in, fresh_cells};
 use super::frame::fill;
-use super::whole::write_frame;
+use super::whole::{write_first_frame, write_frame};
 use std::alloc::{AllocError, Global};
 use std::mem;
 use textarea_screen::screen::{Buffer, Cell, Position, Rect};
 
-/// Paints buffers on a terminal, one after another: of each it writes what differs from the one before.
+/// Paints buffers on a terminal: writes the cells that differ from the buffer before.
 #[derive(Drop)]
 pub struct Painter {
     area: Rect,
-    /// The cells that the terminal shows, unless nothing is known of it.
+    /// The cells that the terminal shows, if `is_known`.
     shown: Vec<Cell>,
-    /// Room for the cells of the next frame.
+    /// Memory for the cells of the next frame.
     next: Vec<Cell>,
-    /// Room for the bytes of a frame.
+    /// Memory for the bytes of a frame.
     bytes: Vec<u8>,
     caret: Option<usize>,
     is_known: bool,
@@ -33,8 +33,8 @@ impl Painter {
     ghost use Rattle.textarea_terminal.specs.Painter.{painter_area, painted};
     ghost use Rattle.textarea_terminal.specs.PaintArea.{cell_count, frame_in};
 
-    /// A painter on a terminal of which nothing is known, and whose cells are those of a rectangle: the first of them is the cell in
-    /// the terminal's first column and row.
+    /// Returns a painter for a terminal whose content is unknown. The terminal shows the cells of
+    /// `area`: the first of them is in the terminal's first column and row.
     pub fn new(alloc: Global, area: Rect) -> Result<Painter, AllocError>
         ensures area { IfOk result (λ painter. painter_area painter ≡ area) }
         ensures painted { IfOk result (λ painter. painted painter ≡ None) }
@@ -52,11 +52,12 @@ impl Painter {
         })
     }
 
-    /// Appends the bytes that bring the terminal from what was painted last to a buffer and a caret.
+    /// Appends the bytes that make the terminal show a buffer and a caret, after the frame before.
     ///
-    /// A cell that the buffer doesn't have is shown as a fresh one. A text that is no cluster, or that finds no room before the row's
-    /// end or no empty cells after its own, is shown as a blank, and so is an empty text that belongs to no cluster. A caret outside
-    /// of the area isn't shown. Out of memory, the painter and the bytes are as they were.
+    /// A cell that the buffer doesn't have is shown as a fresh one. A text is shown as a blank if
+    /// it is not one grapheme cluster of at least one column, if it doesn't end in its row, or if
+    /// the texts of the cells that it covers are not empty. A caret outside of the area isn't
+    /// shown. Out of memory, the painter and `out` are unchanged.
     pub fn paint(
         &mut self,
         buffer: &Buffer,
@@ -67,11 +68,13 @@ impl Painter {
         ensures painted { OnOk result
             (painted self.new ≡ Some (frame_in (painter_area self.old) buffer.now caret)) }
         ensures wrote { OnOk result (Wrote out.old.items out.new.items
-            (Paints (painter_area self.old).width (cell_count (painter_area self.old)) (painted self.old)
+            (Paints (painter_area self.old).width (cell_count (painter_area self.old))
+            (painted self.old)
             (frame_in (painter_area self.old) buffer.now caret))) }
-        // What is shown already is no byte.
+        // A frame that is shown already takes no byte.
         ensures unchanged { painted self.old
-            ≡ Some (frame_in (painter_area self.old) buffer.now caret) → out.new.items ≡ out.old.items }
+            ≡ Some (frame_in (painter_area self.old) buffer.now caret) → out.new.items ≡
+            out.old.items }
         ensures unpainted { OnErr result (painted self.new ≡ painted self.old) }
         ensures unwritten { OnErr result (out.new.items ≡ out.old.items) }
     {
@@ -83,7 +86,7 @@ impl Painter {
         Ok(())
     }
 
-    /// Forgets what was painted: nothing is known of the terminal any more, and the next paint erases it.
+    /// Forgets what the terminal shows. The next `paint` erases it first.
     pub fn reset(&mut self)
         ensures area { painter_area self.new ≡ painter_area self.old }
         ensures painted { painted self.new ≡ None }
@@ -91,7 +94,7 @@ impl Painter {
         self.is_known = false;
     }
 
-    /// The same for a terminal that has changed its size. Out of memory, nothing changes.
+    /// Changes the area, and forgets what the terminal shows. Out of memory, nothing changes.
     pub fn resize(&mut self, area: Rect) -> Result<(), AllocError>
         ensures area { OnOk result (painter_area self.new ≡ area) }
         ensures painted { OnOk result (painted self.new ≡ None) }
@@ -102,43 +105,22 @@ impl Painter {
         Ok(())
     }
 
-    /// Fills the cells of the next frame, and where nothing is known of the terminal those that it shows once it is erased.
+    /// Fills the cells of the next frame.
     fn fill_next(&mut self, buffer: &Buffer) -> Result<(), AllocError>
         ensures area { self.new.area ≡ self.old.area }
-        ensures known { self.new.is_known ≡ self.old.is_known }
-        ensures caret { self.new.caret ≡ self.old.caret }
         ensures painted { painted self.new ≡ painted self.old }
-        ensures erased { OnOk result (self.new.is_known ≡ false
-            → map cell_view self.new.shown.items ≡ replicate (cell_count self.new.area) fresh_cell) }
         ensures filled { OnOk result
             (map cell_view self.new.next.items ≡ frame_of_buffer self.old.area buffer.now) }
     {
         let alloc = *self.next.allocator();
-        self.erase_unknown();
         fill(alloc, &mut self.next, self.area, buffer)
     }
 
-    /// Where nothing is known of the terminal, makes the cells that are shown those of an erased one.
-    fn erase_unknown(&mut self)
-        ensures area { self.new.area ≡ self.old.area }
-        ensures known { self.new.is_known ≡ self.old.is_known }
-        ensures caret { self.new.caret ≡ self.old.caret }
-        ensures painted { painted self.new ≡ painted self.old }
-        ensures erased { self.new.is_known ≡ false
-            → map cell_view self.new.shown.items ≡ replicate (cell_count self.new.area) fresh_cell }
-    {
-        if self.is_known {
-            return;
-        }
-        erase(&mut self.shown);
-    }
-
-    /// Writes the bytes between the cells that are shown and those of the next frame.
+    /// Writes the bytes from the frame before to the next one.
     fn write(&mut self, caret: Option<usize>) -> Result<(), AllocError>
         requires caret { IfSome caret (λ place. place < cell_count self.old.area) }
-        requires whole { IsTrue (are_whole self.old.area.width 0 0 (map cell_view self.old.next.items)) }
-        requires erased { self.old.is_known ≡ false
-            → map cell_view self.old.shown.items ≡ replicate (cell_count self.old.area) fresh_cell }
+        requires whole { IsTrue
+            (are_whole self.old.area.width 0 0 (map cell_view self.old.next.items)) }
         ensures area { self.new.area ≡ self.old.area }
         ensures next { self.new.next ≡ self.old.next }
         ensures painted { painted self.new ≡ painted self.old }
@@ -147,20 +129,20 @@ impl Painter {
             (record { cells = map cell_view self.old.next.items; caret = caret }))) }
     {
         self.bytes.clear();
-        write_frame(
-            &mut self.bytes,
-            usize::from(self.area.width),
-            self.is_known,
-            self.shown.as_slice(),
-            self.caret,
-            self.next.as_slice(),
-            caret,
-        )
+        let columns = usize::from(self.area.width);
+        let next = self.next.as_slice();
+        if self.is_known {
+            let shown = self.shown.as_slice();
+            write_frame(&mut self.bytes, columns, shown, self.caret, next, caret)
+        } else {
+            write_first_frame(&mut self.bytes, columns, next, caret)
+        }
     }
 
-    /// The next frame is what is shown.
+    /// Makes the next frame the shown one.
     fn swap_frames(&mut self, caret: Option<usize>)
-        requires whole { IsTrue (are_whole self.old.area.width 0 0 (map cell_view self.old.next.items)) }
+        requires whole { IsTrue
+            (are_whole self.old.area.width 0 0 (map cell_view self.old.next.items)) }
         ensures area { self.new.area ≡ self.old.area }
         ensures painted { painted self.new
             ≡ Some (record { cells = map cell_view self.old.next.items; caret = caret }) }

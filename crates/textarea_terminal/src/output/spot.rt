@@ -1,8 +1,8 @@
-//! A place among the cells of a terminal, with its row and its column.
+//! The index of a terminal's cell, with its row and column.
 ghost use Rattle.std.specs.Prelude.{◌≡◌, ◌+◌, ◌<◌, ◌^◌};
 ghost use Rattle.textarea_terminal.specs.PaintSpot.{IsSpot};
 
-/// A place among the cells of a terminal, row after row, with its row and its column.
+/// The index of a terminal's cell, counted row after row, with its row and column.
 #[derive(Clone, Copy)]
 pub(super) struct Spot {
     pub(super) place: usize,
@@ -11,7 +11,7 @@ pub(super) struct Spot {
 }
 
 impl Spot {
-    /// The first place.
+    /// The first cell.
     pub(super) fn first(columns: usize) -> Spot
         ensures place { result.place ≡ 0 }
         ensures is { IsSpot columns result }
@@ -24,7 +24,7 @@ impl Spot {
         }
     }
 
-    /// A place, where a row has so many columns.
+    /// The cell of an index, in rows of `columns` cells.
     pub(super) fn new(place: usize, columns: usize) -> Spot
         requires { 0 < columns }
         ensures place { result.place ≡ place }
@@ -37,7 +37,7 @@ impl Spot {
         }
     }
 
-    /// The place after it.
+    /// The next cell.
     pub(super) fn next(self, columns: usize) -> Spot
         requires some { 0 < columns }
         requires place { self.place < 2 ^ 32 }

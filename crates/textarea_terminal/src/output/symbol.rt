@@ -1,9 +1,9 @@
-//! The texts of cells, most of which have one byte.
+//! The texts of cells, which mostly are one byte long.
 ghost use Rattle.std.specs.Prelude.{◌≡◌, ◌++◌, ◌↔◌, OnOk, IsTrue};
 
 use std::alloc::AllocError;
 
-/// Whether two texts are the same. Those of one byte are compared here, without a call for their memory.
+/// Whether two texts are equal. Compares texts of one byte without a call that compares memory.
 #[inline]
 pub(super) fn is_same_symbol(a: &str, b: &str) -> bool
     ensures { IsTrue result ↔ (a.now ≡ b.now) }

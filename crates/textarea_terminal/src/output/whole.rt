@@ -1,16 +1,16 @@
-//! A whole frame: its cells, and around them the caret and the update.
-ghost use Rattle.std.specs.Prelude.{◌≡◌, ℕ, ◌*◌, ◌<◌, ◌≤◌, ◌^◌, false, map, length, replicate, OnOk, IfSome, Some, None, IsTrue, if◌then◌else◌, is_some};
-ghost use Rattle.textarea_screen.specs.Cell.{cell_view, fresh_cell};
+//! A whole frame: its cells, its caret, and the update around them.
+ghost use Rattle.std.specs.Prelude.{◌≡◌, ℕ, ◌*◌, ◌<◌, ◌≤◌, ◌^◌, map, length, OnOk, IfSome, Some, None, IsTrue};
+ghost use Rattle.textarea_screen.specs.Cell.{cell_view};
 ghost use Rattle.textarea_terminal.specs.PaintCells.{are_whole};
-ghost use Rattle.textarea_terminal.specs.Paint.{Wrote, Clears, SetsCursor, EndsUpdate, PutsCaret, PaintsFrame, Paints};
+ghost use Rattle.textarea_terminal.specs.Paint.{Wrote, Clears, SetsCursor, EndsUpdate, PutsCaret, Ends, Paints};
 
-use super::brush::{Brush, move_to, write_cells};
-use super::look::Look;
+use super::brush::{Brush, move_to, write_all_cells, write_cells};
+use super::look::PLAIN;
 use super::spot::Spot;
 use std::alloc::AllocError;
-use textarea_screen::screen::{Cell, Color, Modifier};
+use textarea_screen::screen::Cell;
 
-/// Resets the pen and erases all cells, in an update.
+/// Begins an update, resets the pen and erases all cells.
 fn clear(bytes: &mut Vec<u8>) -> Result<(), AllocError>
     ensures { OnOk result (Wrote bytes.old.items bytes.new.items Clears) }
 {
@@ -43,7 +43,7 @@ fn end_update(bytes: &mut Vec<u8>, is_updating: bool) -> Result<(), AllocError>
     Ok(())
 }
 
-/// Brings the cursor to the caret's place and shows it, or hides it.
+/// Moves the cursor to the caret and shows it, or hides it if there is no caret.
 fn write_caret(
     bytes: &mut Vec<u8>,
     at: Option<usize>,
@@ -65,38 +65,27 @@ fn write_caret(
     Ok(())
 }
 
-/// Writes the cells that have changed, and then the caret.
-fn write_rest(
+/// Writes the caret, and ends the update.
+fn write_end(
     bytes: &mut Vec<u8>,
-    start: Brush,
+    brush: Brush,
     known: Option<bool>,
     columns: usize,
-    old: &[Cell],
-    new: &[Cell],
     caret: Option<usize>,
 ) -> Result<(), AllocError>
-    requires some { 0 < length new.now → 0 < columns }
-    requires columns { columns < 2 ^ 16 }
-    requires length { length old.now ≡ length new.now }
-    requires size { length new.now < 2 ^ 32 }
-    requires old_whole { IsTrue (are_whole columns 0 0 (map cell_view old.now)) }
-    requires new_whole { IsTrue (are_whole columns 0 0 (map cell_view new.now)) }
-    requires caret { IfSome caret (λ place. place < length new.now) }
-    ensures { OnOk result (Wrote bytes.old.items bytes.new.items (PaintsFrame start known columns
-        (map cell_view old.now) (record { cells = map cell_view new.now; caret = caret }))) }
+    requires { (columns < 2 ^ 16) × IfSome caret (λ place. (place < 2 ^ 32) × (0 < columns)) }
+    ensures { OnOk result (Wrote bytes.old.items bytes.new.items
+        (Ends brush known columns caret)) }
 {
-    let brush = write_cells(bytes, start, columns, old, new)?;
     write_caret(bytes, brush.at, known, columns, caret)?;
     end_update(bytes, brush.is_updating)?;
     Ok(())
 }
 
-/// Writes what brings a terminal from one frame to another. Where nothing is known of the terminal, it is erased first, and the old
-/// cells are those of an erased terminal.
+/// Writes the changes from the old frame to the new one.
 pub(super) fn write_frame(
     bytes: &mut Vec<u8>,
     columns: usize,
-    is_known: bool,
     old: &[Cell],
     old_caret: Option<usize>,
     new: &[Cell],
@@ -109,40 +98,44 @@ pub(super) fn write_frame(
     requires old_whole { IsTrue (are_whole columns 0 0 (map cell_view old.now)) }
     requires new_whole { IsTrue (are_whole columns 0 0 (map cell_view new.now)) }
     requires caret { IfSome caret (λ place. place < length new.now) }
-    requires erased { is_known ≡ false
-        → map cell_view old.now ≡ replicate (length new.now) fresh_cell }
     ensures { OnOk result (Wrote bytes.old.items bytes.new.items
         (Paints columns (length new.now)
-        (if is_known then Some (record { cells = map cell_view old.now; caret = old_caret }) else None)
+        (Some (record { cells = map cell_view old.now; caret = old_caret }))
         (record { cells = map cell_view new.now; caret = caret }))) }
 {
-    if is_known {
-        let start = Brush {
-            at: old_caret,
-            pen: None,
-            is_updating: false,
-        };
-        write_rest(
-            bytes,
-            start,
-            Some(old_caret.is_some()),
-            columns,
-            old,
-            new,
-            caret,
-        )?;
-    } else {
-        clear(bytes)?;
-        let start = Brush {
-            at: None,
-            pen: Some(Look {
-                fg: Color::Reset,
-                bg: Color::Reset,
-                modifier: Modifier(0),
-            }),
-            is_updating: true,
-        };
-        write_rest(bytes, start, None, columns, old, new, caret)?;
-    }
+    let start = Brush {
+        at: old_caret,
+        pen: None,
+        is_updating: false,
+    };
+    let brush = write_cells(bytes, start, columns, old, new)?;
+    write_end(bytes, brush, Some(old_caret.is_some()), columns, caret)?;
+    Ok(())
+}
+
+/// Erases a terminal whose content is unknown, and writes a frame.
+pub(super) fn write_first_frame(
+    bytes: &mut Vec<u8>,
+    columns: usize,
+    new: &[Cell],
+    caret: Option<usize>,
+) -> Result<(), AllocError>
+    requires some { 0 < length new.now → 0 < columns }
+    requires columns { columns < 2 ^ 16 }
+    requires size { length new.now < 2 ^ 32 }
+    requires whole { IsTrue (are_whole columns 0 0 (map cell_view new.now)) }
+    requires caret { IfSome caret (λ place. place < length new.now) }
+    ensures { OnOk result (Wrote bytes.old.items bytes.new.items
+        (Paints columns (length new.now) None
+        (record { cells = map cell_view new.now; caret = caret }))) }
+{
+    clear(bytes)?;
+    let start = Brush {
+        at: None,
+        pen: Some(PLAIN),
+        is_updating: true,
+    };
+    let brush = write_all_cells(bytes, start, columns, new)?;
+    write_end(bytes, brush, None, columns, caret)?;
     Ok(())
 }

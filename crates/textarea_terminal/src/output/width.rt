@@ -1,4 +1,4 @@
-//! The columns of a cluster.
+//! The columns of a grapheme cluster.
 ghost use Rattle.std.specs.Prelude.{◌≡◌, ◌^◌, ◌<◌, ◌≤◌, ◌*◌, ◌↔◌, ◌==◌, true, chars, length, sum_by, slice_index, IsTrue, if◌then◌else◌};
 ghost use Rattle.std.specs.Char.{is_control};
 ghost use Rattle.std.specs.List.{list_any};
@@ -10,7 +10,8 @@ ghost use Rattle.unicode_segmentation.specs.Grapheme.{graphemes};
 use textarea_paint::paint::columns;
 use unicode_segmentation::UnicodeSegmentation;
 
-/// The columns in which a terminal shows a text that is one grapheme cluster; 0 where it is none, or can't be shown.
+/// The number of columns of a text that is one grapheme cluster; 0 for other texts, and for
+/// clusters that can't be shown.
 #[inline]
 pub(super) fn cluster_columns(text: &str) -> usize
     ensures value { result ≡ cluster_columns text.now }
@@ -22,7 +23,7 @@ pub(super) fn cluster_columns(text: &str) -> usize
     }
 }
 
-/// The same, where it isn't a character of printable ASCII.
+/// The same, for texts other than one printable character of ASCII.
 #[inline(never)]
 fn any_columns(text: &str) -> usize
     ensures value { result ≡ cluster_columns text.now }
@@ -34,7 +35,7 @@ fn any_columns(text: &str) -> usize
     }
 }
 
-/// Whether a text of these bytes is one character of printable ASCII.
+/// Whether these bytes are one printable character of ASCII.
 fn is_plain(bytes: &[u8]) -> bool
     ensures { IsTrue result → (length bytes.now ≡ 1) × IsPrintable (slice_index bytes.now 0) }
 {

@@ -18,7 +18,7 @@ loop-event-preserved c =
       within = omega arith;
       begun = unit_at-nil;
       left = c.in_ok-rest.ensures.left ∙ sym (ap (λ (d : Decoding). d.1) (decoding-some c.loop-event.rest.now x unit)) ∙ c.loop-event.invariant.left;
-      events = AddsUpTo-trans c.args.events.now.items c.push.new.self.items c.push_letters.new.events.items (events_of x.1) (events_of c.in_ok-rest.rest.now) (events_of c.args.bytes.now)
+      events = AddsUpTo-trans c.args.events.now.items c.push.new.self.items c.push_short.new.events.items (events_of x.1) (events_of c.in_ok-rest.rest.now) (events_of c.args.bytes.now)
           (rw c.in_ok-push.ensures.items (AddsUpTo-push c.args.events.now.items c.loop-event.events.items c.in-Some.event x.0 (events_of x.1) (events_of c.args.bytes.now) refl
           (AddsUpTo-unit c.args.events.now.items c.loop-event.events.items (events_of c.args.bytes.now) c.loop-event.rest.now x unit c.loop-event.invariant.events)))
           c.in_ok-rest.ensures.events;
@@ -31,7 +31,7 @@ returns-in_err-rest-clause-front c =
     let mid : AddsUpTo c.args.events.now.items c.push.new.self.items (events_of x.1) (events_of c.args.bytes.now) =
     rw c.in_ok-push.ensures.items (AddsUpTo-push c.args.events.now.items c.loop-event.events.items c.in-Some.event x.0 (events_of x.1) (events_of c.args.bytes.now) refl
     (AddsUpTo-unit c.args.events.now.items c.loop-event.events.items (events_of c.args.bytes.now) c.loop-event.rest.now x unit c.loop-event.invariant.events)) in
-    AddsUpTo-front_of_more (vec_len c.args.events.now) (vec_len c.push.new.self) c.args.events.now.items c.push.new.self.items c.push_letters.new.events.items (events_of x.1) (events_of c.args.bytes.now)
+    AddsUpTo-front_of_more (vec_len c.args.events.now) (vec_len c.push.new.self) c.args.events.now.items c.push.new.self.items c.push_short.new.events.items (events_of x.1) (events_of c.args.bytes.now)
     (omega (arith, c.args.events.now.ok.0)) (omega (arith, c.push.new.self.ok.0)) mid c.in_err-rest.ensures.front
 
 pub returns-clause-rest : goal.returns-clause-rest

@@ -1,9 +1,9 @@
-use Rattle.std.proofs.Common.{◌≡◌, ◌+◌, length, map, sym, ◌∙◌, arith}
+use Rattle.std.proofs.Common.{◌≡◌, ◌+◌, length, map, drop, sym, ◌∙◌, arith}
 use Rattle.std.proofs.lemmas.List.{length-map}
 use Rattle.textarea_screen.specs.Cell.{cell_view}
 use Rattle.textarea_terminal.proofs.ControlLemmas.{Wrote-none, Wrote-then, Wrote-as}
 use Rattle.textarea_terminal.specs.Paint.{Repaints}
-use Rattle.textarea_terminal.proofs.PaintSteps.{Reaches, Reaches-start, Reaches-end, Reaches-step, begins-at}
+use Rattle.textarea_terminal.proofs.PaintSteps.{Split-at, Reaches, Reaches-start, Reaches-end, Reaches-step, begins-at}
 use Rattle.textarea_terminal.proofs.output.brush.write_cells.Goals as goal
 
 pub write_change-requires-clause-begins : goal.write_change-requires-clause-begins
@@ -22,15 +22,20 @@ loop-place-init c =
     )
 
 pub loop-place-preserved : goal.loop-place-preserved
-loop-place-preserved c = (
-  Wrote-then (Reaches c.args.start c.write_change.new.brush c.args.columns (c.loop-place.place + 1) (map cell_view c.args.old.now) (map cell_view c.args.new.now))
-      c.loop-place.invariant.0 (rw c.loop-place.invariant.1 at c.in_ok-write_change.ensures)
-      (λ xs ys reaches change.
-      Reaches-step c.args.start c.loop-place.brush c.write_change.new.brush c.args.columns c.loop-place.place c.args.old.now c.args.new.now c.index-old-place.result
-      c.index-new-place.result xs ys c.index-old-place.is c.index-new-place.is c.requires.length (omega arith) c.requires.old_whole c.requires.new_whole change reaches),
-  omega (arith, c.next-spot.ensures.place, c.loop-place.invariant.1),
-  c.next-spot.ensures.is,
-)
+loop-place-preserved c =
+    let olds = map cell_view c.args.old.now in
+    let old = cell_view c.index-old-place.result in
+    let os = map cell_view (drop (c.loop-place.place + 1) c.args.old.now) in
+    let old_at = Split-at c.args.old.now c.loop-place.place c.index-old-place.result c.index-old-place.is (omega (arith, c.requires.length)) in
+    let step = rw c.loop-place.invariant.1 at (c.in_ok-write_change.ensures old c.is_alike-is_shown.ensures) in (
+      Wrote-then (Reaches c.args.start c.write_change.new.brush c.args.columns (c.loop-place.place + 1) olds (map cell_view c.args.new.now))
+          c.loop-place.invariant.0 step
+          (λ xs ys reaches change.
+          Reaches-step c.args.start c.loop-place.brush c.write_change.new.brush c.args.columns c.loop-place.place olds old os c.args.new.now
+          c.index-new-place.result xs ys old_at c.index-new-place.is (length-map c.args.old.now cell_view ∙ c.requires.length) (omega arith) c.requires.old_whole c.requires.new_whole change reaches),
+      omega (arith, c.next-spot.ensures.place, c.loop-place.invariant.1),
+      c.next-spot.ensures.is,
+    )
 
 pub returns : goal.returns
 returns c =

@@ -1,13 +1,14 @@
-use Rattle.std.proofs.Common.{map, None, length}
+use Rattle.std.proofs.Common.{length, map, Some}
 use Rattle.textarea_screen.specs.Cell.{cell_view}
 use Rattle.textarea_terminal.specs.Paint.{PaintedFrame, Paints}
-use Rattle.textarea_terminal.proofs.ControlLemmas.{Wrote-then}
-use Rattle.textarea_terminal.proofs.PaintWhole.{paints-unknown}
+use Rattle.textarea_terminal.proofs.ControlLemmas.{Wrote-as}
+use Rattle.textarea_terminal.proofs.PaintWhole.{Wrote-frame, paints-known, within-shown}
 use Rattle.textarea_terminal.proofs.output.whole.write_frame.Goals as goal
 
-pub returns-in_ok-write_rest-2 : goal.returns-in_ok-write_rest-2
-returns-in_ok-write_rest-2 c =
+pub returns : goal.returns
+returns c =
+    let old : PaintedFrame = record { cells = map cell_view c.args.old.now; caret = c.args.old_caret } in
     let new : PaintedFrame = record { cells = map cell_view c.args.new.now; caret = c.args.caret } in
-    rw c.if-is_known.false
-    (Wrote-then (Paints c.args.columns (length c.args.new.now) None new) c.in_ok-clear.ensures c.in_ok-write_rest-2.ensures
-    (λ xs ys clears finish. paints-unknown c.args.columns (length c.args.new.now) (map cell_view c.args.old.now) new xs ys (c.requires.erased c.if-is_known.false) clears finish))
+    Wrote-as (Paints c.args.columns (length c.args.new.now) (Some old) new)
+    (Wrote-frame _ c.in_ok-brush.brush _ c.args.columns old.cells new.cells c.args.caret (within-shown c.args.caret c.args.new.now c.requires.caret) c.in_ok-brush.ensures (rw c.is_some.ensures at c.in_ok-write_end.ensures))
+    (λ xs finish. paints-known c.args.columns (length c.args.new.now) old new xs finish)

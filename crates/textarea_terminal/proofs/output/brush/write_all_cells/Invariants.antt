@@ -1,0 +1,11 @@
+use Rattle.std.proofs.Common.{◌≡◌, length, map, replicate}
+use Rattle.textarea_screen.specs.Cell.{cell_view, fresh_cell}
+use Rattle.textarea_terminal.specs.PaintSpot.{IsSpot}
+use Rattle.textarea_terminal.specs.Paint.{Wrote}
+use Rattle.textarea_terminal.proofs.PaintSteps.{Reaches}
+use Rattle.textarea_terminal.proofs.output.brush.write_all_cells.Given as goal
+
+abbrev pub invariant-loop-place : goal.invariant-loop-place
+invariant-loop-place l =
+    (Wrote l.initial.bytes.items l.bytes.items (Reaches l.initial.brush l.brush l.columns l.place (replicate (length l.new) fresh_cell) (map cell_view l.new)))
+    × (l.spot.place ≡ l.place) × IsSpot l.columns l.spot
