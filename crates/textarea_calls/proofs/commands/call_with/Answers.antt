@@ -30,7 +30,7 @@ returns-clause-means c =
       | in-hit+in_ok-position-in-hit w ↦ meant-read plain_meaning (λ value. Plain (call.CursorAtPosition value)) _ _ _ _ _ _ _ w.in-hit.is (sym (option_map-twice (λ value. Plain (call.CursorAtPosition value)) (λ p. record { x = p.0; y = p.1 }) (two_short_numbers c.args.arguments.now))) w.position.ensures (w.in_ok-position-in-hit.was) (ap (λ made. meaning_of (content.Plain made)) w.result-is)
       | in-move+in_ok-move_named-in-move w ↦ meant-read plain_meaning (λ value. Plain (call.Move value)) _ _ _ _ _ _ _ w.in-move.is refl w.move_named.ensures (w.in_ok-move_named-in-move.was) (ap (λ made. meaning_of (content.Plain made)) w.result-is)
       | in-jump+in_ok-jump-in-jump w ↦ meant-read plain_meaning (λ value. Plain (call.Move value)) _ _ _ _ _ _ _ w.in-jump.is (sym (option_map-twice (λ value. Plain (call.Move value)) (λ p. move.Jump p.0 p.1) (two_short_numbers c.args.arguments.now))) w.jump.ensures (w.in_ok-jump-in-jump.was) (ap (λ made. meaning_of (content.Plain made)) w.result-is)
-      | in-scroll+in_ok-scroll_amounts-in-scroll w ↦ meant-read plain_meaning (λ value. Plain (call.Scroll value)) _ _ _ _ _ _ _ w.in-scroll.is refl w.scroll_by.ensures (w.in_ok-scroll_amounts-in-scroll.was) (ap (λ made. meaning_of (content.Plain made)) w.result-is)
+      | in-scroll+in_ok-scroll_amounts-in-scroll w ↦ meant-read plain_meaning (λ value. Plain (call.Scroll value)) _ _ _ _ _ _ _ w.in-scroll.is refl w.scroll_amounts.ensures (w.in_ok-scroll_amounts-in-scroll.was) (ap (λ made. meaning_of (content.Plain made)) w.result-is)
       | in-page+in_ok-page_named-in-page w ↦ meant-read plain_meaning (λ value. Plain (call.Scroll value)) _ _ _ _ _ _ _ w.in-page.is refl w.page_named.ensures (w.in_ok-page_named-in-page.was) (ap (λ made. meaning_of (content.Plain made)) w.result-is)
     ]
 
