@@ -27,7 +27,7 @@ use Rattle.textarea_calls.specs.declared.call.Call.TheVariants as call
 use Rattle.textarea_document.specs.DocumentRows.{with_inner_width, with_layout_settings}
 use Rattle.textarea_view.specs.Measure.{width_inside}
 use Rattle.tui_textarea.proofs.Acting.{by_any_act, calls_by, calls_left}
-use Rattle.tui_textarea.proofs.Wrapping.{RedosWrap, StepsWrap, UndosWrap, past_cut, reckoned}
+use Rattle.tui_textarea.proofs.WrappedLines.{RedosWrap, StepsWrap, UndosWrap, past_cut, reckoned}
 use Rattle.tui_textarea.proofs.Frames.{drawn_document}
 
 -- ---- the laws of the text area

@@ -19,7 +19,7 @@ mod OneTarget
 mod Frames
 mod OneAct
 mod Removing
-mod Wrapping
+mod WrappedLines
 mod Stepping
 mod RangesOverActions
 mod WorkedCounts
