@@ -149,7 +149,7 @@ module _ (By Own : Fact) (by : Reckoning By) (past : Past Own) where
 
   -- ---- calls that run out of memory
 
-  left_by : (old new : State) → IsSound old.document → selection.IsLeft old new → OfSplicesOutOfMemory old (λ splices. By old.document splices new.document)
+  left_by : (old new : State) → IsSound old.document → selection.IsInsertOutOfMemory old new → OfSplicesOutOfMemory old (λ splices. By old.document splices new.document)
   left_by old new h k =
       ⊎_elim
       (λ same. inl (by.none old.document new.document (ap (λ (s : State). seen s.document) same)))

@@ -55,7 +55,7 @@ OneInput = (old first second : State) (action : Action) → IsAfterAction old ac
 
 -- each drawing of the drawn parts leads to one result
 abbrev pub OneRendering : Type 0
-OneRendering = (old first second : Parts) (area : Rect) → rendered.IsRendered old area first → rendered.IsRendered old area second → first ≡ second
+OneRendering = (old first second : Parts) (area : Rect) → rendered.ArePartsRendered old area first → rendered.ArePartsRendered old area second → first ≡ second
 
 one_rendered : OneRendering → (old first second : State) (area : Rect) → IsRendered old area first → IsRendered old area second → first ≡ second
 one_rendered renderings old first second area e f =

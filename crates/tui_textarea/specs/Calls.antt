@@ -221,9 +221,9 @@ NeedsMemory state call = ⊥
 -- the state after a call that ran out of memory: the old state, or, after an insertion, that
 -- without the selected text
 abbrev pub StateOutOfMemory : State → Call → State → Type 0
-StateOutOfMemory old (InsertChar c) new = selection.IsLeft old new
-StateOutOfMemory old (InsertStr text) new = selection.IsLeft old new
-StateOutOfMemory old InsertTab new = selection.IsLeft old new
-StateOutOfMemory old InsertNewline new = selection.IsLeft old new
-StateOutOfMemory old Paste new = selection.IsLeft old new
+StateOutOfMemory old (InsertChar c) new = selection.IsInsertOutOfMemory old new
+StateOutOfMemory old (InsertStr text) new = selection.IsInsertOutOfMemory old new
+StateOutOfMemory old InsertTab new = selection.IsInsertOutOfMemory old new
+StateOutOfMemory old InsertNewline new = selection.IsInsertOutOfMemory old new
+StateOutOfMemory old Paste new = selection.IsInsertOutOfMemory old new
 StateOutOfMemory old call new = new ≡ old

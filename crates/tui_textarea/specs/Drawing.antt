@@ -38,5 +38,5 @@ viewport_scrolled state scrolling =
 -- The state after a drawing into the area: the layout has the width inside the block, and the
 -- viewport, the inner area and the caret are those of this drawing. All else is as before.
 pub record IsRendered (old : State) (area : Rect) (new : State) : Type 0 where
-  pub parts : drawing.IsRendered (drawing_parts old) area (drawing_parts new)
+  pub parts : drawing.ArePartsRendered (drawing_parts old) area (drawing_parts new)
   pub rest : new ≡ record old { document = new.document; drawing = new.drawing }

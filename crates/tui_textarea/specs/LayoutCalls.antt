@@ -21,7 +21,7 @@ with_layout state settings = with_document state (with_layout_settings state.doc
 
 -- whether these settings keep the layout
 abbrev pub keeps_layout : State → LayoutSettings → Bool
-keeps_layout state settings = layout.stays_cut (text_and_layout state.document) settings
+keeps_layout state settings = layout.keeps_wrapping (text_and_layout state.document) settings
 
 -- the settings of the layout, one of them changed
 abbrev pub mode_set : State → WrapMode → LayoutSettings

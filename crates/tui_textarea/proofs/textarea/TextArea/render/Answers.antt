@@ -9,10 +9,10 @@ use Rattle.tui_textarea.specs.State.{State}
 use Rattle.tui_textarea.proofs.textarea.TextArea.render.Goals as goal
 
 rendered : {T E : Type 0} (r : Result T E) {view old : State} → view ≡ old → (area : Rect) (document : DocumentState) (drawing : DrawingState)
-    → OnOk r (below.IsRendered (drawing_parts view) area (drawing_parts (record view { document = document; drawing = drawing })))
+    → OnOk r (below.ArePartsRendered (drawing_parts view) area (drawing_parts (record view { document = document; drawing = drawing })))
     → OnOk r (IsRendered old area (record view { document = document; drawing = drawing }))
 rendered (Ok x) {view} is area document drawing h = record {
-  parts = subst (λ (s : State). below.IsRendered (drawing_parts s) area (drawing_parts (record view { document = document; drawing = drawing }))) is h;
+  parts = subst (λ (s : State). below.ArePartsRendered (drawing_parts s) area (drawing_parts (record view { document = document; drawing = drawing }))) is h;
   rest = ap (λ (s : State). record s { document = document; drawing = drawing }) is;
 }
 rendered (Err e) is area document drawing h = h
