@@ -1,6 +1,6 @@
-use Rattle.std.proofs.Common.{◌≡◌, Bool, [], ◌∷◌, lit<, ap, refl, subst}
+use Rattle.std.proofs.Common.{◌≡◌, Bool, [], ◌∷◌, lit<, ap, refl}
 use Rattle.textarea_data.specs.declared.input.Input.{Input}
-use Rattle.tui_textarea.specs.Input.{IsAfterAction, IsInputOutOfMemory, ActMayRunOutOfMemory, action_flag, asked_by}
+use Rattle.tui_textarea.specs.Input.{action_flag, asked_by}
 use Rattle.tui_textarea.specs.CallResults.{Flag}
 use Rattle.textarea_calls.specs.declared.answer.Answer.TheVariants as answer
 use Rattle.textarea_modal.specs.Table.{passed_on}
@@ -18,8 +18,8 @@ returns-in_err-input-clause-err c =
     on_err c.from_residual.result
     (refused_here old old new (passed_on input ∷ []) 0 (passed_on input) (lit< tt) refl (none_made old)
     (record {
-      may = subst (λ (i : Input). ActMayRunOutOfMemory old (asked_by i)) c.same.ensures c.in_err-input.ensures.may;
-      left = subst (λ (i : Input). IsInputOutOfMemory old (asked_by i) new) c.same.ensures c.in_err-input.ensures.err;
+      may = c.in_err-input.ensures.may;
+      left = c.in_err-input.ensures.err;
     })
     (draws_nothing input))
 
@@ -29,6 +29,6 @@ returns-clause-ok c =
     let old = c.args.area.now in
     let new = c.input.new.self in
     let changed : Bool = c.in_ok-input.field-0 in
-    let answered : changed ≡ action_flag old (asked_by input) = subst (λ (i : Input). changed ≡ action_flag old (asked_by i)) c.same.ensures c.in_ok-input.ensures.answer in
+    let answered : changed ≡ action_flag old (asked_by input) = c.in_ok-input.ensures.answer in
     made_more old old new (passed_on input ∷ []) 0 (passed_on input) (answer.Flag changed) (lit< tt) refl (none_made old) (ap Flag answered)
-    (subst (λ (i : Input). IsAfterAction old (asked_by i) new) c.same.ensures c.in_ok-input.ensures.ok) (draws_nothing input)
+    c.in_ok-input.ensures.ok (draws_nothing input)
