@@ -1,0 +1,17 @@
+pub mod Acts
+pub mod Areas
+pub mod Calls
+pub mod Cells
+pub mod Copied
+pub mod Drawn
+pub mod Held
+pub mod Inputs
+pub mod Lines
+pub mod Measures
+pub mod Modes
+pub mod Numbers
+pub mod Ranges
+pub mod Rendered
+pub mod Split
+pub mod Styles
+pub mod Tables

@@ -1,0 +1,87 @@
+//! Insertions. Each first removes the selected text, as its own edit, and then moves a cursor that
+//! is strictly inside an atomic range to the range's end.
+ghost use Rattle.std.specs.Prelude.{◌≡◌, IfSome, true, false};
+ghost use Rattle.std.specs.Str.{chars};
+ghost use Rattle.textarea_document.specs.Edits.{has_symbols};
+ghost use Rattle.textarea_text.specs.Fragment.{fragment_symbols};
+ghost use Rattle.tui_textarea.specs.Edits.{char_inserted, inserts_tab, inserts_text, newline_inserted, str_inserted, tab_inserted};
+ghost use Rattle.textarea_c.specs.Calls.{Calls, Inserts, Tells};
+
+use crate::handle::Handle;
+use crate::status::{INVALID_ARGUMENT, done, flag, on};
+use std::alloc::Global;
+
+/// Inserts the character with this number at the cursor, or at the end of the atomic range that
+/// strictly contains it, as typed; a line feed and a carriage return break the line.
+///
+/// Statuses: ok, out of memory (the selected text may have been removed), invalid argument (no
+/// character has this number), empty handle.
+#[unsafe(no_mangle)]
+pub extern "C" fn ta_insert_char(handle: &mut Handle, alloc: Global, character: u32) -> u32
+    ensures { Calls handle.old.held.content result handle.new.held.content
+        (λ a b. Inserts (char_inserted a.area character) result a b) }
+{
+    on!(handle, alloc, editor => match char::from_u32(character) {
+        Some(c) => done(editor.area.insert_char(c)),
+        None => INVALID_ARGUMENT,
+    })
+}
+
+/// Breaks the line at the cursor, or at the end of the atomic range that strictly contains it.
+///
+/// Statuses: ok, out of memory (the selected text may have been removed), empty handle.
+#[unsafe(no_mangle)]
+pub extern "C" fn ta_insert_newline(handle: &mut Handle, alloc: Global) -> u32
+    ensures { Calls handle.old.held.content result handle.new.held.content
+        (λ a b. Inserts (newline_inserted a.area) result a b) }
+{
+    on!(handle, alloc, editor => done(editor.area.insert_newline()))
+}
+
+/// Inserts the text at the cursor, or at the end of the atomic range that strictly contains it.
+/// Each line feed breaks the line; a carriage return directly before it is dropped.
+///
+/// Statuses: ok (it inserted something or removed a selection), false, out of memory (the selected
+/// text may have been removed), invalid argument (the text is not UTF-8), empty handle.
+#[unsafe(no_mangle)]
+pub extern "C" fn ta_insert_str(handle: &mut Handle, alloc: Global, text: &[u8]) -> u32
+    ensures area { Calls handle.old.held.content result handle.new.held.content
+        (λ a b. Inserts (str_inserted a.area (fragment_symbols (chars text.now))) result a b) }
+    ensures inserted { IfSome handle.old.held.content
+        (λ a. Tells (inserts_text a.area (fragment_symbols (chars text.now))) result) }
+{
+    on!(handle, alloc, editor => match str::from_utf8(text) {
+        Ok(text) => flag(editor.area.insert_str(text)),
+        Err(_) => INVALID_ARGUMENT,
+    })
+}
+
+/// Inserts a tab at the cursor, or at the end of the atomic range that strictly contains it: with
+/// hard tabs a tab character, as typed, otherwise spaces up to the next tab stop; at tab length 0
+/// nothing.
+///
+/// Statuses: ok (it inserted something or removed a selection), false, out of memory (the selected
+/// text may have been removed), empty handle.
+#[unsafe(no_mangle)]
+pub extern "C" fn ta_insert_tab(handle: &mut Handle, alloc: Global) -> u32
+    ensures area { Calls handle.old.held.content result handle.new.held.content
+        (λ a b. Inserts (tab_inserted a.area) result a b) }
+    ensures inserted { IfSome handle.old.held.content (λ a. Tells (inserts_tab a.area) result) }
+{
+    on!(handle, alloc, editor => flag(editor.area.insert_tab()))
+}
+
+/// Inserts the yanked text where `ta_insert_str` inserts.
+///
+/// Statuses: ok, false (there was none), out of memory (the selected text may have been removed),
+/// empty handle.
+#[unsafe(no_mangle)]
+pub extern "C" fn ta_paste(handle: &mut Handle, alloc: Global) -> u32
+    ensures area { Calls handle.old.held.content result handle.new.held.content
+        (λ a b. Inserts (str_inserted a.area a.area.yank) result a b) }
+    ensures inserted { IfSome handle.old.held.content
+        (λ a. (result ≡ 0 → has_symbols a.area.yank ≡ true)
+        × (result ≡ 1 → has_symbols a.area.yank ≡ false)) }
+{
+    on!(handle, alloc, editor => flag(editor.area.paste()))
+}

@@ -1,0 +1,3 @@
+mod Drafts
+mod FileLines
+mod ModalKeys
