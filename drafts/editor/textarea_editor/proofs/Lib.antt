@@ -1,3 +1,0 @@
-mod Drafts
-mod FileLines
-mod ModalKeys

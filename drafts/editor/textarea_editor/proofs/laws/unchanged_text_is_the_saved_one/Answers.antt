@@ -1,5 +1,0 @@
-use Rattle.textarea_editor.proofs.Drafts.{unchanged_since}
-use Rattle.textarea_editor.proofs.laws.unchanged_text_is_the_saved_one.Goals as goal
-
-pub returns : goal.returns
-returns c = unchanged_since
