@@ -98,16 +98,6 @@ fn run_commands(
 }
 
 // Makes the calls, which borrow from the commands.
-fn run_borrowed(
-    alloc: Global,
-    area: &mut TextArea<'_>,
-    commands: &[Command],
-    buffer: &mut Buffer,
-) -> Result<RunOutput, Failure> {
-    let calls = commands::calls(alloc, commands)?;
-    run_calls(area, calls.as_slice(), buffer)
-}
-
 fn run_calls(
     area: &mut TextArea<'_>,
     calls: &[Call<'_>],

@@ -31,6 +31,23 @@ pub mod highlight {
     pub use textarea_highlight::highlight::{CursorCellRender, LineHighlighter};
 }
 
+/// The history of a text's edits, and the laws of undo and redo.
+pub mod history {
+    pub use textarea_history::history::{Edit, EditKind, History};
+
+    /// What undo and redo restore.
+    pub mod laws {
+        pub use textarea_history::history::laws::{
+            each_edit_fits, redo_restores, stays_sound, undos_restore,
+        };
+    }
+}
+
+/// The numbers of a layout, and the digits of a number.
+pub mod layout {
+    pub use textarea_wrap::layout::{LayoutMetrics, num_digits};
+}
+
 /// The visual rows of all lines, updated line by line.
 pub mod screen_map {
     pub use textarea_screen_map::screen_map::{PreparedRows, ScreenMap};
@@ -41,6 +58,15 @@ pub mod search {
     pub use textarea_search::search::{Matches, Search, SearchError};
 }
 
-pub use textarea_history::history;
-pub use textarea_text::word;
-pub use textarea_wrap::{layout, wrap};
+/// Classes of characters, and searches for the words of a line.
+pub mod word {
+    pub use textarea_text::word::{
+        CharKind, find_word_exclusive_end_forward, find_word_inclusive_end_forward,
+        find_word_start_backward, find_word_start_forward,
+    };
+}
+
+/// The visual rows of one line at a width.
+pub mod wrap {
+    pub use textarea_wrap::wrap::{Rows, WrapCount, WrapMode, line_ranges};
+}
