@@ -7,7 +7,7 @@ use textarea_cases::words::{Borrows, call_of, character, lines_in, titled};
 use tui_textarea::{Borders, Color, Style};
 
 /// Returns the values that calls borrow: a titled block, a placeholder of one line, and a key.
-pub fn lent(alloc: Global) -> Result<Borrows, AllocError> {
+pub fn borrows(alloc: Global) -> Result<Borrows, AllocError> {
     let red = Style::new().fg(Color::Red);
     Ok(Borrows {
         block: titled(alloc, Borders::TOP, "a\u{301}犬 title")?,
@@ -20,11 +20,11 @@ pub fn lent(alloc: Global) -> Result<Borrows, AllocError> {
 pub fn script_of<'a>(
     alloc: Global,
     lines: &'a str,
-    lent: &'a Borrows,
+    borrows: &'a Borrows,
 ) -> Result<String, AllocError> {
     let mut script = String::new(alloc);
     for line in lines.lines() {
-        if call_of(line, lent).is_none() {
+        if call_of(line, borrows).is_none() {
             writeln!(script, "{line}")?;
         }
     }
@@ -36,12 +36,12 @@ pub fn calls_of<'a>(
     alloc: Global,
     lines: &'a str,
     commands: &'a [Command],
-    lent: &'a Borrows,
+    borrows: &'a Borrows,
 ) -> Result<Vec<Call<'a>>, AllocError> {
     let mut calls = Vec::new(alloc);
     let mut commands = commands.iter();
     for line in lines.lines() {
-        if let Some(call) = next_call(line, &mut commands, lent) {
+        if let Some(call) = next_call(line, &mut commands, borrows) {
             calls.push(call)?;
         }
     }
@@ -52,9 +52,9 @@ pub fn calls_of<'a>(
 fn next_call<'a>(
     line: &'a str,
     commands: &mut Iter<'a, Command>,
-    lent: &'a Borrows,
+    borrows: &'a Borrows,
 ) -> Option<Call<'a>> {
-    match call_of(line, lent) {
+    match call_of(line, borrows) {
         Some(call) => Some(call),
         None => Some(commands.next()?.call()),
     }

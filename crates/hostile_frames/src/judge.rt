@@ -85,10 +85,10 @@ impl FrameJudge {
     // Checks the caret's cell. It must be in the inner area, and its hit test must give the cursor
     // or, if the cursor's visual row has a character of display width 0, any position.
     fn judge_cell(&mut self, area: &TextArea<'_>, inner: Rect, cell: Position) {
-        count(&mut self.tally.shown);
+        count(&mut self.tally.displayed);
         let found = area.cursor_at_position(cell).unwrap_or(None);
         if found == Some(area.cursor()) && inner.contains(cell) {
-            count(&mut self.tally.hit_back);
+            count(&mut self.tally.caret_hit);
         } else if found.is_none() || !inner.contains(cell) || is_wide_row(area, inner.width()) {
             count(&mut self.tally.astray);
         }

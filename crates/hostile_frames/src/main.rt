@@ -30,16 +30,16 @@ const STREAM_FAILED: u8 = 1;
 const NOT_JUDGED: u8 = 3;
 
 fn main(rt: HostRuntime) -> ExitCode {
-    let mut given = String::new(rt.alloc());
-    if rt.stdin().read_to_string(&mut given).is_err() {
+    let mut input = String::new(rt.alloc());
+    if rt.stdin().read_to_string(&mut input).is_err() {
         return ExitCode::from(STREAM_FAILED);
     }
-    ExitCode::from(tell(&rt, given.as_str()))
+    ExitCode::from(tell(&rt, input.as_str()))
 }
 
 // Judges the texts, and prints the counts of each.
-fn tell(rt: &(impl Print + AllocGlobal), given: &str) -> u8 {
-    let (asked, texts) = given.split_once("\n\n").unwrap_or((given, ""));
+fn tell(rt: &(impl Print + AllocGlobal), input: &str) -> u8 {
+    let (asked, texts) = input.split_once("\n\n").unwrap_or((input, ""));
     let mut status = 0;
     for text in texts.split("\n\n") {
         status = status.max(tell_text(rt, asked, text));

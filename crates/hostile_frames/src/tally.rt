@@ -10,11 +10,11 @@ pub struct FrameTally {
     pub frames: usize,
     pub calls: usize,
     /// Visible carets.
-    pub shown: usize,
+    pub displayed: usize,
     /// Frames whose caret must be visible.
     pub promised: usize,
     /// Carets whose hit test gives the cursor.
-    pub hit_back: usize,
+    pub caret_hit: usize,
     /// Calls and drawings that failed.
     pub failed: usize,
     /// Carets that aren't visible although that is promised.
@@ -36,8 +36,8 @@ impl FrameTally {
 impl fmt::Display for FrameTally {
     fn fmt<W: fmt::Write>(&self, f: &mut fmt::Formatter<W>) -> fmt::Result {
         write!(f, "{} frames, {} calls, ", self.frames, self.calls)?;
-        write!(f, "carets: {} shown, ", self.shown)?;
-        write!(f, "{} promised, {} hit back", self.promised, self.hit_back)?;
+        write!(f, "carets: {} shown, ", self.displayed)?;
+        write!(f, "{} promised, {} hit back", self.promised, self.caret_hit)?;
         if self.is_right() {
             return Ok(());
         }

@@ -1,5 +1,5 @@
 //! A text in all settings and areas, after all calls, and at all tab lengths.
-use crate::asked::{calls_of, lent, script_of};
+use crate::asked::{borrows, calls_of, script_of};
 use crate::caret::has_tab;
 use crate::judge::FrameJudge;
 use crate::setting::Setting;
@@ -45,9 +45,9 @@ fn judge_lines(
     asked: &str,
     judge: &mut FrameJudge,
 ) -> Result<(), EndReason> {
-    let lent = lent(alloc)?;
-    let judged = judge_borrowed(alloc, lines, (asked, &lent), judge);
-    drop(lent);
+    let borrows = borrows(alloc)?;
+    let judged = judge_borrowed(alloc, lines, (asked, &borrows), judge);
+    drop(borrows);
     judged
 }
 
@@ -55,22 +55,22 @@ fn judge_lines(
 fn judge_borrowed(
     alloc: Global,
     lines: &str,
-    (asked, lent): (&str, &Borrows),
+    (asked, borrows): (&str, &Borrows),
     judge: &mut FrameJudge,
 ) -> Result<(), EndReason> {
-    let script = script_of(alloc, asked, lent)?;
+    let script = script_of(alloc, asked, borrows)?;
     let commands = read(alloc, script.as_bytes())?;
-    judge_commands(alloc, lines, (asked, commands.as_slice(), lent), judge)
+    judge_commands(alloc, lines, (asked, commands.as_slice(), borrows), judge)
 }
 
 // The same, with the script commands among the lines.
 fn judge_commands(
     alloc: Global,
     lines: &str,
-    (asked, commands, lent): (&str, &[Command], &Borrows),
+    (asked, commands, borrows): (&str, &[Command], &Borrows),
     judge: &mut FrameJudge,
 ) -> Result<(), EndReason> {
-    let asked = calls_of(alloc, asked, commands, lent)?;
+    let asked = calls_of(alloc, asked, commands, borrows)?;
     let judged = judge_settings(alloc, lines, asked.as_slice(), judge);
     drop(asked);
     judged

@@ -13,7 +13,7 @@ use Rattle.textarea_history.specs.Edit.{IsCopyOfKind, Stored, IsWellFormed, end_
 use Rattle.textarea_history.specs.declared.edit.EditKind.{EditKind}
 use Rattle.textarea_history.specs.declared.edit.EditKind.TheVariants.{InsertChar, DeleteChar, InsertNewline, DeleteNewline, InsertStr, DeleteStr, InsertChunk, DeleteChunk}
 use Rattle.textarea_text.specs.Between.{symbols_between}
-use Rattle.textarea_document.proofs.Parts.{part_ends, part_stands}
+use Rattle.textarea_document.proofs.Betweens.{between_ends, between_occurs}
 use Rattle.memory_cases.specs.Ready.{IsEditReady}
 
 -- a list of symbols that ends at another position than it begins at is not empty
@@ -26,17 +26,17 @@ some_symbols place (symbol ∷ symbols) apart = omega arith
 pub record IsAlike (kind copy : EditKind) : Type 0 where
   pub symbols : symbols_of copy ≡ symbols_of kind
   pub inserts : inserts_of copy ≡ inserts_of kind
-  pub pieces : line_count_of copy ≡ line_count_of kind
+  pub fragment_lines : line_count_of copy ≡ line_count_of kind
 
 alike : (kind copy : EditKind) → IsCopyOfKind kind copy → IsAlike kind copy
-alike (InsertChar c) (InsertChar d) e = record { symbols = ap (λ x. Character x ∷ []) e; inserts = refl; pieces = refl }
-alike (DeleteChar c) (DeleteChar d) e = record { symbols = ap (λ x. Character x ∷ []) e; inserts = refl; pieces = refl }
-alike InsertNewline InsertNewline e = record { symbols = refl; inserts = refl; pieces = refl }
-alike DeleteNewline DeleteNewline e = record { symbols = refl; inserts = refl; pieces = refl }
-alike (InsertStr s) (InsertStr t) e = record { symbols = ap characters e; inserts = refl; pieces = refl }
-alike (DeleteStr s) (DeleteStr t) e = record { symbols = ap characters e; inserts = refl; pieces = refl }
-alike (InsertChunk p) (InsertChunk q) e = record { symbols = ap joined e; inserts = refl; pieces = ap Some (sym (length-map q.items characters_of) ∙ ap length e ∙ length-map p.items characters_of) }
-alike (DeleteChunk p) (DeleteChunk q) e = record { symbols = ap joined e; inserts = refl; pieces = ap Some (sym (length-map q.items characters_of) ∙ ap length e ∙ length-map p.items characters_of) }
+alike (InsertChar c) (InsertChar d) e = record { symbols = ap (λ x. Character x ∷ []) e; inserts = refl; fragment_lines = refl }
+alike (DeleteChar c) (DeleteChar d) e = record { symbols = ap (λ x. Character x ∷ []) e; inserts = refl; fragment_lines = refl }
+alike InsertNewline InsertNewline e = record { symbols = refl; inserts = refl; fragment_lines = refl }
+alike DeleteNewline DeleteNewline e = record { symbols = refl; inserts = refl; fragment_lines = refl }
+alike (InsertStr s) (InsertStr t) e = record { symbols = ap characters e; inserts = refl; fragment_lines = refl }
+alike (DeleteStr s) (DeleteStr t) e = record { symbols = ap characters e; inserts = refl; fragment_lines = refl }
+alike (InsertChunk p) (InsertChunk q) e = record { symbols = ap joined e; inserts = refl; fragment_lines = ap Some (sym (length-map q.items characters_of) ∙ ap length e ∙ length-map p.items characters_of) }
+alike (DeleteChunk p) (DeleteChunk q) e = record { symbols = ap joined e; inserts = refl; fragment_lines = ap Some (sym (length-map q.items characters_of) ∙ ap length e ∙ length-map p.items characters_of) }
 alike kind copy h = absurd h
 
 -- the copy has the same splice, the same end and the same number of lines
@@ -50,12 +50,12 @@ pub copy_end : (kind copy : EditKind) (before after : Place) → IsCopyOfKind ki
 copy_end kind copy before after h = ap (λ (b : Bool). cond b after before) (alike kind copy h).inserts
 
 -- an edit with a copy of the kind is well formed if the kind meets the conditions
-pub copy_well_formed : (kind copy : EditKind) (before after : Place) (edit : Stored) → IsCopyOfKind kind copy → 0 < length (symbols_of kind) → IfSome (line_count_of kind) (λ n. 2 ≤ n) → end_of_kind kind before after ≡ end (splice_of kind before after).place (symbols_of kind) → edit.splice ≡ splice_of copy before after → edit.end ≡ end_of_kind copy before after → edit.pieces ≡ line_count_of copy → IsWellFormed edit
-copy_well_formed kind copy before after edit h some pieces ends splice_is end_is pieces_is =
+pub copy_well_formed : (kind copy : EditKind) (before after : Place) (edit : Stored) → IsCopyOfKind kind copy → 0 < length (symbols_of kind) → IfSome (line_count_of kind) (λ n. 2 ≤ n) → end_of_kind kind before after ≡ end (splice_of kind before after).place (symbols_of kind) → edit.splice ≡ splice_of copy before after → edit.end ≡ end_of_kind copy before after → edit.fragment_lines ≡ line_count_of copy → IsWellFormed edit
+copy_well_formed kind copy before after edit h some fragment_lines ends splice_is end_is lines_is =
     let is = splice_is ∙ copy_splice kind copy before after h in
     record {
       some = subst (λ (s : Splice). 0 < length s.symbols) (sym is) some;
-      pieces = subst (λ o. IfSome o (λ n. 2 ≤ n)) (sym (pieces_is ∙ (alike kind copy h).pieces)) pieces;
+      fragment_lines = subst (λ o. IfSome o (λ n. 2 ≤ n)) (sym (lines_is ∙ (alike kind copy h).fragment_lines)) fragment_lines;
       ends = end_is ∙ copy_end kind copy before after h ∙ ends ∙ ap (λ (s : Splice). end s.place s.symbols) (sym is);
     }
 
@@ -66,34 +66,34 @@ record Holds (text symbols : List Symbol) (before after : Place) (inserts : Bool
   fits : Fits text (record { place = cond inserts before after; symbols = symbols; inserts = inserts })
 
 ready : (text : List Symbol) (kind : EditKind) (before after : Place) (inserts : Bool) → inserts_of kind ≡ inserts → IfSome (line_count_of kind) (λ n. 2 ≤ n) → Holds text (symbols_of kind) before after inserts → IsEditReady text kind before after
-ready text kind before after inserts is pieces holds =
-    let held = subst (Holds text (symbols_of kind) before after) (sym is) holds in
-    record { pieces = pieces; ends = held.ends; fits = held.fits }
+ready text kind before after inserts is fragment_lines holds =
+    let modifiers = subst (Holds text (symbols_of kind) before after) (sym is) holds in
+    record { fragment_lines = fragment_lines; ends = modifiers.ends; fits = modifiers.fits }
 
 pub ready_inserted : (text : List Symbol) (kind : EditKind) (before after : Place) → inserts_of kind ≡ true → IfSome (line_count_of kind) (λ n. 2 ≤ n) → IsPlace text before → after ≡ end before (symbols_of kind) → 0 < length (symbols_of kind) → IsEditReady text kind before after
-ready_inserted text kind before after is pieces there ends some =
-    ready text kind before after true is pieces (record { ends = ends; fits = record { some = some; is_place = there; allowed = tt } })
+ready_inserted text kind before after is fragment_lines there ends some =
+    ready text kind before after true is fragment_lines (record { ends = ends; fits = record { some = some; is_place = there; allowed = tt } })
 
 pub ready_removed : (text : List Symbol) (kind : EditKind) (before after : Place) → inserts_of kind ≡ false → IfSome (line_count_of kind) (λ n. 2 ≤ n) → IsPlace text after → before ≡ end after (symbols_of kind) → 0 < length (symbols_of kind) → OccursAt text after (symbols_of kind) → IsEditReady text kind before after
-ready_removed text kind before after is pieces there ends some stands =
-    ready text kind before after false is pieces (record { ends = ends; fits = record { some = some; is_place = there; allowed = stands } })
+ready_removed text kind before after is fragment_lines there ends some occurs =
+    ready text kind before after false is fragment_lines (record { ends = ends; fits = record { some = some; is_place = there; allowed = occurs } })
 
 -- a removal of the symbol before a position
 pub ready_before : (text : List Symbol) (kind : EditKind) (before start : Place) (symbol : Symbol) → inserts_of kind ≡ false → symbols_of kind ≡ symbol ∷ [] → IfSome (line_count_of kind) (λ n. 2 ≤ n) → IsSymbolBefore text before start symbol → IsEditReady text kind before start
-ready_before text kind before start symbol is symbols_are pieces known =
-    ready_removed text kind before start is pieces known.is_place
+ready_before text kind before start symbol is symbols_are fragment_lines known =
+    ready_removed text kind before start is fragment_lines known.is_place
     (known.ends ∙ ap (end start) (sym symbols_are))
     (subst (λ (s : List Symbol). 0 < length s) (sym symbols_are) (omega arith))
-    (subst (OccursAt text start) (sym symbols_are) known.stands)
+    (subst (OccursAt text start) (sym symbols_are) known.occurs)
 
 -- a removal of the text between two positions
 pub ready_between : (text : List Symbol) (kind : EditKind) (before after : Place) → inserts_of kind ≡ false → symbols_of kind ≡ symbols_between text after before → IfSome (line_count_of kind) (λ n. 2 ≤ n) → IsPlace text after → IsPlace text before → index_of text after ≤ index_of text before → before ≢ after → IsEditReady text kind before after
-ready_between text kind before after is symbols_are pieces from to ordered apart =
-    let ends = part_ends text after before from to ordered in
-    ready_removed text kind before after is pieces from
+ready_between text kind before after is symbols_are fragment_lines from to ordered apart =
+    let ends = between_ends text after before from to ordered in
+    ready_removed text kind before after is fragment_lines from
     (ends ∙ ap (end after) (sym symbols_are))
     (subst (λ (s : List Symbol). 0 < length s) (sym symbols_are) (some_symbols after (symbols_between text after before) (λ e. apart (ends ∙ e))))
-    (subst (OccursAt text after) (sym symbols_are) (part_stands text after before to ordered))
+    (subst (OccursAt text after) (sym symbols_are) (between_occurs text after before to ordered))
 
 -- a position ahead is not earlier
 pub ordered_ahead : (text : List Symbol) (from to : Place) (count : ℕ) → IsPlace text from → index_of text to ≡ min (index_of text from + count) (length text) → index_of text from ≤ index_of text to

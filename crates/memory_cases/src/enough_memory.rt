@@ -5,9 +5,9 @@ use crate::step::{Step, make};
 use crate::words::{script_of, step_of};
 use std::alloc::{AllocError, Global};
 use textarea_calls::Answer;
+use textarea_cases::differences::result_text;
 use textarea_cases::end::{Difference, End, EndReason, same};
 use textarea_cases::expand::{expanded, repeated, timed};
-use textarea_cases::parts::answer_text;
 use textarea_cases::tally::Tally;
 use textarea_cases::words::Borrows;
 use tui_textarea::{Buffer, Rect, TextArea};
@@ -42,24 +42,29 @@ impl Results {
 
     // Adds a result, which is now the last one.
     fn take_last(&mut self, alloc: Global, answer: &Answer) -> Result<(), EndReason> {
-        self.last = answer_text(alloc, answer)?;
+        self.last = result_text(alloc, answer)?;
         self.tally.take(answer)
     }
 }
 
 /// Makes the steps of a case's lines on an empty text area. Its lines may name the other cases.
-pub fn make_row(alloc: Global, rows: &str, row: &str, told: &mut Results) -> End {
-    let stop = make_lines(alloc, rows, row, told).err();
+pub fn make_row(alloc: Global, rows: &str, row: &str, results: &mut Results) -> End {
+    let stop = make_lines(alloc, rows, row, results).err();
     End {
-        made: told.tally.calls,
+        made: results.tally.calls,
         stop,
     }
 }
 
-fn make_lines(alloc: Global, rows: &str, row: &str, told: &mut Results) -> Result<(), EndReason> {
-    let (lent, row) = borrowed_and_rest(alloc, row)?;
-    let made = make_text(alloc, rows, row, &lent, told);
-    drop(lent);
+fn make_lines(
+    alloc: Global,
+    rows: &str,
+    row: &str,
+    results: &mut Results,
+) -> Result<(), EndReason> {
+    let (borrows, row) = borrowed_and_rest(alloc, row)?;
+    let made = make_text(alloc, rows, row, &borrows, results);
+    drop(borrows);
     made
 }
 
@@ -67,11 +72,11 @@ fn make_text(
     alloc: Global,
     rows: &str,
     row: &str,
-    lent: &Borrows,
-    told: &mut Results,
+    borrows: &Borrows,
+    results: &mut Results,
 ) -> Result<(), EndReason> {
     let mut area = TextArea::try_default(alloc)?;
-    let made = make_all(&mut area, rows, row, lent, told);
+    let made = make_all(&mut area, rows, row, borrows, results);
     drop(area);
     made
 }
@@ -80,14 +85,14 @@ fn make_all(
     area: &mut TextArea<'_>,
     rows: &str,
     row: &str,
-    lent: &Borrows,
-    told: &mut Results,
+    borrows: &Borrows,
+    results: &mut Results,
 ) -> Result<(), EndReason> {
     for line in row.lines() {
-        make_line_or_row(area, rows, line, lent, told)?;
+        make_line_or_row(area, rows, line, borrows, results)?;
     }
-    told.tally.lines = area.lines().len();
-    told.tally.cursor = area.cursor();
+    results.tally.lines = area.lines().len();
+    results.tally.cursor = area.cursor();
     Ok(())
 }
 
@@ -95,16 +100,22 @@ fn make_line_or_row(
     area: &mut TextArea<'_>,
     rows: &str,
     line: &str,
-    lent: &Borrows,
-    told: &mut Results,
+    borrows: &Borrows,
+    results: &mut Results,
 ) -> Result<(), EndReason> {
     match line.split_once(' ') {
-        Some(("row", name)) => make_each(area, row_of(rows, name)?, lent, told),
+        Some(("row", name)) => make_each(area, row_of(rows, name)?, borrows, results),
         Some(("apart", name)) => {
             let alloc = *area.lines()[0].allocator();
-            make_apart(alloc, row_of(rows, name)?, row_of(rows, CALLS)?, lent, told)
+            make_apart(
+                alloc,
+                row_of(rows, name)?,
+                row_of(rows, CALLS)?,
+                borrows,
+                results,
+            )
         }
-        _ => make_line(area, line, lent, told),
+        _ => make_line(area, line, borrows, results),
     }
 }
 
@@ -113,11 +124,11 @@ fn make_apart(
     alloc: Global,
     lines: &str,
     calls: &str,
-    lent: &Borrows,
-    told: &mut Results,
+    borrows: &Borrows,
+    results: &mut Results,
 ) -> Result<(), EndReason> {
     let mut area = TextArea::try_default(alloc)?;
-    let made = make_on_clones(&mut area, lines, calls, lent, told);
+    let made = make_on_clones(&mut area, lines, calls, borrows, results);
     drop(area);
     made
 }
@@ -126,12 +137,12 @@ fn make_on_clones(
     area: &mut TextArea<'_>,
     lines: &str,
     calls: &str,
-    lent: &Borrows,
-    told: &mut Results,
+    borrows: &Borrows,
+    results: &mut Results,
 ) -> Result<(), EndReason> {
-    make_each(area, lines, lent, told)?;
+    make_each(area, lines, borrows, results)?;
     for call in calls.lines() {
-        make_on_clone(area, call, lent, told)?;
+        make_on_clone(area, call, borrows, results)?;
     }
     Ok(())
 }
@@ -139,13 +150,13 @@ fn make_on_clones(
 fn make_on_clone(
     area: &TextArea<'_>,
     call: &str,
-    lent: &Borrows,
-    told: &mut Results,
+    borrows: &Borrows,
+    results: &mut Results,
 ) -> Result<(), EndReason> {
     let Ok(mut clone) = area.clone() else {
         return Err(EndReason::Wrong(Difference::Memory));
     };
-    let made = make_line(&mut clone, call, lent, told);
+    let made = make_line(&mut clone, call, borrows, results);
     drop(clone);
     made
 }
@@ -165,11 +176,11 @@ fn row_of<'a>(rows: &'a str, name: &str) -> Result<&'a str, EndReason> {
 fn make_each(
     area: &mut TextArea<'_>,
     lines: &str,
-    lent: &Borrows,
-    told: &mut Results,
+    borrows: &Borrows,
+    results: &mut Results,
 ) -> Result<(), EndReason> {
     for line in lines.lines() {
-        make_line(area, line, lent, told)?;
+        make_line(area, line, borrows, results)?;
     }
     Ok(())
 }
@@ -178,33 +189,33 @@ fn make_each(
 fn make_line(
     area: &mut TextArea<'_>,
     line: &str,
-    lent: &Borrows,
-    told: &mut Results,
+    borrows: &Borrows,
+    results: &mut Results,
 ) -> Result<(), EndReason> {
     match line.split_once(" => ") {
         Some((words, wanted)) => {
-            make_words(area, words, lent, told)?;
-            same(told.last.as_str() == wanted, Difference::Answer)
+            make_words(area, words, borrows, results)?;
+            same(results.last.as_str() == wanted, Difference::Answer)
         }
-        None => make_words(area, line, lent, told),
+        None => make_words(area, line, borrows, results),
     }
 }
 
 fn make_words(
     area: &mut TextArea<'_>,
     line: &str,
-    lent: &Borrows,
-    told: &mut Results,
+    borrows: &Borrows,
+    results: &mut Results,
 ) -> Result<(), EndReason> {
     if let Some(script) = script_of(line) {
-        return make_script(area, script, told);
+        return make_script(area, script, results);
     }
     let (times, line) = timed(line);
     let alloc = *area.lines()[0].allocator();
     let text = expanded(alloc, line)?;
-    match step_of(text.as_str(), lent) {
-        Some(step) => make_step(area, step, times, told),
-        None => make_repeated(area, text.as_str(), times, told),
+    match step_of(text.as_str(), borrows) {
+        Some(step) => make_step(area, step, times, results),
+        None => make_repeated(area, text.as_str(), times, results),
     }
 }
 
@@ -213,23 +224,23 @@ fn make_repeated(
     area: &mut TextArea<'_>,
     line: &str,
     times: usize,
-    told: &mut Results,
+    results: &mut Results,
 ) -> Result<(), EndReason> {
     let alloc = *area.lines()[0].allocator();
     let script = repeated(alloc, times, line)?;
-    make_script(area, script.as_str(), told)
+    make_script(area, script.as_str(), results)
 }
 
 fn make_step(
     area: &mut TextArea<'_>,
     step: Step<'_>,
     times: usize,
-    told: &mut Results,
+    results: &mut Results,
 ) -> Result<(), EndReason> {
     let alloc = *area.lines()[0].allocator();
     for _ in 0..times {
-        match make(area, step, &mut told.buffer) {
-            Ok(answer) => told.take_last(alloc, &answer)?,
+        match make(area, step, &mut results.buffer) {
+            Ok(answer) => results.take_last(alloc, &answer)?,
             Err(_) => return Err(EndReason::Wrong(Difference::Memory)),
         }
     }
@@ -237,13 +248,17 @@ fn make_step(
 }
 
 // Makes the calls of a script in one run.
-fn make_script(area: &mut TextArea<'_>, script: &str, told: &mut Results) -> Result<(), EndReason> {
-    let end = run_script(area, script, &mut told.buffer)?;
+fn make_script(
+    area: &mut TextArea<'_>,
+    script: &str,
+    results: &mut Results,
+) -> Result<(), EndReason> {
+    let end = run_script(area, script, &mut results.buffer)?;
     for answer in end.answers.as_slice() {
-        told.tally.take(answer)?;
+        results.tally.take(answer)?;
     }
     if let Some(answer) = end.answers.last() {
-        told.last = answer_text(*area.lines()[0].allocator(), answer)?;
+        results.last = result_text(*area.lines()[0].allocator(), answer)?;
     }
     match end.refused {
         Some(_) => Err(EndReason::Wrong(Difference::Memory)),

@@ -19,7 +19,7 @@ const MOST: usize = 200;
 
 /// The result of a call.
 #[derive(Drop)]
-enum Answer {
+enum HistoryResult {
     Lines,
     Cursor(Option<Place>),
     BothWays(BothWays),
@@ -96,7 +96,7 @@ fn make_granted(
     alloc: Global,
     recorded: &mut Recorded,
     call: Call<'_>,
-) -> Result<Answer, EndReason> {
+) -> Result<HistoryResult, EndReason> {
     match make(alloc, recorded, call) {
         Ok(answer) => Ok(answer),
         Err(_) => Err(EndReason::Wrong(Difference::Memory)),
@@ -104,50 +104,64 @@ fn make_granted(
 }
 
 // Makes a call. If it runs out of memory, all must be as in the copy.
-fn judge_call(alloc: Global, recorded: &mut Recorded, call: Call<'_>) -> Result<Answer, EndReason> {
+fn judge_call(
+    alloc: Global,
+    recorded: &mut Recorded,
+    call: Call<'_>,
+) -> Result<HistoryResult, EndReason> {
     let mut copy = recorded.copy()?;
     match make(alloc, recorded, call) {
         Ok(answer) => Ok(answer),
         Err(_) => {
             compare(recorded, &mut copy)?;
-            Err(EndReason::Refused)
+            Err(EndReason::RanOut)
         }
     }
 }
 
-fn make(alloc: Global, recorded: &mut Recorded, call: Call<'_>) -> Result<Answer, AllocError> {
+fn make(
+    alloc: Global,
+    recorded: &mut Recorded,
+    call: Call<'_>,
+) -> Result<HistoryResult, AllocError> {
     match call {
         Call::Lines(text) => {
             *recorded = Recorded::new(line_count_in(alloc, text)?, MAXIMUM);
-            Ok(Answer::Lines)
+            Ok(HistoryResult::Lines)
         }
         Call::Maximum(maximum) => {
             recorded.restart(maximum);
-            Ok(Answer::Lines)
+            Ok(HistoryResult::Lines)
         }
         Call::BreakRun => {
             recorded.break_run();
-            Ok(Answer::Lines)
+            Ok(HistoryResult::Lines)
         }
         Call::Edit(edit, typed) => {
             recorded.edit(edit, typed)?;
-            Ok(Answer::Lines)
+            Ok(HistoryResult::Lines)
         }
-        Call::BothWays(place, text) => Ok(Answer::BothWays(recorded.both_ways(place, text)?)),
-        Call::Undo => Ok(Answer::Cursor(recorded.undo()?)),
-        Call::Redo => Ok(Answer::Cursor(recorded.redo()?)),
+        Call::BothWays(place, text) => Ok(HistoryResult::BothWays(recorded.both_ways(
+            place, text,
+        )?)),
+        Call::Undo => Ok(HistoryResult::Cursor(recorded.undo()?)),
+        Call::Redo => Ok(HistoryResult::Cursor(recorded.redo()?)),
     }
 }
 
-fn printed(alloc: Global, recorded: &Recorded, answer: &Answer) -> Result<String, AllocError> {
+fn printed(
+    alloc: Global,
+    recorded: &Recorded,
+    answer: &HistoryResult,
+) -> Result<String, AllocError> {
     match answer {
-        Answer::Lines => joined(alloc, recorded.lines()),
-        Answer::Cursor(None) => String::from_str(alloc, "none"),
-        Answer::Cursor(Some((row, column))) => {
+        HistoryResult::Lines => joined(alloc, recorded.lines()),
+        HistoryResult::Cursor(None) => String::from_str(alloc, "none"),
+        HistoryResult::Cursor(Some((row, column))) => {
             let lines = joined(alloc, recorded.lines())?;
             format!(in alloc; "{row} {column} {lines}")
         }
-        Answer::BothWays(ways) => {
+        HistoryResult::BothWays(ways) => {
             let there = joined(alloc, ways.there.as_slice())?;
             let back = joined(alloc, ways.back.as_slice())?;
             format!(in alloc; "{there}, {back}")

@@ -9,7 +9,7 @@ use crate::words::{script_of, step_of};
 use std::alloc::{AllocError, Global};
 use textarea_calls::commands::{Command, calls, read};
 use textarea_calls::{Answer, Call};
-use textarea_cases::compare::{are_alike_outside, compare, compare_shown};
+use textarea_cases::compare::{are_alike_outside, compare, compare_display};
 use textarea_cases::end::{Difference, End, EndReason, same};
 use textarea_cases::expand::expanded;
 use textarea_cases::words::Borrows;
@@ -70,30 +70,30 @@ pub fn judge_row(alloc: Global, row: &str) -> End {
 }
 
 fn judge_lines(alloc: Global, row: &str, judge: &mut MemoryJudge) -> Result<(), EndReason> {
-    let lent = Borrows::new(alloc)?;
-    let judged = judge_expanded(alloc, row, &lent, judge);
-    drop(lent);
+    let borrows = Borrows::new(alloc)?;
+    let judged = judge_expanded(alloc, row, &borrows, judge);
+    drop(borrows);
     judged
 }
 
 fn judge_expanded(
     alloc: Global,
     row: &str,
-    lent: &Borrows,
+    borrows: &Borrows,
     judge: &mut MemoryJudge,
 ) -> Result<(), EndReason> {
     let row = expanded(alloc, row)?;
-    judge_text(alloc, row.as_str(), lent, judge)
+    judge_text(alloc, row.as_str(), borrows, judge)
 }
 
 fn judge_text(
     alloc: Global,
     row: &str,
-    lent: &Borrows,
+    borrows: &Borrows,
     judge: &mut MemoryJudge,
 ) -> Result<(), EndReason> {
     let mut area = TextArea::try_default(alloc)?;
-    let judged = judge_all(&mut area, row, lent, judge);
+    let judged = judge_all(&mut area, row, borrows, judge);
     drop(area);
     judged
 }
@@ -101,13 +101,13 @@ fn judge_text(
 fn judge_all(
     area: &mut TextArea<'_>,
     row: &str,
-    lent: &Borrows,
+    borrows: &Borrows,
     judge: &mut MemoryJudge,
 ) -> Result<(), EndReason> {
     // The calls of a run are after the line `run`, up to the end of the case.
     let (lines, run) = row.split_once("run\n").unwrap_or((row, ""));
     for line in lines.lines() {
-        judge_line(area, line, lent, judge)?;
+        judge_line(area, line, borrows, judge)?;
     }
     if run.is_empty() {
         return Ok(());
@@ -118,7 +118,7 @@ fn judge_all(
 fn judge_line(
     area: &mut TextArea<'_>,
     line: &str,
-    lent: &Borrows,
+    borrows: &Borrows,
     judge: &mut MemoryJudge,
 ) -> Result<(), EndReason> {
     if let Some(script) = script_of(line) {
@@ -127,7 +127,7 @@ fn judge_line(
     if let Some(words) = line.strip_prefix("keys ") {
         return judge_all_keys(*area.lines()[0].allocator(), words, judge);
     }
-    match step_of(line, lent) {
+    match step_of(line, borrows) {
         Some(step) => judge_step(area, step, judge),
         None => judge_script(area, line, judge),
     }
@@ -197,13 +197,13 @@ fn judge_beside(
 ) -> Result<(), EndReason> {
     match make(area, step, &mut judge.buffer) {
         Err(_) => judge_out_of_memory(area, other, step, judge),
-        Ok(Answer::PatternRefused) => judge_pattern(area, other, step, judge),
+        Ok(Answer::PatternRejected) => judge_pattern(area, other, step, judge),
         Ok(answer) => {
-            let judged = judge_answer(&answer, other, step, judge);
+            let judged = judge_result(&answer, other, step, judge);
             drop(answer);
             judged?;
             judge.compare_cells(Rect::default())?;
-            compare_shown(area, other)
+            compare_display(area, other)
         }
     }
 }
@@ -217,7 +217,7 @@ fn judge_pattern(
 ) -> Result<(), EndReason> {
     if is_rejected(other, step, judge)? {
         judge.count(1);
-        return compare_shown(area, other);
+        return compare_display(area, other);
     }
     judge_out_of_memory(area, other, step, judge)
 }
@@ -231,7 +231,7 @@ fn is_rejected(
     let mut clone = other.clone()?;
     let answer = make(&mut clone, step, &mut judge.other);
     drop(clone);
-    Ok(answer? == Answer::PatternRefused)
+    Ok(answer? == Answer::PatternRejected)
 }
 
 // Makes a step. A rejected pattern counts as out of memory: `regex` may lack memory itself.
@@ -241,13 +241,13 @@ fn make_or_run_out(
     buffer: &mut Buffer,
 ) -> Result<Answer, AllocError> {
     match make(area, step, buffer)? {
-        Answer::PatternRefused => Err(AllocError),
+        Answer::PatternRejected => Err(AllocError),
         answer => Ok(answer),
     }
 }
 
 // The clone must have the same result. If it runs out of memory, that says nothing about the step.
-fn judge_answer(
+fn judge_result(
     answer: &Answer,
     other: &mut TextArea<'_>,
     step: Step<'_>,
@@ -274,7 +274,7 @@ fn judge_out_of_memory(
     }
     compare(area, other)?;
     judge.compare_cells(drawn_area(step))?;
-    Err(EndReason::Refused)
+    Err(EndReason::RanOut)
 }
 
 fn holds_selected(area: &TextArea<'_>) -> bool {
@@ -354,14 +354,14 @@ fn judge_end(
     let is_counted = answered.len() == end.refused.unwrap_or(calls.len());
     same(is_counted, Difference::Index)?;
     for (call, answer) in calls.iter().zip(answered) {
-        if *answer == Answer::PatternRefused {
+        if *answer == Answer::PatternRejected {
             judge.count(1);
         } else {
-            judge_answer(answer, other, Step::Call(*call), judge)?;
+            judge_result(answer, other, Step::Call(*call), judge)?;
         }
     }
     match calls.get(answered.len()) {
         Some(call) => judge_out_of_memory(area, other, Step::Call(*call), judge),
-        None => compare_shown(area, other),
+        None => compare_display(area, other),
     }
 }

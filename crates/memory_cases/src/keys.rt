@@ -56,16 +56,16 @@ fn judge_each(
     buffer: &mut Buffer,
     made: &mut CallCounts,
 ) -> Result<(), EndReason> {
-    let (held, wanted) = words.split_once(' ').unwrap_or((words, ""));
+    let (modifiers, wanted) = words.split_once(' ').unwrap_or((words, ""));
     for character in " !\"#$%&'()*+,-./0123456789:;<=>?@ABCDEFGHIJKLMNOPQRSTUVWXYZ[\\]^_`abcdefghijklmnopqrstuvwxyz{|}~あ🐶".chars()
     {
-        judge_key(alloc, Key::Char(character), held, buffer, made)?;
+        judge_key(alloc, Key::Char(character), modifiers, buffer, made)?;
     }
     for number in 0..16u8 {
-        judge_key(alloc, Key::F(number), held, buffer, made)?;
+        judge_key(alloc, Key::F(number), modifiers, buffer, made)?;
     }
     for key in NAMED {
-        judge_key(alloc, key, held, buffer, made)?;
+        judge_key(alloc, key, modifiers, buffer, made)?;
     }
     let is_counted = wanted.parse::<usize>().ok() == Some(made.agreed);
     same(is_counted, Difference::Answer)
@@ -75,15 +75,15 @@ fn judge_each(
 fn judge_key(
     alloc: Global,
     key: Key,
-    held: &str,
+    modifiers: &str,
     buffer: &mut Buffer,
     made: &mut CallCounts,
 ) -> Result<(), EndReason> {
     let input = Input {
         key,
-        ctrl: held.contains('c'),
-        alt: held.contains('a'),
-        shift: held.contains('s'),
+        ctrl: modifiers.contains('c'),
+        alt: modifiers.contains('a'),
+        shift: modifiers.contains('s'),
     };
     let mut area = TextArea::from_strs(alloc, LINES.into_iter())?;
     let judged = judge_calls(alloc, &mut area, &calls_of(&input), buffer, made);
@@ -155,7 +155,7 @@ fn judge_beside(
         remake(other, *call, buffer)?;
     }
     compare(area, other)?;
-    Err(EndReason::Refused)
+    Err(EndReason::RanOut)
 }
 
 fn remake(other: &mut TextArea<'_>, call: Call<'_>, buffer: &mut Buffer) -> Result<(), AllocError> {

@@ -26,11 +26,11 @@
 #![tactic(auto)]
 
 mod borrowed;
+mod components;
 mod enough_memory;
 mod history;
 mod judge;
 mod keys;
-mod parts;
 mod script;
 mod step;
 mod words;
@@ -46,11 +46,11 @@ const STREAM_FAILED: u8 = 1;
 const NOT_JUDGED: u8 = 3;
 
 fn main(rt: HostRuntime) -> ExitCode {
-    let mut given = String::new(rt.alloc());
-    if rt.stdin().read_to_string(&mut given).is_err() {
+    let mut input = String::new(rt.alloc());
+    if rt.stdin().read_to_string(&mut input).is_err() {
         return ExitCode::from(STREAM_FAILED);
     }
-    ExitCode::from(tell(&rt, given.as_str()))
+    ExitCode::from(tell(&rt, input.as_str()))
 }
 
 // Makes the cases, and prints the end of each.
@@ -68,12 +68,12 @@ fn tell(rt: &(impl Print + AllocGlobal), rows: &str) -> u8 {
 // Makes a case of its kind, and prints its end.
 fn set_row_at(rt: &(impl Print + AllocGlobal), rows: &str, row: &str) -> u8 {
     let (name, lines) = row.split_once('\n').unwrap_or((row, ""));
-    let is_ample = name.starts_with("ample ");
+    let is_enough = name.starts_with("ample ");
     if name.starts_with("list ") {
         0
     } else if name.starts_with("history ") || name.starts_with("ample history ") {
-        tell_end(rt, name, history::make_row(rt.alloc(), lines, !is_ample))
-    } else if is_ample {
+        tell_end(rt, name, history::make_row(rt.alloc(), lines, !is_enough))
+    } else if is_enough {
         tell_made(rt, rows, name, lines)
     } else {
         tell_end(rt, name, judge_row(rt.alloc(), lines))
@@ -81,12 +81,12 @@ fn set_row_at(rt: &(impl Print + AllocGlobal), rows: &str, row: &str) -> u8 {
 }
 
 fn tell_made(rt: &(impl Print + AllocGlobal), rows: &str, name: &str, lines: &str) -> u8 {
-    let Ok(mut told) = Results::new(rt.alloc()) else {
+    let Ok(mut results) = Results::new(rt.alloc()) else {
         return NOT_JUDGED;
     };
-    let end = make_row(rt.alloc(), rows, lines, &mut told);
-    let tally = told.tally;
-    drop(told);
+    let end = make_row(rt.alloc(), rows, lines, &mut results);
+    let tally = results.tally;
+    drop(results);
     if println!(rt; "{name}: {end}, {tally}").is_err() {
         return STREAM_FAILED;
     }

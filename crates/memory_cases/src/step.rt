@@ -1,5 +1,5 @@
 //! Steps on a text area: calls, and other work that can run out of memory.
-use crate::parts::{matches_of, spans_of};
+use crate::components::{matches_of, spans_of};
 use std::alloc::AllocError;
 use textarea_calls::{Answer, Call};
 use textarea_run::perform::perform;

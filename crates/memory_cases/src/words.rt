@@ -37,7 +37,7 @@ pub fn script_of(word: &str) -> Option<&'static str> {
 }
 
 /// Returns the step of a line.
-pub fn step_of<'a>(words: &'a str, lent: &'a Borrows) -> Option<Step<'a>> {
+pub fn step_of<'a>(words: &'a str, borrows: &'a Borrows) -> Option<Step<'a>> {
     Some(match words {
         "set_atomic_ranges" => Step::SetAtomicRanges,
         "clone" => Step::Clone,
@@ -47,6 +47,6 @@ pub fn step_of<'a>(words: &'a str, lent: &'a Borrows) -> Option<Step<'a>> {
         "from_strings" => Step::FromStrings,
         "spans" => Step::Spans,
         "matches" => Step::Matches,
-        _ => Step::Call(call_of(words, lent)?),
+        _ => Step::Call(call_of(words, borrows)?),
     })
 }

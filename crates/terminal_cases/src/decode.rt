@@ -44,17 +44,22 @@ pub fn events_at_once(alloc: Global, bytes: &[u8]) -> Result<Vec<Event>, AllocEr
 pub fn events_in_order(
     alloc: Global,
     hex: &str,
-    refused: &mut usize,
+    out_of_memory_count: &mut usize,
 ) -> Result<Option<Vec<Event>>, AllocError> {
     let mut decoder = Decoder::new(alloc);
     let mut events = Vec::new(alloc);
-    for piece in hex.split(' ') {
-        match bytes_of_hex(alloc, piece)? {
-            Some(bytes) => feed(&mut decoder, bytes.as_slice(), &mut events, refused)?,
+    for segment in hex.split(' ') {
+        match bytes_of_hex(alloc, segment)? {
+            Some(bytes) => feed(
+                &mut decoder,
+                bytes.as_slice(),
+                &mut events,
+                out_of_memory_count,
+            )?,
             None => return Ok(None),
         }
     }
-    idle(&mut decoder, &mut events, refused)?;
+    idle(&mut decoder, &mut events, out_of_memory_count)?;
     Ok(Some(events))
 }
 
@@ -62,10 +67,10 @@ fn feed(
     decoder: &mut Decoder,
     bytes: &[u8],
     events: &mut Vec<Event>,
-    refused: &mut usize,
+    out_of_memory_count: &mut usize,
 ) -> Result<(), AllocError> {
     if decoder.feed(bytes, events).is_err() {
-        *refused = refused.saturating_add(1);
+        *out_of_memory_count = out_of_memory_count.saturating_add(1);
         decoder.feed(bytes, events)?;
     }
     Ok(())
@@ -74,10 +79,10 @@ fn feed(
 fn idle(
     decoder: &mut Decoder,
     events: &mut Vec<Event>,
-    refused: &mut usize,
+    out_of_memory_count: &mut usize,
 ) -> Result<(), AllocError> {
     if decoder.idle(events).is_err() {
-        *refused = refused.saturating_add(1);
+        *out_of_memory_count = out_of_memory_count.saturating_add(1);
         decoder.idle(events)?;
     }
     Ok(())

@@ -51,16 +51,16 @@ fn main(rt: HostRuntime) -> ExitCode {
     if rt.stdout().write_all(served.printed()).is_err() {
         return ExitCode::from(STREAM_FAILED);
     }
-    if tell_out_of_memory(&rt, served.refused()).is_err() {
+    if tell_out_of_memory(&rt, served.out_of_memory_count()).is_err() {
         return ExitCode::from(STREAM_FAILED);
     }
     ExitCode::from(if served.is_right() { 0 } else { WRONG })
 }
 
 // Prints how many calls ran out of memory, if any did.
-fn tell_out_of_memory(rt: &impl Eprint, refused: usize) -> io::Result<()> {
-    if refused > 0 {
-        eprintln!(rt; "{refused} refused")?;
+fn tell_out_of_memory(rt: &impl Eprint, out_of_memory_count: usize) -> io::Result<()> {
+    if out_of_memory_count > 0 {
+        eprintln!(rt; "{out_of_memory_count} refused")?;
     }
     Ok(())
 }

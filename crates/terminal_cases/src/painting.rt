@@ -37,14 +37,14 @@ impl Painting {
         alloc: Global,
         line: &str,
         printed: &mut Vec<u8>,
-        refused: &mut usize,
+        out_of_memory_count: &mut usize,
     ) -> Result<bool, AllocError> {
         let (word, rest) = line.split_once(' ').unwrap_or((line, ""));
         match word {
             "size" => self.size(alloc, rest),
             "cell" => self.cell(rest),
-            "paint" => self.paint(alloc, rest, printed, refused),
-            "resize" => self.resize(alloc, rest, refused),
+            "paint" => self.paint(alloc, rest, printed, out_of_memory_count),
+            "resize" => self.resize(alloc, rest, out_of_memory_count),
             "reset" => {
                 self.painter.reset();
                 Ok(true)
@@ -67,7 +67,7 @@ impl Painting {
         &mut self,
         alloc: Global,
         rest: &str,
-        refused: &mut usize,
+        out_of_memory_count: &mut usize,
     ) -> Result<bool, AllocError> {
         let Some((width, height)) = pair(rest) else {
             return Ok(false);
@@ -75,7 +75,7 @@ impl Painting {
         let area = Rect::new(0, 0, width, height);
         self.buffer = Buffer::empty(alloc, area)?;
         if self.painter.resize(area).is_err() {
-            *refused = refused.saturating_add(1);
+            *out_of_memory_count = out_of_memory_count.saturating_add(1);
             self.painter.resize(area)?;
         }
         Ok(true)
@@ -97,7 +97,7 @@ impl Painting {
         alloc: Global,
         rest: &str,
         printed: &mut Vec<u8>,
-        refused: &mut usize,
+        out_of_memory_count: &mut usize,
     ) -> Result<bool, AllocError> {
         let caret = match pair(rest) {
             Some((x, y)) => Some(Position { x, y }),
@@ -105,7 +105,7 @@ impl Painting {
         };
         let mut frame = Vec::new(alloc);
         if self.painter.paint(&self.buffer, caret, &mut frame).is_err() {
-            *refused = refused.saturating_add(1);
+            *out_of_memory_count = out_of_memory_count.saturating_add(1);
             self.painter.paint(&self.buffer, caret, &mut frame)?;
         }
         let count = frame.len();

@@ -49,7 +49,7 @@ fn next_string(numbers: &mut Numbers, bytes: &mut Vec<u8>) -> Result<(), AllocEr
 
 // The events of bytes that are fed in slices of random lengths, of at least one byte and below a
 // limit.
-fn events_in_pieces(
+fn events_in_segments(
     alloc: Global,
     numbers: &mut Numbers,
     bytes: &[u8],
@@ -60,8 +60,8 @@ fn events_in_pieces(
     let mut rest = bytes;
     for _ in 0..bytes.len() {
         let size = usize::try_from(numbers.below(limit)).unwrap_or(0);
-        let (piece, others) = rest.split_at(size.max(1).min(rest.len()));
-        decoder.feed(piece, &mut events)?;
+        let (segment, others) = rest.split_at(size.max(1).min(rest.len()));
+        decoder.feed(segment, &mut events)?;
         rest = others;
     }
     decoder.idle(&mut events)?;
@@ -69,15 +69,15 @@ fn events_in_pieces(
 }
 
 // Whether slices of random lengths and single bytes give the same events as all bytes at once.
-fn is_same_in_pieces(
+fn is_same_in_segments(
     alloc: Global,
     numbers: &mut Numbers,
     bytes: &[u8],
 ) -> Result<bool, AllocError> {
     let at_once = events_at_once(alloc, bytes)?;
-    let in_pieces = events_in_pieces(alloc, numbers, bytes, 7)?;
-    let by_byte = events_in_pieces(alloc, numbers, bytes, 1)?;
-    Ok(at_once.as_slice() == in_pieces.as_slice() && at_once.as_slice() == by_byte.as_slice())
+    let in_segments = events_in_segments(alloc, numbers, bytes, 7)?;
+    let by_byte = events_in_segments(alloc, numbers, bytes, 1)?;
+    Ok(at_once.as_slice() == in_segments.as_slice() && at_once.as_slice() == by_byte.as_slice())
 }
 
 /// Returns the number of the first of `count` random strings whose events depend on how it is
@@ -87,7 +87,7 @@ pub fn first_differing(alloc: Global, count: u32) -> Result<Option<u32>, AllocEr
     let mut bytes = Vec::new(alloc);
     for number in 0..count {
         next_string(&mut numbers, &mut bytes)?;
-        if !is_same_in_pieces(alloc, &mut numbers, bytes.as_slice())? {
+        if !is_same_in_segments(alloc, &mut numbers, bytes.as_slice())? {
             return Ok(Some(number));
         }
     }

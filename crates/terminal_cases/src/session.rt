@@ -11,7 +11,7 @@ use std::alloc::{AllocError, Global};
 pub struct Session {
     painting: Painting,
     printed: Vec<u8>,
-    refused: usize,
+    out_of_memory_count: usize,
     is_right: bool,
 }
 
@@ -21,7 +21,7 @@ impl Session {
         Ok(Session {
             painting: Painting::new(alloc)?,
             printed: Vec::new(alloc),
-            refused: 0,
+            out_of_memory_count: 0,
             is_right: true,
         })
     }
@@ -32,8 +32,8 @@ impl Session {
     }
 
     /// The number of calls of the decoder and the painter that ran out of memory.
-    pub fn refused(&self) -> usize {
-        self.refused
+    pub fn out_of_memory_count(&self) -> usize {
+        self.out_of_memory_count
     }
 
     /// Whether the events of all random strings were the same, however they were split.
@@ -57,7 +57,7 @@ impl Session {
     }
 
     fn serve_case(&mut self, alloc: Global, name: &str, hex: &str) -> Result<bool, AllocError> {
-        match events_in_order(alloc, hex, &mut self.refused)? {
+        match events_in_order(alloc, hex, &mut self.out_of_memory_count)? {
             Some(events) => {
                 let mut text = String::from_str(alloc, name)?;
                 push_events(&mut text, events.as_slice())?;
@@ -72,7 +72,7 @@ impl Session {
             Some(("random", count)) => self.serve_random(alloc, count),
             _ => {
                 let (painting, printed) = (&mut self.painting, &mut self.printed);
-                painting.serve(alloc, line, printed, &mut self.refused)
+                painting.serve(alloc, line, printed, &mut self.out_of_memory_count)
             }
         }
     }
@@ -85,8 +85,8 @@ impl Session {
             None => self.print("random strings; the same in any pieces"),
             Some(number) => {
                 self.is_right = false;
-                let told = format!(in alloc; "random string {number} differs in pieces")?;
-                self.print(told.as_str())
+                let reported = format!(in alloc; "random string {number} differs in pieces")?;
+                self.print(reported.as_str())
             }
         }
     }

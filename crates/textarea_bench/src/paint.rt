@@ -18,11 +18,11 @@ pub struct PaintJob<'a> {
 
 impl<'a> PaintJob<'a> {
     pub fn parse(line: &'a str) -> Option<PaintJob<'a>> {
-        let mut parts = line.splitn(4, ' ');
-        let frames = parts.next()?.parse().ok()?;
-        let width = parts.next()?.parse().ok()?;
-        let height = parts.next()?.parse().ok()?;
-        let text = parts.next()?;
+        let mut components = line.splitn(4, ' ');
+        let frames = components.next()?.parse().ok()?;
+        let width = components.next()?.parse().ok()?;
+        let height = components.next()?.parse().ok()?;
+        let text = components.next()?;
         Some(PaintJob {
             frames,
             width,

@@ -40,7 +40,7 @@ pub enum TerminalJob {
     Decode {
         sent: Sent,
         bytes: usize,
-        piece: usize,
+        read_size: usize,
         times: usize,
     },
     Paint {
@@ -53,16 +53,16 @@ pub enum TerminalJob {
 
 impl TerminalJob {
     pub fn parse(line: &str) -> Option<TerminalJob> {
-        let (topic, parts) = line.split_once(' ')?;
-        let (word, parts) = parts.split_once(' ')?;
-        let (first, parts) = parts.split_once(' ')?;
-        let (second, times) = parts.split_once(' ')?;
+        let (topic, components) = line.split_once(' ')?;
+        let (word, components) = components.split_once(' ')?;
+        let (first, components) = components.split_once(' ')?;
+        let (second, times) = components.split_once(' ')?;
         let times = times.parse().ok()?;
         match topic {
             "decode" => Some(TerminalJob::Decode {
                 sent: sent_of(word)?,
                 bytes: first.parse().ok()?,
-                piece: second.parse().ok()?,
+                read_size: second.parse().ok()?,
                 times,
             }),
             "paint" => Some(TerminalJob::Paint {
@@ -81,12 +81,12 @@ impl TerminalJob {
             TerminalJob::Decode {
                 sent,
                 bytes,
-                piece,
+                read_size,
                 times,
             } => decode(
                 alloc,
                 bytes_of(alloc, sent, bytes)?.as_slice(),
-                piece,
+                read_size,
                 times,
             ),
             TerminalJob::Paint {
@@ -123,7 +123,7 @@ fn frames_of(word: &str) -> Option<Frames> {
 
 /// Returns at least `count` bytes.
 fn bytes_of(alloc: Global, sent: Sent, count: usize) -> Result<Vec<u8>, AllocError> {
-    let (begin, part, end) = match sent {
+    let (begin, segment, end) = match sent {
         Sent::Letters => ("", "The quick brown fox jumps over the lazy dog. ", ""),
         Sent::Accents => (
             "",
@@ -148,21 +148,27 @@ fn bytes_of(alloc: Global, sent: Sent, count: usize) -> Result<Vec<u8>, AllocErr
     };
     let mut bytes = Vec::new(alloc);
     bytes.extend_from_slice(begin.as_bytes())?;
-    for _ in 0..count / part.len() + 1 {
-        bytes.extend_from_slice(part.as_bytes())?;
+    for _ in 0..count / segment.len() + 1 {
+        bytes.extend_from_slice(segment.as_bytes())?;
     }
     bytes.extend_from_slice(end.as_bytes())?;
     Ok(bytes)
 }
 
-/// Decodes the bytes `times` times, `piece` bytes in each call, and returns the number of events.
-fn decode(alloc: Global, bytes: &[u8], piece: usize, times: usize) -> Result<usize, AllocError> {
+/// Decodes the bytes `times` times, `read_size` bytes in each call, and returns the number of
+/// events.
+fn decode(
+    alloc: Global,
+    bytes: &[u8],
+    read_size: usize,
+    times: usize,
+) -> Result<usize, AllocError> {
     let mut decoder = Decoder::new(alloc);
     let mut events = Vec::new(alloc);
     let mut count = 0usize;
     for _ in 0..times {
-        for part in bytes.chunks(piece.max(1)) {
-            decoder.feed(part, &mut events)?;
+        for segment in bytes.chunks(read_size.max(1)) {
+            decoder.feed(segment, &mut events)?;
             count = count.wrapping_add(events.len());
             events.clear();
         }

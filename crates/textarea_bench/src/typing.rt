@@ -11,9 +11,9 @@
 //! `ascii` types and removes in the same way characters of one byte at its end, `wide` and `middle`
 //! characters of two bytes at its end and in its middle, and `bytes` only moves the second half of
 //! the line by two bytes, and back.
-mod parts;
+mod steps;
 
-use crate::typing::parts::{break_headers, break_in_map, move_bytes};
+use crate::typing::steps::{break_headers, break_in_map, move_bytes};
 use std::alloc::{AllocError, Global};
 use std::time::Duration;
 use textarea_document::Document;

@@ -22,12 +22,12 @@ pub struct WrapJob<'a> {
 
 impl<'a> WrapJob<'a> {
     pub fn parse(line: &'a str) -> Option<WrapJob<'a>> {
-        let mut parts = line.splitn(5, ' ');
-        let mode = mode_named(parts.next()?)?;
-        let kilobytes = parts.next()?.parse().ok()?;
-        let times = parts.next()?.parse().ok()?;
-        let width = parts.next()?.parse().ok()?;
-        let text = parts.next()?;
+        let mut components = line.splitn(5, ' ');
+        let mode = mode_named(components.next()?)?;
+        let kilobytes = components.next()?.parse().ok()?;
+        let times = components.next()?.parse().ok()?;
+        let width = components.next()?.parse().ok()?;
+        let text = components.next()?;
         Some(WrapJob {
             mode,
             kilobytes,

@@ -77,13 +77,13 @@ block_ordered blocks line block other from h =
 
 -- ---- the rows of one block among all rows
 
-pub block_parts : (blocks : List (List RowsView)) (block : ℕ) → block < length blocks → all_rows blocks ≡ all_rows (take block blocks) ++ (get_or blocks block [] ++ all_rows (drop (block + 1) blocks))
-block_parts blocks block within =
+pub rows_around_block : (blocks : List (List RowsView)) (block : ℕ) → block < length blocks → all_rows blocks ≡ all_rows (take block blocks) ++ (get_or blocks block [] ++ all_rows (drop (block + 1) blocks))
+rows_around_block blocks block within =
     grind (arith, common_steps, take-append-drop block blocks, all_rows-append (take block blocks) (drop block blocks), drop_more blocks block [] within)
 
 -- the lines up to one of the block
 pub take_in_block : (blocks : List (List RowsView)) (block index : ℕ) → block < length blocks → index ≤ length (get_or blocks block []) → take (lines_before blocks block + index) (all_rows blocks) ≡ all_rows (take block blocks) ++ take index (get_or blocks block [])
-take_in_block blocks block index within inside = grind (arith, common_steps, block_parts blocks block within, take-append-add, take-append-le)
+take_in_block blocks block index within inside = grind (arith, common_steps, rows_around_block blocks block within, take-append-add, take-append-le)
 
 -- and those from one of it on
 pub drop_in_block : (blocks : List (List RowsView)) (block index : ℕ) → block < length blocks → index ≤ length (get_or blocks block []) → drop (lines_before blocks block + index) (all_rows blocks) ≡ drop index (get_or blocks block []) ++ all_rows (drop (block + 1) blocks)
@@ -91,16 +91,16 @@ drop_in_block blocks block index within inside =
     let above = all_rows (take block blocks) in
     let rows = get_or blocks block [] in
     let below = all_rows (drop (block + 1) blocks) in
-    ap (drop (length above + index)) (block_parts blocks block within)
+    ap (drop (length above + index)) (rows_around_block blocks block within)
     ∙ sym (drop-drop index (length above) (above ++ (rows ++ below)))
     ∙ ap (drop index) (drop_at above (rows ++ below) (length above) refl)
     ∙ drop-append-le index rows below inside
 
-pub part_of_block : (blocks : List (List RowsView)) (block index count : ℕ) → block < length blocks → index + count ≤ length (get_or blocks block []) → take count (drop (lines_before blocks block + index) (all_rows blocks)) ≡ take count (drop index (get_or blocks block []))
-part_of_block blocks block index count within inside = grind (arith, common_steps, drop_in_block, take-append-le, length-drop)
+pub rows_of_block : (blocks : List (List RowsView)) (block index count : ℕ) → block < length blocks → index + count ≤ length (get_or blocks block []) → take count (drop (lines_before blocks block + index) (all_rows blocks)) ≡ take count (drop index (get_or blocks block []))
+rows_of_block blocks block index count within inside = grind (arith, common_steps, drop_in_block, take-append-le, length-drop)
 
 pub line_in_block : (blocks : List (List RowsView)) (block index : ℕ) (d : RowsView) → block < length blocks → index < length (get_or blocks block []) → get_or (all_rows blocks) (lines_before blocks block + index) d ≡ get_or (get_or blocks block []) index d
-line_in_block blocks block index d within inside = grind (arith, common_steps, block_parts blocks block within, get_or-append-add, get_or_append_left)
+line_in_block blocks block index d within inside = grind (arith, common_steps, rows_around_block blocks block within, get_or-append-add, get_or_append_left)
 
 -- a line at which a block begins is the first of its block
 pub edge_there : (blocks : List (List RowsView)) (line block : ℕ) → IsEdge blocks line → IsBlockOf blocks line block → lines_before blocks block ≡ line
@@ -118,8 +118,8 @@ line_there blocks block index within inside =
     omega (arith, before_more length lines_sum blocks block within, before_within length lines_sum blocks (block + 1))
 
 -- the ranges of a line, and the total before it
-pub ranges_found : (blocks : List (List RowsView)) (block index line : ℕ) (rows : RowsView) → block < length blocks → index < length (get_or blocks block []) → lines_before blocks block + index ≡ line → rows ≡ get_or (get_or blocks block []) index rows → rows.ranges ≡ ranges_at (all_rows blocks) line
-ranges_found blocks block index line rows within inside at is =
+pub ranges_in_block : (blocks : List (List RowsView)) (block index line : ℕ) (rows : RowsView) → block < length blocks → index < length (get_or blocks block []) → lines_before blocks block + index ≡ line → rows ≡ get_or (get_or blocks block []) index rows → rows.ranges ≡ ranges_at (all_rows blocks) line
+ranges_in_block blocks block index line rows within inside at is =
     grind (arith, common_steps, line_there blocks block index within inside, line_in_block blocks block index rows within inside, get_or-map)
 
 pub total_in_block : (total : Sum) → IsSum total → (blocks : List (List RowsView)) (block index line : ℕ) → block < length blocks → index ≤ length (get_or blocks block []) → lines_before blocks block + index ≡ line → total (take line (all_rows blocks)) ≡ total_before total blocks block + total (take index (get_or blocks block []))
@@ -127,7 +127,7 @@ total_in_block total sum blocks block index line within inside at = grind (arith
 
 -- the totals of consecutive lines, of which the last ones are in one block
 pub total_further : (total : Sum) → IsSum total → (blocks : List (List RowsView)) (here : List RowsView) (block index count line done : ℕ) → block < length blocks → here ≡ get_or blocks block [] → index + count ≤ length here → lines_before blocks block + index ≡ line + done → total (take (done + count) (drop line (all_rows blocks))) ≡ total (take done (drop line (all_rows blocks))) + total (take (index + count - index) (drop index here))
-total_further total sum blocks here block index count line done within is inside at = grind (arith, common_steps, take-add, drop-drop, part_of_block)
+total_further total sum blocks here block index count line done within is inside at = grind (arith, common_steps, take-add, drop-drop, rows_of_block)
 
 -- ---- blocks that change
 
@@ -148,15 +148,15 @@ block_set blocks block rows within =
 pub before_set : (total : Sum) (blocks : List (List RowsView)) (block k : ℕ) (rows : List RowsView) → k ≤ block → total_before total (set blocks block rows) k ≡ total_before total blocks k
 before_set total blocks block k rows above = ap (λ t. total (all_rows t)) (take-set-le k blocks block rows above)
 
-pub behind_set : (total : Sum) → IsSum total → (blocks : List (List RowsView)) (block : ℕ) (rows : List RowsView) → block < length blocks → total_before total (set blocks block rows) (block + 1) ≡ total_before total blocks block + total rows
-behind_set total sum blocks block rows within =
+pub after_set : (total : Sum) → IsSum total → (blocks : List (List RowsView)) (block : ℕ) (rows : List RowsView) → block < length blocks → total_before total (set blocks block rows) (block + 1) ≡ total_before total blocks block + total rows
+after_set total sum blocks block rows within =
     before_more total sum (set blocks block rows) block (omega (arith, length-set blocks block rows))
     ∙ ap (λ n. n + total (get_or (set blocks block rows) block [])) (before_set total blocks block block rows (omega arith))
     ∙ ap (λ t. total_before total blocks block + total t) (get_or-set_same blocks block rows [] within)
 
 -- lines of one block are replaced
 pub block_replaced : (blocks : List (List RowsView)) (block start count : ℕ) (new : List RowsView) → block < length blocks → start + count ≤ length (get_or blocks block []) → all_rows (set blocks block (replaced (get_or blocks block []) start count new)) ≡ replaced (all_rows blocks) (lines_before blocks block + start) count new
-block_replaced blocks block start count new within inside = grind (arith, common_steps, block_set, replaced_between, block_parts blocks block within)
+block_replaced blocks block start count new within inside = grind (arith, common_steps, block_set, replaced_between, rows_around_block blocks block within)
 
 drop_all_of : (rows : List RowsView) → drop (0 + length rows) rows ≡ []
 drop_all_of rows = drop_all (0 + length rows) rows (omega arith)
@@ -167,7 +167,7 @@ blocks_replaced blocks new from to ordered within =
     let above = all_rows (take from blocks) in
     let between = all_rows (take (to - from) (drop from blocks)) in
     let below = all_rows (drop (from + (to - from)) blocks) in
-    let parts : all_rows blocks ≡ above ++ (between ++ below) =
+    let components : all_rows blocks ≡ above ++ (between ++ below) =
     ap all_rows (sym (take-append-drop from blocks)) ∙ all_rows-append (take from blocks) (drop from blocks)
     ∙ ap (λ t. above ++ t) (ap all_rows (sym (take-append-drop (to - from) (drop from blocks))) ∙ all_rows-append (take (to - from) (drop from blocks)) (drop (to - from) (drop from blocks)) ∙ ap (λ t. between ++ all_rows t) (drop-drop (to - from) from blocks)) in
     let size : from + (to - from) ≡ to = omega arith in
@@ -182,7 +182,7 @@ blocks_replaced blocks new from to ordered within =
     ∙ sym (replaced_between above between below (all_rows new) 0 (length between) (omega arith))
     ∙ ap (λ n. replaced (above ++ (between ++ below)) n (length between) (all_rows new)) zero_more
     ∙ ap (λ n. replaced (above ++ (between ++ below)) (length above) n (all_rows new)) (sym lines)
-    ∙ ap (λ t. replaced t (length above) (lines_before blocks to - lines_before blocks from) (all_rows new)) (sym parts)
+    ∙ ap (λ t. replaced t (length above) (lines_before blocks to - lines_before blocks from) (all_rows new)) (sym components)
 
 -- one block is appended
 pub block_pushed : (blocks : List (List RowsView)) (rows : List RowsView) → all_rows (blocks ++ rows ∷ []) ≡ all_rows blocks ++ rows
@@ -204,7 +204,7 @@ block_split blocks block at within =
     ∙ ap (λ t. t ++ (drop at rows ++ all_rows below)) (block_pushed above (take at rows))
     ∙ append_assoc (all_rows above) (take at rows) (drop at rows ++ all_rows below)
     ∙ ap (λ t. all_rows above ++ t) (sym (append_assoc (take at rows) (drop at rows) (all_rows below)) ∙ ap (λ t. t ++ all_rows below) (take-append-drop at rows))
-    ∙ sym (block_parts blocks block within)
+    ∙ sym (rows_around_block blocks block within)
 
 -- ---- elements of vectors
 

@@ -19,14 +19,14 @@ turned_above (suc from) less more (item ∷ items) zero above = refl
 turned_above (suc from) less more (item ∷ items) (suc k) above =
     turned_above from less more items k (omega (arith, above))
 
-pub turned_behind : (from less more : ℕ) (items : List ℕ) (k : ℕ) → from ≤ k → k < length items → get_or (shifted_numbers from less more items) k 0 ≡ get_or items k 0 + more - less
-turned_behind from less more [] k behind there = absurd (omega (arith, there))
-turned_behind zero less more (item ∷ items) zero behind there = refl
-turned_behind zero less more (item ∷ items) (suc k) behind there =
-    turned_behind zero less more items k (omega arith) (omega (arith, there))
-turned_behind (suc from) less more (item ∷ items) zero behind there = absurd (omega (arith, behind))
-turned_behind (suc from) less more (item ∷ items) (suc k) behind there =
-    turned_behind from less more items k (omega (arith, behind)) (omega (arith, there))
+pub shifted_after : (from less more : ℕ) (items : List ℕ) (k : ℕ) → from ≤ k → k < length items → get_or (shifted_numbers from less more items) k 0 ≡ get_or items k 0 + more - less
+shifted_after from less more [] k after there = absurd (omega (arith, there))
+shifted_after zero less more (item ∷ items) zero after there = refl
+shifted_after zero less more (item ∷ items) (suc k) after there =
+    shifted_after zero less more items k (omega arith) (omega (arith, there))
+shifted_after (suc from) less more (item ∷ items) zero after there = absurd (omega (arith, after))
+shifted_after (suc from) less more (item ∷ items) (suc k) after there =
+    shifted_after from less more items k (omega (arith, after)) (omega (arith, there))
 
 -- ---- a difference that is added to the items
 
@@ -39,7 +39,7 @@ not_turned (suc from) (item ∷ items) = ap (λ t. item ∷ t) (not_turned from 
 -- once the difference is added, the items are the numbers
 pub settled : {A : Type 0} (items now : Vec ℕ A) (from less more : ℕ) → vec_len now ≡ vec_len items → ((k : ℕ) → k < from → get_or now.items k 0 ≡ get_or items.items k 0) → ((k : ℕ) → from ≤ k → k < vec_len items → get_or now.items k 0 + less ≡ get_or items.items k 0 + more) → now.items ≡ shifted_numbers from less more items.items
 settled {A} items now from less more size above moved =
-    grind (arith, common_steps, same_number_lists, length-turned from less more items.items, cases_lt, turned_above, turned_behind)
+    grind (arith, common_steps, same_number_lists, length-turned from less more items.items, cases_lt, turned_above, shifted_after)
 
 -- ---- a second difference from the same index on
 
@@ -55,15 +55,15 @@ joined items old from less more gone come l m is can enough small l_is m_is =
     let size : length items ≡ length old = sym (length-turned from less more items) ∙ ap length is in
     record {
       can = record {
-        enough = λ k behind there.
-            omega (arith, l_is, m_is, can.enough k behind there, enough k behind (omega (arith, there, size)), turned_behind from less more items k behind there, ap (λ t. get_or t k 0) is);
-        small = λ k behind there.
-            omega (arith, l_is, m_is, can.enough k behind there, can.small k behind there, small k behind (omega (arith, there, size)), turned_behind from less more items k behind there, ap (λ t. get_or t k 0) is);
+        enough = λ k after there.
+            omega (arith, l_is, m_is, can.enough k after there, enough k after (omega (arith, there, size)), shifted_after from less more items k after there, ap (λ t. get_or t k 0) is);
+        small = λ k after there.
+            omega (arith, l_is, m_is, can.enough k after there, can.small k after there, small k after (omega (arith, there, size)), shifted_after from less more items k after there, ap (λ t. get_or t k 0) is);
       };
       above = λ k before.
           turned_above from l m items k before ∙ sym (turned_above from less more items k before) ∙ ap (λ t. get_or t k 0) is;
-      moved = λ k behind there.
+      moved = λ k after there.
           let inside : k < length items = omega (arith, there, size) in
-          omega (arith, l_is, m_is, can.enough k behind inside, enough k behind there, turned_behind from less more items k behind inside, ap (λ t. get_or t k 0) is, turned_behind from l m items k behind inside);
+          omega (arith, l_is, m_is, can.enough k after inside, enough k after there, shifted_after from less more items k after inside, ap (λ t. get_or t k 0) is, shifted_after from l m items k after inside);
       len = length-turned from l m items ∙ size;
     }

@@ -14,8 +14,8 @@ use Rattle.textarea_blocks.proofs.InBlocks.{all_rows-append, before_all, before_
 use Rattle.textarea_blocks.proofs.LineSums.{IsSum, Sum}
 
 -- the block that a number is in, found by a search
-pub found_at : (total : Sum) → IsSum total → (blocks : List (List RowsView)) (numbers : List ℕ) (number block : ℕ) → AreTotals total blocks numbers → block < length numbers → get_or numbers block 0 ≤ number → (block + 1 < length numbers → number < get_or numbers (block + 1) 0) → number < total (all_rows blocks) → (total_before total blocks block ≤ number) × (number < total_before total blocks (block + 1))
-found_at total sum blocks numbers number block h within from next there = (
+pub located_at : (total : Sum) → IsSum total → (blocks : List (List RowsView)) (numbers : List ℕ) (number block : ℕ) → AreTotals total blocks numbers → block < length numbers → get_or numbers block 0 ≤ number → (block + 1 < length numbers → number < get_or numbers (block + 1) 0) → number < total (all_rows blocks) → (total_before total blocks block ≤ number) × (number < total_before total blocks (block + 1))
+located_at total sum blocks numbers number block h within from next there = (
   omega (arith, h.right block (omega (arith, h.len)), from),
   elim (cases_lt (block + 1) (length numbers)) [
     | inl more ↦ omega (arith, h.right (block + 1) (omega (arith, h.len)), next more)
@@ -24,14 +24,14 @@ found_at total sum blocks numbers number block h within from next there = (
 )
 
 -- the total before the next block
-pub number_behind : (total : Sum) → IsSum total → (blocks : List (List RowsView)) (numbers : List ℕ) (block number : ℕ) (rows : List RowsView) → AreTotals total blocks numbers → block < length blocks → number ≡ get_or numbers block 0 → rows ≡ get_or blocks block [] → number + total rows ≡ total_before total blocks (block + 1)
-number_behind total sum blocks numbers block number rows h within is rows_are =
+pub number_after : (total : Sum) → IsSum total → (blocks : List (List RowsView)) (numbers : List ℕ) (block number : ℕ) (rows : List RowsView) → AreTotals total blocks numbers → block < length blocks → number ≡ get_or numbers block 0 → rows ≡ get_or blocks block [] → number + total rows ≡ total_before total blocks (block + 1)
+number_after total sum blocks numbers block number rows h within is rows_are =
     omega (arith, before_more total sum blocks block within, h.right block within, is, ap total rows_are)
 
 -- ---- one block is replaced
 
 pub total_set : (total : Sum) → IsSum total → (blocks : List (List RowsView)) (block k : ℕ) (rows : List RowsView) → block < length blocks → block < k → total_before total (set blocks block rows) k + total (get_or blocks block []) ≡ total_before total blocks k + total rows
-total_set total sum blocks block k rows within behind =
+total_set total sum blocks block k rows within after =
     let now = set blocks block rows in
     let size : block + 1 + (k - (block + 1)) ≡ k = omega arith in
     omega (
@@ -58,8 +58,8 @@ totals_set total sum blocks numbers now block gone come rows h within turned siz
     record {
       len = omega (arith, same, h.len);
       right = λ k there. elim (cases_lt block k) [
-        | inl behind ↦
-            omega (arith, moved k (omega arith) (omega (arith, same, h.len)), h.right k (omega (arith, same)), total_set total sum blocks block k rows within behind)
+        | inl after ↦
+            omega (arith, moved k (omega arith) (omega (arith, same, h.len)), h.right k (omega (arith, same)), total_set total sum blocks block k rows within after)
         | inr before ↦
             above k (omega arith) ∙ h.right k (omega (arith, same)) ∙ ap (λ t. total (all_rows t)) (sym (take-set-le k blocks block rows before))
       ];
@@ -95,8 +95,8 @@ split_block_off : (blocks new : List (List RowsView)) (from count k : ℕ) → f
 split_block_off blocks new from count k within = grind (arith, common_steps, length-take-le from blocks within, take-append-add)
 
 -- the total before a block after the new ones
-pub total_behind : (total : Sum) → IsSum total → (blocks new : List (List RowsView)) (from to k : ℕ) → from ≤ to → to ≤ length blocks → total_before total (replaced blocks from (to - from) new) (from + (length new + k)) + total_before total blocks to ≡ total_before total blocks (to + k) + total_before total blocks from + total (all_rows new)
-total_behind total sum blocks new from to k ordered within =
+pub total_after : (total : Sum) → IsSum total → (blocks new : List (List RowsView)) (from to k : ℕ) → from ≤ to → to ≤ length blocks → total_before total (replaced blocks from (to - from) new) (from + (length new + k)) + total_before total blocks to ≡ total_before total blocks (to + k) + total_before total blocks from + total (all_rows new)
+total_after total sum blocks new from to k ordered within =
     grind (arith, common_steps, split_block_off, all_rows-append, before_further total sum blocks to k)
 
 -- and the total of all blocks
@@ -106,7 +106,7 @@ all_exchanged total sum blocks new from to ordered within =
     let end : to + more ≡ length blocks = omega arith in
     omega (
       arith,
-      total_behind total sum blocks new from to more ordered within,
+      total_after total sum blocks new from to more ordered within,
       before_all total (replaced blocks from (to - from) new) (from + (length new + more)) (omega (arith, length-replaced blocks from (to - from) new (omega arith))),
       before_all total blocks (to + more) (omega (arith, end)),
     )
@@ -122,7 +122,7 @@ totals_exchanged total sum blocks new numbers news now exchanged h more ordered 
         | inl above ↦
             turned.above k above ∙ h.right k (omega arith)
             ∙ ap (λ t. total (all_rows t)) (sym (take_above blocks new from (to - from) k (omega arith) (omega arith)))
-        | inr behind ↦
+        | inr after ↦
             elim (cases_lt (k - from) (length new)) [
               | inl less ↦
                   let at : from + (k - from) ≡ k = omega arith in
@@ -145,13 +145,13 @@ totals_exchanged total sum blocks new numbers news now exchanged h more ordered 
                   omega (
                     arith,
                     ap (λ n. get_or now n 0) at,
-                    turned.behind (to + last) (omega arith) (omega (arith, h.len, inside)),
+                    turned.after (to + last) (omega arith) (omega (arith, h.len, inside)),
                     h.right (to + last) inside,
                     before,
                     gone,
                     come,
                     ap (total_before total (replaced blocks from (to - from) new)) here,
-                    total_behind total sum blocks new from to last ordered within,
+                    total_after total sum blocks new from to last ordered within,
                   )
             ]
       ];
@@ -176,7 +176,7 @@ numbers_exchanged old new turned counted now exchanged ordered within size size_
           ∙ ap (λ n. get_or (counted ++ rest) n 0) at
           ∙ get_or_append_left counted rest 0 k (omega arith) in
           omega (arith, here, moved_new k (omega arith) there);
-      behind = λ k last there.
+      after = λ k last there.
           let n = k - to + (from + length new) in
           let at : from + (to - from) + (n - from - length counted) ≡ k = omega arith in
           let here = ap (λ (t : List ℕ). get_or t n 0) is

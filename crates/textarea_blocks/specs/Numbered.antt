@@ -25,4 +25,4 @@ pub record AreExchanged (old new : List ℕ) (exchanged : Exchanged) (now : List
   pub len : length now + (exchanged.to - exchanged.from) ≡ length old + length new
   pub above : (k : ℕ) → k < exchanged.from → get_or now k 0 ≡ get_or old k 0
   pub between : (k : ℕ) → k < length new → get_or now (exchanged.from + k) 0 ≡ get_or new k 0 + exchanged.before
-  pub behind : (k : ℕ) → exchanged.to ≤ k → k < length old → get_or now (k - exchanged.to + (exchanged.from + length new)) 0 + exchanged.gone ≡ get_or old k 0 + exchanged.come
+  pub after : (k : ℕ) → exchanged.to ≤ k → k < length old → get_or now (k - exchanged.to + (exchanged.from + length new)) 0 + exchanged.gone ≡ get_or old k 0 + exchanged.come

@@ -67,14 +67,14 @@ numbered_open text rest is none =
     ∙ ap (λ (test : Bool). if test then option_map (λ c. (c, after_first is_closing rest)) (character_numbered (before_first is_closing rest)) else None)
     (is_false (nat_lt (position_or_len is_closing rest) (length rest)) (λ less. grind (arith, nat_tests)))
 
-pub numbered_closed : (text rest digits behind : List ℕ) → text ≡ 123 ∷ rest → position_or_len is_closing rest < length rest → digits ≡ before_first is_closing rest → behind ≡ after_first is_closing rest → numbered_escape text ≡ option_map (λ c. (c, behind)) (character_numbered digits)
+pub numbered_closed : (text rest digits rest_after : List ℕ) → text ≡ 123 ∷ rest → position_or_len is_closing rest < length rest → digits ≡ before_first is_closing rest → rest_after ≡ after_first is_closing rest → numbered_escape text ≡ option_map (λ c. (c, rest_after)) (character_numbered digits)
 unfolding numbered_escape
-numbered_closed text rest digits behind is some before after =
+numbered_closed text rest digits rest_after is some before after =
     let test : nat_lt (position_or_len is_closing rest) (length rest) ≡ true = grind (arith, nat_tests) in
     ap numbered_escape is
     ∙ ap (λ (test : Bool). if test then option_map (λ c. (c, after_first is_closing rest)) (character_numbered (before_first is_closing rest)) else None) test
     ∙ ap (λ (b : List ℕ). option_map (λ c. (c, b)) (character_numbered (before_first is_closing rest))) (sym after)
-    ∙ ap (λ (d : List ℕ). option_map (λ c. (c, behind)) (character_numbered d)) (sym before)
+    ∙ ap (λ (d : List ℕ). option_map (λ c. (c, rest_after)) (character_numbered d)) (sym before)
 
 -- ---- an escape
 
@@ -134,4 +134,4 @@ first_plain [] rest c is first other =
 first_plain (byte ∷ text) rest c is first other =
     ap (λ (test : Bool). if test then escape text else plain_character (byte ∷ text)) (is_other byte 92 (first_byte byte c 92 text rest is (lit< tt) other))
     ∙ ap (option_map (λ d. (d, drop (len_utf8 d) (byte ∷ text)))) (sym first)
-    ∙ ap (λ (behind : List ℕ). Some (c, behind)) (subst (λ (k : ℕ). drop k (byte ∷ text) ≡ rest) (zero-add (len_utf8 c)) (drop_past_char (byte ∷ text) rest 0 c is))
+    ∙ ap (λ (rest_after : List ℕ). Some (c, rest_after)) (subst (λ (k : ℕ). drop k (byte ∷ text) ≡ rest) (zero-add (len_utf8 c)) (drop_past_char (byte ∷ text) rest 0 c is))

@@ -17,9 +17,9 @@ pub without : (bytes : List ℕ) → ((k : ℕ) → k < length bytes → slice_i
 without [] none = tt
 without (byte ∷ bytes) none = (none 0 (omega arith), without bytes (λ k within. none (suc k) (omega (arith, within))))
 
-without_behind : (front bytes : List ℕ) → Without (front ++ bytes) → Without bytes
-without_behind [] bytes none = none
-without_behind (byte ∷ front) bytes none = without_behind front bytes none.1
+without_front : (front bytes : List ℕ) → Without (front ++ bytes) → Without bytes
+without_front [] bytes none = none
+without_front (byte ∷ front) bytes none = without_front front bytes none.1
 
 other_character : (c : ℕ) (bytes : List ℕ) → Without (encode_utf8 c ++ bytes) → c ≢ 92
 other_character c bytes none same =
@@ -30,10 +30,10 @@ begun : (text rest : List ℕ) (c : ℕ) → IsUtf8 text → text ≡ encode_utf
 begun text rest c utf8 is other =
     first_plain text rest c is (sym (ap (λ (cs : List ℕ). slice_get cs 0) (chars_past_char text rest c utf8 is))) other
 
-unbroken : (text rest : List ℕ) (c : ℕ) → IsUtf8 text → text ≡ encode_utf8 c ++ rest → c ≢ 92 → (behind : List ℕ) → text ≢ 92 ∷ 110 ∷ behind
-unbroken text rest c utf8 is other behind broken =
-    let backslash : text ≡ encode_utf8 92 ++ (110 ∷ behind) = broken ∙ ap (λ (front : List ℕ). front ++ (110 ∷ behind)) (sym (encode_ascii 92 (lit< tt))) in
-    let same : c ∷ chars rest ≡ 92 ∷ chars (110 ∷ behind) = sym (chars_past_char text rest c utf8 is) ∙ chars_past_char text (110 ∷ behind) 92 utf8 backslash in
+unbroken : (text rest : List ℕ) (c : ℕ) → IsUtf8 text → text ≡ encode_utf8 c ++ rest → c ≢ 92 → (after : List ℕ) → text ≢ 92 ∷ 110 ∷ after
+unbroken text rest c utf8 is other after broken =
+    let backslash : text ≡ encode_utf8 92 ++ (110 ∷ after) = broken ∙ ap (λ (front : List ℕ). front ++ (110 ∷ after)) (sym (encode_ascii 92 (lit< tt))) in
+    let same : c ∷ chars rest ≡ 92 ∷ chars (110 ∷ after) = sym (chars_past_char text rest c utf8 is) ∙ chars_past_char text (110 ∷ after) 92 utf8 backslash in
     other (ap (λ (cs : List ℕ). slice_index cs 0) same)
 
 in_front-nothing : (rest : Option (List (List ℕ))) → rest ≡ option_map (λ lines. in_front [] lines) rest
@@ -50,29 +50,29 @@ append-nothing (Some text) = refl
 text_front : (cs text rest : List ℕ) → IsUtf8 text → text ≡ encode_utf8_all cs ++ rest → Without (encode_utf8_all cs) → unescaped text ≡ option_map (λ more. encode_utf8_all cs ++ more) (unescaped rest)
 text_front [] text rest utf8 is none = ap unescaped is ∙ append-nothing (unescaped rest)
 text_front (c ∷ cs) text rest utf8 is none =
-    let behind : List ℕ = encode_utf8_all cs ++ rest in
-    let first : text ≡ encode_utf8 c ++ behind = is ∙ append_assoc (encode_utf8 c) (encode_utf8_all cs) rest in
+    let after : List ℕ = encode_utf8_all cs ++ rest in
+    let first : text ≡ encode_utf8 c ++ after = is ∙ append_assoc (encode_utf8 c) (encode_utf8_all cs) rest in
     let other = other_character c (encode_utf8_all cs) none in
-    unescaped_first text c behind (begun text behind c utf8 first other)
-    ∙ ap (option_map (λ more. encode_utf8 c ++ more)) (text_front cs behind rest (IsUtf8-past_char text behind c utf8 first) refl (without_behind (encode_utf8 c) (encode_utf8_all cs) none))
+    unescaped_first text c after (begun text after c utf8 first other)
+    ∙ ap (option_map (λ more. encode_utf8 c ++ more)) (text_front cs after rest (IsUtf8-past_char text after c utf8 first) refl (without_front (encode_utf8 c) (encode_utf8_all cs) none))
     ∙ text_grown (encode_utf8 c) (encode_utf8_all cs) (unescaped rest)
 
 line_front : (cs text rest : List ℕ) → IsUtf8 text → text ≡ encode_utf8_all cs ++ rest → Without (encode_utf8_all cs) → unescaped_lines text ≡ option_map (λ lines. in_front (encode_utf8_all cs) lines) (unescaped_lines rest)
 line_front [] text rest utf8 is none = ap unescaped_lines is ∙ in_front-nothing (unescaped_lines rest)
 line_front (c ∷ cs) text rest utf8 is none =
-    let behind : List ℕ = encode_utf8_all cs ++ rest in
-    let first : text ≡ encode_utf8 c ++ behind = is ∙ append_assoc (encode_utf8 c) (encode_utf8_all cs) rest in
+    let after : List ℕ = encode_utf8_all cs ++ rest in
+    let first : text ≡ encode_utf8 c ++ after = is ∙ append_assoc (encode_utf8 c) (encode_utf8_all cs) rest in
     let other = other_character c (encode_utf8_all cs) none in
-    lines_first text c behind (no_break text (unbroken text behind c utf8 first other)) (begun text behind c utf8 first other)
-    ∙ ap (option_map (λ lines. in_front (encode_utf8 c) lines)) (line_front cs behind rest (IsUtf8-past_char text behind c utf8 first) refl (without_behind (encode_utf8 c) (encode_utf8_all cs) none))
+    lines_first text c after (no_break text (unbroken text after c utf8 first other)) (begun text after c utf8 first other)
+    ∙ ap (option_map (λ lines. in_front (encode_utf8 c) lines)) (line_front cs after rest (IsUtf8-past_char text after c utf8 first) refl (without_front (encode_utf8 c) (encode_utf8_all cs) none))
     ∙ line_grown (encode_utf8 c) (encode_utf8_all cs) (unescaped_lines rest)
 
 text_from : (front text rest : List ℕ) → IsUtf8 text → IsUtf8 front → text ≡ front ++ rest → Without front → unescaped text ≡ option_map (λ more. front ++ more) (unescaped rest)
 text_from front text rest utf8 whole is none =
     subst (λ (bytes : List ℕ). text ≡ bytes ++ rest → Without bytes → unescaped text ≡ option_map (λ more. bytes ++ more) (unescaped rest)) whole.1.1 (text_front whole.0 text rest utf8) is none
 
-line_behind : (front text rest : List ℕ) → IsUtf8 text → IsUtf8 front → text ≡ front ++ rest → Without front → unescaped_lines text ≡ option_map (λ lines. in_front front lines) (unescaped_lines rest)
-line_behind front text rest utf8 whole is none =
+line_after_front : (front text rest : List ℕ) → IsUtf8 text → IsUtf8 front → text ≡ front ++ rest → Without front → unescaped_lines text ≡ option_map (λ lines. in_front front lines) (unescaped_lines rest)
+line_after_front front text rest utf8 whole is none =
     subst (λ (bytes : List ℕ). text ≡ bytes ++ rest → Without bytes → unescaped_lines text ≡ option_map (λ lines. in_front bytes lines) (unescaped_lines rest)) whole.1.1 (line_front whole.0 text rest utf8) is none
 
 -- ---- the first backslash
@@ -100,39 +100,39 @@ text_unread text front escaped utf8 is none unread =
     text_from front text (92 ∷ escaped) utf8 (front_whole text front escaped utf8 is) is none
     ∙ ap (option_map (λ more. front ++ more)) (unescaped_none (92 ∷ escaped) (omega arith) (backslash escaped ∙ unread))
 
-pub text_escaped : (text front escaped behind : List ℕ) (c : ℕ) → IsUtf8 text → text ≡ front ++ (92 ∷ escaped) → Without front → escape escaped ≡ Some (c, behind) → unescaped text ≡ option_map (λ more. (front ++ encode_utf8 c) ++ more) (unescaped behind)
-text_escaped text front escaped behind c utf8 is none read =
+pub text_escaped : (text front escaped after : List ℕ) (c : ℕ) → IsUtf8 text → text ≡ front ++ (92 ∷ escaped) → Without front → escape escaped ≡ Some (c, after) → unescaped text ≡ option_map (λ more. (front ++ encode_utf8 c) ++ more) (unescaped after)
+text_escaped text front escaped after c utf8 is none read =
     text_from front text (92 ∷ escaped) utf8 (front_whole text front escaped utf8 is) is none
-    ∙ ap (option_map (λ more. front ++ more)) (unescaped_first (92 ∷ escaped) c behind (backslash escaped ∙ read))
-    ∙ text_grown front (encode_utf8 c) (unescaped behind)
+    ∙ ap (option_map (λ more. front ++ more)) (unescaped_first (92 ∷ escaped) c after (backslash escaped ∙ read))
+    ∙ text_grown front (encode_utf8 c) (unescaped after)
 
 pub line_plain : (text : List ℕ) → IsUtf8 text → Without text → unescaped_lines text ≡ Some (text ∷ [])
 line_plain text utf8 none =
-    line_behind text text [] utf8 utf8 (sym (append-nil text)) none
+    line_after_front text text [] utf8 utf8 (sym (append-nil text)) none
     ∙ ap (option_map (λ lines. in_front text lines)) (lines_nothing [] refl)
     ∙ ap (λ (line : List ℕ). Some (line ∷ [])) (append-nil text)
 
 pub line_unread : (text front escaped : List ℕ) → IsUtf8 text → text ≡ front ++ (92 ∷ escaped) → Without front → escape escaped ≡ None → unescaped_lines text ≡ None
 line_unread text front escaped utf8 is none unread =
-    line_behind front text (92 ∷ escaped) utf8 (front_whole text front escaped utf8 is) is none
+    line_after_front front text (92 ∷ escaped) utf8 (front_whole text front escaped utf8 is) is none
     ∙ ap (option_map (λ lines. in_front front lines)) (lines_none (92 ∷ escaped) (omega arith) (backslash escaped ∙ unread))
 
-pub line_escaped : (text front escaped behind : List ℕ) (c : ℕ) → IsUtf8 text → text ≡ front ++ (92 ∷ escaped) → Without front → ((rest : List ℕ) → escaped ≢ 110 ∷ rest) → escape escaped ≡ Some (c, behind) → unescaped_lines text ≡ option_map (λ lines. in_front (front ++ encode_utf8 c) lines) (unescaped_lines behind)
-line_escaped text front escaped behind c utf8 is none other read =
+pub line_escaped : (text front escaped after : List ℕ) (c : ℕ) → IsUtf8 text → text ≡ front ++ (92 ∷ escaped) → Without front → ((rest : List ℕ) → escaped ≢ 110 ∷ rest) → escape escaped ≡ Some (c, after) → unescaped_lines text ≡ option_map (λ lines. in_front (front ++ encode_utf8 c) lines) (unescaped_lines after)
+line_escaped text front escaped after c utf8 is none other read =
     let unbroken : (rest : List ℕ) → 92 ∷ escaped ≢ 92 ∷ 110 ∷ rest = λ rest same. other rest (ap (λ (bytes : List ℕ). tail bytes) same) in
-    line_behind front text (92 ∷ escaped) utf8 (front_whole text front escaped utf8 is) is none
-    ∙ ap (option_map (λ lines. in_front front lines)) (lines_first (92 ∷ escaped) c behind (no_break (92 ∷ escaped) unbroken) (backslash escaped ∙ read))
-    ∙ line_grown front (encode_utf8 c) (unescaped_lines behind)
+    line_after_front front text (92 ∷ escaped) utf8 (front_whole text front escaped utf8 is) is none
+    ∙ ap (option_map (λ lines. in_front front lines)) (lines_first (92 ∷ escaped) c after (no_break (92 ∷ escaped) unbroken) (backslash escaped ∙ read))
+    ∙ line_grown front (encode_utf8 c) (unescaped_lines after)
   where
     tail : List ℕ → List ℕ
     tail [] = []
     tail (byte ∷ bytes) = bytes
 
-pub line_broken : (text front escaped behind : List ℕ) → IsUtf8 text → text ≡ front ++ (92 ∷ escaped) → Without front → escaped ≡ 110 ∷ behind → unescaped_lines text ≡ option_map (λ lines. front ∷ lines) (unescaped_lines behind)
-line_broken text front escaped behind utf8 is none broken =
-    line_behind front text (92 ∷ escaped) utf8 (front_whole text front escaped utf8 is) is none
-    ∙ ap (option_map (λ lines. in_front front lines)) (lines_break (92 ∷ escaped) behind (ap (λ (bytes : List ℕ). 92 ∷ bytes) broken))
-    ∙ line_ended front (unescaped_lines behind)
+pub line_broken : (text front escaped after : List ℕ) → IsUtf8 text → text ≡ front ++ (92 ∷ escaped) → Without front → escaped ≡ 110 ∷ after → unescaped_lines text ≡ option_map (λ lines. front ∷ lines) (unescaped_lines after)
+line_broken text front escaped after utf8 is none broken =
+    line_after_front front text (92 ∷ escaped) utf8 (front_whole text front escaped utf8 is) is none
+    ∙ ap (option_map (λ lines. in_front front lines)) (lines_break (92 ∷ escaped) after (ap (λ (bytes : List ℕ). 92 ∷ bytes) broken))
+    ∙ line_ended front (unescaped_lines after)
 
 -- a line with a longer text before it
 pub line_joined : (line front : List ℕ) (rest : Option (List (List ℕ))) → option_map (λ lines. in_front line lines) (option_map (λ lines. front ∷ lines) rest) ≡ option_map (λ lines. (line ++ front) ∷ lines) rest

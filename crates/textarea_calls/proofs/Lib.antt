@@ -8,4 +8,4 @@ pub mod Scripts
 pub mod Tables
 pub mod Tokens
 pub mod TableOverlap
-pub mod Answers
+pub mod FlagLemmas

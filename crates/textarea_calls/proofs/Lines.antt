@@ -54,5 +54,5 @@ all_some view [] = refl
 all_some view (command ∷ commands) = all_some view commands
 
 -- if each line is read, each has a meaning
-pub all_meant : {C : Type 0} → (view : C → Meaning) (commands : List C) (meant : List (Option Meaning)) → map (λ command. Some (view command)) commands ≡ meant → list_all (λ one. is_some one) meant ≡ true
-all_meant view commands meant is = subst (λ (m : List (Option Meaning)). list_all (λ one. is_some one) m ≡ true) is (all_some view commands)
+pub all_meanings : {C : Type 0} → (view : C → Meaning) (commands : List C) (meaning : List (Option Meaning)) → map (λ command. Some (view command)) commands ≡ meaning → list_all (λ one. is_some one) meaning ≡ true
+all_meanings view commands meaning is = subst (λ (m : List (Option Meaning)). list_all (λ one. is_some one) m ≡ true) is (all_some view commands)

@@ -22,8 +22,8 @@ numerals = numerals_by_value (λ ds. all_ascii_digits ds ≡ true) tells_all_asc
 pub all_digits : (ds : List ℕ) → list_all (λ byte. is_ascii_digit byte) ds ≡ true → all_ascii_digits ds ≡ true
 all_digits ds all = sym (digits_same ds) ∙ all
 
-kept : (a b c : Bool) (v : ℕ) → a ≡ true → b ≡ true → c ≡ true → (if (a && b) && c then Some v else None) ≡ Some v
-kept a b c v p q r = search (rules, p, q, r)
+all_true : (a b c : Bool) (v : ℕ) → a ≡ true → b ≡ true → c ≡ true → (if (a && b) && c then Some v else None) ≡ Some v
+all_true a b c v p q r = search (rules, p, q, r)
 
 left_out : (a b c : Bool) (v : ℕ) → (a ≡ true → c ≡ true → ⊥) → (if (a && b) && c then Some v else None) ≡ None
 left_out true true true v never = absurd (never refl refl)
@@ -36,7 +36,7 @@ unfolding number_below
 number_read bound bs all some small =
     let a : nat_lt 0 (length bs) ≡ true = grind (arith, nat_tests) in
     let c : nat_lt (digits_value 10 bs) bound ≡ true = grind (arith, nat_tests) in
-    kept (nat_lt 0 (length bs)) (list_all (λ byte. is_ascii_digit byte) bs) (nat_lt (digits_value 10 bs) bound) (digits_value 10 bs) a all c
+    all_true (nat_lt 0 (length bs)) (list_all (λ byte. is_ascii_digit byte) bs) (nat_lt (digits_value 10 bs) bound) (digits_value 10 bs) a all c
 
 lt : (m n : ℕ) → nat_lt m n ≡ true → m < n
 lt m n t = grind (arith, nat_tests)
@@ -70,8 +70,8 @@ is_false true other = absurd (other refl)
 is_false false other = refl
 
 -- the text after a `-` at the front, or the whole text
-abbrev pub behind_minus : Bool → List ℕ → List ℕ
-behind_minus minus text = if minus then drop 1 text else text
+abbrev pub after_minus : Bool → List ℕ → List ℕ
+after_minus minus text = if minus then drop 1 text else text
 
 abbrev pub has_minus : List ℕ → Bool
 has_minus text = slice_index text 0 == 45
@@ -81,9 +81,9 @@ no_minus [] other = refl
 no_minus (byte ∷ text) other = is_false (byte == 45) (λ same. other text (ap (λ (b : ℕ). b ∷ text) (eqb-true byte 45 same)))
 
 minus_stripped : (text : Bor (List ℕ)) (r : Option (Bor (List ℕ))) → MatchOption r ((rest : List ℕ) → text.now ≢ 45 ∷ rest) (λ x. text.now ≡ 45 ∷ x.now)
-    → (unwrap_or r text).now ≡ behind_minus (has_minus text.now) text.now
-minus_stripped text None other = ap (λ test. behind_minus test text.now) (sym (no_minus text.now other))
-minus_stripped text (Some rest) is = sym (ap (λ (t : List ℕ). behind_minus (has_minus t) t) is)
+    → (unwrap_or r text).now ≡ after_minus (has_minus text.now) text.now
+minus_stripped text None other = ap (λ test. after_minus test text.now) (sym (no_minus text.now other))
+minus_stripped text (Some rest) is = sym (ap (λ (t : List ℕ). after_minus (has_minus t) t) is)
 
 signed_read : {E : Type 0} → (f : ℕ → ℤ) (bound : ℕ) (ds : List ℕ) (r : Result ℤ E) → OkIff r ((0 < length ds) × (digits_value 10 ds < bound)) (f (digits_value 10 ds)) → list_all (λ byte. is_ascii_digit byte) ds ≡ true → result_ok r ≡ option_map f (number_below bound ds)
 signed_read f bound ds (Ok n) is all = ap Some is.1 ∙ sym (ap (option_map f) (number_read bound ds all is.0.0 is.0.1))
@@ -94,25 +94,25 @@ at_most f bound ds (Ok n) is all = ((is.0.1, omega (arith, is.0.2)), is.1)
 at_most f bound ds (Err e) is all = λ (q : (0 < length ds) × (digits_value 10 ds < bound + 1)). is (all_digits ds all, q.0, omega (arith, q.1))
 
 -- a text is parsed as a signed number if only digits follow its sign
-pub signed_parsed : {E : Type 0} → (bs : List ℕ) (r : Result ℤ E) → ParsesSigned w16 10 bs r → list_all (λ byte. is_ascii_digit byte) (behind_minus (has_minus bs) bs) ≡ true → result_ok r ≡ signed_number bs
+pub signed_parsed : {E : Type 0} → (bs : List ℕ) (r : Result ℤ E) → ParsesSigned w16 10 bs r → list_all (λ byte. is_ascii_digit byte) (after_minus (has_minus bs) bs) ≡ true → result_ok r ≡ signed_number bs
 unfolding signed_number
 signed_parsed bs r h all =
     let read = λ (minus : Bool). if minus then option_map (λ n. neg_ℤ (pos n)) (number_below (2 ^ 15 + 1) (drop 1 bs)) else option_map pos (number_below (2 ^ 15) bs) in
-    elim (has_minus bs) as (λ minus. has_minus bs ≡ minus → list_all (λ byte. is_ascii_digit byte) (behind_minus minus bs) ≡ true → result_ok r ≡ read minus) [
+    elim (has_minus bs) as (λ minus. has_minus bs ≡ minus → list_all (λ byte. is_ascii_digit byte) (after_minus minus bs) ≡ true → result_ok r ≡ read minus) [
       | true ↦ λ is digits. signed_read (λ n. neg_ℤ (pos n)) (2 ^ 15 + 1) (drop 1 bs) r (at_most (λ n. neg_ℤ (pos n)) (2 ^ 15) (drop 1 bs) r (parse_signed_minus numerals w16 bs r h (eqb-true (slice_index bs 0) 45 is)) digits) digits
       | false ↦ λ is digits. signed_read pos (2 ^ 15) bs r (parse_signed_digits numerals w16 bs r h (all_digits bs digits)) digits
     ] refl all
 
-pub signed_letters : (bs : List ℕ) → list_all (λ byte. is_ascii_digit byte) (behind_minus (has_minus bs) bs) ≡ false → signed_number bs ≡ None
+pub signed_letters : (bs : List ℕ) → list_all (λ byte. is_ascii_digit byte) (after_minus (has_minus bs) bs) ≡ false → signed_number bs ≡ None
 unfolding signed_number
 signed_letters bs some =
     let read = λ (minus : Bool). if minus then option_map (λ n. neg_ℤ (pos n)) (number_below (2 ^ 15 + 1) (drop 1 bs)) else option_map pos (number_below (2 ^ 15) bs) in
-    elim (has_minus bs) as (λ minus. list_all (λ byte. is_ascii_digit byte) (behind_minus minus bs) ≡ false → read minus ≡ None) [
+    elim (has_minus bs) as (λ minus. list_all (λ byte. is_ascii_digit byte) (after_minus minus bs) ≡ false → read minus ≡ None) [
       | true ↦ λ letters. ap (option_map (λ n. neg_ℤ (pos n))) (number_letters (2 ^ 15 + 1) (drop 1 bs) letters)
       | false ↦ λ letters. ap (option_map pos) (number_letters (2 ^ 15) bs letters)
     ] some
 
 -- the result of `strip_prefix` of a `-`, or the whole text where there is none
 pub stripped : (text : Bor (List ℕ)) (r : Option (Bor (List ℕ))) (digits : Bor (List ℕ)) → MatchOption r (FindsCharPrefix 45 text.now None) (λ x. (n : ℕ) × FindsCharPrefix 45 text.now (Some n) × (x.now ≡ drop n text.now) × (length x.now + n ≡ length text.now))
-    → digits ≡ unwrap_or r text → digits.now ≡ behind_minus (has_minus text.now) text.now
+    → digits ≡ unwrap_or r text → digits.now ≡ after_minus (has_minus text.now) text.now
 stripped text r digits cases is = ap (λ (b : Bor (List ℕ)). b.now) is ∙ minus_stripped text r (strip_prefix_char 45 text.now r cases (lit< tt))

@@ -5,7 +5,7 @@ use Rattle.std.specs.Option.{option_zip}
 use Rattle.std.proofs.lemmas.List.Splits.{slice_split_first}
 use Rattle.std.proofs.lemmas.Bool.Decides.{nat_tests}
 use Rattle.textarea_data.specs.declared.range.AtomicRange.{AtomicRange}
-use Rattle.textarea_calls.specs.Arguments.{has_space, is_separator, parts}
+use Rattle.textarea_calls.specs.Arguments.{has_space, is_separator, split_first}
 use Rattle.textarea_calls.specs.Ranges.{range, ranges, ranges_of}
 
 abbrev words : List ℕ → List (List ℕ)
@@ -20,44 +20,44 @@ one_word (byte ∷ text) none =
       | false ↦ λ never. ap (onto_first byte) (one_word text (λ less. never (omega arith)))
     ] none
 
-abbrev cut : List ℕ → Bool → Option (List ℕ × List ℕ)
-cut text test = if test then Some (before_first is_separator text, after_first is_separator text) else None
+abbrev split_is : List ℕ → Bool → Option (List ℕ × List ℕ)
+split_is text test = if test then Some (before_first is_separator text, after_first is_separator text) else None
 
 -- the words of a text with no space
-words_none : (text : List ℕ) → parts text ≡ None → words text ≡ text ∷ []
+words_none : (text : List ℕ) → split_first text ≡ None → words text ≡ text ∷ []
 words_none text is =
     one_word text (λ less. let test : has_space text ≡ true = grind (arith, nat_tests) in
-    let some : cut text true ≡ None = subst (λ (t : Bool). cut text t ≡ None) test is in cc)
+    let some : split_is text true ≡ None = subst (λ (t : Bool). split_is text t ≡ None) test is in cc)
 
 -- the words of a text with a space
-words_some : (text first rest : List ℕ) → parts text ≡ Some (first, rest) → words text ≡ first ∷ words rest
+words_some : (text first rest : List ℕ) → split_first text ≡ Some (first, rest) → words text ≡ first ∷ words rest
 words_some text first rest is =
-    elim (has_space text) as (λ test. has_space text ≡ test → cut text test ≡ Some (first, rest) → words text ≡ first ∷ words rest) [
+    elim (has_space text) as (λ test. has_space text ≡ test → split_is text test ≡ Some (first, rest) → words text ≡ first ∷ words rest) [
       | true ↦ λ test same.
           let less : position_or_len (λ byte. is_separator byte) text < length text = grind (arith, nat_tests) in
           let pair : (before_first is_separator text, after_first is_separator text) ≡ (first, rest) = cc in
           slice_split_first (λ byte. is_separator byte) text 0 less ∙ ap (λ (p : List ℕ × List ℕ). p.0 ∷ words p.1) pair
-      | false ↦ λ test same. let none : cut text false ≡ Some (first, rest) = same in cc
+      | false ↦ λ test same. let none : split_is text false ≡ Some (first, rest) = same in cc
     ] refl is
 
 -- ---- one word, two words, three words, and more
-pub ranges_one : (text : List ℕ) → parts text ≡ None → ranges text ≡ None
+pub ranges_one : (text : List ℕ) → split_first text ≡ None → ranges text ≡ None
 unfolding ranges
 ranges_one text none = ap ranges_of (words_none text none)
 
-pub ranges_two : (text row rest : List ℕ) → parts text ≡ Some (row, rest) → parts rest ≡ None → ranges text ≡ None
+pub ranges_two : (text row rest : List ℕ) → split_first text ≡ Some (row, rest) → split_first rest ≡ None → ranges text ≡ None
 unfolding ranges
 ranges_two text row rest one none = ap ranges_of (words_some text row rest one ∙ ap (λ (w : List (List ℕ)). row ∷ w) (words_none rest none))
 
-alone : (one : Option AtomicRange) → option_map (λ (p : AtomicRange × List AtomicRange). p.0 ∷ p.1) (option_zip one (Some [])) ≡ option_map (λ one. one ∷ []) one
-alone None = refl
-alone (Some one) = refl
+single_range : (one : Option AtomicRange) → option_map (λ (p : AtomicRange × List AtomicRange). p.0 ∷ p.1) (option_zip one (Some [])) ≡ option_map (λ one. one ∷ []) one
+single_range None = refl
+single_range (Some one) = refl
 
-pub ranges_three : (text row rest start end : List ℕ) → parts text ≡ Some (row, rest) → parts rest ≡ Some (start, end) → parts end ≡ None → ranges text ≡ option_map (λ one. one ∷ []) (range row start end)
+pub ranges_three : (text row rest start end : List ℕ) → split_first text ≡ Some (row, rest) → split_first rest ≡ Some (start, end) → split_first end ≡ None → ranges text ≡ option_map (λ one. one ∷ []) (range row start end)
 unfolding ranges
 ranges_three text row rest start end one two none =
     ap ranges_of (words_some text row rest one ∙ ap (λ (w : List (List ℕ)). row ∷ w) (words_some rest start end two ∙ ap (λ (w : List (List ℕ)). start ∷ w) (words_none end none)))
-    ∙ alone (range row start end)
+    ∙ single_range (range row start end)
 
 -- the first range, if it is read, before the others
 abbrev pub first_and : Option AtomicRange → Option (List AtomicRange) → Option (List AtomicRange)
@@ -69,8 +69,8 @@ first_zipped None more = refl
 first_zipped (Some one) None = refl
 first_zipped (Some one) (Some more) = refl
 
-pub ranges_more : (text row rest start last end behind : List ℕ) → parts text ≡ Some (row, rest) → parts rest ≡ Some (start, last) → parts last ≡ Some (end, behind) → ranges text ≡ first_and (range row start end) (ranges behind)
+pub ranges_more : (text row rest start last end after : List ℕ) → split_first text ≡ Some (row, rest) → split_first rest ≡ Some (start, last) → split_first last ≡ Some (end, after) → ranges text ≡ first_and (range row start end) (ranges after)
 unfolding ranges
-ranges_more text row rest start last end behind one two three =
-    ap ranges_of (words_some text row rest one ∙ ap (λ (w : List (List ℕ)). row ∷ w) (words_some rest start last two ∙ ap (λ (w : List (List ℕ)). start ∷ w) (words_some last end behind three)))
-    ∙ first_zipped (range row start end) (ranges_of (words behind))
+ranges_more text row rest start last end after one two three =
+    ap ranges_of (words_some text row rest one ∙ ap (λ (w : List (List ℕ)). row ∷ w) (words_some rest start last two ∙ ap (λ (w : List (List ℕ)). start ∷ w) (words_some last end after three)))
+    ∙ first_zipped (range row start end) (ranges_of (words after))

@@ -37,7 +37,7 @@ filled_lines-filled lines count index line turn some =
 
 -- an error at a line names the first unread line, if that line is the first unread one
 pub names_line : (script : List ℕ) (number : ℕ) (error : ReadError) → IsFilledLine script number
-    → list_all (λ meant. is_some meant) (meanings_of_lines (take (number - 1) (lines_of_script script))) ≡ true
+    → list_all (λ meaning. is_some meaning) (meanings_of_lines (take (number - 1) (lines_of_script script))) ≡ true
     → IsAtLine number error → IsUnparsedLine (meaning_of_line (slice_index_or (lines_of_script script) (number - 1) [])) error → NamesLine script error
 names_line script number (Line named) filled first is_there unread =
     subst (λ (n : ℕ). IsFilledLine script n × IsFirstUnparsed script n) (sym is_there) (filled, record { unread = unread; first = first })

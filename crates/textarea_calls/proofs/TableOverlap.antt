@@ -98,22 +98,22 @@ meet one other =
     has_modifiers one false false && has_modifiers other false false || (has_modifiers one true false && has_modifiers other true false
     || (has_modifiers one false true && has_modifiers other false true || has_modifiers one true true && has_modifiers other true true))
 
-meet_held : (one other : ModifierRule) (with_ctrl with_alt : Bool) → has_modifiers one with_ctrl with_alt ≡ true → has_modifiers other with_ctrl with_alt ≡ true → meet one other ≡ true
-meet_held one other false false h k = rw (h, k)
-meet_held one other true false h k = rw (h, k) (or_true _)
-meet_held one other false true h k = rw (h, k) (rw (or_true _) (or_true _))
-meet_held one other true true h k = rw (h, k) (rw (or_true _) (rw (or_true _) (or_true _)))
+meet_modifiers : (one other : ModifierRule) (with_ctrl with_alt : Bool) → has_modifiers one with_ctrl with_alt ≡ true → has_modifiers other with_ctrl with_alt ≡ true → meet one other ≡ true
+meet_modifiers one other false false h k = rw (h, k)
+meet_modifiers one other true false h k = rw (h, k) (or_true _)
+meet_modifiers one other false true h k = rw (h, k) (rw (or_true _) (or_true _))
+meet_modifiers one other true true h k = rw (h, k) (rw (or_true _) (rw (or_true _) (or_true _)))
 
 -- whether two sets of inputs share an input
 abbrev overlap : Inputs → Inputs → Bool
-overlap (held, keys) (other_held, other_keys) = meet held other_held && share keys other_keys
+overlap (modifiers, keys) (other_modifiers, other_keys) = meet modifiers other_modifiers && share keys other_keys
 
 overlap_among : (input : Input) (one other : Inputs) → is_among input one ≡ true → is_among input other ≡ true → overlap one other ≡ true
-overlap_among input (held, keys) (other_held, other_keys) h k =
+overlap_among input (modifiers, keys) (other_modifiers, other_keys) h k =
     both_true _ _
-    (meet_held held other_held input.ctrl input.alt (and_left _ _ h) (and_left _ _ k))
+    (meet_modifiers modifiers other_modifiers input.ctrl input.alt (and_left _ _ h) (and_left _ _ k))
     (share_has keys other_keys input.key
-    (and_right (has_modifiers held input.ctrl input.alt) _ h) (and_right (has_modifiers other_held input.ctrl input.alt) _ k))
+    (and_right (has_modifiers modifiers input.ctrl input.alt) _ h) (and_right (has_modifiers other_modifiers input.ctrl input.alt) _ k))
 
 -- ---- ---- cases
 

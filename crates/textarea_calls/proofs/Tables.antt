@@ -51,28 +51,28 @@ named-none {A} name (row ∷ rows) others =
     let same : bytes_eq name row.0 ≡ true → name ≡ row.0 = (bytes_eq-Decides name row.0).0 in
     elim (bytes_eq name row.0) as (λ test. (test ≡ true → name ≡ row.0) → chosen test ≡ None) [ true ↦ λ so. absurd (others.0 (so refl)) | false ↦ λ so. rest ] same
 
-pub meaning_by-behind : (name : List ℕ) (arguments : Option (List ℕ)) (rows more : List (List ℕ × (Option (List ℕ) → Option Meaning))) → IsOther name rows → meaning_by (rows ++ more) name arguments ≡ meaning_by more name arguments
-meaning_by-behind name arguments [] more others = refl
-meaning_by-behind name arguments (row ∷ rows) more others =
-    meaning_by-other name arguments row (rows ++ more) others.0 ∙ meaning_by-behind name arguments rows more others.1
+pub meaning_by-after : (name : List ℕ) (arguments : Option (List ℕ)) (rows more : List (List ℕ × (Option (List ℕ) → Option Meaning))) → IsOther name rows → meaning_by (rows ++ more) name arguments ≡ meaning_by more name arguments
+meaning_by-after name arguments [] more others = refl
+meaning_by-after name arguments (row ∷ rows) more others =
+    meaning_by-other name arguments row (rows ++ more) others.0 ∙ meaning_by-after name arguments rows more others.1
 
 -- a call that borrows nothing is found after the other cases
-pub meant-plain : (name : List ℕ) (arguments : Option (List ℕ)) → IsOther name borrowing_commands → command_meaning name arguments ≡ plain_meaning name arguments
+pub command_meaning-plain : (name : List ℕ) (arguments : Option (List ℕ)) → IsOther name borrowing_commands → command_meaning name arguments ≡ plain_meaning name arguments
 unfolding command_meaning plain_meaning
-meant-plain name arguments others = meaning_by-behind name arguments borrowing_commands plain_commands others
+command_meaning-plain name arguments others = meaning_by-after name arguments borrowing_commands plain_commands others
 
 -- the meaning of a name with arguments that are read as a value
-pub meant-read : (command_meaning : List ℕ → Option (List ℕ) → Option Meaning) {A : Type 0} (means : A → Meaning) (name row : List ℕ) (arguments : List ℕ) (reading read : Option A) (value : A) (meaning : Meaning) → name ≡ row → command_meaning row (Some arguments) ≡ option_map means reading → read ≡ reading → read ≡ Some value → meaning ≡ means value → Some meaning ≡ command_meaning name (Some arguments)
-meant-read command_meaning means name row arguments reading read value meaning named by_row so found told =
+pub command_meaning-read : (command_meaning : List ℕ → Option (List ℕ) → Option Meaning) {A : Type 0} (means : A → Meaning) (name row : List ℕ) (arguments : List ℕ) (reading read : Option A) (value : A) (meaning : Meaning) → name ≡ row → command_meaning row (Some arguments) ≡ option_map means reading → read ≡ reading → read ≡ Some value → meaning ≡ means value → Some meaning ≡ command_meaning name (Some arguments)
+command_meaning-read command_meaning means name row arguments reading read value meaning named by_row so found reported =
     let valued : reading ≡ Some value = sym so ∙ found in
-    ap Some told
+    ap Some reported
     ∙ sym (ap (option_map means) valued)
     ∙ sym by_row
     ∙ sym (ap (λ with_arguments. command_meaning with_arguments (Some arguments)) named)
 
 -- a name has no meaning with arguments that are unread
-pub meant-unread : (command_meaning : List ℕ → Option (List ℕ) → Option Meaning) {A : Type 0} (means : A → Meaning) (name row : List ℕ) (arguments : List ℕ) (reading : Option A) (made : Option Call) → made ≡ None → name ≡ row → command_meaning row (Some arguments) ≡ option_map means reading → None ≡ reading → option_map (λ call. meaning_of (Plain call)) made ≡ command_meaning name (Some arguments)
-meant-unread command_meaning means name row arguments reading made none named by_row unread =
+pub command_meaning-unread : (command_meaning : List ℕ → Option (List ℕ) → Option Meaning) {A : Type 0} (means : A → Meaning) (name row : List ℕ) (arguments : List ℕ) (reading : Option A) (made : Option Call) → made ≡ None → name ≡ row → command_meaning row (Some arguments) ≡ option_map means reading → None ≡ reading → option_map (λ call. meaning_of (Plain call)) made ≡ command_meaning name (Some arguments)
+command_meaning-unread command_meaning means name row arguments reading made none named by_row unread =
     ap (λ (made : Option Call). option_map (λ call. meaning_of (Plain call)) made) none
     ∙ ap (option_map means) unread
     ∙ sym by_row
@@ -89,12 +89,12 @@ ready-none made none = subst (λ (made : Option Call). IfSome made CanBeMade) (s
 
 -- a value that is read becomes a command's content with the value's meaning
 pub read-made : {A V : Type 0} → (view : A → V) (content : A → CommandContent) (means : V → Meaning) (with_arguments : Option V) (read : Result A Unparsed) (made : Result CommandContent Unparsed) → ((x : A) → meaning_of (content x) ≡ means (view x)) → IsReadAs view with_arguments read → MatchResult read (λ x. IsOkAnd made (λ one. one ≡ content x)) (λ unread. made ≡ Err unread) → IsReadAs meaning_of (option_map means with_arguments) made
-read-made view content means with_arguments (Ok x) (Ok one) told so cases =
-    ap (option_map means) so ∙ ap Some (sym (told x)) ∙ ap (λ (one : CommandContent). Some (meaning_of one)) (sym cases)
-read-made view content means with_arguments (Ok x) (Err unread) told so cases = absurd cases
-read-made view content means with_arguments (Err NoCommand) made told so cases =
+read-made view content means with_arguments (Ok x) (Ok one) reported so cases =
+    ap (option_map means) so ∙ ap Some (sym (reported x)) ∙ ap (λ (one : CommandContent). Some (meaning_of one)) (sym cases)
+read-made view content means with_arguments (Ok x) (Err unread) reported so cases = absurd cases
+read-made view content means with_arguments (Err NoCommand) made reported so cases =
     subst (λ (made : Result CommandContent Unparsed). IsReadAs meaning_of (option_map means with_arguments) made) (sym cases) (ap (option_map means) so)
-read-made view content means with_arguments (Err Memory) made told so cases =
+read-made view content means with_arguments (Err Memory) made reported so cases =
     subst (λ (made : Result CommandContent Unparsed). IsReadAs meaning_of (option_map means with_arguments) made) (sym cases) tt
 
 -- the content of a value that is read is ready
@@ -104,24 +104,24 @@ ready-read content (Ok x) (Err unread) ready cases = absurd cases
 ready-read content (Err unread) made ready cases = subst (λ (made : Result CommandContent Unparsed). IfOk made IsCallReady) (sym cases) tt
 
 -- the content of an optional value is ready
-pub ready-given : {A : Type 0} (content : A → CommandContent) (with_arguments : Option A) (mapped : Option CommandContent) (made : Result CommandContent Unparsed) → ((x : A) → with_arguments ≡ Some x → IsCallReady (content x)) → MatchOption with_arguments (mapped ≡ None) (λ x. IsSomeAnd mapped (λ one. one ≡ content x)) → made ≡ ok_or mapped NoCommand → IfOk made IsCallReady
-ready-given content None mapped made ready cases value =
+pub ready-with_arguments : {A : Type 0} (content : A → CommandContent) (with_arguments : Option A) (mapped : Option CommandContent) (made : Result CommandContent Unparsed) → ((x : A) → with_arguments ≡ Some x → IsCallReady (content x)) → MatchOption with_arguments (mapped ≡ None) (λ x. IsSomeAnd mapped (λ one. one ≡ content x)) → made ≡ ok_or mapped NoCommand → IfOk made IsCallReady
+ready-with_arguments content None mapped made ready cases value =
     subst (λ (made : Result CommandContent Unparsed). IfOk made IsCallReady) (sym (value ∙ ap (λ (mapped : Option CommandContent). ok_or mapped NoCommand) cases)) tt
-ready-given content (Some x) None made ready cases value = absurd cases
-ready-given content (Some x) (Some one) made ready cases value =
+ready-with_arguments content (Some x) None made ready cases value = absurd cases
+ready-with_arguments content (Some x) (Some one) made ready cases value =
     subst (λ (made : Result CommandContent Unparsed). IfOk made IsCallReady) (sym value) (subst IsCallReady (sym cases) (ready x refl))
 
 -- the content of an optional value has the value's meaning
-pub given-made : {A : Type 0} (content : A → CommandContent) (means : A → Meaning) (reading with_arguments : Option A) (mapped : Option CommandContent) (made : Result CommandContent Unparsed) → ((x : A) → meaning_of (content x) ≡ means x) → with_arguments ≡ reading → MatchOption with_arguments (mapped ≡ None) (λ x. IsSomeAnd mapped (λ one. one ≡ content x)) → made ≡ ok_or mapped NoCommand → IsReadAs meaning_of (option_map means reading) made
-given-made content means reading None mapped made told so cases value =
+pub with_arguments-made : {A : Type 0} (content : A → CommandContent) (means : A → Meaning) (reading with_arguments : Option A) (mapped : Option CommandContent) (made : Result CommandContent Unparsed) → ((x : A) → meaning_of (content x) ≡ means x) → with_arguments ≡ reading → MatchOption with_arguments (mapped ≡ None) (λ x. IsSomeAnd mapped (λ one. one ≡ content x)) → made ≡ ok_or mapped NoCommand → IsReadAs meaning_of (option_map means reading) made
+with_arguments-made content means reading None mapped made reported so cases value =
     subst (λ (made : Result CommandContent Unparsed). IsReadAs meaning_of (option_map means reading) made)
     (sym (value ∙ ap (λ (mapped : Option CommandContent). ok_or mapped NoCommand) cases)) (ap (option_map means) (sym so))
-given-made content means reading (Some x) None made told so cases value = absurd cases
-given-made content means reading (Some x) (Some one) made told so cases value =
+with_arguments-made content means reading (Some x) None made reported so cases value = absurd cases
+with_arguments-made content means reading (Some x) (Some one) made reported so cases value =
     subst (λ (made : Result CommandContent Unparsed). IsReadAs meaning_of (option_map means reading) made) (sym value)
-    (ap (option_map means) (sym so) ∙ ap Some (sym (told x)) ∙ ap (λ (one : CommandContent). Some (meaning_of one)) (sym cases))
+    (ap (option_map means) (sym so) ∙ ap Some (sym (reported x)) ∙ ap (λ (one : CommandContent). Some (meaning_of one)) (sym cases))
 
 -- the argument after a name, if there is one, is read
-pub given-then : {A : Type 0} (reading : List ℕ → Option A) (means : A → Meaning) (arguments : Option (List ℕ)) → with_arguments reading means arguments ≡ option_map means (option_and_then reading arguments)
-given-then reading means None = refl
-given-then reading means (Some arguments) = refl
+pub with_arguments-then : {A : Type 0} (reading : List ℕ → Option A) (means : A → Meaning) (arguments : Option (List ℕ)) → with_arguments reading means arguments ≡ option_map means (option_and_then reading arguments)
+with_arguments-then reading means None = refl
+with_arguments-then reading means (Some arguments) = refl

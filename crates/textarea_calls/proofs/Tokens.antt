@@ -9,48 +9,48 @@ use Rattle.textarea_calls.specs.Escapes.{Token, Character, Break, character_numb
 
 -- ---- ---- each character takes at least one byte
 
-abbrev behind : Option (ℕ × List ℕ) → List ℕ
-behind None = []
-behind (Some p) = p.1
+abbrev after : Option (ℕ × List ℕ) → List ℕ
+after None = []
+after (Some p) = p.1
 
 abbrev number_at : List ℕ → Option ℕ → Option (ℕ × List ℕ)
 number_at text found = option_map (λ c. (c, after_first is_closing text)) found
 
-numbered_short : (text : List ℕ) → length (behind (numbered_escape text)) ≤ length text
+numbered_short : (text : List ℕ) → length (after (numbered_escape text)) ≤ length text
 unfolding numbered_escape
 numbered_short [] = omega arith
 numbered_short (opening ∷ text) =
     let left : length (after_first is_closing text) ≤ length text = omega (arith, length-drop (position_or_len is_closing text + 1) text) in
     elim ((opening == 123) && nat_lt (position_or_len is_closing text) (length text))
-    as (λ test. length (behind (if test then number_at text (character_numbered (before_first is_closing text)) else None)) ≤ length (opening ∷ text)) [
-      | true ↦ elim (character_numbered (before_first is_closing text)) as (λ found. length (behind (number_at text found)) ≤ length (opening ∷ text)) [ None ↦ omega arith | Some c ↦ omega arith ]
+    as (λ test. length (after (if test then number_at text (character_numbered (before_first is_closing text)) else None)) ≤ length (opening ∷ text)) [
+      | true ↦ elim (character_numbered (before_first is_closing text)) as (λ found. length (after (number_at text found)) ≤ length (opening ∷ text)) [ None ↦ omega arith | Some c ↦ omega arith ]
       | false ↦ omega arith
     ]
 
-escape_short : (text : List ℕ) → length (behind (escape text)) ≤ length text
+escape_short : (text : List ℕ) → length (after (escape text)) ≤ length text
 unfolding escape
 escape_short [] = omega arith
 escape_short (letter ∷ text) =
-    let left : length (behind (numbered_escape text)) ≤ length text = numbered_short text in
-    elim (letter == 117) as (λ test. length (behind (if test then numbered_escape text else option_map (λ c. (c, text)) (control letter))) ≤ length (letter ∷ text)) [
+    let left : length (after (numbered_escape text)) ≤ length text = numbered_short text in
+    elim (letter == 117) as (λ test. length (after (if test then numbered_escape text else option_map (λ c. (c, text)) (control letter))) ≤ length (letter ∷ text)) [
       | true ↦ omega arith
-      | false ↦ elim (control letter) as (λ found. length (behind (option_map (λ c. (c, text)) found)) ≤ length (letter ∷ text)) [ None ↦ omega arith | Some c ↦ omega arith ]
+      | false ↦ elim (control letter) as (λ found. length (after (option_map (λ c. (c, text)) found)) ≤ length (letter ∷ text)) [ None ↦ omega arith | Some c ↦ omega arith ]
     ]
 
 takes_some : (c : ℕ) → 0 < len_utf8 c
 takes_some c = grind (arith, nat_tests)
 
-plain_short : (text : List ℕ) → 0 < length text → length (behind (plain_character text)) < length text
+plain_short : (text : List ℕ) → 0 < length text → length (after (plain_character text)) < length text
 plain_short text some =
-    elim (slice_get (chars text) 0) as (λ found. length (behind (option_map (λ c. (c, drop (len_utf8 c) text)) found)) < length text) [
+    elim (slice_get (chars text) 0) as (λ found. length (after (option_map (λ c. (c, drop (len_utf8 c) text)) found)) < length text) [
       | None ↦ omega (arith, some)
       | Some c ↦ omega (arith, some, takes_some c, length-drop (len_utf8 c) text)
     ]
 
-first_short : (byte : ℕ) (text : List ℕ) → length (behind (first_character (byte ∷ text))) < length (byte ∷ text)
+first_short : (byte : ℕ) (text : List ℕ) → length (after (first_character (byte ∷ text))) < length (byte ∷ text)
 unfolding first_character
 first_short byte text =
-    elim (byte == 92) as (λ test. length (behind (if test then escape text else plain_character (byte ∷ text))) < length (byte ∷ text)) [
+    elim (byte == 92) as (λ test. length (after (if test then escape text else plain_character (byte ∷ text))) < length (byte ∷ text)) [
       | true ↦ omega (arith, escape_short text)
       | false ↦ plain_short (byte ∷ text) (omega arith)
     ]
@@ -65,7 +65,7 @@ enough f g [] h k = refl
 enough zero g (byte ∷ text) h k = absurd (omega (arith, h))
 enough (suc f) zero (byte ∷ text) h k = absurd (omega (arith, k))
 enough (suc f) (suc g) (byte ∷ text) h k =
-    elim (first_character (byte ∷ text)) as (λ found. length (behind found) < length (byte ∷ text) → step f (byte ∷ text) found ≡ step g (byte ∷ text) found) [
+    elim (first_character (byte ∷ text)) as (λ found. length (after found) < length (byte ∷ text) → step f (byte ∷ text) found ≡ step g (byte ∷ text) found) [
       | None ↦ λ short. refl
       | Some p ↦ λ short. ap (option_map (λ more. token (byte ∷ text) p.0 ∷ more)) (enough f g p.1 (omega (arith, h, short)) (omega (arith, k, short)))
     ] (first_short byte text)
@@ -81,7 +81,7 @@ tokens_first [] c rest first =
     let nothing : Option (ℕ × List ℕ) = None in
     let never : nothing ≡ Some (c, rest) = first in cc
 tokens_first (byte ∷ text) c rest first =
-    let short : length rest < length (byte ∷ text) = subst (λ (found : Option (ℕ × List ℕ)). length (behind found) < length (byte ∷ text)) first (first_short byte text) in
+    let short : length rest < length (byte ∷ text) = subst (λ (found : Option (ℕ × List ℕ)). length (after found) < length (byte ∷ text)) first (first_short byte text) in
     ap (step (length text) (byte ∷ text)) first ∙ ap (option_map (λ more. token (byte ∷ text) c ∷ more)) (enough (length text) (length rest) rest (omega (arith, short)) (omega arith))
 
 -- ---- the text of the tokens

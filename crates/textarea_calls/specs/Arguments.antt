@@ -28,12 +28,12 @@ abbrev pub has_space : List ℕ → Bool
 has_space text = nat_lt (position_or_len is_separator text) (length text)
 
 -- the text before the first space and the text after it; none where there is no space
-abbrev pub parts : List ℕ → Option (List ℕ × List ℕ)
-parts text = if has_space text then Some (before_first is_separator text, after_first is_separator text) else None
+abbrev pub split_first : List ℕ → Option (List ℕ × List ℕ)
+split_first text = if has_space text then Some (before_first is_separator text, after_first is_separator text) else None
 
 -- two arguments, separated by one space, each read in its own way
 abbrev pub both : {A B : Type 0} → (List ℕ → Option A) → (List ℕ → Option B) → List ℕ → Option (A × B)
-both first second text = option_and_then (λ p. option_zip (first p.0) (second p.1)) (parts text)
+both first second text = option_and_then (λ p. option_zip (first p.0) (second p.1)) (split_first text)
 
 abbrev pub truths : List (List ℕ × Bool)
 truths = (codes "true", true) ∷ (codes "false", false) ∷ []
@@ -133,10 +133,10 @@ mode_named = named modes
 
 -- why a value is unread: the text writes no value, or memory ran out
 abbrev pub IsUnparsedAs : {B : Type 0} → Option B → Unparsed → Type 0
-IsUnparsedAs meant NoCommand = meant ≡ None
-IsUnparsedAs meant Memory = Unit {0}
+IsUnparsedAs meaning NoCommand = meaning ≡ None
+IsUnparsedAs meaning Memory = Unit {0}
 
 -- a value that is read is the one that the text writes
 abbrev pub IsReadAs : {A B : Type 0} → (A → B) → Option B → Result A Unparsed → Type 0
-IsReadAs view meant (Ok read) = meant ≡ Some (view read)
-IsReadAs view meant (Err unread) = IsUnparsedAs meant unread
+IsReadAs view meaning (Ok read) = meaning ≡ Some (view read)
+IsReadAs view meaning (Err unread) = IsUnparsedAs meaning unread

@@ -6,7 +6,7 @@ use Rattle.textarea_data.specs.declared.cursor.CursorMove.TheVariants as move
 use Rattle.textarea_data.specs.declared.input.Input.{Input}
 use Rattle.textarea_data.specs.declared.range.AtomicRange.{AtomicRange}
 use Rattle.textarea_screen.specs.Style.{empty_style}
-use Rattle.textarea_calls.specs.Arguments.{Sides, byte_number, has_space, is_separator, mode_named, move_named, named, number, page, parts, scroll_amounts, short_number, sides, truth, two_short_numbers}
+use Rattle.textarea_calls.specs.Arguments.{Sides, byte_number, has_space, is_separator, mode_named, move_named, named, number, page, split_first, scroll_amounts, short_number, sides, truth, two_short_numbers}
 use Rattle.textarea_calls.specs.Escapes.{character, unescaped, unescaped_lines}
 use Rattle.textarea_calls.specs.Inputs.{input_named}
 use Rattle.textarea_calls.specs.Ranges.{ranges_after_space}
@@ -50,14 +50,14 @@ with_text means arguments = option_map means (argument_text arguments)
 
 -- line numbers in the empty style, or none
 abbrev pub line_numbers : Bool → Call
-line_numbers shown = if shown then call.SetLineNumberStyle empty_style else call.RemoveLineNumber
+line_numbers displayed = if displayed then call.SetLineNumberStyle empty_style else call.RemoveLineNumber
 
 -- the lines and cursor position of a `set_lines`: a row, a column, and a text, empty by default
 abbrev pub lines_and_place : List ℕ → Option (List (List ℕ) × (ℕ × ℕ))
 lines_and_place with_text =
     option_and_then
     (λ p. option_zip (unescaped_lines (after_first is_separator p.1)) (option_zip (number p.0) (number (before_first is_separator p.1))))
-    (parts with_text)
+    (split_first with_text)
 
 abbrev pub set_lines_meaning : Option (List ℕ) → Option Meaning
 set_lines_meaning = with_arguments lines_and_place (λ p. SetLines p.0 p.1)

@@ -3,7 +3,7 @@ use Rattle.std.specs.Prelude.{ℕ, Bool, true, false, if◌then◌else◌, List,
 use Rattle.textarea_data.specs.declared.input.Input.{Input}
 use Rattle.textarea_data.specs.declared.input.Key.{Key}
 use Rattle.textarea_data.specs.declared.input.Key.TheVariants as key
-use Rattle.textarea_calls.specs.Arguments.{both, byte_number, named, parts}
+use Rattle.textarea_calls.specs.Arguments.{both, byte_number, named, split_first}
 use Rattle.textarea_calls.specs.Escapes.{character}
 
 -- the modifier keys that are held, as (Ctrl, Alt, Shift)
@@ -60,7 +60,7 @@ key_of text (Some p) = key_with p.0 p.1
 
 -- the key that the text names; one space separates a key's name from its argument, if it has one
 unfoldable pub key_named : List ℕ → Option Key
-key_named text = key_of text (parts text)
+key_named text = key_of text (split_first text)
 
 abbrev pub input_of : (Bool × Bool × Bool) × Key → Input
 input_of p = record { key = p.1; ctrl = p.0.0; alt = p.0.1; shift = p.0.2 }

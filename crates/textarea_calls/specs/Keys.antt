@@ -10,7 +10,7 @@ use Rattle.textarea_data.specs.declared.scroll.Scrolling.TheVariants as scrollin
 use Rattle.textarea_calls.specs.declared.action.Action.TheVariants as action
 use Rattle.textarea_calls.specs.declared.kind.Edit.TheVariants as edit
 use Rattle.textarea_calls.specs.declared.kind.Write.TheVariants as write
-use Rattle.textarea_calls.specs.Answer.{changed, unchanged, as_called}
+use Rattle.textarea_calls.specs.FlagRule.{changed, unchanged, as_called}
 use Rattle.textarea_calls.specs.Table.{ActionRow, plain, ctrl, alt, both, any, chars, chars_but, one, row, always, insert_its_char, move_by, scroll_action}
 
 -- a scroll by one row down, and by one row up

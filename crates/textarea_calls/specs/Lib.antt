@@ -8,6 +8,6 @@ pub mod Inputs
 pub mod Borrows
 pub mod Ranges
 pub mod Script
-pub mod Answer
+pub mod FlagRule
 pub mod Table
 pub mod Keys

@@ -43,7 +43,7 @@ pub record IsFilledLine (script : List ℕ) (number : ℕ) : Type 0 where
 -- the line of this number has no meaning, and each earlier line that is not empty has one
 pub record IsFirstUnparsed (script : List ℕ) (number : ℕ) : Type 0 where
   pub unread : meaning_of_line (slice_index_or (lines_of_script script) (number - 1) []) ≡ None
-  pub first : list_all (λ meant. is_some meant) (meanings_of_lines (take (number - 1) (lines_of_script script))) ≡ true
+  pub first : list_all (λ one_meaning. is_some one_meaning) (meanings_of_lines (take (number - 1) (lines_of_script script))) ≡ true
 
 -- the error names the first line of the script that is not empty and is unread
 abbrev pub NamesLine : List ℕ → ReadError → Type 0
@@ -88,23 +88,23 @@ meaning_of (Input input) = meaning.Press input
 
 -- an unread line has no meaning
 abbrev pub IsUnparsedLine : Option Meaning → ReadError → Type 0
-IsUnparsedLine meant (Line number) = meant ≡ None
-IsUnparsedLine meant Memory = Unit {0}
+IsUnparsedLine one_meaning (Line number) = one_meaning ≡ None
+IsUnparsedLine one_meaning Memory = Unit {0}
 
 -- a line that is read is a command with the line's meaning
 abbrev pub IsCommandOf : {C : Type 0} → (C → CommandContent) → Option Meaning → Result C ReadError → Type 0
-IsCommandOf content_of meant (Ok command) = meant ≡ Some (meaning_of (content_of command))
-IsCommandOf content_of meant (Err error) = IsUnparsedLine meant error
+IsCommandOf content_of one_meaning (Ok command) = one_meaning ≡ Some (meaning_of (content_of command))
+IsCommandOf content_of one_meaning (Err error) = IsUnparsedLine one_meaning error
 
 -- the call of a command's content: the stored call, or one that borrows the content's values
 abbrev pub IsCallOf : CommandContent → Call → Type 0
 IsCallOf (Plain plain) made = made ≡ plain
-IsCallOf (InsertStr text) (call.InsertStr lent) = lent.now ≡ string_bytes text
-IsCallOf (SetYankText text) (call.SetYankText lent) = lent.now ≡ string_bytes text
-IsCallOf (TrySetAtomicRanges ranges) (call.TrySetAtomicRanges lent) = lent.now ≡ ranges.items
-IsCallOf (SetSearchPattern text) (call.SetSearchPattern lent) = lent.now ≡ string_bytes text
-IsCallOf (SetLines lines cursor) (call.SetLines lent place) = (lent.now ≡ lines.items) × (place ≡ cursor)
-IsCallOf (Input input) (call.Input lent) = lent.now ≡ input
+IsCallOf (InsertStr text) (call.InsertStr borrowed) = borrowed.now ≡ string_bytes text
+IsCallOf (SetYankText text) (call.SetYankText borrowed) = borrowed.now ≡ string_bytes text
+IsCallOf (TrySetAtomicRanges ranges) (call.TrySetAtomicRanges borrowed) = borrowed.now ≡ ranges.items
+IsCallOf (SetSearchPattern text) (call.SetSearchPattern borrowed) = borrowed.now ≡ string_bytes text
+IsCallOf (SetLines lines cursor) (call.SetLines borrowed place) = (borrowed.now ≡ lines.items) × (place ≡ cursor)
+IsCallOf (Input input) (call.Input borrowed) = borrowed.now ≡ input
 IsCallOf content other = ⊥
 
 -- the calls of the commands with these contents, one by one

@@ -9,7 +9,7 @@ use Rattle.textarea_data.specs.declared.scroll.Scrolling.{Scrolling}
 use Rattle.textarea_calls.specs.declared.action.Action.{Action}
 use Rattle.textarea_calls.specs.declared.action.Action.TheVariants as action
 use Rattle.textarea_calls.specs.declared.kind.Write.TheVariants as write
-use Rattle.textarea_calls.specs.Answer.{Answer, unchanged, answer_of}
+use Rattle.textarea_calls.specs.FlagRule.{FlagRule, unchanged, flag_rule_of}
 
 -- ---- ---- the inputs of a case
 
@@ -72,17 +72,17 @@ Inputs = ModifierRule × Keys
 
 -- one key, the characters of a text, or all characters except these
 abbrev pub one : ModifierRule → Key → Inputs
-one held key = (held, these (key ∷ []))
+one modifiers key = (modifiers, these (key ∷ []))
 
 abbrev pub chars : ModifierRule → List ℕ → Inputs
-chars held characters = (held, these (map (λ c. key.Char c) characters))
+chars modifiers characters = (modifiers, these (map (λ c. key.Char c) characters))
 
 abbrev pub chars_but : ModifierRule → List ℕ → Inputs
-chars_but held left_out = (held, characters_but left_out)
+chars_but modifiers left_out = (modifiers, characters_but left_out)
 
 -- whether an input is in the set
 abbrev pub is_among : Input → Inputs → Bool
-is_among input (held, keys) = has_modifiers held input.ctrl input.alt && has_key keys input.key
+is_among input (modifiers, keys) = has_modifiers modifiers input.ctrl input.alt && has_key keys input.key
 
 -- ---- ---- cases and tables
 
@@ -90,10 +90,10 @@ is_among input (held, keys) = has_modifiers held input.ctrl input.alt && has_key
 pub record ActionRow : Type 0 where
   pub inputs : List Inputs
   pub action : Input → Action
-  pub answer : Answer
+  pub flag_rule : FlagRule
 
-abbrev pub row : List Inputs → (Input → Action) → Answer → ActionRow
-row inputs action answer = record { inputs = inputs; action = action; answer = answer }
+abbrev pub row : List Inputs → (Input → Action) → FlagRule → ActionRow
+row inputs action flag_rule = record { inputs = inputs; action = action; flag_rule = flag_rule }
 
 -- whether an input is one of a case
 abbrev pub fits_row : Input → ActionRow → Bool
@@ -117,14 +117,14 @@ unfoldable pub action_by : List ActionRow → Input → Action
 action_by rows input = action_in (row_of rows input) input
 
 -- the result of an input by its case; the text is unchanged where it has none
-abbrev pub answer_in : Option ActionRow → Answer
-answer_in None = unchanged
-answer_in (Some row) = row.answer
+abbrev pub flag_rule_in : Option ActionRow → FlagRule
+flag_rule_in None = unchanged
+flag_rule_in (Some row) = row.flag_rule
 
 -- the table's result for each input is that of the input's action
-abbrev pub HasAnswersOfActions : List ActionRow → Type 0
-HasAnswersOfActions rows =
-    (input : Input) → answer_in (row_of rows input) ≡ answer_of (action_by rows input)
+abbrev pub HasFlagsOfActions : List ActionRow → Type 0
+HasFlagsOfActions rows =
+    (input : Input) → flag_rule_in (row_of rows input) ≡ flag_rule_of (action_by rows input)
 
 -- ---- ---- the actions of a case
 

@@ -1,7 +1,7 @@
 //! What an input asks for.
 
 ghost use Rattle.std.specs.Prelude.{◌≡◌};
-ghost use Rattle.textarea_calls.specs.Answer.{answer_of, result_flag};
+ghost use Rattle.textarea_calls.specs.FlagRule.{flag_rule_of, result_flag};
 
 use crate::kind::{Edit, Write};
 use textarea_data::cursor::CursorMove;
@@ -27,8 +27,8 @@ pub enum Action {
 impl Action {
     /// Returns whether an input that asks for this action changes the text. `called` is the result
     /// of the call; it is ignored where the call has none.
-    pub fn answer(self, called: bool) -> bool
-        ensures { result ≡ result_flag (answer_of self) called }
+    pub fn flag(self, called: bool) -> bool
+        ensures { result ≡ result_flag (flag_rule_of self) called }
     {
         match self {
             Action::Edit(_) => called,

@@ -21,7 +21,7 @@ pub enum Answer {
     /// The measured heights.
     Measured(TextAreaMeasure),
     /// The pattern is rejected, and nothing changed.
-    PatternRefused,
+    PatternRejected,
     /// The position (row, column) in the text of what a screen cell shows, if the cell shows text.
     Place(Option<(usize, usize)>),
     /// The cursor's cell at the last `Call::Render`, if the cursor was visible.
@@ -41,7 +41,7 @@ pub enum Answer {
     /// The two ends of the selection, the earlier one first, if a selection is open.
     Selection(Option<((usize, usize), (usize, usize))>),
     /// A style, if what it styles is shown.
-    StyleIfShown(Option<Style>),
+    StyleIfVisible(Option<Style>),
     /// How lines are wrapped.
     WrapMode(WrapMode),
 }

@@ -2,7 +2,7 @@
 ghost use Rattle.std.specs.Char.{is_ascii_digit, is_ascii_hexdigit};
 ghost use Rattle.std.specs.List.{list_all};
 ghost use Rattle.std.specs.Prelude.{◌≡◌, ◌<◌, ◌≤◌, ◌∷◌, length, map, option_copied, option_map, string_bytes, vec_len, IfOk, IfSome, MatchOption};
-ghost use Rattle.textarea_calls.specs.Arguments.{IsReadAs, byte_number, mode_named, move_named, number, page, parts, scroll_amounts, short_number, sides, sides_of_area, signed_number, truth, two_short_numbers};
+ghost use Rattle.textarea_calls.specs.Arguments.{IsReadAs, byte_number, mode_named, move_named, number, page, split_first, scroll_amounts, short_number, sides, sides_of_area, signed_number, truth, two_short_numbers};
 ghost use Rattle.textarea_calls.specs.FirstLine.{IsFirstLineOf};
 ghost use Rattle.textarea_calls.specs.Escapes.{character, character_numbered, escape, first_character, numbered_escape, unescaped, unescaped_lines};
 ghost use Rattle.textarea_calls.specs.Inputs.{modifiers_named, input_named, key_without_arguments, key_named, key_with};
@@ -31,7 +31,7 @@ impl From<AllocError> for Unparsed {
 
     ghost from_gives = { λ _ error. error ≡ Memory };
 
-    fn from(_refused: AllocError) -> Unparsed {
+    fn from(_error: AllocError) -> Unparsed {
         Unparsed::Memory
     }
 }
@@ -42,15 +42,15 @@ impl<T: Drop> From<AllocFailed<T>> for Unparsed {
 
     ghost from_gives = { λ _ error. error ≡ Memory };
 
-    fn from(_refused: AllocFailed<T>) -> Unparsed {
+    fn from(_error: AllocFailed<T>) -> Unparsed {
         Unparsed::Memory
     }
 }
 
 // Splits the text at its first space: the text before it, and the text after it.
-pub fn parts(text: &str) -> Option<(&str, &str)>
-    ensures value { MatchOption result (parts text.now ≡ None)
-        (λ x. parts text.now ≡ Some (x.0.now, x.1.now)) }
+pub fn split_first(text: &str) -> Option<(&str, &str)>
+    ensures value { MatchOption result (split_first text.now ≡ None)
+        (λ x. split_first text.now ≡ Some (x.0.now, x.1.now)) }
     ensures shorter { IfSome result (λ x. length x.1.now < length text.now) }
 {
     text.split_once(' ')
@@ -94,7 +94,7 @@ pub fn byte_number(text: &str) -> Option<u8>
 pub fn two_short_numbers(text: &str) -> Option<(u16, u16)>
     ensures { result ≡ two_short_numbers text.now }
 {
-    let (first, second) = parts(text)?;
+    let (first, second) = split_first(text)?;
     Some((short_number(first)?, short_number(second)?))
 }
 
@@ -103,8 +103,8 @@ pub fn two_short_numbers(text: &str) -> Option<(u16, u16)>
 pub fn area(text: &str) -> Option<Rect>
     ensures { option_map sides_of_area result ≡ sides text.now }
 {
-    let (x, rest) = parts(text)?;
-    let (y, size) = parts(rest)?;
+    let (x, rest) = split_first(text)?;
+    let (y, size) = split_first(rest)?;
     let (width, height) = two_short_numbers(size)?;
     Some(Rect::new(short_number(x)?, short_number(y)?, width, height))
 }
@@ -124,7 +124,7 @@ fn signed_number(text: &str) -> Option<i16>
 pub fn scroll_amounts(text: &str) -> Option<Scrolling>
     ensures { result ≡ scroll_amounts text.now }
 {
-    let (rows, cols) = parts(text)?;
+    let (rows, cols) = split_first(text)?;
     Some(Scrolling::Delta {
         rows: signed_number(rows)?,
         cols: signed_number(cols)?,
@@ -152,11 +152,11 @@ pub fn ranges(alloc: Global, text: &str) -> Result<Vec<AtomicRange>, Unparsed>
     let mut ranges = Vec::new(alloc);
     let mut rest = Some(text);
     while let Some(text) = rest {
-        let Some((range, behind)) = first_range(text) else {
+        let Some((range, after)) = first_range(text) else {
             return Err(Unparsed::NoCommand);
         };
         ranges.push(range)?;
-        rest = behind;
+        rest = after;
     }
     Ok(ranges)
 }
@@ -167,10 +167,10 @@ fn first_range(text: &str) -> Option<(AtomicRange, Option<&str>)>
         ≡ option_map (λ more. x.0 ∷ more) (ranges_after_space (option_copied x.1))) }
     ensures shorter { IfSome result (λ x. IfSome x.1 (λ rest. length rest.now < length text.now)) }
 {
-    let (row, rest) = parts(text)?;
-    let (start, rest) = parts(rest)?;
-    match parts(rest) {
-        Some((end, behind)) => Some((range(row, start, end)?, Some(behind))),
+    let (row, rest) = split_first(text)?;
+    let (start, rest) = split_first(rest)?;
+    match split_first(rest) {
+        Some((end, after)) => Some((range(row, start, end)?, Some(after))),
         None => Some((range(row, start, rest)?, None)),
     }
 }
@@ -237,7 +237,7 @@ pub fn mode_named(name: &str) -> Option<WrapMode>
 pub fn input_named(text: &str) -> Option<Input>
     ensures { result ≡ input_named text.now }
 {
-    let (modifiers, key) = parts(text)?;
+    let (modifiers, key) = split_first(text)?;
     let (ctrl, alt, shift) = modifiers_named(modifiers)?;
     Some(Input {
         key: key_named(key)?,
@@ -269,7 +269,7 @@ fn modifiers_named(modifiers: &str) -> Option<(bool, bool, bool)>
 fn key_named(text: &str) -> Option<Key>
     ensures { result ≡ key_named text.now }
 {
-    match parts(text) {
+    match split_first(text) {
         Some((name, argument)) => key_with(name, argument),
         None => key_without_arguments(text),
     }
@@ -330,12 +330,12 @@ pub fn unescape(alloc: Global, text: &str) -> Result<String, Unparsed>
     let mut plain = String::new(alloc);
     let mut rest = text;
     while let Some((front, escaped)) = rest.split_once('\\') {
-        let Some((c, behind)) = escaped_character(escaped) else {
+        let Some((c, after)) = escaped_character(escaped) else {
             return Err(Unparsed::NoCommand);
         };
         plain.push_str(front)?;
         plain.push(c)?;
-        rest = behind;
+        rest = after;
     }
     plain.push_str(rest)?;
     Ok(plain)
@@ -351,9 +351,9 @@ pub fn unescaped_lines(alloc: Global, text: &str) -> Result<Vec<String>, Unparse
     let mut lines = Vec::new(alloc);
     let mut rest = Some(text);
     while let Some(text) = rest {
-        let (line, behind) = first_line(alloc, text)?;
+        let (line, after) = first_line(alloc, text)?;
         lines.push(line)?;
-        rest = behind;
+        rest = after;
     }
     Ok(lines)
 }
@@ -367,14 +367,14 @@ fn first_line(alloc: Global, text: &str) -> Result<(String, Option<&str>), Unpar
     let mut rest = text;
     while let Some((front, escaped)) = rest.split_once('\\') {
         line.push_str(front)?;
-        if let Some(behind) = escaped.strip_prefix('n') {
-            return Ok((line, Some(behind)));
+        if let Some(after) = escaped.strip_prefix('n') {
+            return Ok((line, Some(after)));
         }
-        let Some((c, behind)) = escaped_character(escaped) else {
+        let Some((c, after)) = escaped_character(escaped) else {
             return Err(Unparsed::NoCommand);
         };
         line.push(c)?;
-        rest = behind;
+        rest = after;
     }
     line.push_str(rest)?;
     Ok((line, None))

@@ -13,8 +13,8 @@ ghost use Rattle.textarea_calls.specs.declared.commands.CommandContent.TheVarian
 use crate::Call;
 use crate::arguments::{
     Unparsed, area, byte_number, input_named, mode_named, move_named, number, one_character,
-    page_named, parts, ranges, scroll_amounts, short_number, truth, two_short_numbers, unescape,
-    unescaped_lines,
+    page_named, ranges, scroll_amounts, short_number, split_first, truth, two_short_numbers,
+    unescape, unescaped_lines,
 };
 use std::alloc::{AllocError, AllocFailed, Global};
 use std::str::from_utf8;
@@ -39,7 +39,7 @@ impl<T: Drop> From<AllocFailed<T>> for ReadError {
 
     ghost from_gives = { λ _ error. error ≡ Memory };
 
-    fn from(_refused: AllocFailed<T>) -> ReadError {
+    fn from(_error: AllocFailed<T>) -> ReadError {
         ReadError::Memory
     }
 }
@@ -86,7 +86,7 @@ impl Command {
 impl CommandContent {
     // The call that borrows ranges or lines.
     fn list_call(&self) -> Call<'_>
-        requires lends { borrows_list self.now ≡ true }
+        requires borrows { borrows_list self.now ≡ true }
         requires ready { IsCallReady self.now }
         ensures ready { CanBeMade result }
         ensures is { IsCallOf self.now result }
@@ -171,7 +171,7 @@ fn content_of(alloc: Global, line: &str) -> Result<CommandContent, Unparsed>
     ensures ready { IfOk result IsCallReady }
     ensures means { IsReadAs meaning_of (line_meaning line.now) result }
 {
-    match parts(line) {
+    match split_first(line) {
         Some((name, arguments)) => content_named(alloc, name, Some(arguments)),
         None => content_named(alloc, line, None),
     }
@@ -233,8 +233,8 @@ fn set_lines(alloc: Global, arguments: Option<&str>) -> Result<CommandContent, U
     ensures ready { IfOk result IsCallReady }
     ensures means { IsReadAs meaning_of (set_lines_meaning (option_copied arguments.entry)) result }
 {
-    let (row, rest) = parts(arguments.unwrap_or("")).ok_or(Unparsed::NoCommand)?;
-    let (column, text) = parts(rest).unwrap_or((rest, ""));
+    let (row, rest) = split_first(arguments.unwrap_or("")).ok_or(Unparsed::NoCommand)?;
+    let (column, text) = split_first(rest).unwrap_or((rest, ""));
     let row = number(row).ok_or(Unparsed::NoCommand)?;
     let column = number(column).ok_or(Unparsed::NoCommand)?;
     Ok(CommandContent::SetLines {
@@ -331,10 +331,10 @@ fn setting_with(name: &str, arguments: &str) -> Option<Call<'static>>
 }
 
 // The call that shows line numbers in the empty style, or that removes them.
-fn line_numbers(shown: bool) -> Call<'static>
-    ensures { result ≡ line_numbers shown }
+fn line_numbers(displayed: bool) -> Call<'static>
+    ensures { result ≡ line_numbers displayed }
 {
-    if shown {
+    if displayed {
         Call::SetLineNumberStyle(Style::new())
     } else {
         Call::RemoveLineNumber

@@ -1,7 +1,7 @@
 //! Laws of the two key tables. Each is the contract of a function that does nothing.
 
 ghost use Rattle.textarea_calls.specs.Keys.{keys_with_shortcuts, keys_without_shortcuts};
-ghost use Rattle.textarea_calls.specs.Table.{HasAnswersOfActions, HasNoOverlap};
+ghost use Rattle.textarea_calls.specs.Table.{HasFlagsOfActions, HasNoOverlap};
 
 /// Each input belongs to at most one case of each table.
 pub fn rows_do_not_overlap()
@@ -10,7 +10,7 @@ pub fn rows_do_not_overlap()
 {}
 
 /// The result in each case is that of its action, by [`crate::Action::answer`].
-pub fn answers_are_of_actions()
-    ensures with_shortcuts { HasAnswersOfActions keys_with_shortcuts }
-    ensures without_shortcuts { HasAnswersOfActions keys_without_shortcuts }
+pub fn flags_are_of_actions()
+    ensures with_shortcuts { HasFlagsOfActions keys_with_shortcuts }
+    ensures without_shortcuts { HasFlagsOfActions keys_without_shortcuts }
 {}

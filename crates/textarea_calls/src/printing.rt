@@ -23,7 +23,7 @@ impl fmt::Display for Answer {
                 "{} {} {} {}",
                 measure.content_rows, measure.preferred_rows, measure.min_rows, measure.max_rows
             ),
-            Answer::PatternRefused => write!(f, "pattern"),
+            Answer::PatternRejected => write!(f, "pattern"),
             Answer::Place(None) | Answer::Position(None) => write!(f, "none"),
             Answer::Place(Some((row, column))) => write!(f, "{row} {column}"),
             Answer::Position(Some(position)) => write!(f, "{} {}", position.x, position.y),
@@ -34,7 +34,7 @@ impl fmt::Display for Answer {
             Answer::Number(number) => write!(f, "{number}"),
             Answer::Cursor((row, column)) => write!(f, "{row} {column}"),
             Answer::Selection(ends) => write!(f, "{ends:?}"),
-            Answer::StyleIfShown(style) => write!(f, "{style:?}"),
+            Answer::StyleIfVisible(style) => write!(f, "{style:?}"),
             Answer::WrapMode(mode) => write!(f, "{mode:?}"),
         }
     }

@@ -16,7 +16,7 @@ const MOST_EDITS: usize = 1000;
 /// Compares two text areas: their state, a drawing, a character that is typed into clones of them,
 /// all further undos and redos with the state after each, and a drawing after these.
 pub fn compare(area: &mut TextArea<'_>, other: &mut TextArea<'_>) -> Result<(), EndReason> {
-    compare_shown(area, other)?;
+    compare_display(area, other)?;
     compare_yanks(area, other)?;
     compare_drawn(area, other)?;
     compare_typed(area, other)?;
@@ -27,7 +27,7 @@ pub fn compare(area: &mut TextArea<'_>, other: &mut TextArea<'_>) -> Result<(), 
 }
 
 /// Compares the state of two text areas, as far as that allocates nothing.
-pub fn compare_shown(area: &TextArea<'_>, other: &TextArea<'_>) -> Result<(), EndReason> {
+pub fn compare_display(area: &TextArea<'_>, other: &TextArea<'_>) -> Result<(), EndReason> {
     same(area.lines() == other.lines(), Difference::Lines)?;
     same(area.cursor() == other.cursor(), Difference::Cursor)?;
     let is_selected_alike = area.selection_range() == other.selection_range();
@@ -56,7 +56,7 @@ fn compare_drawn(area: &mut TextArea<'_>, other: &mut TextArea<'_>) -> Result<()
     let are_alike = is_drawn_so(other, &buffer);
     drop(buffer);
     same(are_alike?, Difference::Cells)?;
-    compare_shown(area, other)
+    compare_display(area, other)
 }
 
 fn is_drawn_so(area: &mut TextArea<'_>, wanted: &Buffer) -> Result<bool, AllocError> {
@@ -128,7 +128,7 @@ fn compare_edits(
     for _ in 0..MOST_EDITS {
         let has_gone = go(area, way)?;
         same(has_gone == go(other, way)?, way)?;
-        compare_shown(area, other)?;
+        compare_display(area, other)?;
         if !has_gone {
             break;
         }

@@ -22,7 +22,7 @@ pub enum EndReason {
     /// Memory ran out outside of a call.
     Memory,
     /// A call ran out of memory, and left the correct state.
-    Refused,
+    RanOut,
     /// A check failed.
     Wrong(Difference),
 }
@@ -54,7 +54,7 @@ pub enum Difference {
 impl End {
     pub fn status(&self) -> u8 {
         match self.stop {
-            None | Some(EndReason::Refused) => 0,
+            None | Some(EndReason::RanOut) => 0,
             Some(EndReason::Memory) => NOT_JUDGED,
             Some(EndReason::Wrong(_)) => WRONG,
         }
@@ -68,20 +68,20 @@ impl fmt::Display for End {
         match self.stop {
             None => write!(f, "{made} calls made"),
             Some(EndReason::Memory) => write!(f, "refused beside the calls, behind {made}"),
-            Some(EndReason::Refused) => write!(f, "call {call} refused, as it has to be"),
+            Some(EndReason::RanOut) => write!(f, "call {call} refused, as it has to be"),
             Some(EndReason::Wrong(difference)) => write!(f, "call {call} WRONG: {difference:?}"),
         }
     }
 }
 
 impl From<AllocError> for EndReason {
-    fn from(_refused: AllocError) -> EndReason {
+    fn from(_error: AllocError) -> EndReason {
         EndReason::Memory
     }
 }
 
 impl<T: Drop> From<AllocFailed<T>> for EndReason {
-    fn from(_refused: AllocFailed<T>) -> EndReason {
+    fn from(_error: AllocFailed<T>) -> EndReason {
         EndReason::Memory
     }
 }

@@ -5,13 +5,13 @@ use std::alloc::{AllocError, Global};
 /// the copy, from 0, and `;` is a line feed.
 pub fn expanded(alloc: Global, line: &str) -> Result<String, AllocError> {
     let mut long = String::new(alloc);
-    for (index, part) in line.split('<').enumerate() {
-        match part.split_once('>') {
-            Some((inside, behind)) if index != 0 => {
+    for (index, segment) in line.split('<').enumerate() {
+        match segment.split_once('>') {
+            Some((inside, after)) if index != 0 => {
                 push_times(&mut long, inside)?;
-                long.push_str(behind)?;
+                long.push_str(after)?;
             }
-            _ => long.push_str(part)?,
+            _ => long.push_str(segment)?,
         }
     }
     Ok(long)

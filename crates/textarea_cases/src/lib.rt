@@ -2,13 +2,13 @@
 #![tactic(auto)]
 
 pub mod compare;
+pub mod differences;
 pub mod end;
 pub mod expand;
 pub mod lines;
-pub mod parts;
 pub mod report;
-pub mod shown;
 pub mod stop;
 pub mod styles;
 pub mod tally;
+pub mod transcript;
 pub mod words;

@@ -1,5 +1,5 @@
 //! Prints what no call returns of a text area and a buffer.
-use crate::parts::{Parts, ranges_text, styles_text};
+use crate::differences::{Differences, ranges_text, styles_text};
 use crate::stop::Stop;
 use std::alloc::{AllocError, Global};
 use tui_textarea::{Buffer, TextArea};
@@ -33,26 +33,26 @@ fn viewport_text(alloc: Global, area: &TextArea<'_>) -> Result<String, AllocErro
 
 // The settings and states that differ from those of a new text area with a text.
 fn unprinted(alloc: Global, area: &TextArea<'_>) -> Result<String, AllocError> {
-    let mut parts = Parts::new(alloc);
-    tell(&mut parts, area)?;
-    parts.report(alloc)
+    let mut differences = Differences::new(alloc);
+    tell(&mut differences, area)?;
+    differences.report(alloc)
 }
 
-fn tell(parts: &mut Parts, area: &TextArea<'_>) -> Result<(), AllocError> {
-    parts.flag(area.is_empty(), "empty")?;
-    parts.flag(area.is_selecting(), "selecting")?;
-    parts.number(usize::from(area.tab_length()), 4, "tab_length")?;
-    parts.indent(area.indent())?;
-    parts.flag(area.hard_tab_indent(), "hard_tab_indent")?;
-    parts.flag(area.undo_coalescing(), "undo_coalescing")?;
-    parts.number(area.max_histories(), 50, "max_histories")?;
-    parts.mode(area.wrap_mode())?;
-    parts.style(area.line_number_style(), "line_number_style")?;
-    parts.pattern(area.search_pattern())?;
-    parts.ranges(area.atomic_ranges())?;
-    parts.flag(area.block().is_some(), "block")?;
-    parts.number(usize::from(area.min_rows()), 1, "min_rows")?;
-    parts.number(usize::from(area.max_rows()), 65535, "max_rows")?;
-    parts.placeholder(area.placeholder().lines.len(), area.placeholder_text())?;
-    parts.style(area.placeholder_style(), "placeholder_style")
+fn tell(differences: &mut Differences, area: &TextArea<'_>) -> Result<(), AllocError> {
+    differences.flag(area.is_empty(), "empty")?;
+    differences.flag(area.is_selecting(), "selecting")?;
+    differences.number(usize::from(area.tab_length()), 4, "tab_length")?;
+    differences.indent(area.indent())?;
+    differences.flag(area.hard_tab_indent(), "hard_tab_indent")?;
+    differences.flag(area.undo_coalescing(), "undo_coalescing")?;
+    differences.number(area.max_histories(), 50, "max_histories")?;
+    differences.mode(area.wrap_mode())?;
+    differences.style(area.line_number_style(), "line_number_style")?;
+    differences.pattern(area.search_pattern())?;
+    differences.ranges(area.atomic_ranges())?;
+    differences.flag(area.block().is_some(), "block")?;
+    differences.number(usize::from(area.min_rows()), 1, "min_rows")?;
+    differences.number(usize::from(area.max_rows()), 65535, "max_rows")?;
+    differences.placeholder(area.placeholder().lines.len(), area.placeholder_text())?;
+    differences.style(area.placeholder_style(), "placeholder_style")
 }

@@ -40,13 +40,13 @@ impl fmt::Display for Stop {
 }
 
 impl From<AllocError> for Stop {
-    fn from(_refused: AllocError) -> Stop {
+    fn from(_error: AllocError) -> Stop {
         Stop::Memory
     }
 }
 
 impl<T: Drop> From<AllocFailed<T>> for Stop {
-    fn from(_refused: AllocFailed<T>) -> Stop {
+    fn from(_error: AllocFailed<T>) -> Stop {
         Stop::Memory
     }
 }

@@ -23,7 +23,7 @@ impl Tally {
             Answer::Measured(measure) => {
                 self.rows = self.rows.saturating_add(usize::from(measure.content_rows));
             }
-            Answer::PatternRefused => return Err(EndReason::Wrong(Difference::Pattern)),
+            Answer::PatternRejected => return Err(EndReason::Wrong(Difference::Pattern)),
             _ => {}
         }
         self.calls = self.calls.saturating_add(1);

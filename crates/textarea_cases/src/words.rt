@@ -62,26 +62,26 @@ pub fn character(character: char) -> Input {
 }
 
 /// Returns the call of a line: the name of a call of the text area that scripts have no command for
-/// and, after a blank, its arguments. `letter` types the letter of `lent`, without shortcuts.
-pub fn call_of<'a>(line: &'a str, lent: &'a Borrows) -> Option<Call<'a>>
+/// and, after a blank, its arguments. `letter` types the letter of `borrows`, without shortcuts.
+pub fn call_of<'a>(line: &'a str, borrows: &'a Borrows) -> Option<Call<'a>>
     ensures { IfSome result CanBeMade }
 {
     match line.split_once(' ') {
         Some((name, arguments)) => call_with(name, arguments),
-        None => call_without_arguments(line, lent),
+        None => call_without_arguments(line, borrows),
     }
 }
 
 // The call of this name without arguments.
-fn call_without_arguments<'a>(name: &str, lent: &'a Borrows) -> Option<Call<'a>>
+fn call_without_arguments<'a>(name: &str, borrows: &'a Borrows) -> Option<Call<'a>>
     ensures { IfSome result CanBeMade }
 {
     Some(match name {
-        "letter" => Call::InputWithoutShortcuts(&lent.letter),
-        "set_block" => Call::SetBlock(&lent.block),
+        "letter" => Call::InputWithoutShortcuts(&borrows.letter),
+        "set_block" => Call::SetBlock(&borrows.block),
         "remove_block" => Call::RemoveBlock,
         "set_placeholder_text" => Call::SetPlaceholderText(""),
-        "set_styled_placeholder" => Call::SetStyledPlaceholder(&lent.placeholder),
+        "set_styled_placeholder" => Call::SetStyledPlaceholder(&borrows.placeholder),
         "clear_custom_highlight" => Call::ClearCustomHighlight,
         "clear_atomic_ranges" => Call::ClearAtomicRanges,
         "remove_line_number" => Call::RemoveLineNumber,
@@ -136,12 +136,12 @@ fn call_with<'a>(name: &str, arguments: &'a str) -> Option<Call<'a>>
     if name == "set_placeholder_text" {
         Some(Call::SetPlaceholderText(arguments))
     } else {
-        call_of_parts(name, arguments)
+        parsed_call(name, arguments)
     }
 }
 
 // The call of this name and these arguments, if it doesn't borrow them.
-fn call_of_parts<'a>(name: &str, arguments: &str) -> Option<Call<'a>>
+fn parsed_call<'a>(name: &str, arguments: &str) -> Option<Call<'a>>
     ensures { IfSome result CanBeMade }
 {
     Some(match name {
@@ -180,13 +180,13 @@ fn setting_style<'a>(name: &str, style: &str) -> Option<Call<'a>>
 fn highlight<'a>(arguments: &str) -> Option<Call<'a>>
     ensures { IfSome result CanBeMade }
 {
-    let mut parts = arguments.split(' ');
-    let start = (number(parts.next())?, number(parts.next())?);
-    let end = (number(parts.next())?, number(parts.next())?);
+    let mut differences = arguments.split(' ');
+    let start = (number(differences.next())?, number(differences.next())?);
+    let end = (number(differences.next())?, number(differences.next())?);
     Some(Call::CustomHighlight {
         range: (start, end),
-        style: style_named(parts.next()?)?,
-        priority: parts.next()?.parse().ok()?,
+        style: style_named(differences.next()?)?,
+        priority: differences.next()?.parse().ok()?,
     })
 }
 

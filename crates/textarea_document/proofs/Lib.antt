@@ -3,7 +3,7 @@ pub mod SymbolAfters
 pub mod Inserts
 pub mod UndoLaw
 pub mod Orders
-pub mod Parts
+pub mod Betweens
 pub mod Ranges
 pub mod Sounds
 pub mod StepLaw

@@ -10,6 +10,6 @@ HasSmallPlaces text = (place : Place) → IsPlace text place → (place.0 < size
 pub movable : (text : List Symbol) (ranges : List AtomicRange) → HasSmallPlaces text → AreValid (lines text) ranges → All IsMovable ranges
 movable text ranges small valid k d within =
     let range = get_or ranges k d in
-    let part = valid.parts k d within in
-    let behind = small (range_end range) (part.0, part.2) in
-    record { ordered = omega (arith, part.1); row = omega (arith, behind.0); column = behind.1 }
+    let segment = valid.components k d within in
+    let after = small (range_end range) (segment.0, segment.2) in
+    record { ordered = omega (arith, segment.1); row = omega (arith, after.0); column = after.1 }

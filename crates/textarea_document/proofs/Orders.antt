@@ -9,8 +9,8 @@ pub IsBefore-is_before : (first second : Place) → is_before first second ≡ t
 IsBefore-is_before first second e = (grind (arith, nat_tests), λ same. grind (arith, nat_tests))
 
 -- a position that is before another is not after it
-not_behind : (first second : Place) → IsBefore first second → IsUpTo second first → ⊥
-not_behind first second h k =
+not_after : (first second : Place) → IsBefore first second → IsUpTo second first → ⊥
+not_after first second h k =
     let same : first.0 ≡ second.0 = omega (arith, h.0, k.0) in
     let back : second.0 ≡ first.0 = omega (arith, h.0, k.0) in
     omega (arith, h.1 same, k.1 back)
@@ -22,4 +22,4 @@ index_before text first second h h' e = by (nat_lt (index_of text first) (index_
     by : (b : Bool) → nat_lt (index_of text first) (index_of text second) ≡ b → index_of text first < index_of text second
     by true less = grind (arith, nat_tests)
     by false less =
-        absurd (not_behind first second (IsBefore-is_before first second e) (up_to_from_index text second first h' h (grind (arith, nat_tests))))
+        absurd (not_after first second (IsBefore-is_before first second e) (up_to_from_index text second first h' h (grind (arith, nat_tests))))

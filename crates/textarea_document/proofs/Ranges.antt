@@ -5,17 +5,17 @@ use Rattle.std.proofs.lemmas.Bool.Decides.{nat_tests}
 use Rattle.std.proofs.lemmas.List.{drop_more, map-id}
 use Rattle.std.proofs.lemmas.List.Elements.{All-contains}
 use Rattle.std.proofs.lemmas.Slice.Zip.{AllZip-map}
-use Rattle.textarea_document.specs.Prelude.{IfSome, AllZip, Symbol, Character, Break, lines, Place, IsPlace, IsSymbolBefore, IsUpTo, OccursAt, end, index_of, is_same_place, Fits, AtomicRange, AtomicDeleteDirection, SplitsNoRange, anchor_out, unless_empty, IsRangeAtPlace, IsInside, TakesWhole, range_at_place, moved_out, range_start, range_end, AreValid, IsPart}
-use Rattle.textarea_text.proofs.Befores.{character_stands}
+use Rattle.textarea_document.specs.Prelude.{IfSome, AllZip, Symbol, Character, Break, lines, Place, IsPlace, IsSymbolBefore, IsUpTo, OccursAt, end, index_of, is_same_place, Fits, AtomicRange, AtomicDeleteDirection, SplitsNoRange, anchor_out, unless_empty, IsRangeAtPlace, IsInside, TakesWhole, range_at_place, moved_out, range_start, range_end, AreValid, IsRangeOfLine}
+use Rattle.textarea_text.proofs.Befores.{character_occurs}
 use Rattle.textarea_text.proofs.TextPlaces.{index_within, joined-lines}
 use Rattle.textarea_text.proofs.BetweenLemmas.{up_to_from_index as up_to_in_lines}
 use Rattle.textarea_data.specs.declared.range.AtomicCursorBias.TheVariants.{Backward}
 use Rattle.textarea_data.specs.declared.range.AtomicDeleteDirection.TheVariants.{Backward as DeleteBackward, Forward as DeleteForward}
-use Rattle.textarea_ranges.proofs.LookupLemmas.{IsPlaceOf-moved_out, MatchOption-hit, taken}
+use Rattle.textarea_ranges.proofs.LookupLemmas.{IsPlaceOf-moved_out, MatchOption-at_place, removed_or_beside}
 
 -- an empty list of ranges is valid for all lines
 pub valid_none : (rows : List (List ℕ)) → AreValid rows []
-valid_none rows = record { parts = λ k d within. absurd (omega arith); disjoint = λ j k d before within. absurd (omega arith) }
+valid_none rows = record { components = λ k d within. absurd (omega arith); disjoint = λ j k d before within. absurd (omega arith) }
 
 -- ---- the order of positions and of indices
 
@@ -45,62 +45,62 @@ widened_ordered text from to wide h h' w w' starts ends ordered =
 -- ---- the range at the cursor
 
 -- its ends are positions of the text, the first one first
-pub record IsHeld (text : List Symbol) (range : AtomicRange) : Type 0 where
+pub record IsStoredRange (text : List Symbol) (range : AtomicRange) : Type 0 where
   pub start_is : IsPlace text (range_start range)
   pub end_is : IsPlace text (range_end range)
   pub ordered : index_of text (range_start range) < index_of text (range_end range)
 
-hit_some : (text : List Symbol) (ranges : List AtomicRange) (place : Place) (direction : AtomicDeleteDirection) (found : Option AtomicRange) → AreValid (lines text) ranges → MatchOption found (All (λ range. ¬ IsRangeAtPlace place direction range) ranges) (λ range. Contains ranges range × IsRangeAtPlace place direction range) → IfSome found (IsHeld text)
-hit_some text ranges place direction None valid h = tt
-hit_some text ranges place direction (Some range) valid h =
-    let part : IsPart (lines text) range = All-contains (IsPart (lines text)) ranges range valid.parts h.0 in
-    record { start_is = (part.0, omega arith); end_is = (part.0, part.2); ordered = omega arith }
+range_some : (text : List Symbol) (ranges : List AtomicRange) (place : Place) (direction : AtomicDeleteDirection) (found : Option AtomicRange) → AreValid (lines text) ranges → MatchOption found (All (λ range. ¬ IsRangeAtPlace place direction range) ranges) (λ range. Contains ranges range × IsRangeAtPlace place direction range) → IfSome found (IsStoredRange text)
+range_some text ranges place direction None valid h = tt
+range_some text ranges place direction (Some range) valid h =
+    let segment : IsRangeOfLine (lines text) range = All-contains (IsRangeOfLine (lines text)) ranges range valid.components h.0 in
+    record { start_is = (segment.0, omega arith); end_is = (segment.0, segment.2); ordered = omega arith }
 
-pub hit_is_held : (text : List Symbol) (ranges : List AtomicRange) (place : Place) (direction : AtomicDeleteDirection) → AreValid (lines text) ranges → IfSome (range_at_place ranges place direction) (IsHeld text)
-hit_is_held text ranges place direction valid = hit_some text ranges place direction (range_at_place ranges place direction) valid (MatchOption-hit ranges place direction)
+pub range_is_stored : (text : List Symbol) (ranges : List AtomicRange) (place : Place) (direction : AtomicDeleteDirection) → AreValid (lines text) ranges → IfSome (range_at_place ranges place direction) (IsStoredRange text)
+range_is_stored text ranges place direction valid = range_some text ranges place direction (range_at_place ranges place direction) valid (MatchOption-at_place ranges place direction)
 
-pub held_start : (text : List Symbol) (found : Option AtomicRange) → IfSome found (IsHeld text) → IfSome found (λ range. IsPlace text (range_start range))
-held_start text None h = tt
-held_start text (Some range) h = h.start_is
+pub stored_start : (text : List Symbol) (found : Option AtomicRange) → IfSome found (IsStoredRange text) → IfSome found (λ range. IsPlace text (range_start range))
+stored_start text None h = tt
+stored_start text (Some range) h = h.start_is
 
-pub held_end : (text : List Symbol) (found : Option AtomicRange) → IfSome found (IsHeld text) → IfSome found (λ range. IsPlace text (range_end range))
-held_end text None h = tt
-held_end text (Some range) h = h.end_is
+pub stored_end : (text : List Symbol) (found : Option AtomicRange) → IfSome found (IsStoredRange text) → IfSome found (λ range. IsPlace text (range_end range))
+stored_end text None h = tt
+stored_end text (Some range) h = h.end_is
 
-pub held_ordered : (text : List Symbol) (found : Option AtomicRange) → IfSome found (IsHeld text) → IfSome found (λ range. index_of text (range_start range) < index_of text (range_end range))
-held_ordered text None h = tt
-held_ordered text (Some range) h = h.ordered
+pub stored_ordered : (text : List Symbol) (found : Option AtomicRange) → IfSome found (IsStoredRange text) → IfSome found (λ range. index_of text (range_start range) < index_of text (range_end range))
+stored_ordered text None h = tt
+stored_ordered text (Some range) h = h.ordered
 
 not_equal : (m n : ℕ) → m < n → (m == n) ≡ false
 not_equal m n less = grind (arith, nat_tests)
 
 -- with a range at the position, backward, the position isn't the text's start
-pub hit_before_start : (text : List Symbol) (ranges : List AtomicRange) (place : Place) (found : Option AtomicRange) → range_at_place ranges place DeleteBackward ≡ found → IfSome found (λ _. (index_of text place == 0) ≡ false)
-hit_before_start text ranges place None e = tt
-hit_before_start text ranges place (Some range) e =
-    let h : Contains ranges range × IsRangeAtPlace place DeleteBackward range = subst (λ o. MatchOption o (All (λ range. ¬ IsRangeAtPlace place DeleteBackward range) ranges) (λ range. Contains ranges range × IsRangeAtPlace place DeleteBackward range)) e (MatchOption-hit ranges place DeleteBackward) in
+pub range_starts_before : (text : List Symbol) (ranges : List AtomicRange) (place : Place) (found : Option AtomicRange) → range_at_place ranges place DeleteBackward ≡ found → IfSome found (λ _. (index_of text place == 0) ≡ false)
+range_starts_before text ranges place None e = tt
+range_starts_before text ranges place (Some range) e =
+    let h : Contains ranges range × IsRangeAtPlace place DeleteBackward range = subst (λ o. MatchOption o (All (λ range. ¬ IsRangeAtPlace place DeleteBackward range) ranges) (λ range. Contains ranges range × IsRangeAtPlace place DeleteBackward range)) e (MatchOption-at_place ranges place DeleteBackward) in
     positive (index_of text place) (omega (arith, h.1.1))
   where
     positive : (n : ℕ) → 0 < n → (n == 0) ≡ false
     positive n some = grind (arith, nat_tests)
 
 -- with one forward, it isn't the text's end
-pub hit_behind_end : (text : List Symbol) (ranges : List AtomicRange) (place : Place) (found : Option AtomicRange) → AreValid (lines text) ranges → range_at_place ranges place DeleteForward ≡ found → IfSome found (λ _. (index_of text place == length text) ≡ false)
-hit_behind_end text ranges place None valid e = tt
-hit_behind_end text ranges place (Some range) valid e =
-    let h : Contains ranges range × IsRangeAtPlace place DeleteForward range = subst (λ o. MatchOption o (All (λ range. ¬ IsRangeAtPlace place DeleteForward range) ranges) (λ range. Contains ranges range × IsRangeAtPlace place DeleteForward range)) e (MatchOption-hit ranges place DeleteForward) in
-    let held : IsHeld text range = subst (λ o. IfSome o (IsHeld text)) e (hit_is_held text ranges place DeleteForward valid) in
+pub range_ends_after : (text : List Symbol) (ranges : List AtomicRange) (place : Place) (found : Option AtomicRange) → AreValid (lines text) ranges → range_at_place ranges place DeleteForward ≡ found → IfSome found (λ _. (index_of text place == length text) ≡ false)
+range_ends_after text ranges place None valid e = tt
+range_ends_after text ranges place (Some range) valid e =
+    let h : Contains ranges range × IsRangeAtPlace place DeleteForward range = subst (λ o. MatchOption o (All (λ range. ¬ IsRangeAtPlace place DeleteForward range) ranges) (λ range. Contains ranges range × IsRangeAtPlace place DeleteForward range)) e (MatchOption-at_place ranges place DeleteForward) in
+    let stored : IsStoredRange text range = subst (λ o. IfSome o (IsStoredRange text)) e (range_is_stored text ranges place DeleteForward valid) in
     let row : index_of text place ≡ index_of text (range.row, place.1) = ap (λ n. index_of text (n, place.1)) (sym h.1.0) in
-    let before : index_of text place < length text = omega (arith, index_within text (range_end range) held.end_is, h.1.2, row) in
+    let before : index_of text place < length text = omega (arith, index_within text (range_end range) stored.end_is, h.1.2, row) in
     not_equal (index_of text place) (length text) before
 
 -- ---- ends of a removal that are strictly inside no range
 
 pub whole_from_ends : (ranges : List AtomicRange) (from to : Place) → All (λ range. ¬ IsInside from range) ranges → All (λ range. ¬ IsInside to range) ranges → TakesWhole ranges from to
-whole_from_ends ranges from to from_out to_out k d within = taken from to (get_or ranges k d) (from_out k d within) (to_out k d within)
+whole_from_ends ranges from to from_out to_out k d within = removed_or_beside from to (get_or ranges k d) (from_out k d within) (to_out k d within)
 
-none_hit : (ranges : List AtomicRange) (place : Place) (direction : AtomicDeleteDirection) → range_at_place ranges place direction ≡ None → All (λ range. ¬ IsRangeAtPlace place direction range) ranges
-none_hit ranges place direction e = subst (λ o. MatchOption o (All (λ range. ¬ IsRangeAtPlace place direction range) ranges) (λ range. Contains ranges range × IsRangeAtPlace place direction range)) e (MatchOption-hit ranges place direction)
+none_at_place : (ranges : List AtomicRange) (place : Place) (direction : AtomicDeleteDirection) → range_at_place ranges place direction ≡ None → All (λ range. ¬ IsRangeAtPlace place direction range) ranges
+none_at_place ranges place direction e = subst (λ o. MatchOption o (All (λ range. ¬ IsRangeAtPlace place direction range) ranges) (λ range. Contains ranges range × IsRangeAtPlace place direction range)) e (MatchOption-at_place ranges place direction)
 
 -- the start and the end of a line are
 pub outside_start : (ranges : List AtomicRange) (place : Place) → place.1 ≡ 0 → All (λ range. ¬ IsInside place range) ranges
@@ -108,18 +108,18 @@ outside_start ranges place e k d within h = omega (arith, h.1)
 
 pub outside_end : (rows : List (List ℕ)) (ranges : List AtomicRange) (place : Place) → AreValid rows ranges → length (get_or rows place.0 []) ≤ place.1 → All (λ range. ¬ IsInside place range) ranges
 outside_end rows ranges place valid e k d within h =
-    let part = valid.parts k d within in
-    omega (arith, h.2, part.2, e, ap (λ n. length (get_or rows n [])) h.0)
+    let segment = valid.components k d within in
+    omega (arith, h.2, segment.2, e, ap (λ n. length (get_or rows n [])) h.0)
 
 -- at a break the line ends
 break_at_end : (text : List Symbol) (place : Place) → IsPlace text place → OccursAt text place (Break ∷ []) → length (get_or (lines text) place.0 []) ≤ place.1
-break_at_end text place h stands =
+break_at_end text place h occurs =
     elim (cases_lt place.1 (length (get_or (lines text) place.0 []))) [
       | inl inside ↦
           let line = get_or (lines text) place.0 [] in
-          let character = character_stands (lines text) place.0 place.1 (get_or line place.1 0) h.0 h.1 (drop_more line place.1 0 inside) in
+          let character = character_occurs (lines text) place.0 place.1 (get_or line place.1 0) h.0 h.1 (drop_more line place.1 0 inside) in
           let here : OccursAt text place (Character (get_or line place.1 0) ∷ []) = subst (λ t. OccursAt t place (Character (get_or line place.1 0) ∷ [])) (joined-lines text) character in
-          absurd (not_both (take 1 (drop (index_of text place) text)) (get_or line place.1 0) stands here)
+          absurd (not_both (take 1 (drop (index_of text place) text)) (get_or line place.1 0) occurs here)
       | inr up ↦ up
     ]
   where
@@ -128,30 +128,30 @@ break_at_end text place h stands =
 
 -- the removal of the symbol before a position, without a range there backward, splits no range
 pub before_by : (text : List Symbol) (ranges : List AtomicRange) (place from : Place) (symbol : Symbol) → AreValid (lines text) ranges → range_at_place ranges place DeleteBackward ≡ None → IsPlace text from → OccursAt text from (symbol ∷ []) → place ≡ end from (symbol ∷ []) → TakesWhole ranges from place
-before_by text ranges place from (Character c) valid none h stands ends =
-    let free = none_hit ranges place DeleteBackward none in
+before_by text ranges place from (Character c) valid none h occurs ends =
+    let free = none_at_place ranges place DeleteBackward none in
     let row : place.0 ≡ from.0 = ap (λ (p : Place). p.0) ends in
     let column : place.1 ≡ from.1 + 1 = ap (λ (p : Place). p.1) ends in
     whole_from_ends ranges from place
     (λ k d within inside. free k d within (inside.0 ∙ sym row, omega (arith, inside.1, column), omega (arith, inside.2, column)))
     (λ k d within inside. free k d within (inside.0, inside.1, omega (arith, inside.2)))
-before_by text ranges place from Break valid none h stands ends =
-    whole_from_ends ranges from place (outside_end (lines text) ranges from valid (break_at_end text from h stands)) (outside_start ranges place (ap (λ (p : Place). p.1) ends))
+before_by text ranges place from Break valid none h occurs ends =
+    whole_from_ends ranges from place (outside_end (lines text) ranges from valid (break_at_end text from h occurs)) (outside_start ranges place (ap (λ (p : Place). p.1) ends))
 
 pub whole_before : (text : List Symbol) (ranges : List AtomicRange) (place from : Place) (symbol : Symbol) → AreValid (lines text) ranges → range_at_place ranges place DeleteBackward ≡ None → IsSymbolBefore text place from symbol → TakesWhole ranges from place
-whole_before text ranges place from symbol valid none before = before_by text ranges place from symbol valid none before.is_place before.stands before.ends
+whole_before text ranges place from symbol valid none before = before_by text ranges place from symbol valid none before.is_place before.occurs before.ends
 
 -- and so does the removal of the symbol after it
-pub whole_behind : (ranges : List AtomicRange) (place to : Place) (symbol : Symbol) → range_at_place ranges place DeleteForward ≡ None → to ≡ end place (symbol ∷ []) → TakesWhole ranges place to
-whole_behind ranges place to (Character c) none ends =
-    let free = none_hit ranges place DeleteForward none in
+pub whole_after : (ranges : List AtomicRange) (place to : Place) (symbol : Symbol) → range_at_place ranges place DeleteForward ≡ None → to ≡ end place (symbol ∷ []) → TakesWhole ranges place to
+whole_after ranges place to (Character c) none ends =
+    let free = none_at_place ranges place DeleteForward none in
     let row : to.0 ≡ place.0 = ap (λ (p : Place). p.0) ends in
     let column : to.1 ≡ place.1 + 1 = ap (λ (p : Place). p.1) ends in
     whole_from_ends ranges place to
     (λ k d within inside. free k d within (inside.0, omega (arith, inside.1), inside.2))
     (λ k d within inside. free k d within (inside.0 ∙ row, omega (arith, inside.1, column), omega (arith, inside.2, column)))
-whole_behind ranges place to Break none ends =
-    let free = none_hit ranges place DeleteForward none in
+whole_after ranges place to Break none ends =
+    let free = none_at_place ranges place DeleteForward none in
     whole_from_ends ranges place to (λ k d within inside. free k d within (inside.0, omega (arith, inside.1), inside.2)) (outside_start ranges to (ap (λ (p : Place). p.1) ends))
 
 -- a selection's beginning, moved out of a range, is still a position

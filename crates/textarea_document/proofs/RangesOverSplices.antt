@@ -2,28 +2,28 @@
 use Rattle.std.proofs.Common.{◌≡◌, ℕ, zero, suc, Bool, true, false, List, [], ◌∷◌, ◌++◌, get_or, filter_map, Contains, Option, None, Some, sym, ap, refl, subst, ◌∙◌, arith, inl, inr, ◌⊎◌, suc-le-suc}
 use Rattle.std.proofs.lemmas.Bool.Decides.{nat_tests}
 use Rattle.std.proofs.lemmas.List.Elements.{All-cons, All-contains, All-nil, Contains-get_or}
-use Rattle.textarea_document.specs.Prelude.{cons_option, Symbol, lines, Place, end, CanApply, Fits, Splice, IsTextBefore, applied, applied_all, inverse, newest, next, AtomicRange, IsBeside, IsInside, TakesRange, Overlaps, CoversTheSame, DisturbsBy, moved_range, moved_ranges, AreValid, IsPart, HasEffect, EditStep, splice_of_step, stepped, AllStayOrAreDropped, AllStemFrom, SplitNoRange, RangesFollowSplices, RangesStayWhole, IsDroppedBy, StemsFrom, carried_range, ranges_over, SplitsNoRange, SplitsNoRangeBy, after_redo, after_redo_by, after_undo, after_undo_by, IsSound, DocumentState}
+use Rattle.textarea_document.specs.Prelude.{cons_option, Symbol, lines, Place, end, CanApply, Fits, Splice, IsTextBefore, applied, applied_all, inverse, newest, next, AtomicRange, IsBeside, IsInside, TakesRange, Overlaps, CoversTheSame, DisturbsBy, moved_range, moved_ranges, AreValid, IsRangeOfLine, HasEffect, EditStep, splice_of_step, stepped, AllStayOrAreDropped, AllStemFrom, SplitNoRange, RangesFollowSplices, RangesStayWhole, IsDroppedBy, StemsFrom, carried_range, ranges_over, SplitsNoRange, SplitsNoRangeBy, after_redo, after_redo_by, after_undo, after_undo_by, IsSound, DocumentState}
 use Rattle.textarea_ranges.proofs.Moving.{covers_the_same, dropped, valid_moved}
 use Rattle.textarea_document.proofs.Sounds.{newest_fits, next_fits}
-use Rattle.textarea_document.proofs.StepLaw.{step_kept}
+use Rattle.textarea_document.proofs.StepLaw.{step_keeps}
 
 -- ---- one splice
 
 one : (old : DocumentState) (splice : Splice) (new : DocumentState) → Fits old.text splice → new.text ≡ applied old.text splice → new.ranges ≡ moved_ranges old.ranges splice → RangesFollowSplices old (splice ∷ []) new
 one old splice new fits text ranges = record { text = record { can = (fits, tt); leads = sym text }; ranges = ranges }
 
-pub stepped_goes : (document : DocumentState) (step : EditStep) (typed : Bool) (now : ℕ) → IsSound document → HasEffect document step → RangesStayWhole document (splice_of_step document step ∷ []) (stepped document step typed now)
-stepped_goes document step typed now sound made =
-    let kept = step_kept document step sound made in
-    (one document (splice_of_step document step) (stepped document step typed now) kept.0 refl refl, (kept.1, tt))
+pub ranges_follow_step : (document : DocumentState) (step : EditStep) (typed : Bool) (now : ℕ) → IsSound document → HasEffect document step → RangesStayWhole document (splice_of_step document step ∷ []) (stepped document step typed now)
+ranges_follow_step document step typed now sound made =
+    let unchanged = step_keeps document step sound made in
+    (one document (splice_of_step document step) (stepped document step typed now) unchanged.0 refl refl, (unchanged.1, tt))
 
-pub undone_goes : (document : DocumentState) (splice : Splice) → IsSound document → newest document.log ≡ Some splice → RangesFollowSplices document (inverse splice ∷ []) (after_undo document)
-undone_goes document splice sound is =
+pub ranges_follow_undo : (document : DocumentState) (splice : Splice) → IsSound document → newest document.log ≡ Some splice → RangesFollowSplices document (inverse splice ∷ []) (after_undo document)
+ranges_follow_undo document splice sound is =
     subst (λ (found : Option Splice). RangesFollowSplices document (inverse splice ∷ []) (after_undo_by found document)) (sym is)
     (one document (inverse splice) (after_undo_by (Some splice) document) (newest_fits document splice sound is) refl refl)
 
-pub redone_goes : (document : DocumentState) (splice : Splice) → IsSound document → next document.log ≡ Some splice → RangesFollowSplices document (splice ∷ []) (after_redo document)
-redone_goes document splice sound is =
+pub ranges_follow_redo : (document : DocumentState) (splice : Splice) → IsSound document → next document.log ≡ Some splice → RangesFollowSplices document (splice ∷ []) (after_redo document)
+ranges_follow_redo document splice sound is =
     subst (λ (found : Option Splice). RangesFollowSplices document (splice ∷ []) (after_redo_by found document)) (sym is)
     (one document splice (after_redo_by (Some splice) document) (next_fits document splice sound is) refl refl)
 
@@ -37,8 +37,8 @@ applied_all-append : (text : List Symbol) (first second : List Splice) → appli
 applied_all-append text [] second = refl
 applied_all-append text (splice ∷ first) second = applied_all-append (applied text splice) first second
 
-stood_on : (one two three : List Symbol) (first second : List Splice) → IsTextBefore one two first → IsTextBefore two three second → IsTextBefore one three (first ++ second)
-stood_on one two three first second h k = record {
+text_before_joined : (one two three : List Symbol) (first second : List Splice) → IsTextBefore one two first → IsTextBefore two three second → IsTextBefore one three (first ++ second)
+text_before_joined one two three first second h k = record {
   can = CanApply-append one first second h.can (subst (λ t. CanApply t second) (sym h.leads) k.can);
   leads = applied_all-append one first second ∙ ap (λ t. applied_all t second) h.leads ∙ k.leads;
 }
@@ -51,9 +51,9 @@ SplitNoRange-append : (ranges : List AtomicRange) (first second : List Splice) �
 SplitNoRange-append ranges [] second h k = k
 SplitNoRange-append ranges (splice ∷ first) second h k = (h.0, SplitNoRange-append (moved_ranges ranges splice) first second h.1 k)
 
-pub goes_on : (old between new : DocumentState) (first second : List Splice) → RangesFollowSplices old first between → RangesFollowSplices between second new → RangesFollowSplices old (first ++ second) new
-goes_on old between new first second h k = record {
-  text = stood_on old.text between.text new.text first second h.text k.text;
+pub ranges_follow_on : (old between new : DocumentState) (first second : List Splice) → RangesFollowSplices old first between → RangesFollowSplices between second new → RangesFollowSplices old (first ++ second) new
+ranges_follow_on old between new first second h k = record {
+  text = text_before_joined old.text between.text new.text first second h.text k.text;
   ranges = k.ranges ∙ ap (λ (r : List AtomicRange). ranges_over r second) h.ranges ∙ sym (ranges_over-append old.ranges first second);
 }
 
@@ -61,9 +61,9 @@ goes_on old between new first second h k = record {
 pub stays : (old new : DocumentState) → new.text ≡ old.text → new.ranges ≡ old.ranges → RangesStayWhole old [] new
 stays old new text ranges = (record { text = record { can = tt; leads = sym text }; ranges = ranges }, tt)
 
-pub goes_uncut_on : (old between new : DocumentState) (first second : List Splice) → RangesStayWhole old first between → RangesStayWhole between second new → RangesStayWhole old (first ++ second) new
-goes_uncut_on old between new first second h k = (
-  goes_on old between new first second h.0 k.0,
+pub ranges_stay_on : (old between new : DocumentState) (first second : List Splice) → RangesStayWhole old first between → RangesStayWhole between second new → RangesStayWhole old (first ++ second) new
+ranges_stay_on old between new first second h k = (
+  ranges_follow_on old between new first second h.0 k.0,
   SplitNoRange-append old.ranges first second h.1 (subst (λ (r : List AtomicRange). SplitNoRange r second) h.0.ranges k.1),
 )
 
@@ -71,16 +71,16 @@ goes_uncut_on old between new first second h k = (
 
 record From {X Y : Type 0} (f : X → Option Y) (xs : List X) (y : Y) : Type 0 where
   x : X
-  held : Contains xs x
+  stored : Contains xs x
   is : f x ≡ Some y
 
-from_behind : {X Y : Type 0} (f : X → Option Y) (first : X) (xs : List X) (y : Y) → From f xs y → From f (first ∷ xs) y
-from_behind f first xs y found = record { x = found.x; held = (suc found.held.0, suc-le-suc found.held.1, found.held.2); is = found.is }
+from_rest : {X Y : Type 0} (f : X → Option Y) (first : X) (xs : List X) (y : Y) → From f xs y → From f (first ∷ xs) y
+from_rest f first xs y found = record { x = found.x; stored = (suc found.stored.0, suc-le-suc found.stored.1, found.stored.2); is = found.is }
 
 from_cons : {X Y : Type 0} (f : X → Option Y) (first : X) (xs : List X) (y : Y) (found : Option Y) → f first ≡ found → (Contains (filter_map f xs) y → From f xs y) → Contains (cons_option found (filter_map f xs)) y → From f (first ∷ xs) y
-from_cons f first xs y None e rest h = from_behind f first xs y (rest h)
-from_cons f first xs y (Some z) e rest (zero, within, is) = record { x = first; held = (zero, omega arith, refl); is = e ∙ ap Some is }
-from_cons f first xs y (Some z) e rest (suc k, within, is) = from_behind f first xs y (rest (k, omega arith, is))
+from_cons f first xs y None e rest h = from_rest f first xs y (rest h)
+from_cons f first xs y (Some z) e rest (zero, within, is) = record { x = first; stored = (zero, omega arith, refl); is = e ∙ ap Some is }
+from_cons f first xs y (Some z) e rest (suc k, within, is) = from_rest f first xs y (rest (k, omega arith, is))
 
 from_list : {X Y : Type 0} (f : X → Option Y) (xs : List X) (y : Y) → Contains (filter_map f xs) y → From f xs y
 from_list f [] y h = absurd (omega (arith, h.1))
@@ -92,31 +92,31 @@ from_moved ranges splice range h = from_list (moved_range splice) ranges range h
 
 record Origin (text : List Symbol) (ranges : List AtomicRange) (splices : List Splice) (range : AtomicRange) : Type 0 where
   origin : AtomicRange
-  held : Contains ranges origin
+  stored : Contains ranges origin
   carried : carried_range (Some origin) splices ≡ Some range
   covers : CoversTheSame text (applied_all text splices) origin range
 
 origin_over : (text : List Symbol) (ranges : List AtomicRange) (splices : List Splice) (range : AtomicRange) → AreValid (lines text) ranges → CanApply text splices → Contains (ranges_over ranges splices) range → Origin text ranges splices range
 origin_over text ranges [] range valid can h =
-    record { origin = range; held = h; carried = refl; covers = record { part = All-contains (IsPart (lines text)) ranges range valid.parts h; same = refl } }
+    record { origin = range; stored = h; carried = refl; covers = record { in_line = All-contains (IsRangeOfLine (lines text)) ranges range valid.components h; same = refl } }
 origin_over text ranges (splice ∷ rest) range valid can h =
     let later = origin_over (applied text splice) (moved_ranges ranges splice) rest range (valid_moved text splice ranges can.0 valid) can.1 h in
-    let here = from_moved ranges splice later.origin later.held in
-    let part : IsPart (lines text) here.x = All-contains (IsPart (lines text)) ranges here.x valid.parts here.held in
-    let covers = covers_the_same text splice here.x later.origin can.0 part here.is in
+    let here = from_moved ranges splice later.origin later.stored in
+    let in_line : IsRangeOfLine (lines text) here.x = All-contains (IsRangeOfLine (lines text)) ranges here.x valid.components here.stored in
+    let covers = covers_the_same text splice here.x later.origin can.0 in_line here.is in
     record {
       origin = here.x;
-      held = here.held;
+      stored = here.stored;
       carried = ap (λ (o : Option AtomicRange). carried_range o rest) here.is ∙ later.carried;
-      covers = record { part = later.covers.part; same = later.covers.same ∙ covers.same };
+      covers = record { in_line = later.covers.in_line; same = later.covers.same ∙ covers.same };
     }
 
 pub stems_from : (old new : DocumentState) (splices : List Splice) → IsSound old → RangesFollowSplices old splices new → (range : AtomicRange) → Contains new.ranges range → StemsFrom old splices new range
-stems_from old new splices sound h range held =
-    let found = origin_over old.text old.ranges splices range sound.ranges h.text.can (subst (λ (r : List AtomicRange). Contains r range) h.ranges held) in
+stems_from old new splices sound h range stored =
+    let found = origin_over old.text old.ranges splices range sound.ranges h.text.can (subst (λ (r : List AtomicRange). Contains r range) h.ranges stored) in
     record {
       origin = found.origin;
-      held = found.held;
+      stored = found.stored;
       carried = found.carried;
       covers = subst (λ t. CoversTheSame old.text t found.origin range) h.text.leads found.covers;
     }
@@ -126,9 +126,9 @@ all_stem old new splices sound h k d within = stems_from old new splices sound h
 
 -- ---- each old range is moved on, or one splice disturbs it
 
-contains_behind : {Y : Type 0} (found : Option Y) (ys : List Y) (y : Y) → Contains ys y → Contains (cons_option found ys) y
-contains_behind None ys y h = h
-contains_behind (Some z) ys y h = (suc h.0, suc-le-suc h.1, h.2)
+contains_rest : {Y : Type 0} (found : Option Y) (ys : List Y) (y : Y) → Contains ys y → Contains (cons_option found ys) y
+contains_rest None ys y h = h
+contains_rest (Some z) ys y h = (suc h.0, suc-le-suc h.1, h.2)
 
 contains_first : {Y : Type 0} (found : Option Y) (ys : List Y) (y : Y) → found ≡ Some y → Contains (cons_option found ys) y
 contains_first found ys y e = subst (λ o. Contains (cons_option o ys) y) (sym e) (zero, omega arith, refl)
@@ -136,7 +136,7 @@ contains_first found ys y e = subst (λ o. Contains (cons_option o ys) y) (sym e
 to_list : {X Y : Type 0} (f : X → Option Y) (xs : List X) (x : X) (y : Y) → Contains xs x → f x ≡ Some y → Contains (filter_map f xs) y
 to_list f [] x y h e = absurd (omega (arith, h.1))
 to_list f (first ∷ xs) x y (zero, within, is) e = contains_first (f first) (filter_map f xs) y (ap f is ∙ e)
-to_list f (first ∷ xs) x y (suc k, within, is) e = contains_behind (f first) (filter_map f xs) y (to_list f xs x y (k, omega arith, is) e)
+to_list f (first ∷ xs) x y (suc k, within, is) e = contains_rest (f first) (filter_map f xs) y (to_list f xs x y (k, omega arith, is) e)
 
 to_moved : (ranges : List AtomicRange) (splice : Splice) (range new : AtomicRange) → Contains ranges range → moved_range splice range ≡ Some new → Contains (moved_ranges ranges splice) new
 unfolding moved_ranges
@@ -173,21 +173,21 @@ not_beside : (from to : Place) (range : AtomicRange) → Overlaps from to range 
 not_beside from to range h (inl up) = grind (arith, nat_tests)
 not_beside from to range h (inr up) = grind (arith, nat_tests)
 
-taken_by : (inserts : Bool) (place to : Place) (range : AtomicRange) → SplitsNoRangeBy inserts (range ∷ []) place to → DisturbsBy inserts place to range → (inserts ≡ false) × TakesRange place to range
-taken_by true place to range cuts disturbs = absurd (cuts 0 range (omega arith) disturbs)
-taken_by false place to range cuts disturbs =
+removed_by : (inserts : Bool) (place to : Place) (range : AtomicRange) → SplitsNoRangeBy inserts (range ∷ []) place to → DisturbsBy inserts place to range → (inserts ≡ false) × TakesRange place to range
+removed_by true place to range cuts disturbs = absurd (cuts 0 range (omega arith) disturbs)
+removed_by false place to range cuts disturbs =
     elim (cuts 0 range (omega arith)) [
       | inl within ↦ (refl, within)
       | inr beside ↦ absurd (not_beside place to range disturbs beside)
     ]
 
-one_cuts : (inserts : Bool) (ranges : List AtomicRange) (place to : Place) (range : AtomicRange) → SplitsNoRangeBy inserts ranges place to → Contains ranges range → SplitsNoRangeBy inserts (range ∷ []) place to
-one_cuts true ranges place to range cuts held =
-    All-cons (λ r. ¬ IsInside place r) range [] (All-contains (λ r. ¬ IsInside place r) ranges range cuts held) (All-nil (λ r. ¬ IsInside place r))
-one_cuts false ranges place to range cuts held =
-    All-cons (λ r. TakesRange place to r ⊎ IsBeside place to r) range [] (All-contains (λ r. TakesRange place to r ⊎ IsBeside place to r) ranges range cuts held) (All-nil (λ r. TakesRange place to r ⊎ IsBeside place to r))
+one_splits : (inserts : Bool) (ranges : List AtomicRange) (place to : Place) (range : AtomicRange) → SplitsNoRangeBy inserts ranges place to → Contains ranges range → SplitsNoRangeBy inserts (range ∷ []) place to
+one_splits true ranges place to range cuts stored =
+    All-cons (λ r. ¬ IsInside place r) range [] (All-contains (λ r. ¬ IsInside place r) ranges range cuts stored) (All-nil (λ r. ¬ IsInside place r))
+one_splits false ranges place to range cuts stored =
+    All-cons (λ r. TakesRange place to r ⊎ IsBeside place to r) range [] (All-contains (λ r. TakesRange place to r ⊎ IsBeside place to r) ranges range cuts stored) (All-nil (λ r. TakesRange place to r ⊎ IsBeside place to r))
 
-pub only_taken : (ranges : List AtomicRange) (splice : Splice) (range : AtomicRange) → SplitsNoRange ranges splice → Contains ranges range → moved_range splice range ≡ None → (splice.inserts ≡ false) × TakesRange splice.place (end splice.place splice.symbols) range
-only_taken ranges splice range cuts held is =
+pub only_removed : (ranges : List AtomicRange) (splice : Splice) (range : AtomicRange) → SplitsNoRange ranges splice → Contains ranges range → moved_range splice range ≡ None → (splice.inserts ≡ false) × TakesRange splice.place (end splice.place splice.symbols) range
+only_removed ranges splice range cuts stored is =
     let to = end splice.place splice.symbols in
-    taken_by splice.inserts splice.place to range (one_cuts splice.inserts ranges splice.place to range cuts held) ((dropped splice range).0 is)
+    removed_by splice.inserts splice.place to range (one_splits splice.inserts ranges splice.place to range cuts stored) ((dropped splice range).0 is)

@@ -10,9 +10,9 @@ pub rows_of_text : {Z : Type 0} (items : List (String Z)) (place : Place) → Is
 rows_of_text items place h = sym (lines-joined (lines_of items) (omega (arith, h.0)))
 
 -- the target of a move is computed from the lines: the move is the intended one
-pub leads : {Z : Type 0} (visual : VisualTargets) (items : List (String Z)) (cursor : Place) (cursor_move meant : CursorMove) (found : Option Place) (of_rows : List (List ℕ) → Option Place) → IsPlaceOf (lines_of items) cursor → cursor_move ≡ meant → found ≡ of_rows (lines_of items) → of_rows (lines (text_of items)) ≡ target visual (text_of items) cursor meant → found ≡ target visual (text_of items) cursor cursor_move
-leads visual items cursor cursor_move meant found of_rows h is told same =
-    told ∙ ap of_rows (rows_of_text items cursor h) ∙ same ∙ ap (target visual (text_of items) cursor) (sym is)
+pub leads : {Z : Type 0} (visual : VisualTargets) (items : List (String Z)) (cursor : Place) (cursor_move meaning : CursorMove) (found : Option Place) (of_rows : List (List ℕ) → Option Place) → IsPlaceOf (lines_of items) cursor → cursor_move ≡ meaning → found ≡ of_rows (lines_of items) → of_rows (lines (text_of items)) ≡ target visual (text_of items) cursor meaning → found ≡ target visual (text_of items) cursor cursor_move
+leads visual items cursor cursor_move meaning found of_rows h is reported same =
+    reported ∙ ap of_rows (rows_of_text items cursor h) ∙ same ∙ ap (target visual (text_of items) cursor) (sym is)
 
 -- ---- empty lines
 

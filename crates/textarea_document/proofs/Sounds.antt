@@ -27,11 +27,11 @@ sound_edited document splice typed now h fits =
     sound_after document splice (recorded document.log splice typed now) h fits (log_edited (logged document) splice typed now (logged_sound document h) fits)
 
 -- a document's parts after a change, with this log, make the document after it
-pub changed_is : (text_layout new : TextAndLayout) (cursor ahead : Place) (anchor : Option Place) (ranges held : List AtomicRange) (log after left : Log) (splice : Splice) → new ≡ applied_to text_layout splice → ahead ≡ place_after splice → held ≡ moved_ranges ranges splice → after ≡ left → document_of new ahead None held after ≡ after_change (document_of text_layout cursor anchor ranges log) splice left
-changed_is text_layout new cursor ahead anchor ranges held log after left splice laid_is cursor_is held_is log_is =
-    ap (λ (l : TextAndLayout). document_of l ahead None held after) laid_is
-    ∙ ap (λ (p : Place). document_of (applied_to text_layout splice) p None held after) cursor_is
-    ∙ ap (λ (r : List AtomicRange). document_of (applied_to text_layout splice) (place_after splice) None r after) held_is
+pub changed_is : (text_layout new : TextAndLayout) (cursor ahead : Place) (anchor : Option Place) (ranges stored : List AtomicRange) (log after left : Log) (splice : Splice) → new ≡ applied_to text_layout splice → ahead ≡ place_after splice → stored ≡ moved_ranges ranges splice → after ≡ left → document_of new ahead None stored after ≡ after_change (document_of text_layout cursor anchor ranges log) splice left
+changed_is text_layout new cursor ahead anchor ranges stored log after left splice layout_is cursor_is stored_is log_is =
+    ap (λ (l : TextAndLayout). document_of l ahead None stored after) layout_is
+    ∙ ap (λ (p : Place). document_of (applied_to text_layout splice) p None stored after) cursor_is
+    ∙ ap (λ (r : List AtomicRange). document_of (applied_to text_layout splice) (place_after splice) None r after) stored_is
     ∙ ap (λ (l : Log). document_of (applied_to text_layout splice) (place_after splice) None (moved_ranges ranges splice) l) log_is
 
 -- the layout has no influence on the invariant
@@ -59,31 +59,31 @@ sound_redone document splice h e =
 pub sound_fresh : (text : List Symbol) (settings : LayoutSettings) (count : ℕ) (cursor : Place) (maximum : ℕ) → IsPlace text cursor → IsSound (fresh_document text settings count cursor maximum)
 sound_fresh text settings count cursor maximum h = record { cursor = h; anchor = tt; ranges = valid_none (lines text); in_order = refl; undo = tt; redo = tt; bounded = omega arith }
 
-pub fresh_is : (text : List Symbol) (settings : LayoutSettings) (count : ℕ) (cursor : Place) (maximum : ℕ) (text_layout : TextAndLayout) (held : List AtomicRange) (log : Log) → text_layout ≡ layout_from_scratch settings count text → held ≡ [] → log ≡ empty_log maximum → record { text = text_layout.text; layout = text_layout.layout; cursor = cursor; anchor = None; ranges = held; log = log } ≡ fresh_document text settings count cursor maximum
-fresh_is text settings count cursor maximum text_layout held log laid_is held_is log_is =
-    ap (λ (l : TextAndLayout). record { text = l.text; layout = l.layout; cursor = cursor; anchor = None; ranges = held; log = log }) laid_is
-    ∙ ap (λ (r : List AtomicRange). record { text = text; layout = all_wrapped settings count (length (lines text)); cursor = cursor; anchor = None; ranges = r; log = log }) held_is
+pub fresh_is : (text : List Symbol) (settings : LayoutSettings) (count : ℕ) (cursor : Place) (maximum : ℕ) (text_layout : TextAndLayout) (stored : List AtomicRange) (log : Log) → text_layout ≡ layout_from_scratch settings count text → stored ≡ [] → log ≡ empty_log maximum → record { text = text_layout.text; layout = text_layout.layout; cursor = cursor; anchor = None; ranges = stored; log = log } ≡ fresh_document text settings count cursor maximum
+fresh_is text settings count cursor maximum text_layout stored log layout_is stored_is log_is =
+    ap (λ (l : TextAndLayout). record { text = l.text; layout = l.layout; cursor = cursor; anchor = None; ranges = stored; log = log }) layout_is
+    ∙ ap (λ (r : List AtomicRange). record { text = text; layout = all_wrapped settings count (length (lines text)); cursor = cursor; anchor = None; ranges = r; log = log }) stored_is
     ∙ ap (λ (l : Log). record { text = text; layout = all_wrapped settings count (length (lines text)); cursor = cursor; anchor = None; ranges = []; log = l }) log_is
 
-pub sound_laid : (text : List Symbol) (settings : LayoutSettings) (count : ℕ) (cursor : Place) (maximum : ℕ) (text_layout : TextAndLayout) (held : List AtomicRange) (log : Log) → text_layout ≡ layout_from_scratch settings count text → held ≡ [] → log ≡ empty_log maximum → IsPlace text cursor → IsSound (record { text = text_layout.text; layout = text_layout.layout; cursor = cursor; anchor = None; ranges = held; log = log })
-sound_laid text settings count cursor maximum text_layout held log laid_is held_is log_is h =
-    subst IsSound (sym (fresh_is text settings count cursor maximum text_layout held log laid_is held_is log_is)) (sound_fresh text settings count cursor maximum h)
+pub sound_layout : (text : List Symbol) (settings : LayoutSettings) (count : ℕ) (cursor : Place) (maximum : ℕ) (text_layout : TextAndLayout) (stored : List AtomicRange) (log : Log) → text_layout ≡ layout_from_scratch settings count text → stored ≡ [] → log ≡ empty_log maximum → IsPlace text cursor → IsSound (record { text = text_layout.text; layout = text_layout.layout; cursor = cursor; anchor = None; ranges = stored; log = log })
+sound_layout text settings count cursor maximum text_layout stored log layout_is stored_is log_is h =
+    subst IsSound (sym (fresh_is text settings count cursor maximum text_layout stored log layout_is stored_is log_is)) (sound_fresh text settings count cursor maximum h)
 
 pub start_is_place : (text : List Symbol) → IsPlace text (0, 0)
 start_is_place text = IsPlace-end [] text
 
 -- a document with equal parts
 pub same_document : (text_layout other : TextAndLayout) (cursor : Place) (anchor : Option Place) (ranges copies : List AtomicRange) (log copy : Log) → other ≡ text_layout → copies ≡ ranges → copy ≡ log → document_of other cursor anchor copies copy ≡ document_of text_layout cursor anchor ranges log
-same_document text_layout other cursor anchor ranges copies log copy laid_is ranges_are log_is =
-    ap (λ (l : TextAndLayout). document_of l cursor anchor copies copy) laid_is
+same_document text_layout other cursor anchor ranges copies log copy layout_is ranges_are log_is =
+    ap (λ (l : TextAndLayout). document_of l cursor anchor copies copy) layout_is
     ∙ ap (λ (r : List AtomicRange). document_of text_layout cursor anchor r copy) ranges_are
     ∙ ap (λ (l : Log). document_of text_layout cursor anchor ranges l) log_is
 
 -- ---- other settings
 
 -- other settings leave the text
-text_seen : (text_layout : TextAndLayout) (settings : LayoutSettings) → (with_settings text_layout settings).text ≡ text_layout.text
-text_seen text_layout settings = by (is_same_wrapping (wrapping_for settings (length (lines text_layout.text))) (wrapping_of text_layout))
+text_with_settings : (text_layout : TextAndLayout) (settings : LayoutSettings) → (with_settings text_layout settings).text ≡ text_layout.text
+text_with_settings text_layout settings = by (is_same_wrapping (wrapping_for settings (length (lines text_layout.text))) (wrapping_of text_layout))
   where
     as_it_was : TextAndLayout
     as_it_was = record { text = text_layout.text; layout = record { settings = settings; count = text_layout.layout.count; ticks = text_layout.layout.ticks } }
@@ -93,7 +93,7 @@ text_seen text_layout settings = by (is_same_wrapping (wrapping_for settings (le
     by false = refl
 
 text_viewed : {T E : Type 0} (r : Result T E) (text_layout new : TextAndLayout) (settings : LayoutSettings) → OnOk r (new ≡ with_settings text_layout settings) → OnErr r (new ≡ text_layout) → new.text ≡ text_layout.text
-text_viewed (Ok x) text_layout new settings ok err = ap (λ (l : TextAndLayout). l.text) ok ∙ text_seen text_layout settings
+text_viewed (Ok x) text_layout new settings ok err = ap (λ (l : TextAndLayout). l.text) ok ∙ text_with_settings text_layout settings
 text_viewed (Err e) text_layout new settings ok err = ap (λ (l : TextAndLayout). l.text) err
 
 pub sound_viewed : {T E : Type 0} (r : Result T E) (text_layout new : TextAndLayout) (settings : LayoutSettings) (cursor : Place) (anchor : Option Place) (ranges : List AtomicRange) (log : Log) → OnOk r (new ≡ with_settings text_layout settings) → OnErr r (new ≡ text_layout) → IsSound (document_of text_layout cursor anchor ranges log) → IsSound (document_of new cursor anchor ranges log)
@@ -102,12 +102,12 @@ sound_viewed r text_layout new settings cursor anchor ranges log ok err h =
     (resound (document_of text_layout cursor anchor ranges log) new.layout h)
 
 -- the lines with other settings are those of the document with them
-pub laid_out_seen : (document : DocumentState) (settings : LayoutSettings) → with_settings (text_and_layout document) settings ≡ text_and_layout (with_layout_settings document settings)
-laid_out_seen document settings =
+pub layout_with_settings : (document : DocumentState) (settings : LayoutSettings) → with_settings (text_and_layout document) settings ≡ text_and_layout (with_layout_settings document settings)
+layout_with_settings document settings =
     let after = with_settings (text_and_layout document) settings in
-    ap (λ (t : List Symbol). record { text = t; layout = after.layout }) (text_seen (text_and_layout document) settings)
+    ap (λ (t : List Symbol). record { text = t; layout = after.layout }) (text_with_settings (text_and_layout document) settings)
 
 -- a document whose lines have other settings
 pub settings_put : (text_layout new : TextAndLayout) (settings : LayoutSettings) (cursor : Place) (anchor : Option Place) (ranges : List AtomicRange) (log : Log) → new ≡ with_settings text_layout settings → document_of new cursor anchor ranges log ≡ with_layout_settings (document_of text_layout cursor anchor ranges log) settings
 settings_put text_layout new settings cursor anchor ranges log is =
-    ap (λ (l : TextAndLayout). document_of l cursor anchor ranges log) (is ∙ laid_out_seen (document_of text_layout cursor anchor ranges log) settings)
+    ap (λ (l : TextAndLayout). document_of l cursor anchor ranges log) (is ∙ layout_with_settings (document_of text_layout cursor anchor ranges log) settings)

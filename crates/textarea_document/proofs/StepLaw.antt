@@ -2,15 +2,15 @@
 use Rattle.std.proofs.Common.{◌≡◌, ◌+◌, ◌-◌, ◌<◌, ℕ, List, [], ◌∷◌, length, take, drop, get_or, None, sym, ap, subst, ◌∙◌, arith}
 use Rattle.std.proofs.lemmas.List.{drop_more, length-take-le, take-append-drop}
 use Rattle.std.proofs.Math.Seq.{take-add}
-use Rattle.textarea_document.specs.Prelude.{Symbol, Break, lines, IsPlace, OccursAt, end, index_of, line_end, place_of, Fits, TakesWhole, range_at_place, widened, DocumentState, IsSound, HasEffect, Insert, Remove, RemoveBefore, RemoveBehind, RemoveBreak, EditStep, cursor_index, splice_of_step, symbol_removal, SplitsNoRange}
+use Rattle.textarea_document.specs.Prelude.{Symbol, Break, lines, IsPlace, OccursAt, end, index_of, line_end, place_of, Fits, TakesWhole, range_at_place, widened, DocumentState, IsSound, HasEffect, Insert, Remove, RemoveBefore, RemoveAfter, RemoveBreak, EditStep, cursor_index, splice_of_step, symbol_removal, SplitsNoRange}
 use Rattle.textarea_text.proofs.TextPlaces.{IsPlace-end, index_of-end, index_within, place_of-index}
 use Rattle.textarea_text.proofs.Splices.{end-append}
 use Rattle.textarea_data.specs.declared.range.AtomicCursorBias.TheVariants.{Backward, Forward}
 use Rattle.textarea_data.specs.declared.range.AtomicDeleteDirection.TheVariants.{Forward as DeleteForward}
 use Rattle.textarea_ranges.proofs.LookupLemmas.{IsPlaceOf-moved_out, IsWidened-widened, outside-moved_out}
 use Rattle.textarea_document.proofs.SymbolAfters.{break_removal_fits}
-use Rattle.textarea_document.proofs.Parts.{part_ends, removal_fits}
-use Rattle.textarea_document.proofs.Ranges.{before_by, up_to_from_index, whole_behind, whole_break, widened_ordered}
+use Rattle.textarea_document.proofs.Betweens.{between_ends, removal_fits}
+use Rattle.textarea_document.proofs.Ranges.{before_by, up_to_from_index, whole_after, whole_break, widened_ordered}
 
 -- ---- the one symbol of an index
 
@@ -45,12 +45,12 @@ symbol_removal_fits text index at = record {
 abbrev Keeps : DocumentState → EditStep → Type 0
 Keeps document step = Fits document.text (splice_of_step document step) × SplitsNoRange document.ranges (splice_of_step document step)
 
-pub step_kept : (document : DocumentState) (step : EditStep) → IsSound document → HasEffect document step → Keeps document step
-step_kept document (Insert symbols) h made = (
+pub step_keeps : (document : DocumentState) (step : EditStep) → IsSound document → HasEffect document step → Keeps document step
+step_keeps document (Insert symbols) h made = (
   record { some = made; is_place = IsPlaceOf-moved_out (lines document.text) document.ranges document.cursor Forward h.ranges h.cursor; allowed = tt },
   outside-moved_out (lines document.text) document.ranges document.cursor Forward h.ranges,
 )
-step_kept document (Remove from to) h made =
+step_keeps document (Remove from to) h made =
     let text = document.text in
     let ranges = document.ranges in
     let wide = widened ranges from to in
@@ -59,9 +59,9 @@ step_kept document (Remove from to) h made =
     let stop = IsPlaceOf-moved_out (lines text) ranges to Forward h.ranges made.1 in
     let ordered = widened_ordered text from to wide made.0 made.1 start stop widens.starts widens.ends made.2 in (
       removal_fits text wide.0 wide.1 start stop ordered,
-      subst (TakesWhole ranges wide.0) (part_ends text wide.0 wide.1 start stop (omega (arith, ordered))) widens.whole,
+      subst (TakesWhole ranges wide.0) (between_ends text wide.0 wide.1 start stop (omega (arith, ordered))) widens.whole,
     )
-step_kept document RemoveBefore h made =
+step_keeps document RemoveBefore h made =
     let text = document.text in
     let cursor = document.cursor in
     let index = cursor_index document - 1 in
@@ -69,19 +69,19 @@ step_kept document RemoveBefore h made =
     let at = symbol_at text index (omega (arith, made.1, index_within text cursor h.cursor)) in
     let start = place_of text index in
     let ends : cursor ≡ end start (take 1 (drop index text)) = sym (place_of-index text cursor h.cursor) ∙ ap (place_of text) (sym next) ∙ at.ends in
-    let stands : OccursAt text start (at.symbol ∷ []) = ap (λ n. take 1 (drop n text)) at.index_is ∙ at.symbol_is in (
+    let occurs : OccursAt text start (at.symbol ∷ []) = ap (λ n. take 1 (drop n text)) at.index_is ∙ at.symbol_is in (
       symbol_removal_fits text index at,
       subst (TakesWhole document.ranges start) ends
-          (before_by text document.ranges cursor start at.symbol h.ranges made.0 at.is_place stands (ends ∙ ap (end start) at.symbol_is)),
+          (before_by text document.ranges cursor start at.symbol h.ranges made.0 at.is_place occurs (ends ∙ ap (end start) at.symbol_is)),
     )
-step_kept document RemoveBehind h made =
+step_keeps document RemoveAfter h made =
     let text = document.text in
     let index = cursor_index document in
     let at = symbol_at text index (omega (arith, made.1, index_within text document.cursor h.cursor)) in
     let start = place_of text index in
     let none : range_at_place document.ranges start DeleteForward ≡ None = ap (λ p. range_at_place document.ranges p DeleteForward) (place_of-index text document.cursor h.cursor) ∙ made.0 in
-    (symbol_removal_fits text index at, whole_behind document.ranges start (end start (take 1 (drop index text))) at.symbol none (ap (end start) at.symbol_is))
-step_kept document RemoveBreak h made =
+    (symbol_removal_fits text index at, whole_after document.ranges start (end start (take 1 (drop index text))) at.symbol none (ap (end start) at.symbol_is))
+step_keeps document RemoveBreak h made =
     let row = document.cursor.0 - 1 in
     let fits = break_removal_fits document.text row (omega (arith, made, h.cursor.0)) in
     (fits, whole_break document.text document.ranges (line_end (lines document.text) row) h.ranges fits)

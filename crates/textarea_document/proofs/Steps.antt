@@ -6,8 +6,8 @@ use Rattle.std.proofs.lemmas.List.{drop_more}
 use Rattle.textarea_document.specs.Prelude.{Symbol, Character, Break, joined, Place, IsPlace, IsPlaceOf, OccursAt, end, index_of, line_end, place_of, next_place, previous_place}
 use Rattle.textarea_text.proofs.Splices.{lines-joined}
 use Rattle.textarea_text.proofs.TextPlaces.{index_within, place_of-index}
-use Rattle.textarea_text.proofs.StringRows.{stands_until}
-use Rattle.textarea_text.proofs.Befores.{character_stands, break_stands}
+use Rattle.textarea_text.proofs.StringRows.{occurs_until}
+use Rattle.textarea_text.proofs.Befores.{character_occurs, break_occurs}
 use Rattle.textarea_text.proofs.PlaceLemmas.{is_at_end}
 
 -- ---- neighbours
@@ -20,9 +20,9 @@ pub record IsNext (text : List Symbol) (place next : Place) : Type 0 where
   pub within : index_of text next ≤ length text
 
 -- it is the end of the symbol at the first
-next_behind : (text : List Symbol) (place : Place) (symbol : Symbol) → IsPlace text place → OccursAt text place (symbol ∷ []) → IsNext text place (end place (symbol ∷ []))
-next_behind text place symbol h stands =
-    let until = stands_until text place (symbol ∷ []) h stands in
+next_after : (text : List Symbol) (place : Place) (symbol : Symbol) → IsPlace text place → OccursAt text place (symbol ∷ []) → IsNext text place (end place (symbol ∷ []))
+next_after text place symbol h occurs =
+    let until = occurs_until text place (symbol ∷ []) h occurs in
     record {
       place_is = place_of-index text place h;
       next_is = place_of-index text (end place (symbol ∷ [])) until.0;
@@ -46,16 +46,16 @@ pub IsNext-column : (rows : List (List ℕ)) (row column : ℕ) → row < length
 IsNext-column rows row column within inside =
     let line = get_or rows row [] in
     let place : IsPlaceOf rows (row, column) = (within, omega arith) in
-    next_behind (joined rows) (row, column) (Character (get_or line column 0)) (place_in rows (row, column) place)
-    (character_stands rows row column (get_or line column 0) within (omega arith) (drop_more line column 0 inside))
+    next_after (joined rows) (row, column) (Character (get_or line column 0)) (place_in rows (row, column) place)
+    (character_occurs rows row column (get_or line column 0) within (omega arith) (drop_more line column 0 inside))
 
 -- the next line's start, at a line's end
 pub IsNext-line : (rows : List (List ℕ)) (row column : ℕ) → row + 1 < length rows → column ≡ length (get_or rows row []) → IsNext (joined rows) (row, column) (row + 1, 0)
 IsNext-line rows row column within whole =
     let place : IsPlaceOf rows (row, column) = (omega arith, omega arith) in
-    let stands : OccursAt (joined rows) (row, column) (Break ∷ []) =
-    subst (λ (n : ℕ). OccursAt (joined rows) (row, n) (Break ∷ [])) (sym whole) (break_stands rows row within) in
-    next_behind (joined rows) (row, column) Break (place_in rows (row, column) place) stands
+    let occurs : OccursAt (joined rows) (row, column) (Break ∷ []) =
+    subst (λ (n : ℕ). OccursAt (joined rows) (row, n) (Break ∷ [])) (sym whole) (break_occurs rows row within) in
+    next_after (joined rows) (row, column) Break (place_in rows (row, column) place) occurs
 
 -- the last line's end is the text's end
 pub index_of-text_end : (rows : List (List ℕ)) (row column : ℕ) → IsPlaceOf rows (row, column) → length (get_or rows row []) ≤ column → length rows ≤ row + 1 → index_of (joined rows) (row, column) ≡ length (joined rows)

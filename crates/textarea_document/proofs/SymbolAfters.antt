@@ -7,7 +7,7 @@ use Rattle.textarea_text.proofs.Columns.{IsCharBoundary-column, offset_in}
 use Rattle.textarea_text.proofs.Befores.{next_is}
 use Rattle.textarea_document.proofs.Area.{column_bound}
 use Rattle.textarea_document.specs.Prelude.{MatchOption, chars, IsUtf8, Symbol, Character, Break, joined, lines, lines_of, text_of, Place, IsPlace, IsPlaceOf, IsSymbolBefore, OccursAt, index_of, line_end, Fits, inserts_of, symbols_of, EditKind, DocumentState, after_edit, unanchored, IsSymbolAfter, break_removal, symbol_removal, symbol_removed_before, symbol_removed_after}
-use Rattle.textarea_text.proofs.Befores.{break_stands, character_stands}
+use Rattle.textarea_text.proofs.Befores.{break_occurs, character_occurs}
 use Rattle.textarea_history.specs.Edit.{splice_of}
 use Rattle.textarea_text.proofs.TextPlaces.{joined-lines, place_of-index}
 use Rattle.std.proofs.lemmas.Bool.Decides.{nat_tests}
@@ -16,16 +16,16 @@ use Rattle.std.proofs.lemmas.Bool.Decides.{nat_tests}
 not_end : (text : List Symbol) (index : ℕ) (symbol : Symbol) → take 1 (drop index text) ≡ symbol ∷ [] → index ≢ length text
 not_end text index symbol e = λ same. cc (e, drop_all index text (omega arith))
 
-pub character_is_behind : (rows : List (List ℕ)) (row column c : ℕ) → IsPlaceOf rows (row, column) → drop column (get_or rows row []) ≡ c ∷ drop (column + 1) (get_or rows row []) → IsSymbolAfter (joined rows) (row, column) (row, column + 1) (Character c)
-character_is_behind rows row column c h e =
-    let stands = character_stands rows row column c h.0 h.1 e in
-    record { index = not_end (joined rows) (index_of (joined rows) (row, column)) (Character c) stands; symbol_is = stands; ends = refl }
+pub character_is_after : (rows : List (List ℕ)) (row column c : ℕ) → IsPlaceOf rows (row, column) → drop column (get_or rows row []) ≡ c ∷ drop (column + 1) (get_or rows row []) → IsSymbolAfter (joined rows) (row, column) (row, column + 1) (Character c)
+character_is_after rows row column c h e =
+    let occurs = character_occurs rows row column c h.0 h.1 e in
+    record { index = not_end (joined rows) (index_of (joined rows) (row, column)) (Character c) occurs; symbol_is = occurs; ends = refl }
 
-pub break_is_behind : (rows : List (List ℕ)) (row column : ℕ) → row + 1 < length rows → column ≡ length (get_or rows row []) → IsSymbolAfter (joined rows) (row, column) (row + 1, 0) Break
-break_is_behind rows row column within e =
-    let stands : take 1 (drop (index_of (joined rows) (row, column)) (joined rows)) ≡ Break ∷ [] =
-    ap (λ (n : ℕ). take 1 (drop (index_of (joined rows) (row, n)) (joined rows))) e ∙ break_stands rows row within in
-    record { index = not_end (joined rows) (index_of (joined rows) (row, column)) Break stands; symbol_is = stands; ends = refl }
+pub break_is_after : (rows : List (List ℕ)) (row column : ℕ) → row + 1 < length rows → column ≡ length (get_or rows row []) → IsSymbolAfter (joined rows) (row, column) (row + 1, 0) Break
+break_is_after rows row column within e =
+    let occurs : take 1 (drop (index_of (joined rows) (row, column)) (joined rows)) ≡ Break ∷ [] =
+    ap (λ (n : ℕ). take 1 (drop (index_of (joined rows) (row, n)) (joined rows))) e ∙ break_occurs rows row within in
+    record { index = not_end (joined rows) (index_of (joined rows) (row, column)) Break occurs; symbol_is = occurs; ends = refl }
 
 -- ---- of strings
 
@@ -33,9 +33,9 @@ pub boundary_of : (line : List ℕ) (column offset : ℕ) → IsUtf8 line → of
 boundary_of line column offset utf8 e = subst (IsCharBoundary line) (sym e) (IsCharBoundary-column line column utf8)
 
 -- a call of `next` after the column
-pub behind_is : (Same : Type 0) (cs was rest : List ℕ) (column : ℕ) (found : Option ℕ) → column ≤ length cs → was ≡ encode_utf8_all (drop column cs) → MatchOption found ((length was ≡ 0) × Same) (λ d. was ≡ encode_utf8 d ++ rest) → MatchOption found (column ≡ length cs) (λ c. drop column cs ≡ c ∷ drop (column + 1) cs)
-behind_is Same cs was rest column None within e h = omega (arith, h.0, ap length e, length-le-encodes (drop column cs), length-drop column cs)
-behind_is Same cs was rest column (Some c) within e h = next_is Same cs was rest column c (Some c) e h refl
+pub symbol_after_is : (Same : Type 0) (cs was rest : List ℕ) (column : ℕ) (found : Option ℕ) → column ≤ length cs → was ≡ encode_utf8_all (drop column cs) → MatchOption found ((length was ≡ 0) × Same) (λ d. was ≡ encode_utf8 d ++ rest) → MatchOption found (column ≡ length cs) (λ c. drop column cs ≡ c ∷ drop (column + 1) cs)
+symbol_after_is Same cs was rest column None within e h = omega (arith, h.0, ap length e, length-le-encodes (drop column cs), length-drop column cs)
+symbol_after_is Same cs was rest column (Some c) within e h = next_is Same cs was rest column c (Some c) e h refl
 
 -- one can be added to a column of a string without overflow
 pub column_in_string : {Z : Type 0} (items : List (String Z)) (place : Place) → IsPlaceOf (lines_of items) place → place.1 + 1 < 2 ^ 64
@@ -50,17 +50,17 @@ break_removal_fits text row within =
     record {
       some = omega arith;
       is_place = (omega arith, omega arith);
-      allowed = subst (λ t. OccursAt t (line_end rows row) (Break ∷ [])) (joined-lines text) (break_stands rows row within);
+      allowed = subst (λ t. OccursAt t (line_end rows row) (Break ∷ [])) (joined-lines text) (break_occurs rows row within);
     }
 
 -- ---- the symbol after the cursor
 
-pub symbol_removed_behind_is : (document : DocumentState) (to : Place) (symbol : Symbol) (typed : Bool) (now : ℕ) → IsPlace document.text document.cursor → IsSymbolAfter document.text document.cursor to symbol → after_edit document (record { place = document.cursor; symbols = symbol ∷ []; inserts = false }) typed now ≡ symbol_removed_after document typed now
-symbol_removed_behind_is document to symbol typed now h behind =
+pub symbol_removed_after_is : (document : DocumentState) (to : Place) (symbol : Symbol) (typed : Bool) (now : ℕ) → IsPlace document.text document.cursor → IsSymbolAfter document.text document.cursor to symbol → after_edit document (record { place = document.cursor; symbols = symbol ∷ []; inserts = false }) typed now ≡ symbol_removed_after document typed now
+symbol_removed_after_is document to symbol typed now h is_after =
     let index = index_of document.text document.cursor in
-    ap (λ (s : List Symbol). after_edit document (record { place = document.cursor; symbols = s; inserts = false }) typed now) (sym behind.symbol_is)
+    ap (λ (s : List Symbol). after_edit document (record { place = document.cursor; symbols = s; inserts = false }) typed now) (sym is_after.symbol_is)
     ∙ ap (λ (p : Place). after_edit document (record { place = p; symbols = take 1 (drop index document.text); inserts = false }) typed now) (sym (place_of-index document.text document.cursor h))
-    ∙ ap (λ b. cond b (unanchored document) (after_edit document (symbol_removal document.text index) typed now)) (sym (not_equal index (length document.text) behind.index))
+    ∙ ap (λ b. cond b (unanchored document) (after_edit document (symbol_removal document.text index) typed now)) (sym (not_equal index (length document.text) is_after.index))
   where
     not_equal : (m n : ℕ) → m ≢ n → (m == n) ≡ false
     not_equal m n apart = grind (arith, nat_tests)

@@ -46,12 +46,12 @@ cursor_again (suc count) document (Some splice) e h within some =
 
 pub gives_back : (count : ℕ) (document : DocumentState) → IsSound document → count ≤ length document.log.done → RestoresDocument document count
 gives_back count document h within =
-    let given = text_gives_back count (logged document) (logged_sound document h) within in
+    let supplied = text_gives_back count (logged document) (logged_sound document h) within in
     let back = undone_times count document in
     let again = redone_times count (times count after_undo document) ∙ ap (times count text_redone) back in
     record {
-      before = subst (λ (l : Logged). IsTextBefore l.text document.text (drop (length document.log.done - count) document.log.done)) (sym back) given.before;
-      again = subst (λ (l : Logged). IsSame l (logged document)) (sym again) given.again;
+      before = subst (λ (l : Logged). IsTextBefore l.text document.text (drop (length document.log.done - count) document.log.done)) (sym back) supplied.before;
+      again = subst (λ (l : Logged). IsSame l (logged document)) (sym again) supplied.again;
       cursor = cursor_again count document (newest document.log) refl h within;
     }
 

@@ -71,14 +71,14 @@ pub data EditStep : Type 0 where
   Insert : List Symbol → EditStep
   Remove : Place → Place → EditStep
   RemoveBefore : EditStep
-  RemoveBehind : EditStep
+  RemoveAfter : EditStep
   RemoveBreak : EditStep
 
 abbrev pub splice_of_step : DocumentState → EditStep → Splice
 splice_of_step document (Insert symbols) = insertion (insertion_place document) symbols
 splice_of_step document (Remove from to) = widened_removal document from to
 splice_of_step document RemoveBefore = symbol_removal document.text (cursor_index document - 1)
-splice_of_step document RemoveBehind = symbol_removal document.text (cursor_index document)
+splice_of_step document RemoveAfter = symbol_removal document.text (cursor_index document)
 splice_of_step document RemoveBreak = break_removal document.text (document.cursor.0 - 1)
 
 -- the condition of a step: there is a symbol to insert, or to remove; and a symbol beside the
@@ -89,7 +89,7 @@ HasEffect document (Remove from to) =
     IsPlace document.text from × IsPlace document.text to
     × (index_of document.text from < index_of document.text to)
 HasEffect document RemoveBefore = (range_before document ≡ None) × (cursor_index document ≢ 0)
-HasEffect document RemoveBehind =
+HasEffect document RemoveAfter =
     (range_after document ≡ None) × (cursor_index document ≢ length document.text)
 HasEffect document RemoveBreak = document.cursor.0 ≢ 0
 
@@ -124,18 +124,18 @@ symbols_inserted document (symbol ∷ symbols) now =
 -- ---- removals
 
 -- the text between the two positions, and the ranges that it overlaps, are removed, not as typed
-unfoldable pub part_removed : DocumentState → Place → Place → ℕ → DocumentState
-part_removed document from to now = stepped document (Remove from to) false now
+unfoldable pub between_removed : DocumentState → Place → Place → ℕ → DocumentState
+between_removed document from to now = stepped document (Remove from to) false now
 
 -- the symbols that this removes
-abbrev pub taken_symbols : DocumentState → Place → Place → List Symbol
-taken_symbols document from to = (widened_removal document from to).symbols
+abbrev pub removed_symbols : DocumentState → Place → Place → List Symbol
+removed_symbols document from to = (widened_removal document from to).symbols
 
 -- the range is removed, if there is one; otherwise it is the other document
 abbrev pub removed_range_or : Option AtomicRange → DocumentState → ℕ → DocumentState → DocumentState
 removed_range_or None document now other = other
 removed_range_or (Some range) document now other =
-    part_removed document (range_start range) (range_end range) now
+    between_removed document (range_start range) (range_end range) now
 
 -- the range at the cursor in this direction is removed, if there is one
 abbrev pub cursor_range_removed : DocumentState → AtomicDeleteDirection → ℕ → DocumentState
@@ -150,7 +150,7 @@ symbol_removed_before document typed now =
 -- the symbol after the cursor is removed, if there is one, as typed or not
 abbrev pub symbol_removed_after : DocumentState → Bool → ℕ → DocumentState
 symbol_removed_after document typed now =
-    if is_at_end document then unanchored document else stepped document RemoveBehind typed now
+    if is_at_end document then unanchored document else stepped document RemoveAfter typed now
 
 -- the range at the cursor, backward, is removed, or else the symbol before the cursor
 unfoldable pub removed_before : DocumentState → Bool → ℕ → DocumentState

@@ -31,7 +31,7 @@ pub use Rattle.textarea_ranges.specs.Moved.{CoversTheSame, DisturbsBy, IsMovable
 unfoldable pub use Rattle.textarea_ranges.specs.Moved.{moved_ranges}
 pub use Rattle.textarea_ranges.specs.Order.{AreInOrder}
 pub use Rattle.textarea_ranges.specs.Rejected.{AreAccepted, AreRejected}
-pub use Rattle.textarea_ranges.specs.Valid.{AreValid, IsPart}
+pub use Rattle.textarea_ranges.specs.Valid.{AreValid, IsRangeOfLine}
 pub use Rattle.textarea_blocks.specs.Sums.{row_total}
 pub use Rattle.textarea_lines.specs.LineWraps.{WrapsForSettings, WrapsForSplice, WrapsForWidth}
 pub use Rattle.textarea_lines.specs.TextLayout.{TextAndLayout, Layout, all_wrapped, applied_to, at_width, is_wrapped_at, layout_from_scratch, with_settings, keeps_wrapping, wrapping_at, wrapping_of}
@@ -40,15 +40,15 @@ pub use Rattle.textarea_lines.specs.View.{IsPrepared, IsViewOf}
 pub use Rattle.textarea_lines.specs.Wrappings.{is_same_wrapping, wrapping_for}
 pub use Rattle.textarea_lines.specs.declared.settings.LayoutSettings.{LayoutSettings}
 pub use Rattle.textarea_document.specs.DocumentWraps.{WrapsAll, WrapsBySettings, WrapsByWidth, SplicesBy}
-pub use Rattle.textarea_document.specs.Edits.{Insert, HasEffect, IsSymbolAfter, Remove, RemoveBefore, RemoveBehind, RemoveBreak, EditStep, break_inserted, break_removal, break_removed, character_inserted, cursor_index, range_at_cursor, range_before, range_after, cursor_range_removed, insertion, insertion_place, is_at_end, is_at_start, has_symbols, nothing_inserted, removed_range_or, removal, splice_of_step, stepped, symbol_removal, symbol_removed_before, symbol_removed_after, symbols_inserted, taken_symbols}
-unfoldable pub use Rattle.textarea_document.specs.Edits.{part_removed, removed_before, removed_after}
+pub use Rattle.textarea_document.specs.Edits.{Insert, HasEffect, IsSymbolAfter, Remove, RemoveBefore, RemoveAfter, RemoveBreak, EditStep, break_inserted, break_removal, break_removed, character_inserted, cursor_index, range_at_cursor, range_before, range_after, cursor_range_removed, insertion, insertion_place, is_at_end, is_at_start, has_symbols, nothing_inserted, removed_range_or, removal, splice_of_step, stepped, symbol_removal, symbol_removed_before, symbol_removed_after, symbols_inserted, removed_symbols}
+unfoldable pub use Rattle.textarea_document.specs.Edits.{between_removed, removed_before, removed_after}
 pub use Rattle.textarea_document.specs.RangesOverSplices.{AllStayOrAreDropped, AllStemFrom, SplitNoRange, RangesFollowSplices, RangesStayWhole, IsDroppedBy, StemsFrom, carried_range, ranges_over}
 pub use Rattle.textarea_document.specs.DocumentLaw.{RestoresAll, RestoresDocument, ListsFit}
 pub use Rattle.textarea_document.specs.Outcomes.{after_change, after_edit, after_move, after_redo, after_redo_by, run_ended, unanchored, after_undo, after_undo_by}
 pub use Rattle.textarea_document.specs.Ranges.{SplitsNoRange, SplitsNoRangeBy, accepted, anchor_out, anchored, with_ranges, normalized, range_removed, ranges_forgotten, unless_empty}
 pub use Rattle.textarea_document.specs.DocumentRows.{text_and_layout, with_inner_width, with_layout_settings}
 unfoldable pub use Rattle.textarea_document.specs.DocumentRows.{HasRowsAt, IsAboveCursor, IsBelowCursor}
-pub use Rattle.textarea_document.specs.Selection.{is_selected, selected_removed, selected_taken, selection, selection_end, selection_start}
+pub use Rattle.textarea_document.specs.Selection.{is_selected, selected_removed, selected_symbols, selection, selection_end, selection_start}
 pub use Rattle.textarea_document.specs.Sound.{IsSound}
 pub use Rattle.textarea_document.specs.DocumentState.{DocumentState, document_of, fresh_document, logged, new_document}
 pub use Rattle.textarea_document.specs.Target.{VisualTargets, first_word_end, place_or, is_later_word_row, is_visual, next_head, next_place, next_word_row, paragraph_back, paragraph_forward, previous_end, previous_place, target, word_back, word_end, word_end_after, word_forward, word_start_before}

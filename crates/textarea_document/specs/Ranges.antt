@@ -10,7 +10,7 @@ use Rattle.textarea_data.specs.declared.range.AtomicCursorBias.TheVariants.{Back
 use Rattle.textarea_ranges.specs.Lookup.{IsInside, TakesWhole, moved_out, range_start, range_end}
 use Rattle.textarea_ranges.specs.Order.{in_order}
 use Rattle.textarea_document.specs.DocumentState.{DocumentState}
-use Rattle.textarea_document.specs.Edits.{part_removed}
+use Rattle.textarea_document.specs.Edits.{between_removed}
 
 -- a splice splits no range: it inserts strictly inside none, or removes each completely or not at
 -- all
@@ -63,4 +63,4 @@ anchored document anchor =
 abbrev pub range_removed : Option AtomicRange → DocumentState → ℕ → DocumentState
 range_removed None document now = document
 range_removed (Some range) document now =
-    anchored (part_removed document (range_start range) (range_end range) now) document.anchor
+    anchored (between_removed document (range_start range) (range_end range) now) document.anchor

@@ -39,7 +39,7 @@ carried_range (Some range) (splice ∷ rest) = carried_range (moved_range splice
 -- it, and both cover the same characters, all in one line.
 pub record StemsFrom (old : DocumentState) (splices : List Splice) (new : DocumentState) (range : AtomicRange) : Type 0 where
   pub origin : AtomicRange
-  pub held : Contains old.ranges origin
+  pub stored : Contains old.ranges origin
   pub carried : carried_range (Some origin) splices ≡ Some range
   pub covers : CoversTheSame old.text new.text origin range
 

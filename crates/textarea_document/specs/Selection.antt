@@ -4,7 +4,7 @@ use Rattle.textarea_text.specs.Text.{Symbol}
 use Rattle.textarea_text.specs.Place.{Place, is_before}
 use Rattle.textarea_text.specs.Between.{symbols_between}
 use Rattle.textarea_document.specs.DocumentState.{DocumentState}
-use Rattle.textarea_document.specs.Edits.{part_removed, taken_symbols}
+use Rattle.textarea_document.specs.Edits.{between_removed, removed_symbols}
 
 -- where the selection began; the cursor if there is none
 abbrev pub origin : DocumentState → Place
@@ -38,8 +38,8 @@ selected document = symbols_between document.text (selection_start document) (se
 abbrev pub selected_removed : DocumentState → ℕ → DocumentState
 selected_removed document now =
     if is_selected document
-    then part_removed document (selection_start document) (selection_end document) now else document
+    then between_removed document (selection_start document) (selection_end document) now else document
 
 -- the symbols that this removes: those selected, and those of the ranges that they overlap
-abbrev pub selected_taken : DocumentState → List Symbol
-selected_taken document = taken_symbols document (selection_start document) (selection_end document)
+abbrev pub selected_symbols : DocumentState → List Symbol
+selected_symbols document = removed_symbols document (selection_start document) (selection_end document)

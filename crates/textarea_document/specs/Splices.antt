@@ -9,7 +9,7 @@ use Rattle.textarea_data.specs.declared.range.AtomicRange.{AtomicRange}
 use Rattle.textarea_data.specs.declared.range.AtomicDeleteDirection.{AtomicDeleteDirection}
 use Rattle.textarea_ranges.specs.Lookup.{range_start, range_end}
 use Rattle.textarea_document.specs.DocumentState.{DocumentState}
-use Rattle.textarea_document.specs.Edits.{Insert, Remove, RemoveBefore, RemoveBehind, RemoveBreak, range_at_cursor, range_before, range_after, is_at_end, is_at_start, splice_of_step}
+use Rattle.textarea_document.specs.Edits.{Insert, Remove, RemoveBefore, RemoveAfter, RemoveBreak, range_at_cursor, range_before, range_after, is_at_end, is_at_start, splice_of_step}
 use Rattle.textarea_document.specs.Selection.{is_selected, selection_end, selection_start}
 
 -- the insertion of the symbols, if there are any
@@ -41,7 +41,7 @@ before_splices document =
 abbrev pub after_splices : DocumentState → List Splice
 after_splices document =
     range_splices_or (range_after document) document
-    (if is_at_end document then [] else splice_of_step document RemoveBehind ∷ [])
+    (if is_at_end document then [] else splice_of_step document RemoveAfter ∷ [])
 
 -- the removal of the break before the cursor's line, if there is one
 abbrev pub break_splices : DocumentState → List Splice

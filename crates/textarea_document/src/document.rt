@@ -173,7 +173,7 @@ impl Document {
     pub fn edit(&mut self, edit: Edit, typed: bool, now: Duration) -> Result<(), AllocError>
         requires well_formed { IsWellFormed edit }
         requires fits { Fits self.old.text edit.splice }
-        requires cuts_none { SplitsNoRange self.old.ranges edit.splice }
+        requires splits_none { SplitsNoRange self.old.ranges edit.splice }
         ensures ok { OnOk result (self.new ≡ after_edit self.old edit.splice typed (as_nanos now)) }
         ensures err { OnErr result (self.new ≡ self.old) }
     {
@@ -272,7 +272,7 @@ fn make_change(
     ensures text_layout { OnOk result (text_layout.new ≡ applied_to text_layout.old change.entry) }
     ensures ranges { OnOk result
         (ranges.new.items ≡ moved_ranges ranges.old.items change.entry) }
-    ensures laid_stay { OnErr result (text_layout.new ≡ text_layout.old) }
+    ensures layout_stays { OnErr result (text_layout.new ≡ text_layout.old) }
     ensures ranges_stay { OnErr result (ranges.new.items ≡ ranges.old.items) }
 {
     let start = change.start();

@@ -84,7 +84,7 @@ pub fn ranges_follow_splices()
 
 /// A splice that splits no range drops only those that it removes completely: it is a removal, and
 /// they are between its start and its end.
-pub fn only_taken_ranges_are_dropped()
+pub fn only_removed_ranges_are_dropped()
     ensures { (ranges : List AtomicRange) (splice : Splice) (range : AtomicRange) →
         SplitsNoRange ranges splice → Contains ranges range → moved_range splice range ≡ None →
         (splice.inserts ≡ false)

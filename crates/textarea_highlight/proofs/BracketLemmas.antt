@@ -23,9 +23,9 @@ StaysAbove : List Mark → ℕ → Type 0
 StaysAbove marks d = (n : ℕ) → count_by is_end (take n marks) ≤ count_by is_start (take n marks) + d
 
 -- counting in a prefix: the first mark, and the marks after it
-counted_behind : (test : Mark → Bool) (mark : Mark) (marks : List Mark) (n : ℕ) →
+counted_after : (test : Mark → Bool) (mark : Mark) (marks : List Mark) (n : ℕ) →
     count_by test (take (suc n) (mark ∷ marks)) ≡ cond (test mark) 1 0 + count_by test (take n marks)
-counted_behind test mark marks n = sum_by-cons (λ m. cond (test m) 1 0) mark (take n marks)
+counted_after test mark marks n = sum_by-cons (λ m. cond (test m) 1 0) mark (take n marks)
 
 above_of_closed : (marks : List Mark) (d : ℕ) → closed_by marks ≤ d → StaysAbove marks d
 unfolding closed_by StaysAbove
@@ -33,19 +33,19 @@ above_of_closed [] d h zero = omega arith
 above_of_closed [] d h (suc n) = omega arith
 above_of_closed (Start style ∷ marks) d h zero = omega arith
 above_of_closed (Start style ∷ marks) d h (suc n) =
-    omega (arith, above_of_closed marks (d + 1) (omega arith) n, counted_behind is_start (Start style) marks n, counted_behind is_end (Start style) marks n)
+    omega (arith, above_of_closed marks (d + 1) (omega arith) n, counted_after is_start (Start style) marks n, counted_after is_end (Start style) marks n)
 above_of_closed (End ∷ marks) d h zero = omega arith
 above_of_closed (End ∷ marks) d h (suc n) =
-    omega (arith, above_of_closed marks (d - 1) (omega arith) n, counted_behind is_start End marks n, counted_behind is_end End marks n)
+    omega (arith, above_of_closed marks (d - 1) (omega arith) n, counted_after is_start End marks n, counted_after is_end End marks n)
 
 closed_of_above : (marks : List Mark) (d : ℕ) → StaysAbove marks d → closed_by marks ≤ d
 unfolding closed_by StaysAbove
 closed_of_above [] d h = omega arith
 closed_of_above (Start style ∷ marks) d h =
-    omega (arith, closed_of_above marks (d + 1) (λ n. omega (arith, h (suc n), counted_behind is_start (Start style) marks n, counted_behind is_end (Start style) marks n)))
+    omega (arith, closed_of_above marks (d + 1) (λ n. omega (arith, h (suc n), counted_after is_start (Start style) marks n, counted_after is_end (Start style) marks n)))
 closed_of_above (End ∷ marks) d h =
-    let first : 0 < d = omega (arith, h (suc zero), counted_behind is_start End marks zero, counted_behind is_end End marks zero) in
-    omega (arith, closed_of_above marks (d - 1) (λ n. omega (arith, h (suc n), counted_behind is_start End marks n, counted_behind is_end End marks n)))
+    let first : 0 < d = omega (arith, h (suc zero), counted_after is_start End marks zero, counted_after is_end End marks zero) in
+    omega (arith, closed_of_above marks (d - 1) (λ n. omega (arith, h (suc n), counted_after is_start End marks n, counted_after is_end End marks n)))
 
 stays_of_closed : (marks : List Mark) → (closed_by marks == 0) ≡ true → StaysOpen marks
 unfolding StaysAbove
@@ -69,9 +69,9 @@ pushed : (styles : List Style) (style : Style) (n : ℕ) (rest : List Style) →
 pushed styles style zero rest = grind (arith, common_steps, take_all, append_assoc styles (style ∷ []) rest)
 pushed styles style (suc n) rest = grind (arith, common_steps, length-append styles (style ∷ []), nat_tests, take-append-le)
 
-kept : {X : Type 0} (o : Option X) (x y : X) → option_or o (Some y) ≡ option_or (option_or o (Some y)) (Some x)
-kept None x y = refl
-kept (Some z) x y = refl
+or_unchanged : {X : Type 0} (o : Option X) (x y : X) → option_or o (Some y) ≡ option_or (option_or o (Some y)) (Some x)
+or_unchanged None x y = refl
+or_unchanged (Some z) x y = refl
 
 -- ---- a start in front of marks
 
@@ -96,32 +96,32 @@ no_mark k other e = cc
 ended : (other : Style) → Some End ≡ Some (Start other) → ⊥
 ended other e = cc
 
-behind_end_none : (marks : List Mark) → OpensNone marks → OpensNone (End ∷ marks)
-behind_end_none marks h zero other opens = ended other opens.0
-behind_end_none marks h (suc k) other opens = h k other opens
+after_end_none : (marks : List Mark) → OpensNone marks → OpensNone (End ∷ marks)
+after_end_none marks h zero other opens = ended other opens.0
+after_end_none marks h (suc k) other opens = h k other opens
 
-behind_end_later : (marks : List Mark) (i k : ℕ) (other : Style) → suc i < k → ((j : ℕ) (t : Style) → i < j → ¬ (OpensAt marks j t)) → ¬ (OpensAt (End ∷ marks) k other)
-behind_end_later marks i zero other above h = λ opens. absurd (omega arith)
-behind_end_later marks i (suc k) other above h = h k other (omega arith)
+after_end_later : (marks : List Mark) (i k : ℕ) (other : Style) → suc i < k → ((j : ℕ) (t : Style) → i < j → ¬ (OpensAt marks j t)) → ¬ (OpensAt (End ∷ marks) k other)
+after_end_later marks i zero other above h = λ opens. absurd (omega arith)
+after_end_later marks i (suc k) other above h = h k other (omega arith)
 
-behind_end : (marks : List Mark) (o : Option Style) → MatchOption o (OpensNone marks) (OpensLast marks) →
+after_end : (marks : List Mark) (o : Option Style) → MatchOption o (OpensNone marks) (OpensLast marks) →
     MatchOption o (OpensNone (End ∷ marks)) (OpensLast (End ∷ marks))
-behind_end marks None h = behind_end_none marks h
-behind_end marks (Some t) h = (suc h.0, h.1, λ k other above. behind_end_later marks h.0 k other above h.2)
+after_end marks None h = after_end_none marks h
+after_end marks (Some t) h = (suc h.0, h.1, λ k other above. after_end_later marks h.0 k other above h.2)
 
 by_last : (marks : List Mark) (base style : Style) (o : Option Style) → MatchOption o (OpensNone marks) (OpensLast marks) →
     MatchOption o (style ≡ base) (λ s. style ≡ s) → IsStyleAfter marks base style
 by_last marks base style None h e = inr (h, e)
 by_last marks base style (Some t) h e = inl (subst (OpensLast marks) (sym e) h)
 
-passed_parts : (marks : List Mark) (styles : List Style) → passed_all styles marks ≡ take (length styles - closed_by marks) styles ++ left_open marks
+passed_split : (marks : List Mark) (styles : List Style) → passed_all styles marks ≡ take (length styles - closed_by marks) styles ++ left_open marks
 unfolding closed_by left_open
-passed_parts [] styles =
+passed_split [] styles =
     sym (append-nil (take (length styles - 0) styles) ∙ take_all (length styles - 0) styles (omega arith))
-passed_parts (Start style ∷ marks) styles =
-    grind (arith, common_steps, passed_parts marks (styles ++ style ∷ []), pushed styles style (closed_by marks) (left_open marks), closed_by marks, left_open marks)
-passed_parts (End ∷ marks) styles =
-    grind (arith, common_steps, closed_by marks, length-take (length styles - 1) styles, passed_parts marks (take (length styles - 1) styles), left_open marks, take-take)
+passed_split (Start style ∷ marks) styles =
+    grind (arith, common_steps, passed_split marks (styles ++ style ∷ []), pushed styles style (closed_by marks) (left_open marks), closed_by marks, left_open marks)
+passed_split (End ∷ marks) styles =
+    grind (arith, common_steps, closed_by marks, length-take (length styles - 1) styles, passed_split marks (take (length styles - 1) styles), left_open marks, take-take)
 
 passed_all-append : (styles : List Style) (xs ys : List Mark) → passed_all styles (xs ++ ys) ≡ passed_all (passed_all styles xs) ys
 passed_all-append styles [] ys = refl
@@ -153,7 +153,7 @@ last_is : {X : Type 0} (xs : List X) → slice_get xs (length xs - 1) ≡ last x
 unfolding last
 last_is [] = refl
 last_is (x ∷ []) = refl
-last_is (x ∷ y ∷ xs) = grind (arith, common_steps, last_is (y ∷ xs), kept (last xs) x y, last xs)
+last_is (x ∷ y ∷ xs) = grind (arith, common_steps, last_is (y ∷ xs), or_unchanged (last xs) x y, last xs)
 
 step : (style : Style) (marks : List Mark) (o : Option Style) (stays : Bool) → ((stays ≡ true → StaysOpen marks) × (StaysOpen marks → stays ≡ true)) →
     MatchOption o (OpensNone marks) (OpensLast marks) →
@@ -169,13 +169,13 @@ unfolding last left_open
 last_open [] = λ k other opens. no_mark k other opens.0
 last_open (Start style ∷ marks) =
     grind (arith, common_steps, last-append (cond (closed_by marks == 0) (style ∷ []) []) (left_open marks), closed_by marks == 0, left_open marks, step style marks (last (left_open marks)) (closed_by marks == 0) (stays_of_closed marks, closed_of_stays marks) (last_open marks), last (left_open marks), stays_of_closed marks, closed_of_stays marks, last_open marks)
-last_open (End ∷ marks) = behind_end marks (last (left_open marks)) (last_open marks)
+last_open (End ∷ marks) = after_end marks (last (left_open marks)) (last_open marks)
 
 take-nil : (n : ℕ) → take {A = Style} n [] ≡ []
 take-nil zero = refl
 take-nil (suc n) = refl
 
-pub style_behind : (marks : List Mark) (styles : List Style) (base style : Style) → styles ≡ passed_all [] marks →
+pub style_after : (marks : List Mark) (styles : List Style) (base style : Style) → styles ≡ passed_all [] marks →
     MatchOption (slice_get styles (length styles - 1)) (style ≡ base) (λ s. style ≡ s) → IsStyleAfter marks base style
-style_behind marks styles base style e h =
-    grind (arith, common_steps, left_open marks, passed_parts marks [], take-nil (length {A = Style} [] - closed_by marks), closed_by marks, last (left_open marks), last_is styles, last, by_last, last_open marks)
+style_after marks styles base style e h =
+    grind (arith, common_steps, left_open marks, passed_split marks [], take-nil (length {A = Style} [] - closed_by marks), closed_by marks, last (left_open marks), last_is styles, last, by_last, last_open marks)

@@ -28,9 +28,9 @@ module _ (tab_len at : ℕ) (cs : List ℕ) (n c : ℕ) (turn : (n < length cs) 
 
 -- ---- a tab
 
-pub tab_shown : (tab_len column next c : ℕ) → c ≡ 9 → next ≡ column_after tab_len column c →
+pub tab_displayed : (tab_len column next c : ℕ) → c ≡ 9 → next ≡ column_after tab_len column c →
     replicate (next - column) 32 ≡ encode_utf8_all (display_char tab_len column c)
-tab_shown tab_len column next c tab h = rw (h, tab) (sym (spaces_encoded (next_stop tab_len column - column)))
+tab_displayed tab_len column next c tab h = rw (h, tab) (sym (spaces_encoded (next_stop tab_len column - column)))
 
 -- ---- texts that are shown unchanged
 
@@ -47,18 +47,18 @@ with_spaces-same tab_len column [] none = refl
 with_spaces-same tab_len column (c ∷ cs) none =
     grind (arith, common_steps, nat_tests, with_spaces-same tab_len (column_after tab_len column c) cs (grind (arith, nat_tests)))
 
-no_tab_shown : (tab_len column : ℕ) (cs : List ℕ) → list_any is_tab (with_spaces tab_len column cs) ≡ false
-no_tab_shown tab_len column [] = refl
-no_tab_shown tab_len column (c ∷ cs) =
-    grind (arith, common_steps, list_any-append is_tab (display_char tab_len column c) (with_spaces tab_len (column_after tab_len column c) cs), char_none (is_tab c) (next_stop tab_len column - column) c, no_tab_shown tab_len (column_after tab_len column c) cs)
+no_tab_displayed : (tab_len column : ℕ) (cs : List ℕ) → list_any is_tab (with_spaces tab_len column cs) ≡ false
+no_tab_displayed tab_len column [] = refl
+no_tab_displayed tab_len column (c ∷ cs) =
+    grind (arith, common_steps, list_any-append is_tab (display_char tab_len column c) (with_spaces tab_len (column_after tab_len column c) cs), char_none (is_tab c) (next_stop tab_len column - column) c, no_tab_displayed tab_len (column_after tab_len column c) cs)
 
 filter-same : (cs : List ℕ) → list_any is_tab cs ≡ false → filter (λ c. not (is_tab c)) cs ≡ cs
 filter-same [] none = refl
 filter-same (c ∷ cs) none = grind (arith, common_steps, nat_tests, filter-same cs (grind (arith, nat_tests)))
 
-no_tab_kept : (cs : List ℕ) → list_any is_tab (filter (λ c. not (is_tab c)) cs) ≡ false
-no_tab_kept [] = refl
-no_tab_kept (c ∷ cs) = grind (arith, nat_tests, no_tab_kept cs)
+no_tab_left : (cs : List ℕ) → list_any is_tab (filter (λ c. not (is_tab c)) cs) ≡ false
+no_tab_left [] = refl
+no_tab_left (c ∷ cs) = grind (arith, nat_tests, no_tab_left cs)
 
 without_tabs-same : (cs : List ℕ) → list_any is_tab (drop 1 cs) ≡ false → without_tabs cs ≡ cs
 without_tabs-same cs none = ap (λ ys. take 1 cs ++ ys) (filter-same (drop 1 cs) none) ∙ take-append-drop 1 cs
@@ -66,7 +66,7 @@ without_tabs-same cs none = ap (λ ys. take 1 cs ++ ys) (filter-same (drop 1 cs)
 without_tabs-changed : (cs : List ℕ) → list_any is_tab (drop 1 cs) ≡ true → without_tabs cs ≢ cs
 without_tabs-changed [] some = λ e. false≢true some
 without_tabs-changed (c ∷ cs) some = λ e.
-    false≢true (sym (no_tab_kept cs) ∙ ap (λ ys. list_any is_tab (drop 1 ys)) e ∙ some)
+    false≢true (sym (no_tab_left cs) ∙ ap (λ ys. list_any is_tab (drop 1 ys)) e ∙ some)
 
 -- ---- a segment without a mask, by its tab length and whether it has a tab that counts
 
@@ -77,18 +77,18 @@ module _ (tab_len column : ℕ) (bs : List ℕ) (u : IsUtf8 bs) where
   at_some : 0 < tab_len → display_text None tab_len column (chars bs) ≡ with_spaces tab_len column (chars bs)
   at_some h = let no : (tab_len == 0) ≡ false = grind (arith, nat_tests) in rw no refl
 
-  pub kept_at_zero : tab_len ≡ 0 → list_any is_tab (drop 1 (chars bs)) ≡ false → display_text None tab_len column (chars bs) ≡ chars bs
-  kept_at_zero e none = at_zero e ∙ without_tabs-same (chars bs) none
+  pub unchanged_at_zero : tab_len ≡ 0 → list_any is_tab (drop 1 (chars bs)) ≡ false → display_text None tab_len column (chars bs) ≡ chars bs
+  unchanged_at_zero e none = at_zero e ∙ without_tabs-same (chars bs) none
 
   pub changed_at_zero : tab_len ≡ 0 → list_any is_tab (drop 1 (chars bs)) ≡ true → display_text None tab_len column (chars bs) ≢ chars bs
   changed_at_zero e some = λ same. without_tabs-changed (chars bs) some (sym (at_zero e) ∙ same)
 
-  pub kept_at_some : 0 < tab_len → list_any is_tab (chars bs) ≡ false → display_text None tab_len column (chars bs) ≡ chars bs
-  kept_at_some h none = at_some h ∙ with_spaces-same tab_len column (chars bs) none
+  pub unchanged_at_some : 0 < tab_len → list_any is_tab (chars bs) ≡ false → display_text None tab_len column (chars bs) ≡ chars bs
+  unchanged_at_some h none = at_some h ∙ with_spaces-same tab_len column (chars bs) none
 
   pub changed_at_some : 0 < tab_len → list_any is_tab (chars bs) ≡ true → display_text None tab_len column (chars bs) ≢ chars bs
   changed_at_some h some = λ same.
-      false≢true (sym (no_tab_shown tab_len column (chars bs)) ∙ ap (list_any is_tab) (sym (at_some h) ∙ same) ∙ some)
+      false≢true (sym (no_tab_displayed tab_len column (chars bs)) ∙ ap (list_any is_tab) (sym (at_some h) ∙ same) ∙ some)
 
-  pub text_of_kept : display_text None tab_len column (chars bs) ≡ chars bs → bs ≡ encode_utf8_all (display_text None tab_len column (chars bs))
-  text_of_kept e = sym (encodes-chars bs u) ∙ ap encode_utf8_all (sym e)
+  pub text_of_unchanged : display_text None tab_len column (chars bs) ≡ chars bs → bs ≡ encode_utf8_all (display_text None tab_len column (chars bs))
+  text_of_unchanged e = sym (encodes-chars bs u) ∙ ap encode_utf8_all (sym e)

@@ -16,10 +16,10 @@ use Rattle.textarea_highlight.specs.declared.highlight.display.Display.{Display}
 use Rattle.textarea_highlight.specs.declared.highlight.borders.Border.{Border}
 use Rattle.textarea_highlight.specs.OpenStyles.{ArePassed, base_of}
 use Rattle.textarea_wrap.specs.Columns.{column_after, end_column}
-use Rattle.textarea_highlight.specs.Display.{display_text, display_bytes, IsShownAsItIs}
+use Rattle.textarea_highlight.specs.Display.{display_text, display_bytes, IsDisplayedAsItIs}
 use Rattle.textarea_highlight.specs.Texts.{text_bytes_of, IsUncopied}
 use Rattle.textarea_highlight.specs.Brackets.{IsStyleAfter}
-use Rattle.textarea_highlight.specs.Split.{marks_upto, piece_of, display_piece, ShowsPiece, IsSplit, ShowsNext, AddsPiece}
+use Rattle.textarea_highlight.specs.Split.{marks_upto, segment_of, display_segment, ShowsSegment, IsSplit, ShowsNext, AddsSegment}
 
 -- ---- the column after a segment
 
@@ -63,19 +63,19 @@ uncut borders n from to h = λ k d lt. ⊎_elim (λ below. inl (h.passed k d bel
 
 -- ---- one more span
 
-IsCut-push : (row : List ℕ) (borders : List Border) (base : Style) (tab_len : ℕ) (mask : Option ℕ) (spans : List SpanView) (span : SpanView) (from mid to : ℕ) →
-    IsSplit row borders base tab_len mask from spans mid → ShowsPiece row borders base tab_len mask mid to span →
+IsSplit-push : (row : List ℕ) (borders : List Border) (base : Style) (tab_len : ℕ) (mask : Option ℕ) (spans : List SpanView) (span : SpanView) (from mid to : ℕ) →
+    IsSplit row borders base tab_len mask from spans mid → ShowsSegment row borders base tab_len mask mid to span →
     IsSplit row borders base tab_len mask from (spans ++ span ∷ []) to
-IsCut-push row borders base tab_len mask [] span from mid to h piece =
-    (to, subst (λ m. ShowsPiece row borders base tab_len mask m to span) (sym h) piece, refl)
-IsCut-push row borders base tab_len mask (s ∷ spans) span from mid to h piece =
-    (h.0, h.1, IsCut-push row borders base tab_len mask spans span h.0 mid to h.2 piece)
+IsSplit-push row borders base tab_len mask [] span from mid to h segment =
+    (to, subst (λ m. ShowsSegment row borders base tab_len mask m to span) (sym h) segment, refl)
+IsSplit-push row borders base tab_len mask (s ∷ spans) span from mid to h segment =
+    (h.0, h.1, IsSplit-push row borders base tab_len mask spans span h.0 mid to h.2 segment)
 
 -- ---- the row so far: n borders are passed, and the segments come after the earlier spans
 
-abbrev pub HasPieces : List ℕ → List Border → Style → ℕ → Option ℕ → List SpanView → ℕ → List SpanView → Type 0
-HasPieces row borders base tab_len mask before start spans =
-    (pieces : List SpanView) × IsSplit row borders base tab_len mask 0 pieces start × (spans ≡ before ++ pieces)
+abbrev pub HasSegments : List ℕ → List Border → Style → ℕ → Option ℕ → List SpanView → ℕ → List SpanView → Type 0
+HasSegments row borders base tab_len mask before start spans =
+    (segments : List SpanView) × IsSplit row borders base tab_len mask 0 segments start × (spans ≡ before ++ segments)
 
 pub record IsSplitSoFar (row : List ℕ) (borders : List Border) (base : Style) (tab_len : ℕ) (mask : Option ℕ) (before : List SpanView) (n start : ℕ) (display : Display) (styles : OpenStyles) (spans : List SpanView) : Type 0 where
   pub splits : Splits borders n start start
@@ -85,8 +85,8 @@ pub record IsSplitSoFar (row : List ℕ) (borders : List Border) (base : Style) 
   pub column : display.column ≡ end_column tab_len 0 (chars (take start row))
   pub room : display.column ≤ 255 * start
   pub base_is : base_of styles ≡ base
-  pub behind : ArePassed styles (map (λ border. border.mark) (take n borders))
-  pub split : HasPieces row borders base tab_len mask before start spans
+  pub after : ArePassed styles (map (λ border. border.mark) (take n borders))
+  pub split : HasSegments row borders base tab_len mask before start spans
 
 abbrev pub IsEdge : List ℕ → List Border → ℕ → Type 0
 IsEdge row borders to = (to ≡ length row) ⊎ Any (λ border. border.offset ≡ to) borders
@@ -94,63 +94,63 @@ IsEdge row borders to = (to ≡ length row) ⊎ Any (λ border. border.offset �
 pub edge_at : (row : List ℕ) (borders : List Border) (n : ℕ) (d : Border) → n < length borders → IsEdge row borders (get_or borders n d).offset
 edge_at row borders n d within = grind (arith, common_steps)
 
-pub piece_empty : (row : List ℕ) (from to : ℕ) → to ≤ from → piece_of row from to ≡ []
-piece_empty row from to h = grind (arith, common_steps, chars-nil)
+pub segment_empty : (row : List ℕ) (from to : ℕ) → to ≤ from → segment_of row from to ≡ []
+segment_empty row from to h = grind (arith, common_steps, chars-nil)
 
-take_parts : (row : List ℕ) (start to : ℕ) → start ≤ to → take to row ≡ take start row ++ slice_range row start to
-take_parts row start to h =
+take_split : (row : List ℕ) (start to : ℕ) → start ≤ to → take to row ≡ take start row ++ slice_range row start to
+take_split row start to h =
     grind (arith, common_steps, take-append-drop start (take to row), take-take start to row h, drop-take start (to - start) row)
 
 pub column_to : (tab_len : ℕ) (row : List ℕ) (start to : ℕ) → IsUtf8 row → start ≤ to → IsCharBoundary row start → IsCharBoundary row to →
-    end_column tab_len (end_column tab_len 0 (chars (take start row))) (piece_of row start to) ≡ end_column tab_len 0 (chars (take to row))
+    end_column tab_len (end_column tab_len 0 (chars (take start row))) (segment_of row start to) ≡ end_column tab_len 0 (chars (take to row))
 column_to tab_len row start to u h at at' =
-    rw (take_parts row start to h, chars-append (take start row) (slice_range row start to) (IsUtf8-take row start u at), end_column-append) refl
+    rw (take_split row start to h, chars-append (take start row) (slice_range row start to) (IsUtf8-take row start u at), end_column-append) refl
 
-piece_shown : (row : List ℕ) (borders : List Border) (base : Style) (tab_len : ℕ) (mask : Option ℕ) (before : List SpanView) (n start to : ℕ) (display : Display) (styles : OpenStyles) (spans : List SpanView) (span : SpanView) →
+segment_displayed : (row : List ℕ) (borders : List Border) (base : Style) (tab_len : ℕ) (mask : Option ℕ) (before : List SpanView) (n start to : ℕ) (display : Display) (styles : OpenStyles) (spans : List SpanView) (span : SpanView) →
     IsSplitSoFar row borders base tab_len mask before n start display styles spans → Splits borders n start to → IsEdge row borders to → start < to →
-    ShowsNext row display styles start to span → ShowsPiece row borders base tab_len mask start to span
-piece_shown row borders base tab_len mask before n start to display styles spans span h splits edge below next =
-    let same : display_text display.mask display.tab_len display.column (piece_of row start to) ≡ display_piece row tab_len mask start to =
+    ShowsNext row display styles start to span → ShowsSegment row borders base tab_len mask start to span
+segment_displayed row borders base tab_len mask before n start to display styles spans span h splits edge below next =
+    let same : display_text display.mask display.tab_len display.column (segment_of row start to) ≡ display_segment row tab_len mask start to =
     rw (h.masked, h.tab, h.column) refl in
     record {
       not_empty = below;
       edge = edge;
       uncut = uncut borders n start to splits;
-      style = rw (marks_upto-is borders n start to splits below, ← h.base_is) (next.style (map (λ border. border.mark) (take n borders)) h.behind);
+      style = rw (marks_upto-is borders n start to splits below, ← h.base_is) (next.style (map (λ border. border.mark) (take n borders)) h.after);
       text = next.text ∙ ap encode_utf8_all same;
       borrowed = rw (← same, ← h.masked) next.borrowed;
     }
 
-pieces_more : (row : List ℕ) (borders : List Border) (base : Style) (tab_len : ℕ) (mask : Option ℕ) (before spans : List SpanView) (start to : ℕ) (span : SpanView) →
-    HasPieces row borders base tab_len mask before start spans → ShowsPiece row borders base tab_len mask start to span →
-    HasPieces row borders base tab_len mask before to (spans ++ span ∷ [])
-pieces_more row borders base tab_len mask before spans start to span h piece = (
+segments_more : (row : List ℕ) (borders : List Border) (base : Style) (tab_len : ℕ) (mask : Option ℕ) (before spans : List SpanView) (start to : ℕ) (span : SpanView) →
+    HasSegments row borders base tab_len mask before start spans → ShowsSegment row borders base tab_len mask start to span →
+    HasSegments row borders base tab_len mask before to (spans ++ span ∷ [])
+segments_more row borders base tab_len mask before spans start to span h segment = (
   h.0 ++ span ∷ [],
-  IsCut-push row borders base tab_len mask h.0 span 0 start to h.1 piece,
+  IsSplit-push row borders base tab_len mask h.0 span 0 start to h.1 segment,
   ap (λ ss. ss ++ span ∷ []) h.2 ∙ append_assoc before h.0 (span ∷ []),
 )
 
 -- one more span shows a segment
-pub piece_added : (row : List ℕ) (display : Display) (styles : OpenStyles) (from to : ℕ) (piece : List ℕ) (span : SpanView) (old new : List SpanView) → from < to →
-    piece ≡ slice_range row from to → text_bytes_of span.content ≡ display_bytes display.mask display.tab_len display.column piece →
-    (IsUncopied span.content ↔ IsShownAsItIs display.mask display.tab_len display.column piece) →
-    ((marks : List Mark) → ArePassed styles marks → IsStyleAfter marks (base_of styles) span.style) → new ≡ old ++ span ∷ [] → AddsPiece row display styles from to old new
-piece_added row display styles from to piece span old new below is text lent style added =
+pub segment_added : (row : List ℕ) (display : Display) (styles : OpenStyles) (from to : ℕ) (segment : List ℕ) (span : SpanView) (old new : List SpanView) → from < to →
+    segment ≡ slice_range row from to → text_bytes_of span.content ≡ display_bytes display.mask display.tab_len display.column segment →
+    (IsUncopied span.content ↔ IsDisplayedAsItIs display.mask display.tab_len display.column segment) →
+    ((marks : List Mark) → ArePassed styles marks → IsStyleAfter marks (base_of styles) span.style) → new ≡ old ++ span ∷ [] → AddsSegment row display styles from to old new
+segment_added row display styles from to segment span old new below is text uncopied style added =
     let next : ShowsNext row display styles from to span = record {
       style = style;
       text = text ∙ ap (display_bytes display.mask display.tab_len display.column) is;
-      borrowed = subst (λ (bytes : List ℕ). IsUncopied span.content ↔ IsShownAsItIs display.mask display.tab_len display.column bytes) is lent;
+      borrowed = subst (λ (bytes : List ℕ). IsUncopied span.content ↔ IsDisplayedAsItIs display.mask display.tab_len display.column bytes) is uncopied;
     } in
     inr (below, (span, next, added))
 
-pub cut_more : (row : List ℕ) (borders : List Border) (base : Style) (tab_len : ℕ) (mask : Option ℕ) (before : List SpanView) (n start to : ℕ) (display display' : Display) (styles : OpenStyles) (spans spans' : List SpanView) →
+pub split_more : (row : List ℕ) (borders : List Border) (base : Style) (tab_len : ℕ) (mask : Option ℕ) (before : List SpanView) (n start to : ℕ) (display display' : Display) (styles : OpenStyles) (spans spans' : List SpanView) →
     IsUtf8 row → IsSplitSoFar row borders base tab_len mask before n start display styles spans → start ≤ to → IsCharBoundary row to → IsEdge row borders to →
     ((k : ℕ) (d : Border) → n ≤ k → k < length borders → to ≤ (get_or borders k d).offset) →
-    AddsPiece row display styles start to spans spans' →
-    display' ≡ record display { column = end_column display.tab_len display.column (piece_of row start to) } →
+    AddsSegment row display styles start to spans spans' →
+    display' ≡ record display { column = end_column display.tab_len display.column (segment_of row start to) } →
     display'.column ≤ display.column + 255 * (to - start) →
     IsSplitSoFar row borders base tab_len mask before n to display' styles spans'
-cut_more row borders base tab_len mask before n start to display display' styles spans spans' u h order at edge ahead added same bound =
+split_more row borders base tab_len mask before n start to display display' styles spans spans' u h order at edge ahead added same bound =
     let splits : Splits borders n start to = record { within = h.splits.within; passed = h.splits.passed; ahead = ahead } in
     record {
       splits = record { within = h.splits.within; passed = λ k d lt. omega (arith, h.splits.passed k d lt); ahead = ahead };
@@ -160,12 +160,12 @@ cut_more row borders base tab_len mask before n start to display display' styles
       column = ap (λ (d : Display). d.column) same ∙ rw (h.tab, h.column) (column_to tab_len row start to u order h.boundary at);
       room = omega (arith, bound, h.room);
       base_is = h.base_is;
-      behind = h.behind;
+      after = h.after;
       split = ⊎_elim
-          (λ none. subst (λ m. HasPieces row borders base tab_len mask before m spans') none.0 (subst (λ ss. HasPieces row borders base tab_len mask before start ss) (sym none.1) h.split))
-          (λ one. subst (λ ss. HasPieces row borders base tab_len mask before to ss) (sym one.1.2)
-          (pieces_more row borders base tab_len mask before spans start to one.1.0 h.split
-          (piece_shown row borders base tab_len mask before n start to display styles spans one.1.0 h splits edge one.0 one.1.1)))
+          (λ none. subst (λ m. HasSegments row borders base tab_len mask before m spans') none.0 (subst (λ ss. HasSegments row borders base tab_len mask before start ss) (sym none.1) h.split))
+          (λ one. subst (λ ss. HasSegments row borders base tab_len mask before to ss) (sym one.1.2)
+          (segments_more row borders base tab_len mask before spans start to one.1.0 h.split
+          (segment_displayed row borders base tab_len mask before n start to display styles spans one.1.0 h splits edge one.0 one.1.1)))
           added;
     }
 
@@ -178,9 +178,9 @@ pub pass_more : (row : List ℕ) (borders : List Border) (base : Style) (tab_len
     IsSplitSoFar row borders base tab_len mask before (n + 1) (get_or borders n d).offset display styles' spans
 pass_more row borders base tab_len mask before n d display styles styles' spans h within based passed = grind (arith, common_steps)
 
-pub cut_at_start : (row : List ℕ) (borders : List Border) (base : Style) (tab_len : ℕ) (mask : Option ℕ) (before : List SpanView) →
-    HasPieces row borders base tab_len mask before 0 before
-cut_at_start row borders base tab_len mask before = ([], refl, sym (append-nil before))
+pub split_at_start : (row : List ℕ) (borders : List Border) (base : Style) (tab_len : ℕ) (mask : Option ℕ) (before : List SpanView) →
+    HasSegments row borders base tab_len mask before 0 before
+split_at_start row borders base tab_len mask before = ([], refl, sym (append-nil before))
 
 pub column_at_start : (tab_len : ℕ) → 0 ≡ end_column tab_len 0 (chars [])
 column_at_start tab_len = sym (ap (end_column tab_len 0) chars-nil)

@@ -11,7 +11,7 @@ use Rattle.textarea_screen.specs.Text.{SpanView}
 use Rattle.textarea_wrap.specs.Columns.{column_after, end_column}
 use Rattle.textarea_highlight.specs.declared.highlight.borders.Border.{Border}
 use Rattle.textarea_highlight.specs.Display.{with_spaces, display_text}
-use Rattle.textarea_highlight.specs.Split.{piece_of, IsSplit, text_of_spans}
+use Rattle.textarea_highlight.specs.Split.{segment_of, IsSplit, text_of_spans}
 use Rattle.textarea_highlight.proofs.SplitLemmas.{IsEdge, column_to}
 
 with_spaces-append : (tab_len column : ℕ) (xs ys : List ℕ) →
@@ -22,21 +22,21 @@ with_spaces-append tab_len column (x ∷ xs) ys = rw (with_spaces-append tab_len
 stops : (tab_len : ℕ) → 0 < tab_len → (tab_len == 0) ≡ false
 stops tab_len h = grind (arith, nat_tests)
 
-shown-append : (mask : Option ℕ) (tab_len column : ℕ) (xs ys : List ℕ) → 0 < tab_len →
+display_text-append : (mask : Option ℕ) (tab_len column : ℕ) (xs ys : List ℕ) → 0 < tab_len →
     display_text mask tab_len column (xs ++ ys) ≡ display_text mask tab_len column xs ++ display_text mask tab_len (end_column tab_len column xs) ys
-shown-append (Some mask) tab_len column xs ys h = map-append (λ _. mask) xs ys
-shown-append None tab_len column xs ys h = rw (stops tab_len h) (with_spaces-append tab_len column xs ys)
+display_text-append (Some mask) tab_len column xs ys h = map-append (λ _. mask) xs ys
+display_text-append None tab_len column xs ys h = rw (stops tab_len h) (with_spaces-append tab_len column xs ys)
 
-shown-nil : (mask : Option ℕ) (tab_len column : ℕ) → 0 < tab_len → display_text mask tab_len column [] ≡ []
-shown-nil (Some mask) tab_len column h = refl
-shown-nil None tab_len column h = rw (stops tab_len h) refl
+display_text-nil : (mask : Option ℕ) (tab_len column : ℕ) → 0 < tab_len → display_text mask tab_len column [] ≡ []
+display_text-nil (Some mask) tab_len column h = refl
+display_text-nil None tab_len column h = rw (stops tab_len h) refl
 
 edge_boundary : (row : List ℕ) (borders : List Border) (to : ℕ) → All (λ border. IsCharBoundary row border.offset) borders → IsEdge row borders to → IsCharBoundary row to
 edge_boundary row borders to placed edge = grind (arith, common_steps, IsCharBoundary-end row)
 
-chars_parts : (row : List ℕ) (from to : ℕ) → IsUtf8 row → from ≤ to → IsCharBoundary row from → IsCharBoundary row to →
-    chars (drop from row) ≡ piece_of row from to ++ chars (drop to row)
-chars_parts row from to u le at at' =
+chars_split : (row : List ℕ) (from to : ℕ) → IsUtf8 row → from ≤ to → IsCharBoundary row from → IsCharBoundary row to →
+    chars (drop from row) ≡ segment_of row from to ++ chars (drop to row)
+chars_split row from to u le at at' =
     ap chars (drop_split row from to le) ∙ chars-append (slice_range row from to) (drop to row) (IsUtf8-between row from to u le at at')
 
 whole_from : (row : List ℕ) (borders : List Border) (base : Style) (tab_len : ℕ) (mask : Option ℕ) (from : ℕ) (spans : List SpanView) →
@@ -44,7 +44,7 @@ whole_from : (row : List ℕ) (borders : List Border) (base : Style) (tab_len : 
     IsSplit row borders base tab_len mask from spans (length row) →
     text_of_spans spans ≡ encode_utf8_all (display_text mask tab_len (end_column tab_len 0 (chars (take from row))) (chars (drop from row)))
 whole_from row borders base tab_len mask from [] u placed h at split =
-    rw (drop_all from row (omega (arith, split)), chars-nil, shown-nil mask tab_len (end_column tab_len 0 (chars (take from row))) h) refl
+    rw (drop_all from row (omega (arith, split)), chars-nil, display_text-nil mask tab_len (end_column tab_len 0 (chars (take from row))) h) refl
 whole_from row borders base tab_len mask from (span ∷ spans) u placed h at split =
     let mid = split.0 in
     let at' = edge_boundary row borders mid placed split.1.edge in
@@ -54,8 +54,8 @@ whole_from row borders base tab_len mask from (span ∷ spans) u placed h at spl
       split.1.text,
       whole_from row borders base tab_len mask mid spans u placed h at' split.2,
       ← column_to tab_len row from mid u le at at',
-      chars_parts row from mid u le at at',
-      shown-append mask tab_len column (piece_of row from mid) (chars (drop mid row)) h,
+      chars_split row from mid u le at at',
+      display_text-append mask tab_len column (segment_of row from mid) (chars (drop mid row)) h,
       encodes-append,
     ) refl
 

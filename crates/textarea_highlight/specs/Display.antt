@@ -26,8 +26,8 @@ display_text None tab_len column cs = if tab_len == 0 then without_tabs cs else 
 
 -- the bytes that are shown for the bytes of a segment, and whether these are the segment's own
 abbrev pub display_bytes : Option ℕ → ℕ → ℕ → List ℕ → List ℕ
-display_bytes mask tab_len column piece = encode_utf8_all (display_text mask tab_len column (chars piece))
+display_bytes mask tab_len column segment = encode_utf8_all (display_text mask tab_len column (chars segment))
 
-abbrev pub IsShownAsItIs : Option ℕ → ℕ → ℕ → List ℕ → Type 0
-IsShownAsItIs mask tab_len column piece =
-    (mask ≡ None) × (display_text mask tab_len column (chars piece) ≡ chars piece)
+abbrev pub IsDisplayedAsItIs : Option ℕ → ℕ → ℕ → List ℕ → Type 0
+IsDisplayedAsItIs mask tab_len column segment =
+    (mask ≡ None) × (display_text mask tab_len column (chars segment) ≡ chars segment)

@@ -105,15 +105,15 @@ abbrev pub continues_after_row : ℕ → Range → Bool
 continues_after_row current range = nat_le range.0.0 current && nat_lt current range.1.0
 
 -- the range in the row: from its start, or else from 0; to its end, or else to the row's end
-abbrev pub part_start : ℕ → Range → ℕ
-part_start current range = if current == range.0.0 then range.0.1 else 0
+abbrev pub segment_start : ℕ → Range → ℕ
+segment_start current range = if current == range.0.0 then range.0.1 else 0
 
-abbrev pub part_end : List ℕ → ℕ → Range → ℕ
-part_end row current range = if current == range.1.0 then range.1.1 else length row
+abbrev pub segment_end : List ℕ → ℕ → Range → ℕ
+segment_end row current range = if current == range.1.0 then range.1.1 else length row
 
 abbrev pub range_borders : List ℕ → ℕ → Range → Style → ℕ → List Border
 range_borders row current range style rank =
-    if is_in_range current range then highlight_borders row (part_start current range) (part_end row current range) style rank else []
+    if is_in_range current range then highlight_borders row (segment_start current range) (segment_end row current range) style rank else []
 
 abbrev pub with_range : Highlights → ℕ → Range → Style → ℕ → Highlights
 with_range h current range style rank = record h {
@@ -124,7 +124,7 @@ with_range h current range style rank = record h {
 -- the range covers no character of the row: the row is outside of it, or it is empty in the row
 abbrev pub AddsNoRange : Highlights → ℕ → Range → Type 0
 AddsNoRange h current range =
-    (is_in_range current range ≡ false) ⊎ IsEmptyAt h.row (part_start current range) (part_end h.row current range)
+    (is_in_range current range ≡ false) ⊎ IsEmptyAt h.row (segment_start current range) (segment_end h.row current range)
 
 abbrev pub with_selection : Highlights → ℕ → Range → Highlights
 with_selection h current range = with_range h current range h.select_style selection_rank

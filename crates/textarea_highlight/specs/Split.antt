@@ -24,39 +24,39 @@ abbrev pub marks_upto : List Border → ℕ → List Mark
 marks_upto borders offset = map (λ border. border.mark) (filter (λ border. nat_le border.offset offset) borders)
 
 -- the characters of a segment of the row, and the characters that are shown for them
-abbrev pub piece_of : List ℕ → ℕ → ℕ → List ℕ
-piece_of row from to = chars (slice_range row from to)
+abbrev pub segment_of : List ℕ → ℕ → ℕ → List ℕ
+segment_of row from to = chars (slice_range row from to)
 
-abbrev pub display_piece : List ℕ → ℕ → Option ℕ → ℕ → ℕ → List ℕ
-display_piece row tab_len mask from to =
-    display_text mask tab_len (end_column tab_len 0 (chars (take from row))) (piece_of row from to)
+abbrev pub display_segment : List ℕ → ℕ → Option ℕ → ℕ → ℕ → List ℕ
+display_segment row tab_len mask from to =
+    display_text mask tab_len (end_column tab_len 0 (chars (take from row))) (segment_of row from to)
 
 -- The span shows the segment of the row between two offsets, which ends at a border or at the row's
 -- end, and has no border inside. Its text is borrowed exactly if it is the row's own.
-pub record ShowsPiece (row : List ℕ) (borders : List Border) (base : Style) (tab_len : ℕ) (mask : Option ℕ) (from to : ℕ) (span : SpanView) : Type 0 where
+pub record ShowsSegment (row : List ℕ) (borders : List Border) (base : Style) (tab_len : ℕ) (mask : Option ℕ) (from to : ℕ) (span : SpanView) : Type 0 where
   pub not_empty : from < to
   pub edge : (to ≡ length row) ⊎ Any (λ border. border.offset ≡ to) borders
   pub uncut : All (λ border. (border.offset ≤ from) ⊎ (to ≤ border.offset)) borders
   pub style : IsStyleAfter (marks_upto borders from) base span.style
-  pub text : text_bytes_of span.content ≡ encode_utf8_all (display_piece row tab_len mask from to)
-  pub borrowed : IsUncopied span.content ↔ ((mask ≡ None) × (display_piece row tab_len mask from to ≡ piece_of row from to))
+  pub text : text_bytes_of span.content ≡ encode_utf8_all (display_segment row tab_len mask from to)
+  pub borrowed : IsUncopied span.content ↔ ((mask ≡ None) × (display_segment row tab_len mask from to ≡ segment_of row from to))
 
 -- the spans show the row between two offsets, segment by segment
 abbrev pub IsSplit : List ℕ → List Border → Style → ℕ → Option ℕ → ℕ → List SpanView → ℕ → Type 0
 IsSplit row borders base tab_len mask from [] to = from ≡ to
 IsSplit row borders base tab_len mask from (span ∷ spans) to =
-    (mid : ℕ) × ShowsPiece row borders base tab_len mask from mid span × IsSplit row borders base tab_len mask mid spans to
+    (mid : ℕ) × ShowsSegment row borders base tab_len mask from mid span × IsSplit row borders base tab_len mask mid spans to
 
 -- the span shows the next segment, in the current style
 pub record ShowsNext (row : List ℕ) (display : Display) (styles : OpenStyles) (from to : ℕ) (span : SpanView) : Type 0 where
   pub style : (marks : List Mark) → ArePassed styles marks → IsStyleAfter marks (base_of styles) span.style
-  pub text : text_bytes_of span.content ≡ encode_utf8_all (display_text display.mask display.tab_len display.column (piece_of row from to))
+  pub text : text_bytes_of span.content ≡ encode_utf8_all (display_text display.mask display.tab_len display.column (segment_of row from to))
   pub borrowed : IsUncopied span.content
-      ↔ ((display.mask ≡ None) × (display_text display.mask display.tab_len display.column (piece_of row from to) ≡ piece_of row from to))
+      ↔ ((display.mask ≡ None) × (display_text display.mask display.tab_len display.column (segment_of row from to) ≡ segment_of row from to))
 
 -- an empty segment adds nothing, and another one adds a span that shows it in the current style
-abbrev pub AddsPiece : List ℕ → Display → OpenStyles → ℕ → ℕ → List SpanView → List SpanView → Type 0
-AddsPiece row display styles from to old new =
+abbrev pub AddsSegment : List ℕ → Display → OpenStyles → ℕ → ℕ → List SpanView → List SpanView → Type 0
+AddsSegment row display styles from to old new =
     ((from ≡ to) × (new ≡ old))
     ⊎ ((from < to) × ((span : SpanView) × ShowsNext row display styles from to span × (new ≡ old ++ span ∷ [])))
 
@@ -65,8 +65,8 @@ abbrev pub text_of_spans : List SpanView → List ℕ
 text_of_spans spans = concat (map (λ span. text_bytes_of span.content) spans)
 
 -- the row's segments are appended to the spans; with tab stops they show the row like one segment
-pub record AddsPieces (row : List ℕ) (borders : List Border) (base : Style) (tab_len : ℕ) (mask : Option ℕ) (old new : List SpanView) : Type 0 where
-  pub pieces : List SpanView
-  pub split : IsSplit row borders base tab_len mask 0 pieces (length row)
-  pub added : new ≡ old ++ pieces
-  pub whole : 0 < tab_len → text_of_spans pieces ≡ encode_utf8_all (display_text mask tab_len 0 (chars row))
+pub record AddsSegments (row : List ℕ) (borders : List Border) (base : Style) (tab_len : ℕ) (mask : Option ℕ) (old new : List SpanView) : Type 0 where
+  pub segments : List SpanView
+  pub split : IsSplit row borders base tab_len mask 0 segments (length row)
+  pub added : new ≡ old ++ segments
+  pub whole : 0 < tab_len → text_of_spans segments ≡ encode_utf8_all (display_text mask tab_len 0 (chars row))

@@ -1,32 +1,32 @@
 -- The symbols of a change, from the content of its edit; and the replacements that make it.
 use Rattle.std.proofs.Common.{◌≡◌, ℕ, ◌+◌, ◌<◌, ◌≤◌, Bool, true, false, cond, List, [], ◌∷◌, length, sym, ap, ◌∙◌, arith, subst, inl, inr, ◌⊎◌, String, encode_utf8, Vec}
 use Rattle.std.proofs.lemmas.List.{append-nil, length-map}
-use Rattle.textarea_history.specs.Prelude.{Global, IfSome, chars, IsUtf8, Symbol, characters, characters_of, lines_of, text_of, Place, IsPlace, IsPlaceOf, OccursAt, changed, end, inserted, removed, Splice, Allows, Fits, applied, IsReplacementFor, ReplacesPart, breaks_of, new_line_count, replaced_line_count, Replacement, Stored, IsWellFormed, directed, stored_of, symbols_in, Content}
+use Rattle.textarea_history.specs.Prelude.{Global, IfSome, chars, IsUtf8, Symbol, characters, characters_of, lines_of, text_of, Place, IsPlace, IsPlaceOf, OccursAt, changed, end, inserted, removed, Splice, Allows, Fits, applied, IsReplacementFor, ReplacesBetween, breaks_of, new_line_count, replaced_line_count, Replacement, Stored, IsWellFormed, directed, stored_of, symbols_in, Content}
 use Rattle.textarea_text.proofs.Columns.{chars_from_bytes}
-use Rattle.textarea_text.proofs.StringRows.{changed_by_none, columns_ordered, rows_ordered, rows_place, stands_until}
+use Rattle.textarea_text.proofs.StringRows.{changed_by_none, columns_ordered, rows_ordered, rows_place, occurs_until}
 use Rattle.textarea_text.proofs.Touching.{breaks_of-joined, end_row}
-use Rattle.textarea_history.proofs.Runs.{pieces_as}
+use Rattle.textarea_history.proofs.Runs.{line_count_as}
 use Rattle.textarea_history.specs.declared.edit.Content.TheVariants as content
 
 -- ---- symbols
 
 -- a change has the symbols of its edit's content
-pub symbols_of_change : (kept : Content) (inserts told : Bool) (start to : Place) (edit : Stored) (now : Splice) → stored_of kept inserts start to ≡ edit → directed edit.splice told ≡ now → symbols_in inserts kept ≡ now.symbols
-symbols_of_change kept inserts told start to edit now view view' = ap (λ (s : Stored). s.splice.symbols) view ∙ ap (λ (s : Splice). s.symbols) view'
+pub symbols_of_change : (stored_content : Content) (inserts reported : Bool) (start to : Place) (edit : Stored) (now : Splice) → stored_of stored_content inserts start to ≡ edit → directed edit.splice reported ≡ now → symbols_in inserts stored_content ≡ now.symbols
+symbols_of_change stored_content inserts reported start to edit now view view' = ap (λ (s : Stored). s.splice.symbols) view ∙ ap (λ (s : Splice). s.symbols) view'
 
 -- the symbols of an encoded character
 pub characters_of_one : (bs : List ℕ) (c : ℕ) → IsUtf8 bs → bs ≡ encode_utf8 c → characters (chars bs) ≡ characters (c ∷ [])
 characters_of_one bs c text e = ap characters (chars_from_bytes bs (c ∷ []) text (e ∙ sym (append-nil (encode_utf8 c))))
 
 -- a break, or a fragment of at least two lines, is not within a line
-pub has_break : (kept : Content) (inserts told : Bool) (start to : Place) (edit : Stored) (now : Splice) → stored_of kept inserts start to ≡ edit → directed edit.splice told ≡ now → IsWellFormed edit → breaks_of now.symbols ≡ 0 → (kept ≡ content.Break) ⊎ ((pieces : Vec (String Global) Global) × kept ≡ content.Chunk pieces) → ⊥
-has_break kept inserts told start to edit now view view' h none (inl is) =
-    omega (arith, none, ap breaks_of (symbols_of_change kept inserts told start to edit now view view'), ap (λ k. breaks_of (symbols_in inserts k)) is)
-has_break kept inserts told start to edit now view view' h none (inr found) =
-    let pieces = found.0.items in
-    let many : 2 ≤ length pieces = pieces_as found.1 (subst (λ (s : Stored). IfSome s.pieces (λ n. 2 ≤ n)) (sym view) h.pieces) in
-    let long = length-map pieces characters_of in
-    omega (arith, none, many, long, ap breaks_of (symbols_of_change kept inserts told start to edit now view view'), ap (λ k. breaks_of (symbols_in inserts k)) found.1, breaks_of-joined (lines_of pieces) (omega (arith, many, long)))
+pub has_break : (stored_content : Content) (inserts reported : Bool) (start to : Place) (edit : Stored) (now : Splice) → stored_of stored_content inserts start to ≡ edit → directed edit.splice reported ≡ now → IsWellFormed edit → breaks_of now.symbols ≡ 0 → (stored_content ≡ content.Break) ⊎ ((fragment_lines : Vec (String Global) Global) × stored_content ≡ content.Chunk fragment_lines) → ⊥
+has_break stored_content inserts reported start to edit now view view' h none (inl is) =
+    omega (arith, none, ap breaks_of (symbols_of_change stored_content inserts reported start to edit now view view'), ap (λ k. breaks_of (symbols_in inserts k)) is)
+has_break stored_content inserts reported start to edit now view view' h none (inr found) =
+    let fragment_lines = found.0.items in
+    let many : 2 ≤ length fragment_lines = line_count_as found.1 (subst (λ (s : Stored). IfSome s.fragment_lines (λ n. 2 ≤ n)) (sym view) h.fragment_lines) in
+    let long = length-map fragment_lines characters_of in
+    omega (arith, none, many, long, ap breaks_of (symbols_of_change stored_content inserts reported start to edit now view view'), ap (λ k. breaks_of (symbols_in inserts k)) found.1, breaks_of-joined (lines_of fragment_lines) (omega (arith, many, long)))
 
 -- ---- removals
 
@@ -40,8 +40,8 @@ pub record Removing {Z : Type 0} (items : List (String Z)) (splice : Splice) (st
 pub removing : {Z : Type 0} (items : List (String Z)) (splice : Splice) (start to : Place) → 0 < length items → Fits (text_of items) splice → splice.inserts ≡ false → start ≡ splice.place → to ≡ end splice.place splice.symbols → Removing items splice start to
 removing items splice start to some fits removes begins ends =
     let text = text_of items in
-    let stands : OccursAt text splice.place splice.symbols = subst (λ (b : Bool). Allows b text splice.place splice.symbols) removes fits.allowed in
-    let until = stands_until text splice.place splice.symbols fits.is_place stands in
+    let occurs : OccursAt text splice.place splice.symbols = subst (λ (b : Bool). Allows b text splice.place splice.symbols) removes fits.allowed in
+    let until = occurs_until text splice.place splice.symbols fits.is_place occurs in
     let gone : applied text splice ≡ removed text splice.place splice.symbols =
     ap (λ (b : Bool). cond b (inserted text splice.place splice.symbols) (removed text splice.place splice.symbols)) removes in
     record {
@@ -49,7 +49,7 @@ removing items splice start to some fits removes begins ends =
       end_place = rows_place items to some (subst (IsPlace text) (sym ends) until.0);
       rows = omega (arith, ap (λ (p : Place). p.0) begins, ap (λ (p : Place). p.0) ends, rows_ordered splice.place splice.symbols);
       text = λ none is.
-          ap (λ (p : Place). changed text p to none) begins ∙ changed_by_none text splice.place to splice.symbols none fits.is_place stands ends is ∙ sym gone;
+          ap (λ (p : Place). changed text p to none) begins ∙ changed_by_none text splice.place to splice.symbols none fits.is_place occurs ends is ∙ sym gone;
     }
 
 -- symbols without a break end in the row where they begin
@@ -61,14 +61,14 @@ ends_inside splice start to none begins ends =
       omega (arith, ap (λ (p : Place). p.1) begins, ap (λ (p : Place). p.1) ends, columns_ordered splice.place splice.symbols same),
     )
 
-pub removed_by : (items : List (String Global)) (splice : Splice) (start to : Place) (none : List Symbol) (r : Replacement) → 0 < length items → Fits (text_of items) splice → splice.inserts ≡ false → start ≡ splice.place → to ≡ end splice.place splice.symbols → none ≡ [] → ReplacesPart items start to none r → IsReplacementFor items splice r
+pub removed_by : (items : List (String Global)) (splice : Splice) (start to : Place) (none : List Symbol) (r : Replacement) → 0 < length items → Fits (text_of items) splice → splice.inserts ≡ false → start ≡ splice.place → to ≡ end splice.place splice.symbols → none ≡ [] → ReplacesBetween items start to none r → IsReplacementFor items splice r
 removed_by items splice start to none r some fits removes begins ends is k =
-    let going : replaced_line_count splice ≡ breaks_of splice.symbols + 1 = ap (λ (b : Bool). cond b 1 (breaks_of splice.symbols + 1)) removes in
+    let removed_lines : replaced_line_count splice ≡ breaks_of splice.symbols + 1 = ap (λ (b : Bool). cond b 1 (breaks_of splice.symbols + 1)) removes in
     let coming : new_line_count splice ≡ 1 = ap (λ (b : Bool). cond b (breaks_of splice.symbols + 1) 1) removes in
     let row = ap (λ (p : Place). p.0) begins in
     record {
       row = k.row ∙ row;
-      going = omega (arith, k.row, k.going, row, going, ap (λ (p : Place). p.0) ends, end_row splice.place splice.symbols);
+      removed_lines = omega (arith, k.row, k.removed_lines, row, removed_lines, ap (λ (p : Place). p.0) ends, end_row splice.place splice.symbols);
       coming = omega (arith, k.coming, coming, ap breaks_of is);
       within = k.within;
       text = k.text ∙ (removing items splice start to some fits removes begins ends).text none is;
@@ -76,16 +76,16 @@ removed_by items splice start to none r some fits removes begins ends is k =
 
 -- ---- insertions
 
-pub inserted_by : (items : List (String Global)) (splice : Splice) (start : Place) (symbols : List Symbol) (r : Replacement) → splice.inserts ≡ true → start ≡ splice.place → symbols ≡ splice.symbols → ReplacesPart items start start symbols r → IsReplacementFor items splice r
+pub inserted_by : (items : List (String Global)) (splice : Splice) (start : Place) (symbols : List Symbol) (r : Replacement) → splice.inserts ≡ true → start ≡ splice.place → symbols ≡ splice.symbols → ReplacesBetween items start start symbols r → IsReplacementFor items splice r
 inserted_by items splice start symbols r inserts begins same k =
     let text = text_of items in
-    let going : replaced_line_count splice ≡ 1 = ap (λ (b : Bool). cond b 1 (breaks_of splice.symbols + 1)) inserts in
+    let removed_lines : replaced_line_count splice ≡ 1 = ap (λ (b : Bool). cond b 1 (breaks_of splice.symbols + 1)) inserts in
     let coming : new_line_count splice ≡ breaks_of splice.symbols + 1 = ap (λ (b : Bool). cond b (breaks_of splice.symbols + 1) 1) inserts in
     let there : applied text splice ≡ inserted text splice.place splice.symbols =
     ap (λ (b : Bool). cond b (inserted text splice.place splice.symbols) (removed text splice.place splice.symbols)) inserts in
     record {
       row = k.row ∙ ap (λ (p : Place). p.0) begins;
-      going = omega (arith, k.row, k.going, going);
+      removed_lines = omega (arith, k.row, k.removed_lines, removed_lines);
       coming = omega (arith, k.coming, coming, ap breaks_of same);
       within = k.within;
       text = k.text ∙ ap (λ (p : Place). inserted text p symbols) begins ∙ ap (inserted text splice.place) same ∙ sym there;

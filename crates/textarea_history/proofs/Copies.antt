@@ -13,7 +13,7 @@ splices_copied (edit ∷ items) (copy ∷ copies) h =
 formed_copied : (edit copy : Stored) → IsCopyOfEdit edit copy → IsWellFormed edit → IsWellFormed copy
 formed_copied edit copy same h = record {
   some = omega (arith, h.some, ap (λ (s : Splice). length s.symbols) same.splice);
-  pieces = subst (λ (o : Option ℕ). IfSome o (λ n. 2 ≤ n)) (sym same.pieces) h.pieces;
+  fragment_lines = subst (λ (o : Option ℕ). IfSome o (λ n. 2 ≤ n)) (sym same.fragment_lines) h.fragment_lines;
   ends = same.end ∙ h.ends ∙ ap (λ (s : Splice). end s.place s.symbols) (sym same.splice);
 }
 

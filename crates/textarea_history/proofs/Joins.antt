@@ -40,11 +40,11 @@ joins_newest log edit typed now e = by (newest log) refl (right_of (nat_lt (now 
     rest = right_of (is_typed edit typed && log.run_open) _ e
 
     by : (found : Option Splice) → newest log ≡ found → continues_newest found edit ≡ true → Joins log edit
-    by None is goes = absurd cc
-    by (Some run) is goes = record {
+    by None is continues = absurd cc
+    by (Some run) is continues = record {
       run = run;
       newest_is = is;
-      direction = same_direction run.inserts edit.inserts (left_of _ _ goes);
-      place = same_place (place_after run) (place_before edit) (left_of _ _ (right_of (is_same_direction run.inserts edit.inserts) _ goes));
+      direction = same_direction run.inserts edit.inserts (left_of _ _ continues);
+      place = same_place (place_after run) (place_before edit) (left_of _ _ (right_of (is_same_direction run.inserts edit.inserts) _ continues));
       none_undone = none_left log.undone (left_of _ _ rest);
     }

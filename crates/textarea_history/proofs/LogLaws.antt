@@ -14,14 +14,14 @@ CanUndo-front : (xs ys : List Splice) (text : List Symbol) → CanUndo text (xs 
 CanUndo-front [] ys text h = tt
 CanUndo-front (x ∷ xs) ys text h = (h.0, CanUndo-front xs ys (applied text (inverse x)) h.1)
 
-kept_back : (full : Bool) (done : List Splice) (text : List Symbol) → CanUndo text (reverse done) → CanUndo text (reverse (cond full (drop 1 done) done))
-kept_back true [] text h = h
-kept_back true (first ∷ done) text h = CanUndo-front (reverse done) (first ∷ []) text (subst (CanUndo text) (reverse-append (first ∷ []) done) h)
-kept_back false done text h = h
+can_undo_rest : (full : Bool) (done : List Splice) (text : List Symbol) → CanUndo text (reverse done) → CanUndo text (reverse (cond full (drop 1 done) done))
+can_undo_rest true [] text h = h
+can_undo_rest true (first ∷ done) text h = CanUndo-front (reverse done) (first ∷ []) text (subst (CanUndo text) (reverse-append (first ∷ []) done) h)
+can_undo_rest false done text h = h
 
-kept_length : (full : Bool) (done undone : List Splice) (maximum : ℕ) → (length done + length undone == maximum) ≡ full → length done + length undone ≤ maximum → 0 < maximum → length (cond full (drop 1 done) done) + 1 ≤ maximum
-kept_length true done undone maximum e bounded some = omega (arith, length-drop 1 done)
-kept_length false done undone maximum e bounded some =
+stored_length : (full : Bool) (done undone : List Splice) (maximum : ℕ) → (length done + length undone == maximum) ≡ full → length done + length undone ≤ maximum → 0 < maximum → length (cond full (drop 1 done) done) + 1 ≤ maximum
+stored_length true done undone maximum e bounded some = omega (arith, length-drop 1 done)
+stored_length false done undone maximum e bounded some =
     let apart : length done + length undone ≢ maximum = λ same. cc (e, eq-eqb (length done + length undone) maximum same) in
     omega arith
 
@@ -80,11 +80,11 @@ recorded_done logged splice typed now h fits some true e =
     )
 recorded_done logged splice typed now h fits some false e =
     let log = logged.log in
-    let taken = takes_back logged.text splice fits in
+    let undone_splice = takes_back logged.text splice fits in
     let full = length log.done + length log.undone == log.maximum in
-    let rest : CanUndo logged.text (reverse (remaining_done log)) = kept_back full log.done logged.text h.undo in
-    let short : length (remaining_done log) + 1 ≤ log.maximum = kept_length full log.done log.undone log.maximum refl h.bounded some in (
-      subst (CanUndo (applied logged.text splice)) (sym (reverse-append (remaining_done log) (splice ∷ []))) (taken.fits, subst (λ t. CanUndo t (reverse (remaining_done log))) (sym taken.back) rest),
+    let rest : CanUndo logged.text (reverse (remaining_done log)) = can_undo_rest full log.done logged.text h.undo in
+    let short : length (remaining_done log) + 1 ≤ log.maximum = stored_length full log.done log.undone log.maximum refl h.bounded some in (
+      subst (CanUndo (applied logged.text splice)) (sym (reverse-append (remaining_done log) (splice ∷ []))) (undone_splice.fits, subst (λ t. CanUndo t (reverse (remaining_done log))) (sym undone_splice.back) rest),
       omega (arith, length-append (remaining_done log) (splice ∷ [])),
     )
 
@@ -118,10 +118,10 @@ pub record Before (text : List Symbol) (splice : Splice) : Type 0 where
 
 pub before_newest : (text : List Symbol) (splice : Splice) → Fits text (inverse splice) → Before text splice
 before_newest text splice fits =
-    let taken = takes_back text (inverse splice) fits in
+    let undone_splice = takes_back text (inverse splice) fits in
     let before = applied text (inverse splice) in
     let same = inverse-inverse splice in
-    record { fits = subst (Fits before) same taken.fits; leads = ap (applied before) (sym same) ∙ taken.back }
+    record { fits = subst (Fits before) same undone_splice.fits; leads = ap (applied before) (sym same) ∙ undone_splice.back }
 
 -- the newest edit can be undone, and then those before it
 pub newest_back : (logged : Logged) (splice : Splice) → IsSoundLog logged → newest logged.log ≡ Some splice → CanUndo logged.text (splice ∷ reverse (take (length logged.log.done - 1) logged.log.done))
@@ -149,9 +149,9 @@ pub sound_redone_by : (logged : Logged) (splice : Splice) → IsSoundLog logged 
 sound_redone_by logged splice h e =
     let split = first_split logged.log.undone splice e in
     let ahead : CanApply logged.text (splice ∷ drop 1 logged.log.undone) = subst (CanApply logged.text) split h.redo in
-    let taken = takes_back logged.text splice ahead.0 in
+    let undone_splice = takes_back logged.text splice ahead.0 in
     record {
-      undo = subst (CanUndo (applied logged.text splice)) (sym (reverse-append logged.log.done (splice ∷ []))) (taken.fits, subst (λ t. CanUndo t (reverse logged.log.done)) (sym taken.back) h.undo);
+      undo = subst (CanUndo (applied logged.text splice)) (sym (reverse-append logged.log.done (splice ∷ []))) (undone_splice.fits, subst (λ t. CanUndo t (reverse logged.log.done)) (sym undone_splice.back) h.undo);
       redo = ahead.1;
       bounded = omega (arith, h.bounded, length-append logged.log.done (splice ∷ []), ap length split);
     }
@@ -250,12 +250,12 @@ redo_restores old back again splice undo_cursor redo_cursor h e undoes redoes =
     )
 
 -- the newest edit led from the text before it to the present one
-stood_last : (base : List Symbol) (logged : Logged) (splice : Splice) (changes : List Splice) → IsSoundLog logged → newest logged.log ≡ Some splice → IsTextBefore base (applied logged.text (inverse splice)) changes → IsTextBefore base logged.text (changes ++ splice ∷ [])
-stood_last base logged splice changes h e stood =
+text_before_last : (base : List Symbol) (logged : Logged) (splice : Splice) (changes : List Splice) → IsSoundLog logged → newest logged.log ≡ Some splice → IsTextBefore base (applied logged.text (inverse splice)) changes → IsTextBefore base logged.text (changes ++ splice ∷ [])
+text_before_last base logged splice changes h e was =
     let before = before_newest logged.text splice (newest_back logged splice h e).0 in
     record {
-      can = CanApply-last base changes splice stood.can (subst (λ t. Fits t splice) (sym stood.leads) before.fits);
-      leads = applied_all-last base changes splice ∙ ap (λ t. applied t splice) stood.leads ∙ before.leads;
+      can = CanApply-last base changes splice was.can (subst (λ t. Fits t splice) (sym was.leads) before.fits);
+      leads = applied_all-last base changes splice ∙ ap (λ t. applied t splice) was.leads ∙ before.leads;
     }
 
 pub gives_back : (count : ℕ) (logged : Logged) → IsSoundLog logged → count ≤ length logged.log.done → RestoresText logged count
@@ -272,7 +272,7 @@ gives_back (suc count) logged h within =
     record {
       before = subst (λ (d : Logged). IsTextBefore d.text logged.text (drop (length logged.log.done - suc count) logged.log.done)) (sym whole)
           (subst (IsTextBefore (times count undone first).text logged.text) (last_changes logged.log.done splice count found.1 within)
-          (stood_last (times count undone first).text logged splice (drop (length first.log.done - count) first.log.done) h found.1 rest.before));
+          (text_before_last (times count undone first).text logged splice (drop (length first.log.done - count) first.log.done) h found.1 rest.before));
       again = subst (λ (d : Logged). IsSame (times (suc count) redone d) logged) (sym whole)
           (same_then (redone (times count redone (times count undone first))) (redone first) logged (redone_same (times count redone (times count undone first)) first rest.again) (redone_undone logged splice h found.1));
     }

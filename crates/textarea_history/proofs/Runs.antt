@@ -28,8 +28,8 @@ symbols_grown true old new c e = ap characters e ∙ characters-append (characte
 symbols_grown false old new c e = ap (λ t. characters (reverse t)) e ∙ ap characters (reverse-append (characters_of old) (c ∷ []))
 
 -- the grown run is the run and the edit as one splice
-pub grown_splice : (kept : Content) (inserts : Bool) (start to edit_start : Place) (old new : String Global) (c : ℕ) (self : Stored) (edit : Splice) → stored_of kept inserts start to ≡ self → kept ≡ Typed old → characters_of new ≡ characters_of old ++ c ∷ [] → edit.symbols ≡ Character c ∷ [] → edit.place ≡ edit_start → record { place = cond inserts start edit_start; symbols = symbols_in inserts (Typed new); inserts = inserts } ≡ merged self.splice edit
-grown_splice kept inserts start to edit_start old new c self edit view is e one at =
+pub grown_splice : (stored_content : Content) (inserts : Bool) (start to edit_start : Place) (old new : String Global) (c : ℕ) (self : Stored) (edit : Splice) → stored_of stored_content inserts start to ≡ self → stored_content ≡ Typed old → characters_of new ≡ characters_of old ++ c ∷ [] → edit.symbols ≡ Character c ∷ [] → edit.place ≡ edit_start → record { place = cond inserts start edit_start; symbols = symbols_in inserts (Typed new); inserts = inserts } ≡ merged self.splice edit
+grown_splice stored_content inserts start to edit_start old new c self edit view is e one at =
     by inserts ∙ ap (λ (s : Stored). merged s.splice edit) (ap (λ k. stored_of k inserts start to) (sym is) ∙ view)
   where
     by : (b : Bool) → record { place = cond b start edit_start; symbols = symbols_in b (Typed new); inserts = b } ≡ merged (stored_of (Typed old) b start to).splice edit
@@ -40,8 +40,8 @@ grown_splice kept inserts start to edit_start old new c self edit view is e one 
         ∙ ap (λ (p : Place). record { place = p; symbols = edit.symbols ++ symbols_in false (Typed old); inserts = false }) (sym at)
 
 -- and its ends are those of its symbols
-pub grown_kept : (kept : Content) (inserts : Bool) (start to edit_start edit_end : Place) (old new : String Global) (c : ℕ) (self : Stored) (edit : Splice) → IsWellFormed (stored_of kept inserts start to) → stored_of kept inserts start to ≡ self → kept ≡ Typed old → characters_of new ≡ characters_of old ++ c ∷ [] → edit.symbols ≡ Character c ∷ [] → edit.place ≡ edit_start → edit_end ≡ end edit_start edit.symbols → edit.inserts ≡ self.splice.inserts → place_after self.splice ≡ place_before edit → IsWellFormed (stored_of (Typed new) inserts (cond inserts start edit_start) (cond inserts edit_end to))
-grown_kept kept inserts start to edit_start edit_end old new c self edit h view is e one at stops same meets =
+pub grown_content : (stored_content : Content) (inserts : Bool) (start to edit_start edit_end : Place) (old new : String Global) (c : ℕ) (self : Stored) (edit : Splice) → IsWellFormed (stored_of stored_content inserts start to) → stored_of stored_content inserts start to ≡ self → stored_content ≡ Typed old → characters_of new ≡ characters_of old ++ c ∷ [] → edit.symbols ≡ Character c ∷ [] → edit.place ≡ edit_start → edit_end ≡ end edit_start edit.symbols → edit.inserts ≡ self.splice.inserts → place_after self.splice ≡ place_before edit → IsWellFormed (stored_of (Typed new) inserts (cond inserts start edit_start) (cond inserts edit_end to))
+grown_content stored_content inserts start to edit_start edit_end old new c self edit h view is e one at stops same meets =
     by inserts (subst (λ k. IsWellFormed (stored_of k inserts start to)) is h) (same ∙ ap (λ (s : Stored). s.splice.inserts) (sym view))
     (ap (λ (s : Stored). place_after s.splice) (ap (λ k. stored_of k inserts start to) (sym is) ∙ view) ∙ meets)
   where
@@ -52,7 +52,7 @@ grown_kept kept inserts start to edit_start edit_end old new c self edit h view 
           ends = stops ∙ ap (end edit_start) one ∙ ap (λ (p : Place). end p (Character c ∷ [])) (sym (meets ∙ begins))
               ∙ sym (end-append start (symbols_in true (Typed old)) (Character c ∷ [])) ∙ ap (end start) (sym (symbols_grown true old new c e));
           some = omega (arith, ap length (symbols_grown true old new c e), length-append (symbols_in true (Typed old)) (Character c ∷ []));
-          pieces = tt;
+          fragment_lines = tt;
         }
     by false h same meets =
         let begins : place_before edit ≡ end edit_start (Character c ∷ []) =
@@ -60,7 +60,7 @@ grown_kept kept inserts start to edit_start edit_end old new c self edit h view 
         record {
           ends = h.ends ∙ ap (λ (p : Place). end p (symbols_in false (Typed old))) (meets ∙ begins) ∙ ap (end edit_start) (sym (symbols_grown false old new c e));
           some = omega (arith, ap length (symbols_grown false old new c e));
-          pieces = tt;
+          fragment_lines = tt;
         }
 
 -- a run of one character
@@ -97,10 +97,10 @@ only_reversed false (c ∷ d ∷ cs) = two (reverse (c ∷ d ∷ cs)) (omega (ar
     two (x ∷ y ∷ xs) h = refl
 
 -- two lines have a break between them
-pub only_pieces : (pieces : List (List ℕ)) → 2 ≤ length pieces → None ≡ character_of (joined pieces)
-only_pieces [] h = absurd (omega arith)
-only_pieces (first ∷ []) h = absurd (omega arith)
-only_pieces (first ∷ second ∷ rest) h = by first
+pub only_lines : (fragment_lines : List (List ℕ)) → 2 ≤ length fragment_lines → None ≡ character_of (joined fragment_lines)
+only_lines [] h = absurd (omega arith)
+only_lines (first ∷ []) h = absurd (omega arith)
+only_lines (first ∷ second ∷ rest) h = by first
   where
     by : (line : List ℕ) → None ≡ character_of (characters line ++ following (second ∷ rest))
     by [] = refl
@@ -109,28 +109,28 @@ only_pieces (first ∷ second ∷ rest) h = by first
 
 -- ---- facts of an edit whose content is known
 
-pub symbols_as : {kept same : Content} {inserts : Bool} (start to : Place) {now : Stored} → stored_of kept inserts start to ≡ now → kept ≡ same → symbols_in inserts same ≡ now.splice.symbols
+pub symbols_as : {stored_content same : Content} {inserts : Bool} (start to : Place) {now : Stored} → stored_of stored_content inserts start to ≡ now → stored_content ≡ same → symbols_in inserts same ≡ now.splice.symbols
 symbols_as {inserts = inserts} start to view is = ap (symbols_in inserts) (sym is) ∙ ap (λ (s : Stored). s.splice.symbols) view
 
-pub pieces_as : {kept same : Content} → kept ≡ same → IfSome (line_count_in kept) (λ n. 2 ≤ n) → IfSome (line_count_in same) (λ n. 2 ≤ n)
-pieces_as is h = subst (λ k. IfSome (line_count_in k) (λ n. 2 ≤ n)) is h
+pub line_count_as : {stored_content same : Content} → stored_content ≡ same → IfSome (line_count_in stored_content) (λ n. 2 ≤ n) → IfSome (line_count_in same) (λ n. 2 ≤ n)
+line_count_as is h = subst (λ k. IfSome (line_count_in k) (λ n. 2 ≤ n)) is h
 
 -- the content is stored again with the same symbols
-pub kept_again : {kept : Content} (inserts : Bool) (start to : Place) (c : ℕ) (new : String Global) → IsWellFormed (stored_of kept inserts start to) → kept ≡ content.Character c → characters_of new ≡ c ∷ [] → IsWellFormed (stored_of (Typed new) inserts start to)
-kept_again {kept = kept} inserts start to c new h is e =
-    let same : symbols_in inserts (Typed new) ≡ symbols_in inserts kept = symbols_first inserts new c e ∙ ap (symbols_in inserts) (sym is) in
-    record { ends = h.ends ∙ ap (end start) (sym same); some = omega (arith, h.some, ap length same); pieces = tt }
+pub content_again : {stored_content : Content} (inserts : Bool) (start to : Place) (c : ℕ) (new : String Global) → IsWellFormed (stored_of stored_content inserts start to) → stored_content ≡ content.Character c → characters_of new ≡ c ∷ [] → IsWellFormed (stored_of (Typed new) inserts start to)
+content_again {stored_content = stored_content} inserts start to c new h is e =
+    let same : symbols_in inserts (Typed new) ≡ symbols_in inserts stored_content = symbols_first inserts new c e ∙ ap (symbols_in inserts) (sym is) in
+    record { ends = h.ends ∙ ap (end start) (sym same); some = omega (arith, h.some, ap length same); fragment_lines = tt }
 
-pub splice_again : {kept : Content} (inserts : Bool) (start to : Place) (c : ℕ) (new : String Global) {now : Stored} → stored_of kept inserts start to ≡ now → kept ≡ content.Character c → characters_of new ≡ c ∷ [] → record { place = start; symbols = symbols_in inserts (Typed new); inserts = inserts } ≡ now.splice
+pub splice_again : {stored_content : Content} (inserts : Bool) (start to : Place) (c : ℕ) (new : String Global) {now : Stored} → stored_of stored_content inserts start to ≡ now → stored_content ≡ content.Character c → characters_of new ≡ c ∷ [] → record { place = start; symbols = symbols_in inserts (Typed new); inserts = inserts } ≡ now.splice
 splice_again inserts start to c new view is e =
     ap (λ (s : List Symbol). record { place = start; symbols = s; inserts = inserts }) (symbols_first inserts new c e ∙ ap (symbols_in inserts) (sym is))
     ∙ ap (λ (s : Stored). s.splice) view
 
-pub spare_as : {kept : Content} (inserts : Bool) (start to : Place) (old : String Global) {now : Stored} → stored_of kept inserts start to ≡ now → kept ≡ Typed old → now.spare ≡ string_capacity old - string_len old
+pub spare_as : {stored_content : Content} (inserts : Bool) (start to : Place) (old : String Global) {now : Stored} → stored_of stored_content inserts start to ≡ now → stored_content ≡ Typed old → now.spare ≡ string_capacity old - string_len old
 spare_as inserts start to old view is = ap (λ (s : Stored). s.spare) (sym view ∙ ap (λ k. stored_of k inserts start to) is)
 
 -- a character was pushed, for which there was room
-pub pushed_in_room : {kept : Content} {T E : Type 0} (inserts : Bool) (start to : Place) (old new : String Global) (c : ℕ) {now : Stored} (done : Result T E) → stored_of kept inserts start to ≡ now → kept ≡ Typed old → 4 ≤ now.spare → length (encode_utf8 c) ≤ 4 → (string_len old + length (encode_utf8 c) ≤ string_capacity old → is_ok done ≡ true) → string_bytes new ≡ cond (is_ok done) (string_bytes old ++ encode_utf8 c) (string_bytes old) → characters_of new ≡ characters_of old ++ c ∷ []
+pub pushed_in_room : {stored_content : Content} {T E : Type 0} (inserts : Bool) (start to : Place) (old new : String Global) (c : ℕ) {now : Stored} (done : Result T E) → stored_of stored_content inserts start to ≡ now → stored_content ≡ Typed old → 4 ≤ now.spare → length (encode_utf8 c) ≤ 4 → (string_len old + length (encode_utf8 c) ≤ string_capacity old → is_ok done ≡ true) → string_bytes new ≡ cond (is_ok done) (string_bytes old ++ encode_utf8 c) (string_bytes old) → characters_of new ≡ characters_of old ++ c ∷ []
 pushed_in_room inserts start to old new c done view is room few succeeds e =
     characters_of-pushed old new c
     (e ∙ ap (λ b. cond b (string_bytes old ++ encode_utf8 c) (string_bytes old)) (succeeds (omega (arith, spare_as inserts start to old view is))))

@@ -50,10 +50,10 @@ joining items index maximum run last now newest_edit edit log store view read e 
     by (Some edge) run_is e =
         let log = log_at (map splice_in items) index maximum true last in
         let some : 0 < index = omega (arith, run_is.0, run_is.1) in
-        let goes : continues_newest (newest log) edit ≡ true =
+        let newest_continues : continues_newest (newest log) edit ≡ true =
         right_of (nat_lt (now - last) pause) _ (right_of (is_empty log.undone) _ (right_of (is_typed edit true && true) _ e)) in
         let continues_it : continues newest_edit.splice edit ≡ true =
-        subst (λ (o : Option Splice). continues_newest o edit ≡ true) (newest_at items index maximum true last newest_edit some store.within read) goes in
+        subst (λ (o : Option Splice). continues_newest o edit ≡ true) (newest_at items index maximum true last newest_edit some store.within read) newest_continues in
         let is_run : IsRun newest_edit edge = subst (λ (o : Option Stored). IfSome o (λ s. IsRun s edge)) (last_read items index newest_edit run_is.0 some read) run_is.2 in
         record {
           edge = edge;
@@ -213,36 +213,36 @@ room_ready items index (Some edge) free new whole some room ready =
 -- ---- room for one more edit
 
 -- the oldest edit is dropped if the history is full and has a done one
-pub place_made : (items kept_items : List Stored) (index kept_index maximum : ℕ) (run_open : Bool) (last : ℕ) (log : Log) → index ≤ length items → log_at (map splice_in items) index maximum run_open last ≡ log → kept_items ≡ take kept_index (cond (length items == maximum) (drop (index - kept_index) items) items) → kept_index ≡ cond (length items == maximum) (index - 1) index → log_at (map splice_in kept_items) kept_index maximum false last ≡ record log { done = remaining_done log; undone = []; run_open = false }
-place_made items kept_items index kept_index maximum run_open last log within view is at =
+pub place_made : (items retained_items : List Stored) (index retained_index maximum : ℕ) (run_open : Bool) (last : ℕ) (log : Log) → index ≤ length items → log_at (map splice_in items) index maximum run_open last ≡ log → retained_items ≡ take retained_index (cond (length items == maximum) (drop (index - retained_index) items) items) → retained_index ≡ cond (length items == maximum) (index - 1) index → log_at (map splice_in retained_items) retained_index maximum false last ≡ record log { done = remaining_done log; undone = []; run_open = false }
+place_made items retained_items index retained_index maximum run_open last log within view is at =
     let splices = map splice_in items in
     let old = log_at splices index maximum run_open last in
     let many : length splices ≡ length items = length-map items splice_in in
-    let parts : length (take index splices) + length (drop index splices) ≡ length items =
+    let components : length (take index splices) + length (drop index splices) ≡ length items =
     omega (arith, many, length-append (take index splices) (drop index splices), ap length (take-append-drop index splices)) in
-    let short : length kept_items ≤ kept_index = subst (λ (t : List Stored). length t ≤ kept_index) (sym is) (length-take_below kept_index _) in
-    let mapped : length (map splice_in kept_items) ≡ length kept_items = length-map kept_items splice_in in
-    let done : take kept_index (map splice_in kept_items) ≡ remaining_done old =
-    take_all kept_index (map splice_in kept_items) (omega arith)
+    let short : length retained_items ≤ retained_index = subst (λ (t : List Stored). length t ≤ retained_index) (sym is) (length-take_below retained_index _) in
+    let mapped : length (map splice_in retained_items) ≡ length retained_items = length-map retained_items splice_in in
+    let done : take retained_index (map splice_in retained_items) ≡ remaining_done old =
+    take_all retained_index (map splice_in retained_items) (omega arith)
     ∙ ap (map splice_in) is
     ∙ by (length items == maximum) at
-    ∙ ap (λ n. cond (n == maximum) (drop 1 (take index splices)) (take index splices)) (sym parts) in
-    let undone : drop kept_index (map splice_in kept_items) ≡ [] = drop_all kept_index (map splice_in kept_items) (omega arith) in
-    ap (λ (d : List Splice). record { done = d; undone = drop kept_index (map splice_in kept_items); maximum = maximum; run_open = false; last = last }) done
+    ∙ ap (λ n. cond (n == maximum) (drop 1 (take index splices)) (take index splices)) (sym components) in
+    let undone : drop retained_index (map splice_in retained_items) ≡ [] = drop_all retained_index (map splice_in retained_items) (omega arith) in
+    ap (λ (d : List Splice). record { done = d; undone = drop retained_index (map splice_in retained_items); maximum = maximum; run_open = false; last = last }) done
     ∙ ap (λ (u : List Splice). record { done = remaining_done old; undone = u; maximum = maximum; run_open = false; last = last }) undone
     ∙ ap (λ (l : Log). record l { done = remaining_done l; undone = []; run_open = false }) view
   where
     length-take_below : (n : ℕ) (xs : List Stored) → length (take n xs) ≤ n
     length-take_below n xs = omega (arith, length-take n xs)
 
-    by : (b : Bool) → kept_index ≡ cond b (index - 1) index → map splice_in (take kept_index (cond b (drop (index - kept_index) items) items)) ≡ cond b (drop 1 (take index (map splice_in items))) (take index (map splice_in items))
+    by : (b : Bool) → retained_index ≡ cond b (index - 1) index → map splice_in (take retained_index (cond b (drop (index - retained_index) items) items)) ≡ cond b (drop 1 (take index (map splice_in items))) (take index (map splice_in items))
     by false e = ap (λ n. map splice_in (take n items)) e ∙ sym (take-map splice_in index items)
     by true e = first index e
       where
-        first : (n : ℕ) → kept_index ≡ n - 1 → map splice_in (take kept_index (drop (n - kept_index) items)) ≡ drop 1 (take n (map splice_in items))
+        first : (n : ℕ) → retained_index ≡ n - 1 → map splice_in (take retained_index (drop (n - retained_index) items)) ≡ drop 1 (take n (map splice_in items))
         first zero e = ap (λ k. map splice_in (take k (drop (0 - k) items))) e
         first (suc m) e =
-            let same : kept_index ≡ m = omega (arith, e) in
+            let same : retained_index ≡ m = omega (arith, e) in
             let one : suc m - m ≡ 1 = omega arith in
             let more : 1 + m ≡ suc m = omega arith in
             ap (λ k. map splice_in (take k (drop (suc m - k) items))) same
@@ -252,26 +252,26 @@ place_made items kept_items index kept_index maximum run_open last log within vi
             ∙ sym (drop-map splice_in 1 (take (suc m) items))
             ∙ ap (drop 1) (sym (take-map splice_in (suc m) items))
 
-pub place_made_full : (items kept_items : List Stored) (index maximum : ℕ) (run_open : Bool) (last : ℕ) (log : Log) → index ≤ length items → log_at (map splice_in items) index maximum run_open last ≡ log → length items ≡ maximum → 0 < index → kept_items ≡ take (index - 1) (drop 1 items) → log_at (map splice_in kept_items) (index - 1) maximum false last ≡ record log { done = remaining_done log; undone = []; run_open = false }
-place_made_full items kept_items index maximum run_open last log within view full some is =
+pub place_made_full : (items retained_items : List Stored) (index maximum : ℕ) (run_open : Bool) (last : ℕ) (log : Log) → index ≤ length items → log_at (map splice_in items) index maximum run_open last ≡ log → length items ≡ maximum → 0 < index → retained_items ≡ take (index - 1) (drop 1 items) → log_at (map splice_in retained_items) (index - 1) maximum false last ≡ record log { done = remaining_done log; undone = []; run_open = false }
+place_made_full items retained_items index maximum run_open last log within view full some is =
     let test : (length items == maximum) ≡ true = eq-eqb (length items) maximum full in
     let one : 1 ≡ index - (index - 1) = omega arith in
-    place_made items kept_items index (index - 1) maximum run_open last log within view
+    place_made items retained_items index (index - 1) maximum run_open last log within view
     (is ∙ ap (λ n. take (index - 1) (drop n items)) one ∙ ap (λ b. take (index - 1) (cond b (drop (index - (index - 1)) items) items)) (sym test))
     (ap (λ b. cond b (index - 1) index) (sym test))
 
-pub place_made_rest : (items kept_items : List Stored) (index maximum : ℕ) (run_open : Bool) (last : ℕ) (log : Log) → index ≤ length items → log_at (map splice_in items) index maximum run_open last ≡ log → (length items ≡ maximum → index ≡ 0) → kept_items ≡ take index items → log_at (map splice_in kept_items) index maximum false last ≡ record log { done = remaining_done log; undone = []; run_open = false }
-place_made_rest items kept_items index maximum run_open last log within view free is = by (length items == maximum) refl
+pub place_made_rest : (items retained_items : List Stored) (index maximum : ℕ) (run_open : Bool) (last : ℕ) (log : Log) → index ≤ length items → log_at (map splice_in items) index maximum run_open last ≡ log → (length items ≡ maximum → index ≡ 0) → retained_items ≡ take index items → log_at (map splice_in retained_items) index maximum false last ≡ record log { done = remaining_done log; undone = []; run_open = false }
+place_made_rest items retained_items index maximum run_open last log within view free is = by (length items == maximum) refl
   where
-    by : (b : Bool) → (length items == maximum) ≡ b → log_at (map splice_in kept_items) index maximum false last ≡ record log { done = remaining_done log; undone = []; run_open = false }
+    by : (b : Bool) → (length items == maximum) ≡ b → log_at (map splice_in retained_items) index maximum false last ≡ record log { done = remaining_done log; undone = []; run_open = false }
     by false test =
-        place_made items kept_items index index maximum run_open last log within view
+        place_made items retained_items index index maximum run_open last log within view
         (is ∙ ap (λ b. take index (cond b (drop (index - index) items) items)) (sym test)) (ap (λ b. cond b (index - 1) index) (sym test))
     by true test =
         let none : index ≡ 0 = free (eqb-true (length items) maximum test) in
         let down : index ≡ index - 1 = omega arith in
         let start : 0 ≡ index - index = omega arith in
-        place_made items kept_items index index maximum run_open last log within view
+        place_made items retained_items index index maximum run_open last log within view
         (is ∙ ap (λ n. take index (drop n items)) start ∙ ap (λ b. take index (cond b (drop (index - index) items) items)) (sym test))
         (down ∙ ap (λ b. cond b (index - 1) index) (sym test))
 

@@ -5,12 +5,12 @@ use Rattle.textarea_history.specs.Prelude.{characters, characters_of, text_of, s
 use Rattle.textarea_text.proofs.Sizes.{weight_of_line, weight_of_text, weight-reverse}
 
 -- the lines of a fragment without the first
-pub pieces_weight : {Z : Type 0} (pieces : List (String Z)) (first : String Z) → 0 < length pieces → first ≡ get_or pieces 0 first → weight (text_of pieces) ≡ string_len first + size_of (take (length pieces - 1) (drop 1 pieces))
-pieces_weight [] first some e = absurd (omega arith)
-pieces_weight (piece ∷ rest) first some e =
-    weight_of_text piece rest
+pub fragment_weight : {Z : Type 0} (fragment_lines : List (String Z)) (first : String Z) → 0 < length fragment_lines → first ≡ get_or fragment_lines 0 first → weight (text_of fragment_lines) ≡ string_len first + size_of (take (length fragment_lines - 1) (drop 1 fragment_lines))
+fragment_weight [] first some e = absurd (omega arith)
+fragment_weight (fragment_line ∷ rest) first some e =
+    weight_of_text fragment_line rest
     ∙ ap (λ s. string_len s + size_of rest) (sym e)
-    ∙ ap (λ t. string_len first + size_of t) (sym (take_all (length (piece ∷ rest) - 1) rest (omega arith)))
+    ∙ ap (λ t. string_len first + size_of t) (sym (take_all (length (fragment_line ∷ rest) - 1) rest (omega arith)))
 
 -- typed text has the same bytes in either direction
 pub typed_weight : {Z : Type 0} (inserts : Bool) (text : String Z) → weight (characters (cond inserts (characters_of text) (reverse (characters_of text)))) ≡ string_len text

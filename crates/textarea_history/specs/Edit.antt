@@ -17,8 +17,8 @@ symbols_of InsertNewline = Break ∷ []
 symbols_of DeleteNewline = Break ∷ []
 symbols_of (InsertStr s) = characters (characters_of s)
 symbols_of (DeleteStr s) = characters (characters_of s)
-symbols_of (InsertChunk pieces) = joined (lines_of pieces.items)
-symbols_of (DeleteChunk pieces) = joined (lines_of pieces.items)
+symbols_of (InsertChunk fragment_lines) = joined (lines_of fragment_lines.items)
+symbols_of (DeleteChunk fragment_lines) = joined (lines_of fragment_lines.items)
 
 abbrev pub inserts_of : EditKind → Bool
 inserts_of (InsertChar c) = true
@@ -27,13 +27,13 @@ inserts_of InsertNewline = true
 inserts_of DeleteNewline = false
 inserts_of (InsertStr s) = true
 inserts_of (DeleteStr s) = false
-inserts_of (InsertChunk pieces) = true
-inserts_of (DeleteChunk pieces) = false
+inserts_of (InsertChunk fragment_lines) = true
+inserts_of (DeleteChunk fragment_lines) = false
 
 -- the number of lines of a fragment
 abbrev pub line_count_of : EditKind → Option ℕ
-line_count_of (InsertChunk pieces) = Some (length pieces.items)
-line_count_of (DeleteChunk pieces) = Some (length pieces.items)
+line_count_of (InsertChunk fragment_lines) = Some (length fragment_lines.items)
+line_count_of (DeleteChunk fragment_lines) = Some (length fragment_lines.items)
 line_count_of kind = None
 
 -- a copy of a kind is of the same variant, with the same character, or the same characters in its
@@ -45,8 +45,8 @@ IsCopyOfKind InsertNewline InsertNewline = Unit {0}
 IsCopyOfKind DeleteNewline DeleteNewline = Unit {0}
 IsCopyOfKind (InsertStr s) (InsertStr copy) = characters_of copy ≡ characters_of s
 IsCopyOfKind (DeleteStr s) (DeleteStr copy) = characters_of copy ≡ characters_of s
-IsCopyOfKind (InsertChunk pieces) (InsertChunk copy) = lines_of copy.items ≡ lines_of pieces.items
-IsCopyOfKind (DeleteChunk pieces) (DeleteChunk copy) = lines_of copy.items ≡ lines_of pieces.items
+IsCopyOfKind (InsertChunk fragment_lines) (InsertChunk copy) = lines_of copy.items ≡ lines_of fragment_lines.items
+IsCopyOfKind (DeleteChunk fragment_lines) (DeleteChunk copy) = lines_of copy.items ≡ lines_of fragment_lines.items
 IsCopyOfKind kind copy = ⊥
 
 -- the splice, from the cursor's positions before and after it: an insertion is at the first one, a
@@ -67,7 +67,7 @@ end_of_kind kind before after = cond (inserts_of kind) after before
 pub record Stored : Type 0 where
   pub splice : Splice
   pub end : Place
-  pub pieces : Option ℕ
+  pub fragment_lines : Option ℕ
   pub grows : Bool
   pub spare : ℕ
 
@@ -75,7 +75,7 @@ pub record Stored : Type 0 where
 -- and if the positions passed are the two ends of its symbols
 pub record IsWellFormed (edit : Stored) : Type 0 where
   pub some : 0 < length edit.splice.symbols
-  pub pieces : IfSome edit.pieces (λ n. 2 ≤ n)
+  pub fragment_lines : IfSome edit.fragment_lines (λ n. 2 ≤ n)
   pub ends : edit.end ≡ end edit.splice.place edit.splice.symbols
 
 -- the splice with its own direction: as the edit is made, or undone
@@ -93,7 +93,7 @@ after_of edit = cond edit.splice.inserts edit.end edit.splice.place
 pub record IsCopyOfEdit (edit copy : Stored) : Type 0 where
   pub splice : copy.splice ≡ edit.splice
   pub end : copy.end ≡ edit.end
-  pub pieces : copy.pieces ≡ edit.pieces
+  pub fragment_lines : copy.fragment_lines ≡ edit.fragment_lines
   pub grows : copy.grows ≡ edit.grows
 
 -- ---- as an `Edit` stores it
@@ -104,10 +104,10 @@ symbols_in inserts (content.Character c) = Character c ∷ []
 symbols_in inserts (content.Text s) = characters (characters_of s)
 symbols_in inserts (content.Typed s) = characters (cond inserts (characters_of s) (reverse (characters_of s)))
 symbols_in inserts content.Break = Break ∷ []
-symbols_in inserts (content.Chunk pieces) = joined (lines_of pieces.items)
+symbols_in inserts (content.Chunk fragment_lines) = joined (lines_of fragment_lines.items)
 
 abbrev pub line_count_in : Content → Option ℕ
-line_count_in (content.Chunk pieces) = Some (length pieces.items)
+line_count_in (content.Chunk fragment_lines) = Some (length fragment_lines.items)
 line_count_in other = None
 
 -- whether it can grow as a run
@@ -122,16 +122,16 @@ spare_of (content.Typed s) = string_capacity s - string_len s
 spare_of other = 0
 
 abbrev pub stored_of : Content → Bool → Place → Place → Stored
-stored_of kept inserts start to = record {
-  splice = record { place = start; symbols = symbols_in inserts kept; inserts = inserts };
+stored_of stored_content inserts start to = record {
+  splice = record { place = start; symbols = symbols_in inserts stored_content; inserts = inserts };
   end = to;
-  pieces = line_count_in kept;
-  grows = grows_of kept;
-  spare = spare_of kept;
+  fragment_lines = line_count_in stored_content;
+  grows = grows_of stored_content;
+  spare = spare_of stored_content;
 }
 
 -- a copy of a content has the same symbols in either direction
-pub record IsCopyOfContent (kept copy : Content) : Type 0 where
-  pub symbols : (inserts : Bool) → symbols_in inserts copy ≡ symbols_in inserts kept
-  pub pieces : line_count_in copy ≡ line_count_in kept
-  pub grows : grows_of copy ≡ grows_of kept
+pub record IsCopyOfContent (stored_content copy : Content) : Type 0 where
+  pub symbols : (inserts : Bool) → symbols_in inserts copy ≡ symbols_in inserts stored_content
+  pub fragment_lines : line_count_in copy ≡ line_count_in stored_content
+  pub grows : grows_of copy ≡ grows_of stored_content

@@ -12,7 +12,7 @@ pub use Rattle.textarea_text.specs.Place.{IsPlace, IsPlaceOf, Place, OccursAt, c
 pub use Rattle.textarea_text.specs.Size.{size_of, weight}
 pub use Rattle.textarea_text.specs.Splice.{Allows, CanApply, CanUndo, Fits, Splice, IsTextBefore, applied, applied_all, inverse, place_after, place_before}
 pub use Rattle.textarea_text.specs.Text.{Break, Character, Symbol, characters, characters_of, following, joined, leading, lines, lines_of, text_of}
-pub use Rattle.textarea_text.specs.Touched.{IsReplacementFor, ReplacesPart, breaks_of, new_line_count, replaced_line_count}
+pub use Rattle.textarea_text.specs.Touched.{IsReplacementFor, ReplacesBetween, breaks_of, new_line_count, replaced_line_count}
 pub use Rattle.textarea_text.specs.declared.rows.Replacement.{Replacement}
 pub use Rattle.textarea_history.specs.Change.{FitsLines, IsRemovalInLine, MakesLines}
 pub use Rattle.textarea_history.specs.Edit.{IsCopyOfEdit, IsCopyOfKind, IsWellFormed, Stored, directed, grows_of, line_count_in, stored_of, symbols_in}

@@ -40,8 +40,12 @@ impl Clone for EditKind {
             EditKind::DeleteNewline => Ok(EditKind::DeleteNewline),
             EditKind::InsertStr(s) => Ok(EditKind::InsertStr(s.clone()?)),
             EditKind::DeleteStr(s) => Ok(EditKind::DeleteStr(s.clone()?)),
-            EditKind::InsertChunk(pieces) => Ok(EditKind::InsertChunk(pieces.clone()?)),
-            EditKind::DeleteChunk(pieces) => Ok(EditKind::DeleteChunk(pieces.clone()?)),
+            EditKind::InsertChunk(fragment_lines) => Ok(EditKind::InsertChunk(
+                fragment_lines.clone()?,
+            )),
+            EditKind::DeleteChunk(fragment_lines) => Ok(EditKind::DeleteChunk(
+                fragment_lines.clone()?,
+            )),
         }
     }
 }
@@ -50,7 +54,7 @@ impl Clone for EditKind {
 pub fn deletion_of(character: Option<char>) -> EditKind
     ensures symbols { symbols_of result ≡ symbol_in character ∷ [] }
     ensures inserts { inserts_of result ≡ false }
-    ensures pieces { line_count_of result ≡ None }
+    ensures fragment_lines { line_count_of result ≡ None }
 {
     match character {
         Some(c) => EditKind::DeleteChar(c),
@@ -72,7 +76,7 @@ enum Content {
 impl Clone for Content {
     ghost use Rattle.textarea_history.specs.Edit.{IsCopyOfContent};
 
-    ghost is_clone = { λ kept copy. IsCopyOfContent kept copy };
+    ghost is_clone = { λ stored_content copy. IsCopyOfContent stored_content copy };
 
     fn clone(&self) -> Result<Content, AllocError> {
         match self {
@@ -80,7 +84,7 @@ impl Clone for Content {
             Content::Text(text) => Ok(Content::Text(text.clone()?)),
             Content::Typed(text) => Ok(Content::Typed(text.clone()?)),
             Content::Break => Ok(Content::Break),
-            Content::Chunk(pieces) => Ok(Content::Chunk(pieces.clone()?)),
+            Content::Chunk(fragment_lines) => Ok(Content::Chunk(fragment_lines.clone()?)),
         }
     }
 }
@@ -129,7 +133,7 @@ impl Edit {
             ≡ splice_of kind (before.row, before.col) (after.row, after.col) }
         ensures end { result.end
             ≡ end_of_kind kind (before.row, before.col) (after.row, after.col) }
-        ensures pieces { result.pieces ≡ line_count_of kind }
+        ensures fragment_lines { result.fragment_lines ≡ line_count_of kind }
     {
         Edit::between(kind, (before.row, before.col), (after.row, after.col))
     }
@@ -138,7 +142,7 @@ impl Edit {
     pub fn between(kind: EditKind, before: (usize, usize), after: (usize, usize)) -> Self
         ensures splice { result.splice ≡ splice_of kind before after }
         ensures end { result.end ≡ end_of_kind kind before after }
-        ensures pieces { result.pieces ≡ line_count_of kind }
+        ensures fragment_lines { result.fragment_lines ≡ line_count_of kind }
     {
         match kind {
             EditKind::InsertChar(c) => Edit::insertion(Content::Character(c), before, after),
@@ -147,8 +151,16 @@ impl Edit {
             EditKind::DeleteNewline => Edit::removal(Content::Break, before, after),
             EditKind::InsertStr(s) => Edit::insertion(Content::Text(s), before, after),
             EditKind::DeleteStr(s) => Edit::removal(Content::Text(s), before, after),
-            EditKind::InsertChunk(pieces) => Edit::insertion(Content::Chunk(pieces), before, after),
-            EditKind::DeleteChunk(pieces) => Edit::removal(Content::Chunk(pieces), before, after),
+            EditKind::InsertChunk(fragment_lines) => Edit::insertion(
+                Content::Chunk(fragment_lines),
+                before,
+                after,
+            ),
+            EditKind::DeleteChunk(fragment_lines) => Edit::removal(
+                Content::Chunk(fragment_lines),
+                before,
+                after,
+            ),
         }
     }
 

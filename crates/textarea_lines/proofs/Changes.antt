@@ -22,13 +22,13 @@ use Rattle.textarea_lines.specs.TextLayout.{TextAndLayout, applied_to, layout_fr
 use Rattle.textarea_lines.specs.Stored.{IsStored, HoldsRows}
 use Rattle.textarea_lines.specs.Wrappings.{is_same_wrapping, is_wrapped, wrapping_for}
 use Rattle.textarea_lines.proofs.Layouts.{map-replaced}
-use Rattle.textarea_lines.proofs.SameWraps.{kept_whole, kept_wrapped}
-use Rattle.textarea_lines.proofs.Stores.{count_held, lines_held, seen}
+use Rattle.textarea_lines.proofs.SameWraps.{same_whole, same_wrapped}
+use Rattle.textarea_lines.proofs.Stores.{count_stored, lines_stored, text_layout_of}
 
 -- the text of the new lines
 pub text_replaced : {Z : Type 0} (items new : List (String Z)) (row count : ℕ) → 0 < length items → text_of (replaced items row count new) ≡ joined (replaced (lines (text_of items)) row count (lines_of new))
 text_replaced items new row count some =
-    ap joined (map-replaced characters_of items new row count ∙ ap (λ t. replaced t row count (lines_of new)) (sym (lines_held items some)))
+    ap joined (map-replaced characters_of items new row count ∙ ap (λ t. replaced t row count (lines_of new)) (sym (lines_stored items some)))
 
 -- the lines before and after a replacement
 pub record Replacing {Z : Type 0} (old now new : List (String Z)) (row count : ℕ) : Type 0 where
@@ -54,15 +54,15 @@ holds_replaced settings old now new row count size n map h n_is wrapping right s
       text_layout = rw h.now_is right;
     }
 
-pub layout_replaced : {Z : Type 0} (settings : LayoutSettings) (old now new : List (String Z)) (row count n before after : ℕ) (first rows : List RowsView) → Replacing old now new row count → n ≡ length new → record { settings = settings; count = after; ticks = ticks_of rows } ≡ after_replacement (record { settings = settings; count = before; ticks = ticks_of first }) (length old) row count n → seen settings now after rows ≡ replaced_in (seen settings old before first) row count (lines_of new)
+pub layout_replaced : {Z : Type 0} (settings : LayoutSettings) (old now new : List (String Z)) (row count n before after : ℕ) (first rows : List RowsView) → Replacing old now new row count → n ≡ length new → record { settings = settings; count = after; ticks = ticks_of rows } ≡ after_replacement (record { settings = settings; count = before; ticks = ticks_of first }) (length old) row count n → text_layout_of settings now after rows ≡ replaced_in (text_layout_of settings old before first) row count (lines_of new)
 layout_replaced settings old now new row count n before after first rows h n_is layout =
-    cc (text_now old now new row count h, count_held old h.some, length-map new characters_of)
+    cc (text_now old now new row count h, count_stored old h.some, length-map new characters_of)
 
 -- ---- a change
 
 -- a replacement that makes a splice of the lines makes it of the text
-pub made : (text_layout : TextAndLayout) (items lent : List (String Global)) (replacement : Replacement) (splice : Splice) → 0 < length items → text_of items ≡ text_layout.text → lent ≡ items → IsReplacementFor lent splice replacement → replaced_in text_layout replacement.row replacement.count (lines_of replacement.lines.items) ≡ applied_to text_layout splice
-made text_layout items lent replacement splice some is lent_is h = grind (arith, common_steps, text_replaced, length-map)
+pub made : (text_layout : TextAndLayout) (items borrowed_lines : List (String Global)) (replacement : Replacement) (splice : Splice) → 0 < length items → text_of items ≡ text_layout.text → borrowed_lines ≡ items → IsReplacementFor borrowed_lines splice replacement → replaced_in text_layout replacement.row replacement.count (lines_of replacement.lines.items) ≡ applied_to text_layout splice
+made text_layout items borrowed_lines replacement splice some is borrowed_is h = grind (arith, common_steps, text_replaced, length-map)
 
 -- the size after a change
 pub size_made : {Z : Type 0} (items : List (String Z)) (text : List Symbol) (size after : ℕ) (splice : Splice) → IsStored items size → text_of items ≡ text → Fits text splice → after ≡ cond splice.inserts (size + weight splice.symbols) (size - weight splice.symbols) → after ≡ weight (applied text splice) + 1
@@ -76,26 +76,26 @@ size_made items text size after splice stored is fits after_is =
 -- ---- all lines
 
 -- some lines, all of which are wrapped
-pub laid_new : {Z : Type 0} (settings : LayoutSettings) (items lent : List (String Z)) (old count : ℕ) (rows : List RowsView) → 0 < length items → lent ≡ items → count ≡ old + length lent → ticks_of rows ≡ ticks_after old (length lent) → seen settings items count rows ≡ layout_from_scratch settings old (text_of items)
-laid_new settings items lent old count rows some lent_is counted ticks =
-    cc (count_held items some)
+pub wrapped_new : {Z : Type 0} (settings : LayoutSettings) (items borrowed_lines : List (String Z)) (old count : ℕ) (rows : List RowsView) → 0 < length items → borrowed_lines ≡ items → count ≡ old + length borrowed_lines → ticks_of rows ≡ ticks_after old (length borrowed_lines) → text_layout_of settings items count rows ≡ layout_from_scratch settings old (text_of items)
+wrapped_new settings items borrowed_lines old count rows some borrowed_is counted ticks =
+    cc (count_stored items some)
 
 -- how lines are wrapped under old and new settings
 pub record Reviewing {Z : Type 0} (old settings : LayoutSettings) (items : List (String Z)) (count : ℕ) (rows : List RowsView) (text_layout : TextAndLayout) (before after : Wrapping) : Type 0 where
   pub some : 0 < length items
-  pub is : seen old items count rows ≡ text_layout
+  pub is : text_layout_of old items count rows ≡ text_layout
   pub before_is : before ≡ wrapping_for old (length items)
   pub after_is : after ≡ wrapping_for settings (length items)
 
 pub test_is : {Z : Type 0} (old settings : LayoutSettings) (items : List (String Z)) (count : ℕ) (rows : List RowsView) (text_layout : TextAndLayout) (before after : Wrapping) → Reviewing old settings items count rows text_layout before after → is_same_wrapping (wrapping_for settings (length (lines text_layout.text))) (wrapping_of text_layout) ≡ is_same_wrapping after before
 test_is old settings items count rows text_layout before after h =
-    rw (← h.is, count_held items h.some, h.after_is, h.before_is)
+    rw (← h.is, count_stored items h.some, h.after_is, h.before_is)
 
 -- if lines are wrapped as before, their rows remain right: those of whole lines at other tab stops
 pub holds_wrapped : {Z : Type 0} (old settings : LayoutSettings) (items : List (String Z)) (size : ℕ) (map : MapView) → is_wrapped settings ≡ true → is_same_wrapping (wrapping_for settings (length items)) map.wrapping ≡ true → HoldsRows old items size map → HoldsRows settings items size map
 holds_wrapped old settings items size map wrapped same k =
-    record { stored = k.stored; wrapping_is = kept_wrapped settings (length items) map.wrapping wrapped same; text_layout = k.text_layout }
+    record { stored = k.stored; wrapping_is = same_wrapped settings (length items) map.wrapping wrapped same; text_layout = k.text_layout }
 
 pub holds_whole : {Z : Type 0} (old settings : LayoutSettings) (items : List (String Z)) (size : ℕ) (map now : MapView) → is_wrapped settings ≡ false → is_same_wrapping (wrapping_for settings (length items)) map.wrapping ≡ true → HoldsRows old items size map → now.wrapping ≡ with_tab_len map.wrapping settings.tab_len → AreRowsOf now.wrapping (lines_of items) now.rows → HoldsRows settings items size now
 holds_whole old settings items size map now whole same k wrapping_is right =
-    record { stored = k.stored; wrapping_is = wrapping_is ∙ kept_whole old settings (length items) map.wrapping k.wrapping_is whole same; text_layout = right }
+    record { stored = k.stored; wrapping_is = wrapping_is ∙ same_whole old settings (length items) map.wrapping k.wrapping_is whole same; text_layout = right }

@@ -9,7 +9,7 @@ use Rattle.textarea_screen_map.specs.declared.layout.Wrapping.{Wrapping}
 use Rattle.textarea_lines.specs.declared.settings.LayoutSettings.{LayoutSettings}
 use Rattle.textarea_lines.specs.LineWraps.{width_for}
 use Rattle.textarea_lines.specs.Wrappings.{wrapped_at_width, is_same_wrapping, is_same_mode, whole_lines, wrapping_for, wraps}
-use Rattle.textarea_lines.proofs.PutSettings.{same_cut}
+use Rattle.textarea_lines.proofs.PutSettings.{same_as_itself}
 
 -- how lines are wrapped if the map has this width
 abbrev wrapping_by : WrapMode → ℕ → Option ℕ → Wrapping
@@ -26,16 +26,16 @@ width_if none settings n = cond none None (columns_for_rows settings.mode settin
 abbrev wrapping_if : Bool → LayoutSettings → ℕ → Wrapping
 wrapping_if none settings n = cond (not none && wraps settings.mode) (wrapped_at_width settings settings.inner_width n) (whole_lines settings)
 
-cut_so : (none : Bool) (m : WrapMode) (tab_len : ℕ) (numbers : Bool) (width n : ℕ) →
+wrapped_so : (none : Bool) (m : WrapMode) (tab_len : ℕ) (numbers : Bool) (width n : ℕ) →
     wrapping_if none (settings_of m tab_len numbers width) n ≡ wrapping_by m tab_len (width_if none (settings_of m tab_len numbers width) n)
-cut_so true m tab_len numbers width n = refl
-cut_so false mode.None tab_len numbers width n = refl
-cut_so false mode.Word tab_len numbers width n = refl
-cut_so false mode.Glyph tab_len numbers width n = refl
-cut_so false mode.WordOrGlyph tab_len numbers width n = refl
+wrapped_so true m tab_len numbers width n = refl
+wrapped_so false mode.None tab_len numbers width n = refl
+wrapped_so false mode.Word tab_len numbers width n = refl
+wrapped_so false mode.Glyph tab_len numbers width n = refl
+wrapped_so false mode.WordOrGlyph tab_len numbers width n = refl
 
 pub wrapping_by_width : (settings : LayoutSettings) (n : ℕ) → wrapping_for settings n ≡ wrapping_by settings.mode settings.tab_len (width_for settings n)
-wrapping_by_width settings n = cut_so (settings.inner_width == 0) settings.mode settings.tab_len settings.line_numbers settings.inner_width n
+wrapping_by_width settings n = wrapped_so (settings.inner_width == 0) settings.mode settings.tab_len settings.line_numbers settings.inner_width n
 
 -- two settings with one mode, the same tab stops and the same width of the map have one wrapping
 pub same_wrapping : (one other : LayoutSettings) (n k : ℕ) → one.mode ≡ other.mode → one.tab_len ≡ other.tab_len → width_for one n ≡ width_for other k → wrapping_for one n ≡ wrapping_for other k
@@ -43,7 +43,7 @@ same_wrapping one other n k m t w = grind (arith, common_steps, wrapping_by_widt
 
 pub same_test : (one other : LayoutSettings) (n k : ℕ) → one.mode ≡ other.mode → one.tab_len ≡ other.tab_len → width_for one n ≡ width_for other k → is_same_wrapping (wrapping_for one n) (wrapping_for other k) ≡ true
 same_test one other n k m t w =
-    ap (λ (x : Wrapping). is_same_wrapping x (wrapping_for other k)) (same_wrapping one other n k m t w) ∙ same_cut (wrapping_for other k)
+    ap (λ (x : Wrapping). is_same_wrapping x (wrapping_for other k)) (same_wrapping one other n k m t w) ∙ same_as_itself (wrapping_for other k)
 
 -- lines that are wrapped in the same way have the same width
 same_some : (m : WrapMode) (tab_len width other : ℕ) → (is_same_mode m m && (not (wraps m) || ((width == other) && (tab_len == tab_len)))) ≡ true → wraps m ≡ true → width ≡ other

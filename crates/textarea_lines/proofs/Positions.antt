@@ -12,19 +12,19 @@ abbrev pub pos : Place → ℕ → Pos
 pos place offset = record { row = place.0; col = place.1; offset = offset }
 
 -- a position whose offset is known
-pub found_at : {Z : Type 0} (items : List (String Z)) (found : Pos) (place start : Place) (offset : ℕ) → found ≡ pos place offset → place ≡ start → IsPlaceOf (lines_of items) start → offset ≡ offset_at (lines_of items) start → IsPlaceAtByte items found
-found_at items found place start offset is same h e =
+pub located_at : {Z : Type 0} (items : List (String Z)) (found : Pos) (place start : Place) (offset : ℕ) → found ≡ pos place offset → place ≡ start → IsPlaceOf (lines_of items) start → offset ≡ offset_at (lines_of items) start → IsPlaceAtByte items found
+located_at items found place start offset is same h e =
     subst (IsPlaceAtByte items) (sym is)
     (record {
       place = subst (IsPlaceOf (lines_of items)) (sym same) h;
       offset = e ∙ ap (offset_at (lines_of items)) (sym same);
     })
 
-pub found_first : {Z : Type 0} (items : List (String Z)) (found : Pos) → found ≡ pos (0, 0) 0 → 0 < length items → IsPlaceAtByte items found
-found_first items found is some =
-    found_at items found (0, 0) (0, 0) 0 is refl (omega (arith, some, length-map items characters_of), omega arith) refl
+pub located_first : {Z : Type 0} (items : List (String Z)) (found : Pos) → found ≡ pos (0, 0) 0 → 0 < length items → IsPlaceAtByte items found
+located_first items found is some =
+    located_at items found (0, 0) (0, 0) 0 is refl (omega (arith, some, length-map items characters_of), omega arith) refl
 
 -- copies of the lines
-pub found_copied : {Z : Type 0} (old copies : List (String Z)) (found again : Pos) → lines_of copies ≡ lines_of old → again ≡ pos (found.row, found.col) found.offset → IsPlaceAtByte old found → IsPlaceAtByte copies again
-found_copied old copies found again same is h =
-    found_at copies again (found.row, found.col) (found.row, found.col) found.offset is refl (rw same h.place) (rw same h.offset)
+pub located_copied : {Z : Type 0} (old copies : List (String Z)) (found again : Pos) → lines_of copies ≡ lines_of old → again ≡ pos (found.row, found.col) found.offset → IsPlaceAtByte old found → IsPlaceAtByte copies again
+located_copied old copies found again same is h =
+    located_at copies again (found.row, found.col) (found.row, found.col) found.offset is refl (rw same h.place) (rw same h.offset)

@@ -33,9 +33,9 @@ wrapping_is m m' width width' tab_len tab_len' a b c = cc
 -- lines that are wrapped are wrapped in the same way only by the same wrapping
 same_wrapping : (one other : Wrapping) → wraps one.mode ≡ true → is_same_wrapping one other ≡ true → other ≡ one
 same_wrapping one other wrapped e =
-    let parts = and_parts _ _ e in
-    let numbers = and_parts _ _ (rw wrapped at parts.1) in
-    let mode_is = same_mode one.mode other.mode parts.0 in
+    let components = and_parts _ _ e in
+    let numbers = and_parts _ _ (rw wrapped at components.1) in
+    let mode_is = same_mode one.mode other.mode components.0 in
     let width = eqb-true one.width other.width numbers.0 in
     let tab_len = eqb-true one.tab_len other.tab_len numbers.1 in
     wrapping_is other.mode one.mode other.width one.width other.tab_len one.tab_len (sym mode_is) (sym width) (sym tab_len)
@@ -51,8 +51,8 @@ AreRowsOf-same one other lines rows e h = by (wraps one.mode) refl
         whole_anywhere other one lines rows (sym (same_mode one.mode other.mode (and_parts _ _ e).0) ∙ none) none h
 
 -- settings under which lines are wrapped, in the same way as before
-pub kept_wrapped : (settings : LayoutSettings) (n : ℕ) (before : Wrapping) → is_wrapped settings ≡ true → is_same_wrapping (wrapping_for settings n) before ≡ true → before ≡ wrapping_for settings n
-kept_wrapped settings n before wrapped same = grind (arith, common_steps, same_wrapping, and_parts)
+pub same_wrapped : (settings : LayoutSettings) (n : ℕ) (before : Wrapping) → is_wrapped settings ≡ true → is_same_wrapping (wrapping_for settings n) before ≡ true → before ≡ wrapping_for settings n
+same_wrapped settings n before wrapped same = grind (arith, common_steps, same_wrapping, and_parts)
 
 -- settings under which they aren't
 pub whole_is : (settings : LayoutSettings) (n : ℕ) → is_wrapped settings ≡ false → wrapping_for settings n ≡ whole_lines settings
@@ -68,6 +68,6 @@ whole_width settings n e = by (is_wrapped settings) refl e
     by true wrapped e = absurd (cc ((and_parts (not (settings.inner_width == 0)) (wraps settings.mode) wrapped).1, e))
     by false whole e = refl
 
-pub kept_whole : (old settings : LayoutSettings) (n : ℕ) (before : Wrapping) → before ≡ wrapping_for old n → is_wrapped settings ≡ false → is_same_wrapping (wrapping_for settings n) before ≡ true → with_tab_len before settings.tab_len ≡ wrapping_for settings n
-kept_whole old settings n before is whole same =
+pub same_whole : (old settings : LayoutSettings) (n : ℕ) (before : Wrapping) → before ≡ wrapping_for old n → is_wrapped settings ≡ false → is_same_wrapping (wrapping_for settings n) before ≡ true → with_tab_len before settings.tab_len ≡ wrapping_for settings n
+same_whole old settings n before is whole same =
     grind (arith, common_steps, whole_before settings n before whole same, whole_width, wrapping_is, whole_is settings n whole)

@@ -37,25 +37,25 @@ length-ticks_after first (suc size) = ap suc (length-ticks_after (first + 1) siz
 pub keeps_others : (one : OneMap) (w : Wrapping) (text : List Symbol) (splice : Splice) (count : ℕ) (before after : List RowsView) → SplicesLines text splice → AreRowsOf w (lines text) before → AreRowsOf w (lines (applied text splice)) after → ticks_of after ≡ replaced (ticks_of before) splice.place.0 (replaced_line_count splice) (ticks_after count (new_line_count splice)) → KeepsOtherRows count splice before after
 keeps_others one w text splice count before after s h k ticks =
     let row = splice.place.0 in
-    let going = replaced_line_count splice in
+    let removed_lines = replaced_line_count splice in
     let coming = new_line_count splice in
     let old = lines text in
-    let now : AreRowsOf w (replaced old row going s.new) after = subst (λ (l : List (List ℕ)). AreRowsOf w l after) s.lines_are k in
+    let now : AreRowsOf w (replaced old row removed_lines s.new) after = subst (λ (l : List (List ℕ)). AreRowsOf w l after) s.lines_are k in
     let within : row ≤ length old = omega (arith, s.within) in
     let as_many : length (ticks_of before) ≡ length old = length-map before tick_of ∙ length-AreRowsOf w old before h in
     let first : row ≤ length (ticks_of before) = omega (arith, as_many, within) in
     let numbers : length (ticks_after count coming) ≡ coming = length-ticks_after (count + 1) coming in
     let above : AreRowsOf w (take row old) (take row after) =
-    subst (λ (l : List (List ℕ)). AreRowsOf w l (take row after)) (take-replaced old s.new row going within) (AreRowsOf-take w row (replaced old row going s.new) after now) in
-    let below : AreRowsOf w (drop (row + going) old) (drop (row + coming) after) =
-    subst (λ (l : List (List ℕ)). AreRowsOf w l (drop (row + coming) after)) (drop-replaced old s.new row going coming within s.coming) (AreRowsOf-drop w (row + coming) (replaced old row going s.new) after now) in
+    subst (λ (l : List (List ℕ)). AreRowsOf w l (take row after)) (take-replaced old s.new row removed_lines within) (AreRowsOf-take w row (replaced old row removed_lines s.new) after now) in
+    let below : AreRowsOf w (drop (row + removed_lines) old) (drop (row + coming) after) =
+    subst (λ (l : List (List ℕ)). AreRowsOf w l (drop (row + coming) after)) (drop-replaced old s.new row removed_lines coming within s.coming) (AreRowsOf-drop w (row + coming) (replaced old row removed_lines s.new) after now) in
     let middle : ticks_of (touched_rows splice after) ≡ ticks_after count coming =
-    sym (take-map tick_of coming (drop row after)) ∙ ap (take coming) (sym (drop-map tick_of row after) ∙ ap (drop row) ticks) ∙ middle-replaced (ticks_of before) (ticks_after count coming) row going coming first numbers in
+    sym (take-map tick_of coming (drop row after)) ∙ ap (take coming) (sym (drop-map tick_of row after) ∙ ap (drop row) ticks) ∙ middle-replaced (ticks_of before) (ticks_after count coming) row removed_lines coming first numbers in
     record {
       above = rows_same (take row after) (take row before) (one w (take row old) (take row after) (take row before) above (AreRowsOf-take w row old before h))
-          (sym (take-map tick_of row after) ∙ ap (take row) ticks ∙ take-replaced (ticks_of before) (ticks_after count coming) row going first ∙ take-map tick_of row before);
-      below = rows_same (drop (row + coming) after) (drop (row + going) before) (one w (drop (row + going) old) (drop (row + coming) after) (drop (row + going) before) below (AreRowsOf-drop w (row + going) old before h))
-          (sym (drop-map tick_of (row + coming) after) ∙ ap (drop (row + coming)) ticks ∙ drop-replaced (ticks_of before) (ticks_after count coming) row going coming first numbers ∙ drop-map tick_of (row + going) before);
+          (sym (take-map tick_of row after) ∙ ap (take row) ticks ∙ take-replaced (ticks_of before) (ticks_after count coming) row removed_lines first ∙ take-map tick_of row before);
+      below = rows_same (drop (row + coming) after) (drop (row + removed_lines) before) (one w (drop (row + removed_lines) old) (drop (row + coming) after) (drop (row + removed_lines) before) below (AreRowsOf-drop w (row + removed_lines) old before h))
+          (sym (drop-map tick_of (row + coming) after) ∙ ap (drop (row + coming)) ticks ∙ drop-replaced (ticks_of before) (ticks_after count coming) row removed_lines coming first numbers ∙ drop-map tick_of (row + removed_lines) before);
       touched = middle;
       newer = above_all count (count + 1) coming (touched_rows splice after) (omega arith) middle;
     }

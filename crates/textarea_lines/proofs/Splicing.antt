@@ -11,7 +11,7 @@ use Rattle.textarea_text.specs.Touched.{breaks_of, new_line_count, replaced_line
 use Rattle.textarea_text.proofs.TextPlaces.{joined-lines}
 use Rattle.textarea_util.proofs.Replacing.{length-replaced}
 use Rattle.textarea_text.proofs.Splices.{lines-joined}
-use Rattle.textarea_text.proofs.StringRows.{changed_by_none, rows_replaced, stands_until}
+use Rattle.textarea_text.proofs.StringRows.{changed_by_none, rows_replaced, occurs_until}
 use Rattle.textarea_text.proofs.Touching.{breaks_of-append, breaks_of-characters, end_row}
 
 -- ---- items that are replaced
@@ -20,8 +20,8 @@ pub take-replaced : {X : Type 0} (items new : List X) (start count : ℕ) → st
 take-replaced items new start count within =
     grind (arith, common_steps, length-take-le start items within, take-append_seam (take start items) (new ++ drop (start + count) items))
 
-behind-replaced : {X : Type 0} (items new : List X) (start count : ℕ) → start ≤ length items → drop start (replaced items start count new) ≡ new ++ drop (start + count) items
-behind-replaced items new start count within =
+after-replaced : {X : Type 0} (items new : List X) (start count : ℕ) → start ≤ length items → drop start (replaced items start count new) ≡ new ++ drop (start + count) items
+after-replaced items new start count within =
     grind (arith, common_steps, length-take-le start items within, drop-append_seam (take start items) (new ++ drop (start + count) items))
 
 pub drop-replaced : {X : Type 0} (items new : List X) (start count coming : ℕ) → start ≤ length items → length new ≡ coming → drop (start + coming) (replaced items start count new) ≡ drop (start + count) items
@@ -30,7 +30,7 @@ drop-replaced items new start count coming within long =
 
 pub middle-replaced : {X : Type 0} (items new : List X) (start count coming : ℕ) → start ≤ length items → length new ≡ coming → take coming (drop start (replaced items start count new)) ≡ new
 middle-replaced items new start count coming within long =
-    grind (arith, common_steps, behind-replaced items new start count within, take-append_seam new (drop (start + count) items))
+    grind (arith, common_steps, after-replaced items new start count within, take-append_seam new (drop (start + count) items))
 
 -- ---- lines that a splice touches
 
@@ -73,7 +73,7 @@ spliced true text place symbols h allowed =
     record { new = between.0; coming = between.1; within = omega (arith, h.0); lines_are = between.2 }
 spliced false text place symbols h allowed =
     let to = end place symbols in
-    let there = stands_until text place symbols h allowed in
+    let there = occurs_until text place symbols h allowed in
     let between = lines_between text place to [] h there.0 in
     let row : to.0 + 1 ≡ place.0 + (breaks_of symbols + 1) = omega (arith, end_row place symbols) in
     record {

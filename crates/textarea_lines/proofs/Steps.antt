@@ -14,7 +14,7 @@ use Rattle.textarea_lines.specs.declared.settings.LayoutSettings.{LayoutSettings
 use Rattle.textarea_lines.specs.Stored.{HoldsRows}
 use Rattle.textarea_lines.specs.TextRows.{HasLayout, OfRows}
 use Rattle.textarea_lines.specs.TextLayout.{TextAndLayout}
-use Rattle.textarea_lines.proofs.Stores.{in_text, laid_out_as, seen, tab_len_of}
+use Rattle.textarea_lines.proofs.Stores.{in_text, layout_as, text_layout_of, tab_len_of}
 
 -- ---- steps, and positions without a step, in rows at some tab stops
 
@@ -26,8 +26,8 @@ abbrev pub Step : Type 1
 Step = ℕ → List (List ℕ) → List RowsView → Place → Place → Type 0
 
 -- a position is in one visual row at one column
-abbrev pub IsSeenOnce : Type 0
-IsSeenOnce = (wrapping : Wrapping) (lines : List (List ℕ)) (rows : List RowsView) (place : Place) (visual other : VisualPosition) → AreRowsOf wrapping lines rows → IsVisualPosition wrapping.tab_len lines rows place visual → IsVisualPosition wrapping.tab_len lines rows place other → visual ≡ other
+abbrev pub HasOneVisualPosition : Type 0
+HasOneVisualPosition = (wrapping : Wrapping) (lines : List (List ℕ)) (rows : List RowsView) (place : Place) (visual other : VisualPosition) → AreRowsOf wrapping lines rows → IsVisualPosition wrapping.tab_len lines rows place visual → IsVisualPosition wrapping.tab_len lines rows place other → visual ≡ other
 
 -- the step leads from a position to only one position
 abbrev pub LeadsToOne : Step → Type 0
@@ -37,29 +37,29 @@ LeadsToOne Goes = (wrapping : Wrapping) (lines : List (List ℕ)) (rows : List R
 abbrev pub EndsAt : Edge → Step → Type 0
 EndsAt Ends Goes = (wrapping : Wrapping) (lines : List (List ℕ)) (rows : List RowsView) (place target : Place) → AreRowsOf wrapping lines rows → Ends wrapping.tab_len lines rows place → Goes wrapping.tab_len lines rows place target → ⊥
 
-pub none_above : IsSeenOnce → EndsAt IsInFirstRow IsAbove
-none_above once w lines rows place target kept first h =
-    omega (arith, ap (λ (visual : VisualPosition). visual.row) (once w lines rows place first.0 h.visual kept first.1 h.visual_position), first.2, h.not_first)
+pub none_above : HasOneVisualPosition → EndsAt IsInFirstRow IsAbove
+none_above once w lines rows place target cached first h =
+    omega (arith, ap (λ (visual : VisualPosition). visual.row) (once w lines rows place first.0 h.visual cached first.1 h.visual_position), first.2, h.not_first)
 
-pub none_below : IsSeenOnce → EndsAt IsInLastRow IsBelow
-none_below once w lines rows place target kept final h =
-    omega (arith, ap (λ (visual : VisualPosition). visual.row) (once w lines rows place final.0 h.visual kept final.1 h.visual_position), final.2, h.near.row)
+pub none_below : HasOneVisualPosition → EndsAt IsInLastRow IsBelow
+none_below once w lines rows place target cached final h =
+    omega (arith, ap (λ (visual : VisualPosition). visual.row) (once w lines rows place final.0 h.visual cached final.1 h.visual_position), final.2, h.near.row)
 
 -- ---- what is found
 
 -- two positions are equal; a position and none contradict each other
-one_found : (Nothing : Type 0) (Goes : Place → Type 0) (found other : Option Place) → ((target : Place) → Nothing → Goes target → ⊥) → ((target more : Place) → Goes target → Goes more → target ≡ more) → MatchOption found Nothing Goes → MatchOption other Nothing Goes → found ≡ other
-one_found Nothing Goes None None ends one h k = refl
-one_found Nothing Goes None (Some target) ends one h k = absurd (ends target h k)
-one_found Nothing Goes (Some target) None ends one h k = absurd (ends target k h)
-one_found Nothing Goes (Some target) (Some more) ends one h k = ap Some (one target more h k)
+one_target : (Nothing : Type 0) (Goes : Place → Type 0) (found other : Option Place) → ((target : Place) → Nothing → Goes target → ⊥) → ((target more : Place) → Goes target → Goes more → target ≡ more) → MatchOption found Nothing Goes → MatchOption other Nothing Goes → found ≡ other
+one_target Nothing Goes None None ends one h k = refl
+one_target Nothing Goes None (Some target) ends one h k = absurd (ends target h k)
+one_target Nothing Goes (Some target) None ends one h k = absurd (ends target k h)
+one_target Nothing Goes (Some target) (Some more) ends one h k = ap Some (one target more h k)
 
 -- the result of a look-up from a position, in the rows of a text with its layout
 abbrev pub Finds : Edge → Step → TextAndLayout → Place → Option Place → Type 0
 Finds Ends Goes text_layout place found = OfRows text_layout (λ (rows : List RowsView). MatchOption found (Ends text_layout.layout.settings.tab_len (lines text_layout.text) rows place) (Goes text_layout.layout.settings.tab_len (lines text_layout.text) rows place))
 
 pub finds_once : (Ends : Edge) (Goes : Step) (text_layout : TextAndLayout) (place : Place) (found other : Option Place) → ((rows others : List RowsView) → HasLayout text_layout rows → HasLayout text_layout others → rows ≡ others) → EndsAt Ends Goes → LeadsToOne Goes → Finds Ends Goes text_layout place found → Finds Ends Goes text_layout place other → found ≡ other
-finds_once Ends Goes text_layout place found other one_list ends one h k = grind (arith, common_steps, tab_len_of, one_found)
+finds_once Ends Goes text_layout place found other one_list ends one h k = grind (arith, common_steps, tab_len_of, one_target)
 
 -- of a target with two facts, each fact
 targets : {X : Type 0} (o : Option X) (P : Type 0) (Q R : X → Type 0) → MatchOption o P (λ x. Q x × R x) → IfSome o Q × MatchOption o P R
@@ -67,9 +67,9 @@ targets None P Q R h = (tt, h)
 targets (Some x) P Q R h = h
 
 -- what the map finds in the borrowed lines
-pub found_in_text : {Z : Type 0} (Ends : Edge) (Goes : Step) (settings : LayoutSettings) (items lent : List (String Z)) (size count : ℕ) (map : MapView) (text_layout : TextAndLayout) (place : Place) (found : Option Place) → HoldsRows settings items size map → lent ≡ items → seen settings items count map.rows ≡ text_layout → MatchOption found (Ends map.wrapping.tab_len (lines_of lent) map.rows place) (λ target. IsPlaceOf (lines_of lent) target × Goes map.wrapping.tab_len (lines_of lent) map.rows place target) → IfSome found (IsPlaceOf (lines text_layout.text)) × Finds Ends Goes text_layout place found
-found_in_text Ends Goes settings items lent size count map text_layout place found held lent_is is h =
+pub target_in_text : {Z : Type 0} (Ends : Edge) (Goes : Step) (settings : LayoutSettings) (items borrowed_lines : List (String Z)) (size count : ℕ) (map : MapView) (text_layout : TextAndLayout) (place : Place) (found : Option Place) → HoldsRows settings items size map → borrowed_lines ≡ items → text_layout_of settings items count map.rows ≡ text_layout → MatchOption found (Ends map.wrapping.tab_len (lines_of borrowed_lines) map.rows place) (λ target. IsPlaceOf (lines_of borrowed_lines) target × Goes map.wrapping.tab_len (lines_of borrowed_lines) map.rows place target) → IfSome found (IsPlaceOf (lines text_layout.text)) × Finds Ends Goes text_layout place found
+target_in_text Ends Goes settings items borrowed_lines size count map text_layout place found contents borrowed_is is h =
     let tab_len = text_layout.layout.settings.tab_len in
     let both = targets found (Ends tab_len (lines text_layout.text) map.rows place) (IsPlaceOf (lines text_layout.text)) (Goes tab_len (lines text_layout.text) map.rows place)
-    (in_text settings items lent size count map text_layout (λ t ls. MatchOption found (Ends t ls map.rows place) (λ target. IsPlaceOf ls target × Goes t ls map.rows place target)) held lent_is is h) in
-    (both.0, (map.rows, laid_out_as settings items size count map text_layout held is, both.1))
+    (in_text settings items borrowed_lines size count map text_layout (λ t ls. MatchOption found (Ends t ls map.rows place) (λ target. IsPlaceOf ls target × Goes t ls map.rows place target)) contents borrowed_is is h) in
+    (both.0, (map.rows, layout_as settings items size count map text_layout contents is, both.1))

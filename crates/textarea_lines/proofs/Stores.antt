@@ -34,43 +34,43 @@ small_place items size place stored h =
 
 -- ---- the lines of the text are the stored ones
 
-pub lines_held : {Z : Type 0} (items : List (String Z)) → 0 < length items → lines (text_of items) ≡ lines_of items
-lines_held items some = lines-joined (lines_of items) (omega (arith, length-map items characters_of))
+pub lines_stored : {Z : Type 0} (items : List (String Z)) → 0 < length items → lines (text_of items) ≡ lines_of items
+lines_stored items some = lines-joined (lines_of items) (omega (arith, length-map items characters_of))
 
-pub count_held : {Z : Type 0} (items : List (String Z)) → 0 < length items → length (lines (text_of items)) ≡ length items
-count_held items some = ap length (lines_held items some) ∙ length-map items characters_of
+pub count_stored : {Z : Type 0} (items : List (String Z)) → 0 < length items → length (lines (text_of items)) ≡ length items
+count_stored items some = ap length (lines_stored items some) ∙ length-map items characters_of
 
 -- what contracts see of some lines with their rows
-abbrev pub seen : {Z : Type 0} → LayoutSettings → List (String Z) → ℕ → List RowsView → TextAndLayout
-seen settings items count rows = record { text = text_of items; layout = record { settings = settings; count = count; ticks = ticks_of rows } }
+abbrev pub text_layout_of : {Z : Type 0} → LayoutSettings → List (String Z) → ℕ → List RowsView → TextAndLayout
+text_layout_of settings items count rows = record { text = text_of items; layout = record { settings = settings; count = count; ticks = ticks_of rows } }
 
 -- the stored rows, wrapped by the settings
 pub right_rows : {Z : Type 0} (settings : LayoutSettings) (items : List (String Z)) (size : ℕ) (map : MapView) → HoldsRows settings items size map → AreRowsOf (wrapping_for settings (length items)) (lines_of items) map.rows
 right_rows settings items size map h = subst (λ (w : Wrapping). AreRowsOf w (lines_of items) map.rows) h.wrapping_is h.text_layout
 
 -- they are those of the text
-pub laid_out_as : {Z : Type 0} (settings : LayoutSettings) (items : List (String Z)) (size count : ℕ) (map : MapView) (text_layout : TextAndLayout) → HoldsRows settings items size map → seen settings items count map.rows ≡ text_layout → HasLayout text_layout map.rows
-laid_out_as settings items size count map text_layout h is =
+pub layout_as : {Z : Type 0} (settings : LayoutSettings) (items : List (String Z)) (size count : ℕ) (map : MapView) (text_layout : TextAndLayout) → HoldsRows settings items size map → text_layout_of settings items count map.rows ≡ text_layout → HasLayout text_layout map.rows
+layout_as settings items size count map text_layout h is =
     subst (λ (l : TextAndLayout). HasLayout l map.rows) is
-    (record { text_layout = rw (lines_held items h.stored.some, length-map items characters_of) (right_rows settings items size map h); ticks = refl })
+    (record { text_layout = rw (lines_stored items h.stored.some, length-map items characters_of) (right_rows settings items size map h); ticks = refl })
 
 -- the columns between tab stops are the view's, wrapped or not
 pub tab_len_of : (settings : LayoutSettings) (n : ℕ) → (wrapping_for settings n).tab_len ≡ settings.tab_len
 tab_len_of settings n =
     elim (is_wrapped settings) as (λ b. (cond b (wrapped_at_width settings settings.inner_width n) (whole_lines settings)).tab_len ≡ settings.tab_len) [ true ↦ refl | false ↦ refl ]
 
-pub tab_len_kept : {Z : Type 0} (settings : LayoutSettings) (items : List (String Z)) (size : ℕ) (map : MapView) → HoldsRows settings items size map → map.wrapping.tab_len ≡ settings.tab_len
-tab_len_kept settings items size map h = ap (λ (w : Wrapping). w.tab_len) h.wrapping_is ∙ tab_len_of settings (length items)
+pub tab_len_unchanged : {Z : Type 0} (settings : LayoutSettings) (items : List (String Z)) (size : ℕ) (map : MapView) → HoldsRows settings items size map → map.wrapping.tab_len ≡ settings.tab_len
+tab_len_unchanged settings items size map h = ap (λ (w : Wrapping). w.tab_len) h.wrapping_is ∙ tab_len_of settings (length items)
 
 -- a position of the text is one of the borrowed lines
-pub place_in_lent : {Z : Type 0} (settings : LayoutSettings) (items lent : List (String Z)) (size count : ℕ) (map : MapView) (text_layout : TextAndLayout) (place : Place) → HoldsRows settings items size map → lent ≡ items → seen settings items count map.rows ≡ text_layout → IsPlace text_layout.text place → IsPlaceOf (lines_of lent) place
-place_in_lent settings items lent size count map text_layout place h lent_is is there =
-    rw lent_is (rows_place items place h.stored.some (rw (← is) at there))
+pub place_in_borrowed : {Z : Type 0} (settings : LayoutSettings) (items borrowed_lines : List (String Z)) (size count : ℕ) (map : MapView) (text_layout : TextAndLayout) (place : Place) → HoldsRows settings items size map → borrowed_lines ≡ items → text_layout_of settings items count map.rows ≡ text_layout → IsPlace text_layout.text place → IsPlaceOf (lines_of borrowed_lines) place
+place_in_borrowed settings items borrowed_lines size count map text_layout place h borrowed_is is there =
+    rw borrowed_is (rows_place items place h.stored.some (rw (← is) at there))
 
 -- what is true of the borrowed lines, at the map's tab stops, is true of the text's lines
-pub in_text : {Z : Type 0} (settings : LayoutSettings) (items lent : List (String Z)) (size count : ℕ) (map : MapView) (text_layout : TextAndLayout) (Fact : ℕ → List (List ℕ) → Type 0) → HoldsRows settings items size map → lent ≡ items → seen settings items count map.rows ≡ text_layout → Fact map.wrapping.tab_len (lines_of lent) → Fact text_layout.layout.settings.tab_len (lines text_layout.text)
-in_text settings items lent size count map text_layout Fact held lent_is is h =
-    grind (arith, common_steps, lines_held items held.stored.some, tab_len_kept settings items size map held)
+pub in_text : {Z : Type 0} (settings : LayoutSettings) (items borrowed_lines : List (String Z)) (size count : ℕ) (map : MapView) (text_layout : TextAndLayout) (Fact : ℕ → List (List ℕ) → Type 0) → HoldsRows settings items size map → borrowed_lines ≡ items → text_layout_of settings items count map.rows ≡ text_layout → Fact map.wrapping.tab_len (lines_of borrowed_lines) → Fact text_layout.layout.settings.tab_len (lines text_layout.text)
+in_text settings items borrowed_lines size count map text_layout Fact contents borrowed_is is h =
+    grind (arith, common_steps, lines_stored items contents.stored.some, tab_len_unchanged settings items size map contents)
 
 -- copies of the lines, with the same rows
 pub holds_copied : {Z : Type 0} (settings : LayoutSettings) (old copies : List (String Z)) (size : ℕ) (map again : MapView) → HoldsRows settings old size map → lines_of copies ≡ lines_of old → (again.rows ≡ map.rows) × (again.wrapping ≡ map.wrapping) → HoldsRows settings copies size again
@@ -87,5 +87,5 @@ holds_copied settings old copies size map again h e same =
       text_layout = rw (same.1, same.0, e) h.text_layout;
     }
 
-pub seen_copied : {Z : Type 0} (settings : LayoutSettings) (old copies : List (String Z)) (count again : ℕ) (rows others : List RowsView) → lines_of copies ≡ lines_of old → again ≡ count → others ≡ rows → seen settings copies again others ≡ seen settings old count rows
-seen_copied settings old copies count again rows others e count_is rows_are = cc
+pub layout_copied : {Z : Type 0} (settings : LayoutSettings) (old copies : List (String Z)) (count again : ℕ) (rows others : List RowsView) → lines_of copies ≡ lines_of old → again ≡ count → others ≡ rows → text_layout_of settings copies again others ≡ text_layout_of settings old count rows
+layout_copied settings old copies count again rows others e count_is rows_are = cc

@@ -37,17 +37,17 @@ stays text_layout splice = is_same_wrapping (wrapping_for text_layout.layout.set
 layout_is : (text_layout : TextAndLayout) (splice : Splice) (b : Bool) → stays text_layout splice ≡ b → (applied_to text_layout splice).layout ≡ layout_if b text_layout splice (count_of text_layout splice)
 layout_is text_layout splice b e = ap (λ (t : Bool). layout_if t text_layout splice (count_of text_layout splice)) e
 
-settings_kept : (text_layout : TextAndLayout) (splice : Splice) → (applied_to text_layout splice).layout.settings ≡ text_layout.layout.settings
-settings_kept text_layout splice = settings_if (stays text_layout splice) text_layout splice (count_of text_layout splice)
+settings_unchanged : (text_layout : TextAndLayout) (splice : Splice) → (applied_to text_layout splice).layout.settings ≡ text_layout.layout.settings
+settings_unchanged text_layout splice = settings_if (stays text_layout splice) text_layout splice (count_of text_layout splice)
 
 width_after : (text_layout : TextAndLayout) (splice : Splice) → Fits text_layout.text splice → map_width (applied_to text_layout splice) ≡ width_for text_layout.layout.settings (count_of text_layout splice)
-width_after text_layout splice fits = grind (arith, common_steps, settings_kept text_layout splice, count_spliced text_layout.text splice fits)
+width_after text_layout splice fits = grind (arith, common_steps, settings_unchanged text_layout splice, count_spliced text_layout.text splice fits)
 
 wrapping_after : (text_layout : TextAndLayout) (splice : Splice) → Fits text_layout.text splice → wrapping_of (applied_to text_layout splice) ≡ wrapping_for text_layout.layout.settings (count_of text_layout splice)
-wrapping_after text_layout splice fits = grind (arith, common_steps, settings_kept text_layout splice, count_spliced text_layout.text splice fits)
+wrapping_after text_layout splice fits = grind (arith, common_steps, settings_unchanged text_layout splice, count_spliced text_layout.text splice fits)
 
-cuts_touched : (one : OneMap) (text_layout : TextAndLayout) (splice : Splice) → Fits text_layout.text splice → map_width (applied_to text_layout splice) ≡ map_width text_layout → WrapsTouchedLines text_layout splice (applied_to text_layout splice)
-cuts_touched one text_layout splice fits same =
+wraps_touched : (one : OneMap) (text_layout : TextAndLayout) (splice : Splice) → Fits text_layout.text splice → map_width (applied_to text_layout splice) ≡ map_width text_layout → WrapsTouchedLines text_layout splice (applied_to text_layout splice)
+wraps_touched one text_layout splice fits same =
     let settings = text_layout.layout.settings in
     let width : width_for settings (count_of text_layout splice) ≡ width_for settings (length (lines text_layout.text)) = sym (width_after text_layout splice fits) ∙ same in
     let layout = layout_is text_layout splice true (same_test settings settings (count_of text_layout splice) (length (lines text_layout.text)) refl refl width) in
@@ -61,8 +61,8 @@ cuts_touched one text_layout splice fits same =
           (k.ticks ∙ ap (λ (l : Layout). l.ticks) layout ∙ ap (λ (t : List ℕ). (some_wrapped (record text_layout.layout { ticks = t }) splice.place.0 (replaced_line_count splice) (new_line_count splice)).ticks) (sym h.ticks));
     }
 
-cuts_all : (text_layout : TextAndLayout) (splice : Splice) → Fits text_layout.text splice → map_width (applied_to text_layout splice) ≢ map_width text_layout → WrapsAllLines text_layout (applied_to text_layout splice)
-cuts_all text_layout splice fits other =
+wraps_all : (text_layout : TextAndLayout) (splice : Splice) → Fits text_layout.text splice → map_width (applied_to text_layout splice) ≢ map_width text_layout → WrapsAllLines text_layout (applied_to text_layout splice)
+wraps_all text_layout splice fits other =
     let settings = text_layout.layout.settings in
     let layout = layout_is text_layout splice false (other_test settings settings (count_of text_layout splice) (length (lines text_layout.text)) refl refl (λ e. other (width_after text_layout splice fits ∙ e))) in
     let many = sym (count_spliced text_layout.text splice fits) in
@@ -74,9 +74,9 @@ cuts_all text_layout splice fits other =
 pub is_spliced : (one : OneMap) (text_layout : TextAndLayout) (splice : Splice) → Fits text_layout.text splice → WrapsForSplice text_layout splice (applied_to text_layout splice)
 is_spliced one text_layout splice fits = record {
   text = refl;
-  settings = settings_kept text_layout splice;
-  same_width = cuts_touched one text_layout splice fits;
-  other_width = cuts_all text_layout splice fits;
+  settings = settings_unchanged text_layout splice;
+  same_width = wraps_touched one text_layout splice fits;
+  other_width = wraps_all text_layout splice fits;
 }
 
 -- ---- settings
@@ -87,21 +87,21 @@ put_if b text_layout settings = cond b (record { text = text_layout.text; layout
 put_is : (text_layout : TextAndLayout) (settings : LayoutSettings) (b : Bool) → keeps_wrapping text_layout settings ≡ b → with_settings text_layout settings ≡ put_if b text_layout settings
 put_is text_layout settings b e = ap (λ (t : Bool). put_if t text_layout settings) e
 
-cuts_none : (text_layout : TextAndLayout) (settings : LayoutSettings) → keeps_wrapping text_layout settings ≡ true → WrapsNoLine text_layout (with_settings text_layout settings)
-cuts_none text_layout settings e =
+wraps_none : (text_layout : TextAndLayout) (settings : LayoutSettings) → keeps_wrapping text_layout settings ≡ true → WrapsNoLine text_layout (with_settings text_layout settings)
+wraps_none text_layout settings e =
     let is = put_is text_layout settings true e in
     record { count = ap (λ (l : TextAndLayout). l.layout.count) is; ticks = ap (λ (l : TextAndLayout). l.layout.ticks) is }
 
-cuts_anew : (text_layout : TextAndLayout) (settings : LayoutSettings) → keeps_wrapping text_layout settings ≡ false → WrapsAllLines text_layout (with_settings text_layout settings)
-cuts_anew text_layout settings e =
+wraps_from_scratch : (text_layout : TextAndLayout) (settings : LayoutSettings) → keeps_wrapping text_layout settings ≡ false → WrapsAllLines text_layout (with_settings text_layout settings)
+wraps_from_scratch text_layout settings e =
     let is = put_is text_layout settings false e in
     subst (WrapsAllLines text_layout) (sym is) (record { count = refl; ticks = refl })
 
 pub is_set_to : (text_layout : TextAndLayout) (settings : LayoutSettings) → WrapsForSettings text_layout settings (with_settings text_layout settings)
 is_set_to text_layout settings = record {
   text = text_stays text_layout settings;
-  same_way = cuts_none text_layout settings;
-  other_way = cuts_anew text_layout settings;
+  same_way = wraps_none text_layout settings;
+  other_way = wraps_from_scratch text_layout settings;
 }
 
 width_put : (text_layout : TextAndLayout) (settings : LayoutSettings) → map_width (with_settings text_layout settings) ≡ width_for settings (length (lines text_layout.text))
@@ -113,12 +113,12 @@ is_widened text_layout inner_width =
     let n = length (lines text_layout.text) in
     record {
       text = text_stays text_layout settings;
-      same_width = λ same. cuts_none text_layout settings (same_test settings text_layout.layout.settings n n refl refl (sym (width_put text_layout settings) ∙ same));
-      other_width = λ other. cuts_anew text_layout settings (other_test settings text_layout.layout.settings n n refl refl (λ e. other (width_put text_layout settings ∙ e)));
+      same_width = λ same. wraps_none text_layout settings (same_test settings text_layout.layout.settings n n refl refl (sym (width_put text_layout settings) ∙ same));
+      other_width = λ other. wraps_from_scratch text_layout settings (other_test settings text_layout.layout.settings n n refl refl (λ e. other (width_put text_layout settings ∙ e)));
     }
 
-pub cuts_other_lines : (text_layout : TextAndLayout) (text : List Symbol) → WrapsAllLines text_layout (layout_from_scratch text_layout.layout.settings text_layout.layout.count text)
-cuts_other_lines text_layout text = record { count = refl; ticks = refl }
+pub wraps_other_lines : (text_layout : TextAndLayout) (text : List Symbol) → WrapsAllLines text_layout (layout_from_scratch text_layout.layout.settings text_layout.layout.count text)
+wraps_other_lines text_layout text = record { count = refl; ticks = refl }
 
 -- ---- the count
 

@@ -36,15 +36,15 @@ pub record IsPlaceAtByte {Z : Type 0} (lines : List (String Z)) (found : Pos) : 
   pub offset : found.offset ≡ offset_at (lines_of lines) (found.row, found.col)
 
 -- all lines are wrapped again, with the next ticks: these rows can replace the current ones
-pub record IsNextWrap {Z : Type 0} (count : ℕ) (lines : List (String Z)) (cut : WrappedRows) : Type 0 where
-  pub rows : AreRowsOf cut.map.wrapping (lines_of lines) cut.map.rows
-  pub ticks : ticks_of cut.map.rows ≡ ticks_after count (length lines)
-  pub count_is : cut.count ≡ count + length lines
+pub record IsNextWrap {Z : Type 0} (count : ℕ) (lines : List (String Z)) (wraps : WrappedRows) : Type 0 where
+  pub rows : AreRowsOf wraps.map.wrapping (lines_of lines) wraps.map.rows
+  pub ticks : ticks_of wraps.map.rows ≡ ticks_after count (length lines)
+  pub count_is : wraps.count ≡ count + length lines
 
 -- The rows are stored. If there is a last measurement, it is true of the current lines. If there
 -- are cached rows, they have the next ticks. The stored position is one of the lines.
 pub record KeepsRows {Z : Type 0} (settings : LayoutSettings) (lines : List (String Z)) (size : ℕ) (map : MapView) (last : Option Measured) (count : ℕ) (next : Option WrappedRows) (found : Pos) : Type 0 where
-  pub held : HoldsRows settings lines size map
+  pub contents : HoldsRows settings lines size map
   pub measured : IfSome last (λ measured. IsRowCount measured.wrapping (lines_of lines) measured.rows)
-  pub kept : IfSome next (IsNextWrap count lines)
+  pub cached : IfSome next (IsNextWrap count lines)
   pub place : IsPlaceAtByte lines found

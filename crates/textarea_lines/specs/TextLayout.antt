@@ -33,17 +33,17 @@ all_wrapped settings count line_count = record { settings = settings; count = co
 
 -- `coming` lines are wrapped and replace those from the row on; all others keep their rows
 abbrev pub some_wrapped : Layout → ℕ → ℕ → ℕ → Layout
-some_wrapped layout row going coming = record {
+some_wrapped layout row removed_lines coming = record {
   settings = layout.settings;
   count = layout.count + coming;
-  ticks = replaced layout.ticks row going (ticks_after layout.count coming);
+  ticks = replaced layout.ticks row removed_lines (ticks_after layout.count coming);
 }
 
 -- Some lines are replaced: only these are wrapped, or all lines if the wrapping changes.
 abbrev pub after_replacement : Layout → ℕ → ℕ → ℕ → ℕ → Layout
-after_replacement layout line_count row going coming =
-    let after : ℕ = line_count - going + coming in
-    if is_same_wrapping (wrapping_for layout.settings after) (wrapping_for layout.settings line_count) then some_wrapped layout row going coming else all_wrapped layout.settings layout.count after
+after_replacement layout line_count row removed_lines coming =
+    let after : ℕ = line_count - removed_lines + coming in
+    if is_same_wrapping (wrapping_for layout.settings after) (wrapping_for layout.settings line_count) then some_wrapped layout row removed_lines coming else all_wrapped layout.settings layout.count after
 
 -- the layout of a text of `line_count` lines after a splice
 abbrev pub after_splice : Layout → ℕ → Splice → Layout
@@ -55,9 +55,9 @@ applied_to text_layout splice = record { text = applied text_layout.text splice;
 
 -- the text and its layout after some lines are replaced
 abbrev pub replaced_in : TextAndLayout → ℕ → ℕ → List (List ℕ) → TextAndLayout
-replaced_in text_layout row going coming = record {
-  text = joined (replaced (lines text_layout.text) row going coming);
-  layout = after_replacement text_layout.layout (length (lines text_layout.text)) row going (length coming);
+replaced_in text_layout row removed_lines coming = record {
+  text = joined (replaced (lines text_layout.text) row removed_lines coming);
+  layout = after_replacement text_layout.layout (length (lines text_layout.text)) row removed_lines (length coming);
 }
 
 -- the same for a prepared replacement

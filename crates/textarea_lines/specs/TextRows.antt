@@ -55,9 +55,9 @@ pub record CanStayWhole {Z : Type 0} (lines : List (String Z)) (rows : List Rows
 -- The line `row`, given by its characters, which are Unicode scalar values, is shorter than 2^48
 -- bytes and has one new row with this tick. All other lines keep their rows.
 pub record HasWholeLine (tab_len : ℕ) (line : List ℕ) (row tick : ℕ) (old new : List RowsView) : Type 0 where
-  pub cut : RowsView
-  pub new_is : new ≡ replaced old row 1 (cut ∷ [])
-  pub tick_is : cut.tick ≡ tick
+  pub wrapped : RowsView
+  pub new_is : new ≡ replaced old row 1 (wrapped ∷ [])
+  pub tick_is : wrapped.tick ≡ tick
   pub characters : all_scalars line ≡ true
   pub short : length (encode_utf8_all line) < size_limit
-  pub right : IsWrapped mode.None tab_len 1 (encode_utf8_all line) cut.ranges
+  pub right : IsWrapped mode.None tab_len 1 (encode_utf8_all line) wrapped.ranges

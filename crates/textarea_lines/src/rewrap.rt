@@ -30,10 +30,10 @@ pub struct WrappedRows {
 }
 
 // Drops the cached rows, if there are any.
-pub(crate) fn drop_measured(kept: &mut Option<WrappedRows>)
-    ensures { kept.new ≡ None }
+pub(crate) fn drop_measured(cached: &mut Option<WrappedRows>)
+    ensures { cached.new ≡ None }
 {
-    *kept = None;
+    *cached = None;
 }
 
 // Returns the rows of all lines after the replacement: above it, in it, and below it.
@@ -146,8 +146,8 @@ pub(crate) fn put_whole_line(
 {
     let wrapping = map.wrapping();
     let line = lines[row].as_str();
-    let cut = line_ranges(alloc, line, WrapMode::None, 1, wrapping.tab_len, count).unwrap();
-    let _ = rows.push(cut);
+    let wrapped = line_ranges(alloc, line, WrapMode::None, 1, wrapping.tab_len, count).unwrap();
+    let _ = rows.push(wrapped);
     map.replace(PreparedRows {
         row,
         count: 1,

@@ -41,7 +41,7 @@ pub struct TextLayout {
     count: WrapCount,
     settings: LayoutSettings,
     measured: Option<Measured>,
-    kept: Option<WrappedRows>,
+    cached: Option<WrappedRows>,
     found: Pos,
 }
 
@@ -61,7 +61,7 @@ impl Model for TextLayout {
     ghost invariant = { λ text_layout.
         KeepsRows text_layout.settings text_layout.lines.items text_layout.size text_layout.map
         text_layout.measured
-        text_layout.count text_layout.kept text_layout.found };
+        text_layout.count text_layout.cached text_layout.found };
 }
 
 impl Clone for TextLayout {
@@ -76,7 +76,7 @@ impl Clone for TextLayout {
             count: self.count.clone()?,
             settings: self.settings,
             measured: self.measured,
-            kept: None,
+            cached: None,
             found: Pos::new(self.found.row, self.found.col, self.found.offset),
         })
     }
@@ -121,7 +121,7 @@ impl TextLayout {
             count,
             settings,
             measured: None,
-            kept: None,
+            cached: None,
             found: Pos::new(0, 0, 0),
         })
     }
@@ -187,8 +187,8 @@ impl TextLayout {
         ensures err { OnErr result (self.new ≡ self.old) }
         ensures no_memory { keeps_wrapping self.old settings ≡ true → IsOk result }
     {
-        let cut = self.wrap_for(settings)?;
-        self.put(settings, cut);
+        let wraps = self.wrap_for(settings)?;
+        self.put(settings, wraps);
         Ok(())
     }
 
@@ -256,11 +256,11 @@ impl TextLayout {
         ensures same { self.new ≡ self.old }
         ensures rows { IfOk result (IsRowCount wrapping (lines self.old.text)) }
     {
-        drop_measured(&mut self.kept);
+        drop_measured(&mut self.cached);
         match self.wrap_all(wrapping) {
-            Ok(cut) => {
-                let rows = cut.map.row_count();
-                self.kept = Some(cut);
+            Ok(wraps) => {
+                let rows = wraps.map.row_count();
+                self.cached = Some(wraps);
                 Ok(rows)
             }
             Err(_) => rows_in(*self.lines.allocator(), self.lines.as_slice(), wrapping),
@@ -326,7 +326,7 @@ impl TextLayout {
         put_whole_line(alloc, &mut self.map, rows, lines, row, &mut self.count);
         self.size = size;
         self.measured = None;
-        drop_measured(&mut self.kept);
+        drop_measured(&mut self.cached);
         self.found = Pos::new(row, column, offset);
         Ok(())
     }
@@ -352,7 +352,7 @@ impl TextLayout {
         self.map.replace(prepared);
         self.size = size;
         self.measured = None;
-        drop_measured(&mut self.kept);
+        drop_measured(&mut self.cached);
         self.found = Pos::new(0, 0, 0);
         self.count = count;
         Ok(())

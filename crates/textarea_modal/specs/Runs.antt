@@ -25,7 +25,7 @@ pub record RunsOutAt (old : State) (calls : List Call) (index : ℕ) (new : Stat
 -- the run ends at one of the calls, which runs out of memory
 pub record OneRunsOut (old : State) (calls : List Call) (new : State) : Type 0 where
   pub index : ℕ
-  pub refused : RunsOutAt old calls index new
+  pub ran_out : RunsOutAt old calls index new
 
 -- the inputs' calls are all made; mode, number of used inputs and reason are those of the table
 pub record Finishes (old : State) (from : Mode) (inputs : List Input) (new : State) (to : Mode) (taken : ℕ) (quits : Bool) : Type 0 where
@@ -40,9 +40,9 @@ pub record RunsOut (old : State) (from : Mode) (inputs : List Input) (new : Stat
   pub none_quit : (course from (take taken inputs)).quits ≡ false
   pub mode : to ≡ (course from (take taken inputs)).mode
   pub index : ℕ
-  pub behind : length (course from (take taken inputs)).calls ≤ index
+  pub after : length (course from (take taken inputs)).calls ≤ index
   pub ahead : index < length (course from (take (taken + 1) inputs)).calls
-  pub refused : RunsOutAt old (course from inputs).calls index new
+  pub ran_out : RunsOutAt old (course from inputs).calls index new
 
 -- the outcome of the inputs from a state and a mode: state, mode, number of used inputs, reason
 abbrev pub EndsAs : State → Mode → List Input → State → Mode → ℕ → ModalStop → Type 0

@@ -38,7 +38,7 @@ quits_from mode = record { calls = []; mode = mode; quits = true }
 
 -- whether a key, with Ctrl and Alt held or not, is one of these inputs
 abbrev pub fits_key : Key → Bool → Bool → Inputs → Bool
-fits_key asked with_ctrl with_alt (held, keys) = has_modifiers held with_ctrl with_alt && has_key keys asked
+fits_key asked with_ctrl with_alt (modifiers, keys) = has_modifiers modifiers with_ctrl with_alt && has_key keys asked
 
 -- keys, and the step that they all have
 abbrev pub StepRow : Type 0

@@ -36,43 +36,43 @@ among_first first count some = (omega arith, omega arith)
 pub among_last : (first count : ℕ) → 0 < count → IsAmong first count (first + count - 1)
 among_last first count some = (omega arith, omega arith)
 
-one_column : (area part : Rect) (at : ℕ) → part.x ≡ at → part.width ≡ 1 → part.y ≡ area.y → part.height ≡ area.height → area.x ≤ at → at < area.x + area.width → (x y : ℕ) →
-    contains part x y ≡ (contains area x y && eqb x at)
-one_column area part at is_x is_width is_y is_height left right x y = grind (arith, nat_tests)
+one_column : (area segment : Rect) (at : ℕ) → segment.x ≡ at → segment.width ≡ 1 → segment.y ≡ area.y → segment.height ≡ area.height → area.x ≤ at → at < area.x + area.width → (x y : ℕ) →
+    contains segment x y ≡ (contains area x y && eqb x at)
+one_column area segment at is_x is_width is_y is_height left right x y = grind (arith, nat_tests)
 
 -- one column, limited by the end of the screen
-pub contains-column : (area part : Rect) (at : ℕ) → part.x ≡ at → part.width ≡ min 1 (65535 - at) → part.y ≡ area.y → part.height ≡ min area.height (65535 - area.y) →
-    IsAmong area.x area.width at → (x y : ℕ) → contains part x y ≡ (contains area x y && eqb x at)
-contains-column area part at is_x is_width is_y is_height among =
-    one_column area part at is_x (omega (arith, area.right, among.1)) is_y (omega (arith, area.bottom)) among.0 among.1
+pub contains-column : (area segment : Rect) (at : ℕ) → segment.x ≡ at → segment.width ≡ min 1 (65535 - at) → segment.y ≡ area.y → segment.height ≡ min area.height (65535 - area.y) →
+    IsAmong area.x area.width at → (x y : ℕ) → contains segment x y ≡ (contains area x y && eqb x at)
+contains-column area segment at is_x is_width is_y is_height among =
+    one_column area segment at is_x (omega (arith, area.right, among.1)) is_y (omega (arith, area.bottom)) among.0 among.1
 
-one_row : (area part : Rect) (at : ℕ) → part.x ≡ area.x → part.width ≡ area.width → part.y ≡ at → part.height ≡ 1 → area.y ≤ at → at < area.y + area.height → (x y : ℕ) →
-    contains part x y ≡ (contains area x y && eqb y at)
-one_row area part at is_x is_width is_y is_height top bottom x y = grind (arith, nat_tests)
+one_row : (area segment : Rect) (at : ℕ) → segment.x ≡ area.x → segment.width ≡ area.width → segment.y ≡ at → segment.height ≡ 1 → area.y ≤ at → at < area.y + area.height → (x y : ℕ) →
+    contains segment x y ≡ (contains area x y && eqb y at)
+one_row area segment at is_x is_width is_y is_height top bottom x y = grind (arith, nat_tests)
 
 -- one row
-pub contains-row : (area part : Rect) (at : ℕ) → part.x ≡ area.x → part.width ≡ min area.width (65535 - area.x) → part.y ≡ at → part.height ≡ min 1 (65535 - at) →
-    IsAmong area.y area.height at → (x y : ℕ) → contains part x y ≡ (contains area x y && eqb y at)
-contains-row area part at is_x is_width is_y is_height among =
-    one_row area part at is_x (omega (arith, area.right)) is_y (omega (arith, area.bottom, among.1)) among.0 among.1
+pub contains-row : (area segment : Rect) (at : ℕ) → segment.x ≡ area.x → segment.width ≡ min area.width (65535 - area.x) → segment.y ≡ at → segment.height ≡ min 1 (65535 - at) →
+    IsAmong area.y area.height at → (x y : ℕ) → contains segment x y ≡ (contains area x y && eqb y at)
+contains-row area segment at is_x is_width is_y is_height among =
+    one_row area segment at is_x (omega (arith, area.right)) is_y (omega (arith, area.bottom, among.1)) among.0 among.1
 
-one_cell : (area part : Rect) (at_x at_y : ℕ) → part.x ≡ at_x → part.width ≡ 1 → part.y ≡ at_y → part.height ≡ 1 → area.x ≤ at_x → at_x < area.x + area.width →
-    area.y ≤ at_y → at_y < area.y + area.height → (x y : ℕ) → contains part x y ≡ (contains area x y && (eqb x at_x && eqb y at_y))
-one_cell area part at_x at_y is_x is_width is_y is_height left right top bottom x y = grind (arith, nat_tests)
+one_cell : (area segment : Rect) (at_x at_y : ℕ) → segment.x ≡ at_x → segment.width ≡ 1 → segment.y ≡ at_y → segment.height ≡ 1 → area.x ≤ at_x → at_x < area.x + area.width →
+    area.y ≤ at_y → at_y < area.y + area.height → (x y : ℕ) → contains segment x y ≡ (contains area x y && (eqb x at_x && eqb y at_y))
+one_cell area segment at_x at_y is_x is_width is_y is_height left right top bottom x y = grind (arith, nat_tests)
 
 -- one cell
-pub contains-cell : (area part : Rect) (at_x at_y : ℕ) → part.x ≡ at_x → part.width ≡ min 1 (65535 - at_x) → part.y ≡ at_y → part.height ≡ min 1 (65535 - at_y) →
-    IsAmong area.x area.width at_x → IsAmong area.y area.height at_y → (x y : ℕ) → contains part x y ≡ (contains area x y && (eqb x at_x && eqb y at_y))
-contains-cell area part at_x at_y is_x is_width is_y is_height column row =
-    one_cell area part at_x at_y is_x (omega (arith, area.right, column.1)) is_y (omega (arith, area.bottom, row.1)) column.0 column.1 row.0 row.1
+pub contains-cell : (area segment : Rect) (at_x at_y : ℕ) → segment.x ≡ at_x → segment.width ≡ min 1 (65535 - at_x) → segment.y ≡ at_y → segment.height ≡ min 1 (65535 - at_y) →
+    IsAmong area.x area.width at_x → IsAmong area.y area.height at_y → (x y : ℕ) → contains segment x y ≡ (contains area x y && (eqb x at_x && eqb y at_y))
+contains-cell area segment at_x at_y is_x is_width is_y is_height column row =
+    one_cell area segment at_x at_y is_x (omega (arith, area.right, column.1)) is_y (omega (arith, area.bottom, row.1)) column.0 column.1 row.0 row.1
 
 -- ---- a border or a corner
 
-bordered : (inside drawn part test : Bool) (f g : CellView → CellView) (cell : CellView) → part ≡ (inside && test) →
-    cond (drawn && part) (g (cond inside (f cell) cell)) (cond inside (f cell) cell) ≡ cond inside (cond (drawn && test) (g (f cell)) (f cell)) cell
-bordered true drawn part test f g cell is = rw is refl
-bordered false true part test f g cell is = rw is refl
-bordered false false part test f g cell is = refl
+bordered : (inside drawn segment test : Bool) (f g : CellView → CellView) (cell : CellView) → segment ≡ (inside && test) →
+    cond (drawn && segment) (g (cond inside (f cell) cell)) (cond inside (f cell) cell) ≡ cond inside (cond (drawn && test) (g (f cell)) (f cell)) cell
+bordered true drawn segment test f g cell is = rw is refl
+bordered false true segment test f g cell is = rw is refl
+bordered false false segment test f g cell is = refl
 
 -- none of them is drawn yet
 pub Changes-begun : (buffer : Buffer) (area : Rect) → Changes buffer buffer (in_area area (λ x y cell. cell))
@@ -80,15 +80,15 @@ Changes-begun buffer area =
     Changes-none buffer (in_area area (λ x y cell. cell)) (λ x y cell. elim (contains area x y) as (λ b. cond b cell cell ≡ cell) [ true ↦ refl | false ↦ refl ])
 
 -- one more of them is drawn
-pub Changes-border : {a b c : Buffer} {drawn : Bool} {text : List ℕ} (area part : Rect) (done : Change) (drawn' : Bool) (test : ℕ → ℕ → Bool) (text' : List ℕ) (style : Style) →
-    Changes a b (in_area area done) → Changes b c (λ x y cell. cond (drawn && contains part x y) (with_symbol text style cell) cell) → drawn ≡ drawn' → text ≡ text' →
-    ((x y : ℕ) → contains part x y ≡ (contains area x y && test x y)) →
+pub Changes-border : {a b c : Buffer} {drawn : Bool} {text : List ℕ} (area segment : Rect) (done : Change) (drawn' : Bool) (test : ℕ → ℕ → Bool) (text' : List ℕ) (style : Style) →
+    Changes a b (in_area area done) → Changes b c (λ x y cell. cond (drawn && contains segment x y) (with_symbol text style cell) cell) → drawn ≡ drawn' → text ≡ text' →
+    ((x y : ℕ) → contains segment x y ≡ (contains area x y && test x y)) →
     Changes a c (in_area area (λ x y cell. drawn_where drawn' test text' style x y (done x y cell)))
-Changes-border area part done drawn' test text' style before change is_drawn is_text where_it_is =
+Changes-border area segment done drawn' test text' style before change is_drawn is_text where_it_is =
     Changes-then _ before change
     (λ x y cell.
-    ap₂ (λ d t. cond (d && contains part x y) (with_symbol t style (in_area area done x y cell)) (in_area area done x y cell)) is_drawn is_text
-    ∙ bordered (contains area x y) drawn' (contains part x y) (test x y) (done x y) (with_symbol text' style) cell (where_it_is x y))
+    ap₂ (λ d t. cond (d && contains segment x y) (with_symbol t style (in_area area done x y cell)) (in_area area done x y cell)) is_drawn is_text
+    ∙ bordered (contains area x y) drawn' (contains segment x y) (test x y) (done x y) (with_symbol text' style) cell (where_it_is x y))
 
 -- ---- cells outside of the area
 

@@ -17,15 +17,15 @@ use Rattle.textarea_paint.specs.declared.paint.cells.RowCells.{RowCells}
 
 pub record IsBetween (row from to x y : ℕ) : Type 0 where
   pub at : y ≡ row
-  pub behind : from ≤ x
+  pub after : from ≤ x
   pub before : x < to
 
 -- a cell of an area is left of its right edge
 pub contains_right : (area : Rect) (x y : ℕ) → contains area x y ≡ true → x < area.x + area.width
 contains_right area x y inside = grind (arith, nat_tests)
 
-covers_parts : (column : ℕ) (placed : Placed) → covers column placed ≡ true → (placed.start ≤ column) × (column < placed.start + columns_of placed.text)
-covers_parts column placed h = (grind (arith, nat_tests), grind (arith, nat_tests))
+covers_bounds : (column : ℕ) (placed : Placed) → covers column placed ≡ true → (placed.start ≤ column) × (column < placed.start + columns_of placed.text)
+covers_bounds column placed h = (grind (arith, nat_tests), grind (arith, nat_tests))
 
 -- ---- one cluster before others
 
@@ -34,10 +34,10 @@ find-before : (column start : ℕ) (clusters : List Cluster) → column < start 
 find-before column start [] before = refl
 find-before column start (cluster ∷ clusters) before = grind (arith, nat_tests, find-before column (start + columns_of cluster.text) clusters (omega arith))
 
-covered-then : (cells : RowCells) (left column : ℕ) (here : Bool) (placed : Placed) (behind : Option Placed) (cell : CellView) → (here ≡ true → behind ≡ None) →
-    covered_cell cells left column behind (covered_cell cells left column (cond here (Some placed) None) cell) ≡ covered_cell cells left column (cond here (Some placed) behind) cell
-covered-then cells left column true placed behind cell none = rw (none refl) refl
-covered-then cells left column false placed behind cell none = refl
+covered-then : (cells : RowCells) (left column : ℕ) (here : Bool) (placed : Placed) (after : Option Placed) (cell : CellView) → (here ≡ true → after ≡ None) →
+    covered_cell cells left column after (covered_cell cells left column (cond here (Some placed) None) cell) ≡ covered_cell cells left column (cond here (Some placed) after) cell
+covered-then cells left column true placed after cell none = rw (none refl) refl
+covered-then cells left column false placed after cell none = refl
 
 -- a change of only these cells, after another one
 pub cond-then : (inside : Bool) (f g both : CellView → CellView) (cell : CellView) → g (f cell) ≡ both cell →
@@ -52,13 +52,13 @@ pub row_change-cons : (cells : RowCells) (left start : ℕ) (cluster : Cluster) 
 unfolding row_change
 row_change-cons cells left start cluster clusters x y cell =
     let column = left + (x - cells.x) in
-    let behind = find (covers column) (place_from (start + columns_of cluster.text) clusters) in
+    let after = find (covers column) (place_from (start + columns_of cluster.text) clusters) in
     cond-then (is_in_cells cells x y)
     (λ c. covered_cell cells left column (cond (covers column (placed_at start cluster)) (Some (placed_at start cluster)) None) c)
-    (λ c. covered_cell cells left column behind c)
-    (λ c. covered_cell cells left column (cond (covers column (placed_at start cluster)) (Some (placed_at start cluster)) behind) c) cell
-    (covered-then cells left column (covers column (placed_at start cluster)) (placed_at start cluster) behind cell
-    (λ here. find-before column (start + columns_of cluster.text) clusters (covers_parts column (placed_at start cluster) here).1))
+    (λ c. covered_cell cells left column after c)
+    (λ c. covered_cell cells left column (cond (covers column (placed_at start cluster)) (Some (placed_at start cluster)) after) c) cell
+    (covered-then cells left column (covers column (placed_at start cluster)) (placed_at start cluster) after cell
+    (λ here. find-before column (start + columns_of cluster.text) clusters (covers_bounds column (placed_at start cluster) here).1))
 
 -- without clusters the cells are unchanged
 pub row_change-nil : (cells : RowCells) (left x y : ℕ) (cell : CellView) → row_change cells left [] x y cell ≡ cell
@@ -86,22 +86,23 @@ row_change-outside cells left row x y cell outside = cond-false _ _ _ outside
 
 -- ---- one cluster
 
--- where a cluster is drawn: `hidden` of its columns are not shown, and `shown` of the others are
-pub record IsDrawnAt (cells : RowCells) (pen : Pen) (columns hidden shown : ℕ) : Type 0 where
+-- where a cluster is drawn: `hidden` of its columns are not shown, and `displayed` of the others
+-- are
+pub record IsDrawnAt (cells : RowCells) (pen : Pen) (columns hidden displayed : ℕ) : Type 0 where
   pub left_of : hidden ≡ min columns pen.hidden
-  pub inside : shown ≡ min (columns - hidden) ((cells.x + cells.width) - pen.x)
+  pub inside : displayed ≡ min (columns - hidden) ((cells.x + cells.width) - pen.x)
 
-module _ (cells : RowCells) (pen : Pen) (left column hidden shown : ℕ) (cluster : Cluster) (at : IsPenAt cells left column pen) (drawn : IsDrawnAt cells pen (columns_of cluster.text) hidden shown) where
+module _ (cells : RowCells) (pen : Pen) (left column hidden displayed : ℕ) (cluster : Cluster) (at : IsPenAt cells left column pen) (drawn : IsDrawnAt cells pen (columns_of cluster.text) hidden displayed) where
   -- the drawn cells are those whose columns the cluster takes
-  drawn_test : (x y : ℕ) → is_between cells.y pen.x (pen.x + shown) x y ≡ (is_in_cells cells x y && covers (left + (x - cells.x)) (placed_at column cluster))
+  drawn_test : (x y : ℕ) → is_between cells.y pen.x (pen.x + displayed) x y ≡ (is_in_cells cells x y && covers (left + (x - cells.x)) (placed_at column cluster))
   drawn_test x y = grind (arith, nat_tests, at.hidden, at.x, drawn.left_of, drawn.inside)
 
   -- the cluster is whole if all of its columns are drawn
-  drawn_whole : (x y : ℕ) → is_between cells.y pen.x (pen.x + shown) x y ≡ true → eqb shown (columns_of cluster.text) ≡ is_whole cells left (placed_at column cluster)
+  drawn_whole : (x y : ℕ) → is_between cells.y pen.x (pen.x + displayed) x y ≡ true → eqb displayed (columns_of cluster.text) ≡ is_whole cells left (placed_at column cluster)
   drawn_whole x y h = grind (arith, nat_tests, at.hidden, at.x, drawn.left_of, drawn.inside)
 
   -- its first cell shows its first column
-  drawn_first : (x y : ℕ) → is_between cells.y pen.x (pen.x + shown) x y ≡ true → is_whole cells left (placed_at column cluster) ≡ true →
+  drawn_first : (x y : ℕ) → is_between cells.y pen.x (pen.x + displayed) x y ≡ true → is_whole cells left (placed_at column cluster) ≡ true →
       eqb x pen.x ≡ eqb (left + (x - cells.x)) column
   drawn_first x y h whole = grind (arith, nat_tests, at.hidden, at.x, drawn.left_of, drawn.inside)
 
@@ -113,18 +114,18 @@ cond-one cells left column placed test true false symbol cell is same = cond-fal
 cond-one cells left column placed test false here symbol cell is same = cond-false test _ _ is
 
 -- the result is the row of only this cluster
-pub row_change-one : (cells : RowCells) (pen : Pen) (left column hidden shown : ℕ) (cluster : Cluster) → IsPenAt cells left column pen →
-    IsDrawnAt cells pen (columns_of cluster.text) hidden shown → (x y : ℕ) (cell : CellView) →
-    cond (is_between cells.y pen.x (pen.x + shown) x y) (with_symbol (symbol_of (eqb shown (columns_of cluster.text)) (eqb x pen.x) cluster.text) cluster.style cell) cell
+pub row_change-one : (cells : RowCells) (pen : Pen) (left column hidden displayed : ℕ) (cluster : Cluster) → IsPenAt cells left column pen →
+    IsDrawnAt cells pen (columns_of cluster.text) hidden displayed → (x y : ℕ) (cell : CellView) →
+    cond (is_between cells.y pen.x (pen.x + displayed) x y) (with_symbol (symbol_of (eqb displayed (columns_of cluster.text)) (eqb x pen.x) cluster.text) cluster.style cell) cell
     ≡ row_change cells left (placed_at column cluster ∷ []) x y cell
 unfolding row_change
-row_change-one cells pen left column hidden shown cluster at drawn x y cell =
-    cond-one cells left (left + (x - cells.x)) (placed_at column cluster) (is_between cells.y pen.x (pen.x + shown) x y) (is_in_cells cells x y)
-    (covers (left + (x - cells.x)) (placed_at column cluster)) (symbol_of (eqb shown (columns_of cluster.text)) (eqb x pen.x) cluster.text) cell
-    (drawn_test cells pen left column hidden shown cluster at drawn x y)
+row_change-one cells pen left column hidden displayed cluster at drawn x y cell =
+    cond-one cells left (left + (x - cells.x)) (placed_at column cluster) (is_between cells.y pen.x (pen.x + displayed) x y) (is_in_cells cells x y)
+    (covers (left + (x - cells.x)) (placed_at column cluster)) (symbol_of (eqb displayed (columns_of cluster.text)) (eqb x pen.x) cluster.text) cell
+    (drawn_test cells pen left column hidden displayed cluster at drawn x y)
     (λ h.
-    let whole = drawn_whole cells pen left column hidden shown cluster at drawn x y h in
-    let first = drawn_first cells pen left column hidden shown cluster at drawn x y h in
+    let whole = drawn_whole cells pen left column hidden displayed cluster at drawn x y h in
+    let first = drawn_first cells pen left column hidden displayed cluster at drawn x y h in
     grind (arith, nat_tests))
 
 -- ---- one column after another

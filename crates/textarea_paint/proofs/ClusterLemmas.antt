@@ -18,53 +18,53 @@ use Rattle.textarea_paint.specs.LineClusters.{clusters_left}
 use Rattle.textarea_paint.proofs.PlainLemmas.{graphemes-nil}
 use Rattle.textarea_paint.specs.declared.paint.clusters.LineClusters.{LineClusters}
 
-content_bytes-shown : (content : SpanText) → content_bytes (content_view content) ≡ text_bytes content
-content_bytes-shown (Borrowed text) = refl
-content_bytes-shown (Owned text) = refl
+content_bytes-displayed : (content : SpanText) → content_bytes (content_view content) ≡ text_bytes content
+content_bytes-displayed (Borrowed text) = refl
+content_bytes-displayed (Owned text) = refl
 
-span_clusters-shown : (base : Style) (span : Span) → span_clusters base (span_view span) ≡ map (in_style (patched base span.style)) (graphemes true (text_bytes span.content))
-span_clusters-shown base span = ap (λ bytes. map (in_style (patched base span.style)) (graphemes true bytes)) (content_bytes-shown span.content)
+span_clusters-displayed : (base : Style) (span : Span) → span_clusters base (span_view span) ≡ map (in_style (patched base span.style)) (graphemes true (text_bytes span.content))
+span_clusters-displayed base span = ap (λ bytes. map (in_style (patched base span.style)) (graphemes true bytes)) (content_bytes-displayed span.content)
 
 -- a cluster is taken, and the clusters after it are left
 pub clusters_left-text : (old new : LineClusters) (text : List ℕ) → graphemes_left old.texts ≡ text ∷ graphemes_left new.texts → new.style ≡ old.style → new.base ≡ old.base →
-    new.behind.now ≡ old.behind.now → iter_rest new.spans ≡ iter_rest old.spans → clusters_left old ≡ in_style old.style text ∷ clusters_left new
+    new.after.now ≡ old.after.now → iter_rest new.spans ≡ iter_rest old.spans → clusters_left old ≡ in_style old.style text ∷ clusters_left new
 unfolding clusters_left
-clusters_left-text old new text taken style base behind spans = rw (taken, style, base, behind, spans) refl
+clusters_left-text old new text fitting_clusters style base after spans = rw (fitting_clusters, style, base, after, spans) refl
 
 -- the first cluster of the text after the split one is taken
 pub clusters_left-plain : (old new : LineClusters) (text : List ℕ) → graphemes_left old.texts ≡ [] → graphemes_left new.texts ≡ [] →
-    graphemes true old.behind.now ≡ text ∷ graphemes true new.behind.now → new.style ≡ old.style → new.base ≡ old.base → iter_rest new.spans ≡ iter_rest old.spans →
+    graphemes true old.after.now ≡ text ∷ graphemes true new.after.now → new.style ≡ old.style → new.base ≡ old.base → iter_rest new.spans ≡ iter_rest old.spans →
     clusters_left old ≡ in_style old.style text ∷ clusters_left new
 unfolding clusters_left
-clusters_left-plain old new text none none' taken style base spans = rw (none, none', taken, style, base, spans) refl
+clusters_left-plain old new text none none' fitting_clusters style base spans = rw (none, none', fitting_clusters, style, base, spans) refl
 
 -- the text after the split one is split too
-pub clusters_left-cut : (old new : LineClusters) → graphemes_left old.texts ≡ [] → graphemes_left new.texts ≡ graphemes true old.behind.now → new.behind.now ≡ [] →
+pub clusters_left-split : (old new : LineClusters) → graphemes_left old.texts ≡ [] → graphemes_left new.texts ≡ graphemes true old.after.now → new.after.now ≡ [] →
     new.style ≡ old.style → new.base ≡ old.base → iter_rest new.spans ≡ iter_rest old.spans → clusters_left old ≡ clusters_left new
 unfolding clusters_left
-clusters_left-cut old new none texts behind style base spans =
-    rw (none, texts, behind, graphemes-nil, style, base, spans, append-nil (graphemes true old.behind.now)) refl
+clusters_left-split old new none texts after style base spans =
+    rw (none, texts, after, graphemes-nil, style, base, spans, append-nil (graphemes true old.after.now)) refl
 
 -- the texts of a span are all taken, and the next span begins
-pub clusters_left-span : (old new : LineClusters) (span : Span) → graphemes_left old.texts ≡ [] → old.behind.now ≡ [] → graphemes_left new.texts ≡ [] →
-    iter_rest old.spans ≡ span ∷ iter_rest new.spans → new.base ≡ old.base → new.style ≡ patched old.base span.style → new.behind.now ≡ text_bytes span.content →
+pub clusters_left-span : (old new : LineClusters) (span : Span) → graphemes_left old.texts ≡ [] → old.after.now ≡ [] → graphemes_left new.texts ≡ [] →
+    iter_rest old.spans ≡ span ∷ iter_rest new.spans → new.base ≡ old.base → new.style ≡ patched old.base span.style → new.after.now ≡ text_bytes span.content →
     clusters_left old ≡ clusters_left new
 unfolding clusters_left
-clusters_left-span old new span none behind none' taken base style text =
-    rw (none, behind, graphemes-nil, none', taken, base, style, text, span_clusters-shown old.base span) refl
+clusters_left-span old new span none after none' fitting_clusters base style text =
+    rw (none, after, graphemes-nil, none', fitting_clusters, base, style, text, span_clusters-displayed old.base span) refl
 
 -- the texts of a span are all taken, and there is no other span
-pub clusters_left-none : (s : LineClusters) → graphemes_left s.texts ≡ [] → s.behind.now ≡ [] → iter_rest s.spans ≡ [] → clusters_left s ≡ []
+pub clusters_left-none : (s : LineClusters) → graphemes_left s.texts ≡ [] → s.after.now ≡ [] → iter_rest s.spans ≡ [] → clusters_left s ≡ []
 unfolding clusters_left
-clusters_left-none s none behind spans = rw (none, behind, graphemes-nil, spans) refl
+clusters_left-none s none after spans = rw (none, after, graphemes-nil, spans) refl
 
 -- no span is begun yet
-pub clusters_left-new : (s : LineClusters) (style : Style) (line : Line) → graphemes_left s.texts ≡ [] → s.behind.now ≡ [] → iter_rest s.spans ≡ line.spans.items →
+pub clusters_left-new : (s : LineClusters) (style : Style) (line : Line) → graphemes_left s.texts ≡ [] → s.after.now ≡ [] → iter_rest s.spans ≡ line.spans.items →
     s.base ≡ patched style line.style → clusters_left s ≡ row_clusters style (line_view line)
 unfolding clusters_left
-clusters_left-new s style line none behind spans base = rw (none, behind, graphemes-nil, spans, base) refl
+clusters_left-new s style line none after spans base = rw (none, after, graphemes-nil, spans, base) refl
 
 -- ---- short clusters
 
-pub AreInline-tail : {clusters behind : List Cluster} (cluster : Cluster) → clusters ≡ cluster ∷ behind → AreInline clusters → AreInline behind
-AreInline-tail {clusters} {behind} cluster taken short = All-tail (λ (c : Cluster). length c.text ≤ INLINE_BYTES) cluster behind (rw taken at short)
+pub AreInline-tail : {clusters after : List Cluster} (cluster : Cluster) → clusters ≡ cluster ∷ after → AreInline clusters → AreInline after
+AreInline-tail {clusters} {after} cluster fitting_clusters short = All-tail (λ (c : Cluster). length c.text ≤ INLINE_BYTES) cluster after (rw fitting_clusters at short)

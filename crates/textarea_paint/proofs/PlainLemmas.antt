@@ -23,11 +23,11 @@ use Rattle.unicode_segmentation.proofs.GraphemeLemmas.{is_grapheme_break-others}
 
 -- ---- the tables
 
-abbrev has_no_part : ℕ → Bool
-has_no_part c = (grapheme_cluster_break_number (grapheme_cluster_break c) == 12) && (indic_conjunct_break_number (indic_conjunct_break c) == 3) && not (is_extended_pictographic c)
+abbrev has_no_joiner : ℕ → Bool
+has_no_joiner c = (grapheme_cluster_break_number (grapheme_cluster_break c) == 12) && (indic_conjunct_break_number (indic_conjunct_break c) == 3) && not (is_extended_pictographic c)
 
 abbrev passes : ℕ → Bool
-passes c = cond (leb 32 c && ltb c 127) (has_no_part c) true
+passes c = cond (leb 32 c && ltb c 127) (has_no_joiner c) true
 
 all_pass : all_below passes 127 ≡ true
 unfolding unicode_segmentation
@@ -42,7 +42,7 @@ record IsPlain (c : ℕ) : Type 0 where
 plain : (c : ℕ) → IsPrintable c → IsPlain c
 plain c printable =
     let printable_test : (leb 32 c && ltb c 127) ≡ true = grind (arith, nat_tests, printable.0, printable.1) in
-    let tested = sym (cond-true (leb 32 c && ltb c 127) (has_no_part c) true printable_test) ∙ all_below-at passes 127 c all_pass printable.1 in
+    let tested = sym (cond-true (leb 32 c && ltb c 127) (has_no_joiner c) true printable_test) ∙ all_below-at passes 127 c all_pass printable.1 in
     record {
       other = grapheme_cluster_break_number_injective _ _ (grind (arith, nat_tests));
       no_conjunct = indic_conjunct_break_number_injective _ _ (grind (arith, nat_tests));
@@ -91,17 +91,17 @@ cut-two c d cs first second early = grind (arith, common_steps, is_grapheme_brea
 
 cut-only : (c : ℕ) → encode_utf8_all (c ∷ []) ≡ c ∷ [] → map encode_utf8_all (cut (is_grapheme_break true) [] (c ∷ []) []) ≡ (c ∷ []) ∷ []
 unfolding cut is_grapheme_break
-cut-only c encoded = ap (λ piece. piece ∷ []) encoded
+cut-only c encoded = ap (λ segment. segment ∷ []) encoded
 
-pub graphemes-plain : (c d : ℕ) (text rest behind : List ℕ) → IsUtf8 text → IsUtf8 rest → text ≡ c ∷ rest → rest ≡ d ∷ behind → IsPrintable c → IsPrintable d →
+pub graphemes-plain : (c d : ℕ) (text rest rest_after : List ℕ) → IsUtf8 text → IsUtf8 rest → text ≡ c ∷ rest → rest ≡ d ∷ rest_after → IsPrintable c → IsPrintable d →
     graphemes true text ≡ (c ∷ []) ∷ graphemes true rest
 unfolding segments
-graphemes-plain c d text rest behind text_utf8 rest_utf8 text_is rest_is first second =
+graphemes-plain c d text rest rest_after text_utf8 rest_utf8 text_is rest_is first second =
     let encoded = encode_ascii c (omega (arith, first.1)) in
     let all = chars_past_char text rest c text_utf8 (text_is ∙ ap (λ front. front ++ rest) (sym encoded)) in
-    let others = chars_past_char rest behind d rest_utf8 (rest_is ∙ ap (λ front. front ++ behind) (sym (encode_ascii d (omega (arith, second.1))))) in
+    let others = chars_past_char rest rest_after d rest_utf8 (rest_is ∙ ap (λ front. front ++ rest_after) (sym (encode_ascii d (omega (arith, second.1))))) in
     ap (λ cs. map encode_utf8_all (cut (is_grapheme_break true) [] cs [])) (all ∙ ap (λ cs. c ∷ cs) others)
-    ∙ ap (map encode_utf8_all) (cut-two c d (chars behind) (plain c first) (plain d second) (omega (arith, second.1)))
+    ∙ ap (map encode_utf8_all) (cut-two c d (chars rest_after) (plain c first) (plain d second) (omega (arith, second.1)))
     ∙ ap₂ (λ (bytes : List ℕ) (cs : List ℕ). bytes ∷ map encode_utf8_all (cut (is_grapheme_break true) [] cs [])) (ap (λ front. front ++ []) encoded) (sym others)
 
 no-chars : chars [] ≡ []

@@ -22,7 +22,7 @@ pub record IsDrawing (cells : RowCells) (left : ℕ) (row : List Placed) (old no
   pub column : ℕ
   pub at : IsPenAt cells left column pen
   pub rest : (new : Buffer) → Changes now new (row_change cells left (place_from column ahead)) → Changes old new (row_change cells left row)
-  pub kept : KeepsOutside (is_in_cells cells) old now
+  pub unchanged : KeepsOutside (is_in_cells cells) old now
 
 pub drawing_start : (cells : RowCells) (left start : ℕ) (row : List Cluster) (buffer : Buffer) (pen : Pen) (ahead : List Cluster) → IsPenAt cells left start pen → ahead ≡ row →
     IsDrawing cells left (place_from start row) buffer buffer pen ahead
@@ -30,26 +30,26 @@ drawing_start cells left start row buffer pen ahead at all = record {
   column = start;
   at = at;
   rest = λ new drawn. rw (← all) drawn;
-  kept = KeepsOutside-same (is_in_cells cells) refl;
+  unchanged = KeepsOutside-same (is_in_cells cells) refl;
 }
 
-pub drawing_next : {cells : RowCells} {left : ℕ} {row : List Placed} {old now next : Buffer} {pen moved : Pen} {ahead behind : List Cluster} (cluster : Cluster) →
-    (d : IsDrawing cells left row old now pen ahead) → ahead ≡ cluster ∷ behind → IsPenAt cells left (d.column + columns_of cluster.text) moved →
-    Changes now next (row_change cells left (placed_at d.column cluster ∷ [])) → IsDrawing cells left row old next moved behind
-drawing_next {cells} {left} {row} {old} {now} {next} {pen} {moved} {ahead} {behind} cluster d taken at drawn = record {
+pub drawing_next : {cells : RowCells} {left : ℕ} {row : List Placed} {old now next : Buffer} {pen moved : Pen} {ahead after : List Cluster} (cluster : Cluster) →
+    (d : IsDrawing cells left row old now pen ahead) → ahead ≡ cluster ∷ after → IsPenAt cells left (d.column + columns_of cluster.text) moved →
+    Changes now next (row_change cells left (placed_at d.column cluster ∷ [])) → IsDrawing cells left row old next moved after
+drawing_next {cells} {left} {row} {old} {now} {next} {pen} {moved} {ahead} {after} cluster d fitting_clusters at drawn = record {
   column = d.column + columns_of cluster.text;
   at = at;
   rest = λ new others.
-      d.rest new (rw taken (Changes-then (row_change cells left (place_from d.column (cluster ∷ behind))) drawn others
-      (λ x y cell. row_change-cons cells left d.column cluster behind x y cell)));
-  kept = KeepsOutside-then d.kept (KeepsOutside-from_changes (is_in_cells cells) drawn
+      d.rest new (rw fitting_clusters (Changes-then (row_change cells left (place_from d.column (cluster ∷ after))) drawn others
+      (λ x y cell. row_change-cons cells left d.column cluster after x y cell)));
+  unchanged = KeepsOutside-then d.unchanged (KeepsOutside-from_changes (is_in_cells cells) drawn
       (λ x y cell outside. row_change-outside cells left (placed_at d.column cluster ∷ []) x y cell outside));
 }
 
 -- a cluster is left out, and the clusters still to be drawn are the same
-pub drawing_same : {cells : RowCells} {left : ℕ} {row : List Placed} {old now : Buffer} {pen : Pen} {ahead : List Cluster} (behind : List Cluster) →
-    IsDrawing cells left row old now pen ahead → ahead ≡ behind → IsDrawing cells left row old now pen behind
-drawing_same {cells} {left} {row} {old} {now} {pen} {ahead} behind d same = rw (← same) d
+pub drawing_same : {cells : RowCells} {left : ℕ} {row : List Placed} {old now : Buffer} {pen : Pen} {ahead : List Cluster} (after : List Cluster) →
+    IsDrawing cells left row old now pen ahead → ahead ≡ after → IsDrawing cells left row old now pen after
+drawing_same {cells} {left} {row} {old} {now} {pen} {ahead} after d same = rw (← same) d
 
 pub drawing_end : {cells : RowCells} {left : ℕ} {row : List Placed} {old now : Buffer} {pen : Pen} {ahead : List Cluster} → IsDrawing cells left row old now pen ahead → ahead ≡ [] →
     Changes old now (row_change cells left row)
@@ -63,8 +63,8 @@ drawing_past {cells} {left} {row} {old} {now} {pen} {ahead} d past =
     d.rest now (Changes-inside (row_change cells left (place_from d.column ahead)) (Changes-none now (λ x y cell. cell) (λ x y cell. refl))
     (λ x y cell inside.
     let right : x < (area_of now).x + (area_of now).width = contains_right (area_of now) x y inside in
-    let same : (area_of now).x + (area_of now).width ≡ (area_of old).x + (area_of old).width = ap (λ area. area.x + area.width) d.kept.area in
-    sym (row_change-past cells left d.column ahead x y cell (λ behind before. omega (arith, behind, before, past, right, same, d.at.x)))))
+    let same : (area_of now).x + (area_of now).width ≡ (area_of old).x + (area_of old).width = ap (λ area. area.x + area.width) d.unchanged.area in
+    sym (row_change-past cells left d.column ahead x y cell (λ after before. omega (arith, after, before, past, right, same, d.at.x)))))
 
 -- ---- the clusters that fit
 
@@ -103,28 +103,28 @@ measuring_start width row ahead all = record {
   sum = omega (arith, ap (λ clusters. clusters_width (fitting width clusters)) all);
 }
 
-pub measuring_wide : {width room : ℕ} {row ahead : List Cluster} (cluster : Cluster) (behind : List Cluster) → IsMeasuring width row room ahead → ahead ≡ cluster ∷ behind →
-    width < columns_of cluster.text → IsMeasuring width row room behind
-measuring_wide {width} {room} {row} {ahead} cluster behind m taken wide = record {
+pub measuring_wide : {width room : ℕ} {row ahead : List Cluster} (cluster : Cluster) (after : List Cluster) → IsMeasuring width row room ahead → ahead ≡ cluster ∷ after →
+    width < columns_of cluster.text → IsMeasuring width row room after
+measuring_wide {width} {room} {row} {ahead} cluster after m fitting_clusters wide = record {
   bound = m.bound;
-  sum = omega (arith, m.sum, ap (λ clusters. clusters_width (fitting_ahead width room clusters)) taken, ap clusters_width (fitting_ahead-wide width room cluster behind wide));
+  sum = omega (arith, m.sum, ap (λ clusters. clusters_width (fitting_ahead width room clusters)) fitting_clusters, ap clusters_width (fitting_ahead-wide width room cluster after wide));
 }
 
-pub measuring_fits : {width room : ℕ} {row ahead : List Cluster} (cluster : Cluster) (behind : List Cluster) → IsMeasuring width row room ahead → ahead ≡ cluster ∷ behind →
-    columns_of cluster.text ≤ width → columns_of cluster.text ≤ room → IsMeasuring width row (room - columns_of cluster.text) behind
-measuring_fits {width} {room} {row} {ahead} cluster behind m taken narrow fits =
+pub measuring_fits : {width room : ℕ} {row ahead : List Cluster} (cluster : Cluster) (after : List Cluster) → IsMeasuring width row room ahead → ahead ≡ cluster ∷ after →
+    columns_of cluster.text ≤ width → columns_of cluster.text ≤ room → IsMeasuring width row (room - columns_of cluster.text) after
+measuring_fits {width} {room} {row} {ahead} cluster after m fitting_clusters narrow fits =
     let columns = columns_of cluster.text in
-    let more : clusters_width (fitting_ahead width room (cluster ∷ behind)) ≡ columns + clusters_width (fitting_ahead width (room - columns) behind) =
-    ap clusters_width (fitting_ahead-fits width room cluster behind narrow fits) ∙ sum_by-cons (λ c. columns_of c.text) cluster (fitting_ahead width (room - columns) behind) in
+    let more : clusters_width (fitting_ahead width room (cluster ∷ after)) ≡ columns + clusters_width (fitting_ahead width (room - columns) after) =
+    ap clusters_width (fitting_ahead-fits width room cluster after narrow fits) ∙ sum_by-cons (λ c. columns_of c.text) cluster (fitting_ahead width (room - columns) after) in
     record {
       bound = omega (arith, m.bound);
-      sum = omega (arith, m.bound, m.sum, fits, ap (λ clusters. clusters_width (fitting_ahead width room clusters)) taken, more);
+      sum = omega (arith, m.bound, m.sum, fits, ap (λ clusters. clusters_width (fitting_ahead width room clusters)) fitting_clusters, more);
     }
 
-pub measuring_full : {width room : ℕ} {row ahead : List Cluster} (cluster : Cluster) (behind : List Cluster) → IsMeasuring width row room ahead → ahead ≡ cluster ∷ behind →
+pub measuring_full : {width room : ℕ} {row ahead : List Cluster} (cluster : Cluster) (after : List Cluster) → IsMeasuring width row room ahead → ahead ≡ cluster ∷ after →
     columns_of cluster.text ≤ width → room < columns_of cluster.text → width - room ≡ clusters_width (fitting width row)
-measuring_full {width} {room} {row} {ahead} cluster behind m taken narrow full =
-    omega (arith, m.sum, ap (λ clusters. clusters_width (fitting_ahead width room clusters)) taken, ap clusters_width (fitting_ahead-full width room cluster behind narrow full))
+measuring_full {width} {room} {row} {ahead} cluster after m fitting_clusters narrow full =
+    omega (arith, m.sum, ap (λ clusters. clusters_width (fitting_ahead width room clusters)) fitting_clusters, ap clusters_width (fitting_ahead-full width room cluster after narrow full))
 
 pub measuring_end : {width room : ℕ} {row ahead : List Cluster} → IsMeasuring width row room ahead → ahead ≡ [] → width - room ≡ clusters_width (fitting width row)
 measuring_end {width} {room} {row} {ahead} m none = omega (arith, m.sum, ap (λ clusters. clusters_width (fitting_ahead width room clusters)) none)

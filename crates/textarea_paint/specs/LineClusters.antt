@@ -15,4 +15,4 @@ styled_cluster cluster = record { text = cluster.text.now; style = cluster.style
 -- the clusters left of the current span, those already split first, and of the following spans
 unfoldable pub clusters_left : LineClusters → List Cluster
 clusters_left s =
-    map (in_style s.style) (graphemes_left s.texts ++ graphemes true s.behind.now) ++ flat_map (span_clusters s.base) (map span_view (iter_rest s.spans))
+    map (in_style s.style) (graphemes_left s.texts ++ graphemes true s.after.now) ++ flat_map (span_clusters s.base) (map span_view (iter_rest s.spans))

@@ -8,4 +8,4 @@ IsPrintable byte = (32 ≤ byte) × (byte < 127)
 abbrev pub BeginsPlain : List ℕ → Type 0
 BeginsPlain [] = ⊥
 BeginsPlain (only ∷ []) = IsPrintable only
-BeginsPlain (first ∷ second ∷ behind) = IsPrintable first × IsPrintable second
+BeginsPlain (first ∷ second ∷ after) = IsPrintable first × IsPrintable second

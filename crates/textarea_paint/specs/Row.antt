@@ -52,20 +52,20 @@ line_offset Center width clusters = width / 2 - clusters_width (fitting width cl
 line_offset Right width clusters = width - clusters_width (fitting width clusters)
 
 -- the clusters that are in the row
-abbrev pub taken : Alignment → ℕ → List Cluster → List Cluster
-taken Left width clusters = clusters
-taken Center width clusters = fitting width clusters
-taken Right width clusters = fitting width clusters
+abbrev pub fitting_clusters : Alignment → ℕ → List Cluster → List Cluster
+fitting_clusters Left width clusters = clusters
+fitting_clusters Center width clusters = fitting width clusters
+fitting_clusters Right width clusters = fitting width clusters
 
 -- the clusters of a line with their columns in a row of `width` columns
 abbrev pub placed_row : Alignment → ℕ → List Cluster → List Placed
-placed_row alignment width clusters = place_from (line_offset alignment width clusters) (taken alignment width clusters)
+placed_row alignment width clusters = place_from (line_offset alignment width clusters) (fitting_clusters alignment width clusters)
 
 -- the first column of the row that is shown
-abbrev pub first_shown_column : Alignment → ℕ → ℕ
-first_shown_column Left left = left
-first_shown_column Center left = 0
-first_shown_column Right left = 0
+abbrev pub first_visible_column : Alignment → ℕ → ℕ
+first_visible_column Left left = left
+first_visible_column Center left = 0
+first_visible_column Right left = 0
 
 abbrev pub cells_of_row : Rect → ℕ → RowCells
 cells_of_row area y = record { x = area.x; y = y; width = area.width }
@@ -73,6 +73,6 @@ cells_of_row area y = record { x = area.x; y = y; width = area.width }
 -- a cell after a line is drawn in row y of an area
 unfoldable pub row_cell : RowArea → ℕ → LineView → Change
 row_cell rows y line column row cell = if is_in_row rows.area y column row
-    then row_change (cells_of_row rows.area y) (first_shown_column rows.alignment rows.left)
+    then row_change (cells_of_row rows.area y) (first_visible_column rows.alignment rows.left)
     (placed_row rows.alignment rows.area.width (row_clusters rows.style line)) column row cell
     else cell

@@ -4,21 +4,21 @@ use Rattle.std.proofs.lemmas.Bool.Decides.{nat_tests}
 use Rattle.std.proofs.lemmas.Bool.{cases_Bool}
 
 -- the element is in the list and passes the test
-pub record Found {X : Type 0} (test : X → Bool) (xs : List X) (x : X) : Type 0 where
+pub record IsFirstFound {X : Type 0} (test : X → Bool) (xs : List X) (x : X) : Type 0 where
   pub index : ℕ
   pub within : index < length xs
   pub at : (d : X) → get_or xs index d ≡ x
   pub passes : test x ≡ true
 
-pub Found-find : {X : Type 0} (test : X → Bool) (xs : List X) (x : X) → find test xs ≡ Some x → Found test xs x
-Found-find test [] x e = absurd cc
-Found-find {X} test (y ∷ ys) x e =
+pub IsFirstFound-find : {X : Type 0} (test : X → Bool) (xs : List X) (x : X) → find test xs ≡ Some x → IsFirstFound test xs x
+IsFirstFound-find test [] x e = absurd cc
+IsFirstFound-find {X} test (y ∷ ys) x e =
     elim (cases_Bool (test y)) [
       | inl here ↦
           let is : y ≡ x = grind (arith, nat_tests) in
           record { index = 0; within = omega arith; at = λ d. is; passes = rw (← is) here }
       | inr not_here ↦
-          let rest = Found-find test ys x (grind (arith, nat_tests)) in
+          let rest = IsFirstFound-find test ys x (grind (arith, nat_tests)) in
           record { index = suc rest.index; within = suc-le-suc rest.within; at = λ d. rest.at d; passes = rest.passes }
     ]
 

@@ -4,22 +4,22 @@ use Rattle.std.proofs.lemmas.Bool.{cases_Bool, cond-true, cond-false}
 use Rattle.std.proofs.lemmas.List.Elements.{All-from_recursion, recursion_from_All}
 use Rattle.std.specs.List.{AllByRecursion}
 
-pub filter-kept : {X : Type 0} (test : X → Bool) (x : X) (xs : List X) → test x ≡ true → filter test (x ∷ xs) ≡ x ∷ filter test xs
-filter-kept test x xs h = cond-true _ _ _ h
+pub filter-retained : {X : Type 0} (test : X → Bool) (x : X) (xs : List X) → test x ≡ true → filter test (x ∷ xs) ≡ x ∷ filter test xs
+filter-retained test x xs h = cond-true _ _ _ h
 
 pub filter-dropped : {X : Type 0} (test : X → Bool) (x : X) (xs : List X) → test x ≡ false → filter test (x ∷ xs) ≡ filter test xs
 filter-dropped test x xs h = cond-false _ _ _ h
 
 -- a fact of each element is one of the first that passes
-pub first_kept : {X : Type 0} (P : X → Type 0) (test : X → Bool) (ys : List X) (x : X) (rest : List X) → AllByRecursion P ys → filter test ys ≡ x ∷ rest → P x
-first_kept P test [] x rest all e = absurd cc
-first_kept {X} P test (y ∷ ys) x rest all e =
+pub first_retained : {X : Type 0} (P : X → Type 0) (test : X → Bool) (ys : List X) (x : X) (rest : List X) → AllByRecursion P ys → filter test ys ≡ x ∷ rest → P x
+first_retained P test [] x rest all e = absurd cc
+first_retained {X} P test (y ∷ ys) x rest all e =
     elim (cases_Bool (test y)) [
-      | inl kept ↦
-          let same : y ∷ filter test ys ≡ x ∷ rest = sym (filter-kept test y ys kept) ∙ e in
+      | inl retained ↦
+          let same : y ∷ filter test ys ≡ x ∷ rest = sym (filter-retained test y ys retained) ∙ e in
           let is : y ≡ x = cc in
           rw (← is) all.0
-      | inr dropped ↦ first_kept P test ys x rest all.1 (sym (filter-dropped test y ys dropped) ∙ e)
+      | inr dropped ↦ first_retained P test ys x rest all.1 (sym (filter-dropped test y ys dropped) ∙ e)
     ]
 
 pub each_both : {X : Type 0} (P Q R : X → Type 0) → ((x : X) → P x → Q x → R x) → (xs : List X) → AllByRecursion P xs → AllByRecursion Q xs → AllByRecursion R xs

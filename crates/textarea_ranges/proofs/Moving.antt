@@ -4,9 +4,9 @@ use Rattle.std.proofs.lemmas.Bool.{cases_Bool}
 use Rattle.std.proofs.lemmas.Bool.Decides.{nat_tests}
 use Rattle.std.proofs.lemmas.List.{append_assoc, length-append, length-drop, length-take-le, take-append-drop, take_at, drop_at, get_or_at}
 use Rattle.std.proofs.lemmas.List.Elements.{All-from_recursion, recursion_from_All}
-use Rattle.textarea_ranges.specs.Prelude.{AllByRecursion, cons_option, Symbol, Character, Break, characters, following, joined, leading, lines, on_first, Place, IsUpTo, end, line_of, Splice, Fits, applied, place_after, place_before, is_up_to, shifted, AtomicRange, range_end, range_start, CoversTheSame, Disturbs, DisturbsBy, covered_characters, moved_range, moved_ranges, shifted_range, AreInOrder, is_range_before, AreDisjoint, AreValid, IsPart}
+use Rattle.textarea_ranges.specs.Prelude.{AllByRecursion, cons_option, Symbol, Character, Break, characters, following, joined, leading, lines, on_first, Place, IsUpTo, end, line_of, Splice, Fits, applied, place_after, place_before, is_up_to, shifted, AtomicRange, range_end, range_start, CoversTheSame, Disturbs, DisturbsBy, covered_characters, moved_range, moved_ranges, shifted_range, AreInOrder, is_range_before, AreDisjoint, AreValid, IsRangeOfLine}
 use Rattle.textarea_text.proofs.Splices.{characters-append, end-append, end_of_front, end-characters, joined-append, lines-joined}
-use Rattle.textarea_text.proofs.TextPlaces.{Parted, cut, joined-lines, part_rows}
+use Rattle.textarea_text.proofs.TextPlaces.{Parted, split_text, joined-lines, parted_rows}
 use Rattle.textarea_text.proofs.PlacesAfterSplice.{back_stays, end_from, front_stays}
 use Rattle.textarea_ranges.proofs.Lists.{AllPairs-later, EachLater, each_both, later-AllPairs}
 use Rattle.textarea_ranges.proofs.OrderLemmas.{in_order-sorted, sorted-in_order}
@@ -21,25 +21,25 @@ pub record Segment (text : List Symbol) (range : AtomicRange) : Type 0 where
   pub starts : end (0, 0) front ≡ range_start range
   pub ends : range.start_col + length (covered_characters (lines text) range) ≡ range.end_col
 
-pub segment : (text : List Symbol) (range : AtomicRange) → IsPart (lines text) range → Segment text range
-unfolding part_rows
-segment text range part =
+pub segment : (text : List Symbol) (range : AtomicRange) → IsRangeOfLine (lines text) range → Segment text range
+unfolding parted_rows
+segment text range in_line =
     let rows = lines text in
     let line = line_of rows range.row in
     let count = range.end_col - range.start_col in
-    let parts = part_rows rows range.row range.start_col (part.0, omega (arith, part.1, part.2)) in
+    let components = parted_rows rows range.row range.start_col (in_line.0, omega (arith, in_line.1, in_line.2)) in
     let rest = drop range.start_col line in
     let split : characters rest ≡ characters (take count rest) ++ characters (drop count rest) =
     ap characters (sym (take-append-drop count rest)) ∙ characters-append (take count rest) (drop count rest) in
     let below = following (drop (range.row + 1) rows) in
     record {
-      front = parts.front;
+      front = components.front;
       back = characters (drop count rest) ++ below;
-      is = sym (joined-lines text) ∙ parts.is
-          ∙ ap (λ t. parts.front ++ (t ++ below)) split
-          ∙ ap (λ t. parts.front ++ t) (append_assoc (characters (take count rest)) (characters (drop count rest)) below);
-      starts = parts.ends;
-      ends = omega (arith, length-take-le count rest (omega (arith, length-drop range.start_col line, part.2)), part.1);
+      is = sym (joined-lines text) ∙ components.is
+          ∙ ap (λ t. components.front ++ (t ++ below)) split
+          ∙ ap (λ t. components.front ++ t) (append_assoc (characters (take count rest)) (characters (drop count rest)) below);
+      starts = components.ends;
+      ends = omega (arith, length-take-le count rest (omega (arith, length-drop range.start_col line, in_line.2)), in_line.1);
     }
 
 filled : (text : List Symbol) → (line : List ℕ) × (rest : List (List ℕ)) × (lines text ≡ line ∷ rest)
@@ -48,58 +48,58 @@ filled (Character c ∷ text) = let found = filled text in (c ∷ found.0, found
 filled (Break ∷ text) = ([], lines text, refl)
 
 -- characters in a text that are a range of the line in which they begin
-pub record Stands (text : List Symbol) (range : AtomicRange) (cs : List ℕ) : Type 0 where
-  pub part : IsPart (lines text) range
+pub record OccursInLine (text : List Symbol) (range : AtomicRange) (cs : List ℕ) : Type 0 where
+  pub in_line : IsRangeOfLine (lines text) range
   pub is : covered_characters (lines text) range ≡ cs
 
-stands_in : (rows above rest : List (List ℕ)) (before cs behind : List ℕ) (range : AtomicRange) → rows ≡ above ++ ((before ++ (cs ++ behind)) ∷ rest) → range.row ≡ length above → range.start_col ≡ length before → range.end_col ≡ length before + length cs → 0 < length cs → IsPart rows range × (covered_characters rows range ≡ cs)
-stands_in rows above rest before cs behind range e row start to some =
-    let line = before ++ (cs ++ behind) in
+occurs_in : (rows above rest : List (List ℕ)) (before cs after : List ℕ) (range : AtomicRange) → rows ≡ above ++ ((before ++ (cs ++ after)) ∷ rest) → range.row ≡ length above → range.start_col ≡ length before → range.end_col ≡ length before + length cs → 0 < length cs → IsRangeOfLine rows range × (covered_characters rows range ≡ cs)
+occurs_in rows above rest before cs after range e row start to some =
+    let line = before ++ (cs ++ after) in
     let here : line_of rows range.row ≡ line =
     ap (λ (r : List (List ℕ)). line_of r range.row) e ∙ get_or_at above line rest [] range.row (sym row) in
     let within : range.row < length rows = omega (arith, ap length e, length-append above (line ∷ rest), row) in
     let inside : range.end_col ≤ length (line_of rows range.row) =
-    omega (arith, ap length here, length-append before (cs ++ behind), length-append cs behind, to) in
+    omega (arith, ap length here, length-append before (cs ++ after), length-append cs after, to) in
     let count : range.end_col - range.start_col ≡ length cs = omega (arith, to, start) in (
       (within, omega (arith, start, to, some), inside),
       ap (λ (n : ℕ). take n (drop range.start_col (line_of rows range.row))) count
           ∙ ap (λ (l : List ℕ). take (length cs) (drop range.start_col l)) here
-          ∙ ap (take (length cs)) (drop_at before (cs ++ behind) range.start_col (sym start))
-          ∙ take_at cs behind (length cs) refl,
+          ∙ ap (take (length cs)) (drop_at before (cs ++ after) range.start_col (sym start))
+          ∙ take_at cs after (length cs) refl,
     )
 
-pub stands : (text front back : List Symbol) (cs : List ℕ) (range : AtomicRange) → text ≡ front ++ (characters cs ++ back) → end (0, 0) front ≡ range_start range → range.start_col + length cs ≡ range.end_col → 0 < length cs → Stands text range cs
-stands text front back cs range e starts ends some =
-    let parts = cut front in
+pub occurs : (text front back : List Symbol) (cs : List ℕ) (range : AtomicRange) → text ≡ front ++ (characters cs ++ back) → end (0, 0) front ≡ range_start range → range.start_col + length cs ≡ range.end_col → 0 < length cs → OccursInLine text range cs
+occurs text front back cs range e starts ends some =
+    let components = split_text front in
     let next = filled back in
-    let line = parts.start ++ (cs ++ next.0) in
-    let rows = parts.above ++ (line ∷ next.1) in
+    let line = components.start ++ (cs ++ next.0) in
+    let rows = components.above ++ (line ∷ next.1) in
     let last : back ≡ characters next.0 ++ following next.1 = sym (joined-lines back) ∙ ap joined next.2 in
-    let lined : characters parts.start ++ (characters cs ++ back) ≡ joined (line ∷ next.1) =
-    ap (λ t. characters parts.start ++ (characters cs ++ t)) last
-    ∙ ap (λ t. characters parts.start ++ t) (sym (append_assoc (characters cs) (characters next.0) (following next.1)))
-    ∙ ap (λ t. characters parts.start ++ (t ++ following next.1)) (sym (characters-append cs next.0))
-    ∙ sym (append_assoc (characters parts.start) (characters (cs ++ next.0)) (following next.1))
-    ∙ ap (λ t. t ++ following next.1) (sym (characters-append parts.start (cs ++ next.0))) in
+    let lined : characters components.start ++ (characters cs ++ back) ≡ joined (line ∷ next.1) =
+    ap (λ t. characters components.start ++ (characters cs ++ t)) last
+    ∙ ap (λ t. characters components.start ++ t) (sym (append_assoc (characters cs) (characters next.0) (following next.1)))
+    ∙ ap (λ t. characters components.start ++ (t ++ following next.1)) (sym (characters-append cs next.0))
+    ∙ sym (append_assoc (characters components.start) (characters (cs ++ next.0)) (following next.1))
+    ∙ ap (λ t. t ++ following next.1) (sym (characters-append components.start (cs ++ next.0))) in
     let whole : text ≡ joined rows =
-    e ∙ ap (λ t. t ++ (characters cs ++ back)) parts.is
-    ∙ append_assoc (leading parts.above) (characters parts.start) (characters cs ++ back)
-    ∙ ap (λ t. leading parts.above ++ t) lined
-    ∙ sym (joined-append parts.above (line ∷ next.1) (omega arith)) in
-    let cut_so : lines text ≡ rows = ap lines whole ∙ lines-joined rows (omega (arith, length-append parts.above (line ∷ next.1))) in
-    let at : (length parts.above, length parts.start) ≡ range_start range =
-    sym (end_of_front parts.above parts.start) ∙ ap (end (0, 0)) (sym parts.is) ∙ starts in
-    let row : range.row ≡ length parts.above = sym (ap (λ (p : Place). p.0) at) in
-    let column : range.start_col ≡ length parts.start = sym (ap (λ (p : Place). p.1) at) in
-    let found = stands_in (lines text) parts.above next.1 parts.start cs next.0 range cut_so row column (omega (arith, ends, column)) some in
-    record { part = found.0; is = found.1 }
+    e ∙ ap (λ t. t ++ (characters cs ++ back)) components.is
+    ∙ append_assoc (leading components.above) (characters components.start) (characters cs ++ back)
+    ∙ ap (λ t. leading components.above ++ t) lined
+    ∙ sym (joined-append components.above (line ∷ next.1) (omega arith)) in
+    let wrapped_so : lines text ≡ rows = ap lines whole ∙ lines-joined rows (omega (arith, length-append components.above (line ∷ next.1))) in
+    let at : (length components.above, length components.start) ≡ range_start range =
+    sym (end_of_front components.above components.start) ∙ ap (end (0, 0)) (sym components.is) ∙ starts in
+    let row : range.row ≡ length components.above = sym (ap (λ (p : Place). p.0) at) in
+    let column : range.start_col ≡ length components.start = sym (ap (λ (p : Place). p.1) at) in
+    let found = occurs_in (lines text) components.above next.1 components.start cs next.0 range wrapped_so row column (omega (arith, ends, column)) some in
+    record { in_line = found.0; is = found.1 }
 
 -- ---- the two ways in which a range is left
 
 -- it stays, or moves
 pub data Left (splice : Splice) (old new : AtomicRange) : Type 0 where
   StaysThere : IsUpTo (range_end old) splice.place → new ≡ old → Left splice old new
-  GoesOn : IsUpTo (place_before splice) (range_start old) → new ≡ shifted_range (place_before splice) (place_after splice) old → Left splice old new
+  MovesOn : IsUpTo (place_before splice) (range_start old) → new ≡ shifted_range (place_before splice) (place_after splice) old → Left splice old new
 
 up_to-test : (one other : Place) → is_up_to one other ≡ true → IsUpTo one other
 up_to-test one other e = (grind (arith, nat_tests), λ same. grind (arith, nat_tests))
@@ -109,8 +109,8 @@ left splice old new e =
     elim (cases_Bool (is_up_to (range_end old) splice.place)) [
       | inl before ↦ StaysThere (up_to-test (range_end old) splice.place before) (grind (arith, nat_tests))
       | inr not_before ↦ elim (cases_Bool (is_up_to (place_before splice) (range_start old))) [
-        | inl behind ↦ GoesOn (up_to-test (place_before splice) (range_start old) behind) (grind (arith, nat_tests))
-        | inr not_behind ↦ absurd (grind (arith, nat_tests))
+        | inl after ↦ MovesOn (up_to-test (place_before splice) (range_start old) after) (grind (arith, nat_tests))
+        | inr not_after ↦ absurd (grind (arith, nat_tests))
       ]
     ]
 
@@ -120,40 +120,40 @@ shifted_ends old new row start to h = grind (arith, nat_tests)
 
 -- ---- a range that is left covers the same characters
 
-pub covers_the_same : (text : List Symbol) (splice : Splice) (old new : AtomicRange) → Fits text splice → IsPart (lines text) old → moved_range splice old ≡ Some new → CoversTheSame text (applied text splice) old new
-covers_the_same text splice old new h part e = by_cases (left splice old new e)
+pub covers_the_same : (text : List Symbol) (splice : Splice) (old new : AtomicRange) → Fits text splice → IsRangeOfLine (lines text) old → moved_range splice old ≡ Some new → CoversTheSame text (applied text splice) old new
+covers_the_same text splice old new h in_line e = by_cases (left splice old new e)
   where
     cs : List ℕ
     cs = covered_characters (lines text) old
 
     at : Segment text old
-    at = segment text old part
+    at = segment text old in_line
 
     some : 0 < length cs
-    some = omega (arith, at.ends, part.1)
+    some = omega (arith, at.ends, in_line.1)
 
-    behind : end (0, 0) (at.front ++ characters cs) ≡ range_end old
-    behind = end-append (0, 0) at.front (characters cs) ∙ ap (λ (p : Place). end p (characters cs)) at.starts
+    after : end (0, 0) (at.front ++ characters cs) ≡ range_end old
+    after = end-append (0, 0) at.front (characters cs) ∙ ap (λ (p : Place). end p (characters cs)) at.starts
         ∙ end-characters old.row old.start_col cs ∙ ap (λ (n : ℕ). (old.row, n)) at.ends
 
-    result : Stands (applied text splice) new cs → CoversTheSame text (applied text splice) old new
-    result found = record { part = found.part; same = found.is }
+    result : OccursInLine (applied text splice) new cs → CoversTheSame text (applied text splice) old new
+    result found = record { in_line = found.in_line; same = found.is }
 
     by_cases : Left splice old new → CoversTheSame text (applied text splice) old new
     by_cases (StaysThere up same) =
-        let parts : Parted text (range_end old) = record { front = at.front ++ characters cs; back = at.back; is = at.is ∙ sym (append_assoc at.front (characters cs) at.back); ends = behind } in
-        let kept = front_stays text splice h (range_end old) parts up in
-        result (stands (applied text splice) at.front kept.back cs new (kept.is ∙ append_assoc at.front (characters cs) kept.back)
+        let components : Parted text (range_end old) = record { front = at.front ++ characters cs; back = at.back; is = at.is ∙ sym (append_assoc at.front (characters cs) at.back); ends = after } in
+        let retained = front_stays text splice h (range_end old) components up in
+        result (occurs (applied text splice) at.front retained.back cs new (retained.is ∙ append_assoc at.front (characters cs) retained.back)
         (at.starts ∙ ap range_start (sym same)) (subst (λ (r : AtomicRange). r.start_col + length cs ≡ r.end_col) (sym same) at.ends) some)
-    by_cases (GoesOn up same) =
-        let parts : Parted text (range_start old) = record { front = at.front; back = characters cs ++ at.back; is = at.is; ends = at.starts } in
-        let kept = back_stays text splice h (range_start old) parts up in
-        let goes = shifted_range (place_before splice) (place_after splice) old in
-        let ends : goes.start_col + length cs ≡ goes.end_col =
+    by_cases (MovesOn up same) =
+        let components : Parted text (range_start old) = record { front = at.front; back = characters cs ++ at.back; is = at.is; ends = at.starts } in
+        let retained = back_stays text splice h (range_start old) components up in
+        let moves_by = shifted_range (place_before splice) (place_after splice) old in
+        let ends : moves_by.start_col + length cs ≡ moves_by.end_col =
         sym (shifted_ends (place_before splice) (place_after splice) old.row old.start_col (length cs) up)
         ∙ ap (λ (n : ℕ). (shifted (place_before splice) (place_after splice) (old.row, n)).1) at.ends in
-        result (stands (applied text splice) kept.front at.back cs new kept.is
-        (kept.ends ∙ ap range_start (sym same)) (subst (λ (r : AtomicRange). r.start_col + length cs ≡ r.end_col) (sym same) ends) some)
+        result (occurs (applied text splice) retained.front at.back cs new retained.is
+        (retained.ends ∙ ap range_start (sym same)) (subst (λ (r : AtomicRange). r.start_col + length cs ≡ r.end_col) (sym same) ends) some)
 
 -- ---- which ranges are dropped
 
@@ -212,8 +212,8 @@ record BelowRow (old new : Place) (range there : AtomicRange) : Type 0 where
   pub start : there.start_col ≡ range.start_col
   pub to : there.end_col ≡ range.end_col
 
-goes_cases : (old new : Place) (range : AtomicRange) → range.start_col ≤ range.end_col → IsUpTo old (range_start range) → InRow old new range (shifted_range old new range) ⊎ BelowRow old new range (shifted_range old new range)
-goes_cases old new range ordered h =
+shift_cases : (old new : Place) (range : AtomicRange) → range.start_col ≤ range.end_col → IsUpTo old (range_start range) → InRow old new range (shifted_range old new range) ⊎ BelowRow old new range (shifted_range old new range)
+shift_cases old new range ordered h =
     elim (cases_Bool (nat_eq range.row old.0)) [
       | inl here ↦ inl (record { row_was = grind (arith, nat_tests); from = grind (arith, nat_tests); row = grind (arith, nat_tests); start = grind (arith, nat_tests); to = grind (arith, nat_tests) })
       | inr below ↦ inr (record { row_was = grind (arith, nat_tests); row = grind (arith, nat_tests); start = grind (arith, nat_tests); to = grind (arith, nat_tests) })
@@ -227,11 +227,11 @@ stays_before start old new one other there up stays (inr h) = (omega (arith, up.
 -- two ranges that move share no character, and stay in order
 go_apart : (old new : Place) (one other there away : AtomicRange) → AreDisjoint one other → InRow old new one there ⊎ BelowRow old new one there → InRow old new other away ⊎ BelowRow old new other away → AreDisjoint there away
 go_apart old new one other there away apart (inl h) (inl k) same =
-    elim (apart (omega (arith, h.row_was, k.row_was))) [ inl before ↦ inl (omega (arith, h.to, k.start, before)) | inr behind ↦ inr (omega (arith, k.to, h.start, behind)) ]
+    elim (apart (omega (arith, h.row_was, k.row_was))) [ inl before ↦ inl (omega (arith, h.to, k.start, before)) | inr after ↦ inr (omega (arith, k.to, h.start, after)) ]
 go_apart old new one other there away apart (inl h) (inr k) same = absurd (omega (arith, h.row, k.row, k.row_was, same))
 go_apart old new one other there away apart (inr h) (inl k) same = absurd (omega (arith, h.row, k.row, h.row_was, same))
 go_apart old new one other there away apart (inr h) (inr k) same =
-    elim (apart (omega (arith, h.row, k.row, same))) [ inl before ↦ inl (omega (arith, h.to, k.start, before)) | inr behind ↦ inr (omega (arith, k.to, h.start, behind)) ]
+    elim (apart (omega (arith, h.row, k.row, same))) [ inl before ↦ inl (omega (arith, h.to, k.start, before)) | inr after ↦ inr (omega (arith, k.to, h.start, after)) ]
 
 go_in_order : (old new : Place) (one other there away : AtomicRange) → IsUpTo (range_start one) (range_start other) → InRow old new one there ⊎ BelowRow old new one there → InRow old new other away ⊎ BelowRow old new other away → IsUpTo (range_start there) (range_start away)
 go_in_order old new one other there away up (inl h) (inl k) = (omega (arith, h.row, k.row), λ same. omega (arith, h.start, k.start, h.row_was, k.row_was, up.1))
@@ -242,45 +242,45 @@ go_in_order old new one other there away up (inr h) (inr k) = (omega (arith, h.r
 -- facts of two ranges are also facts of what is left of them
 module _ (splice : Splice) (one other there away : AtomicRange) (one_some : one.start_col < one.end_col) (other_some : other.start_col < other.end_col) where
   go_one : IsUpTo (place_before splice) (range_start one) → there ≡ shifted_range (place_before splice) (place_after splice) one → InRow (place_before splice) (place_after splice) one there ⊎ BelowRow (place_before splice) (place_after splice) one there
-  go_one up same = subst (λ (r : AtomicRange). InRow (place_before splice) (place_after splice) one r ⊎ BelowRow (place_before splice) (place_after splice) one r) (sym same) (goes_cases (place_before splice) (place_after splice) one (omega arith) up)
+  go_one up same = subst (λ (r : AtomicRange). InRow (place_before splice) (place_after splice) one r ⊎ BelowRow (place_before splice) (place_after splice) one r) (sym same) (shift_cases (place_before splice) (place_after splice) one (omega arith) up)
 
   go_other : IsUpTo (place_before splice) (range_start other) → away ≡ shifted_range (place_before splice) (place_after splice) other → InRow (place_before splice) (place_after splice) other away ⊎ BelowRow (place_before splice) (place_after splice) other away
-  go_other up same = subst (λ (r : AtomicRange). InRow (place_before splice) (place_after splice) other r ⊎ BelowRow (place_before splice) (place_after splice) other r) (sym same) (goes_cases (place_before splice) (place_after splice) other (omega arith) up)
+  go_other up same = subst (λ (r : AtomicRange). InRow (place_before splice) (place_after splice) other r ⊎ BelowRow (place_before splice) (place_after splice) other r) (sym same) (shift_cases (place_before splice) (place_after splice) other (omega arith) up)
 
   apart_by : Left splice one there → Left splice other away → AreDisjoint one other → AreDisjoint there away
   apart_by (StaysThere up same) (StaysThere up' same') apart = subst (λ (r : AtomicRange). AreDisjoint r away) (sym same) (subst (AreDisjoint one) (sym same') apart)
-  apart_by (StaysThere up same) (GoesOn up' same') apart =
+  apart_by (StaysThere up same) (MovesOn up' same') apart =
       let before = stays_before splice.place (place_before splice) (place_after splice) one other away (starts splice).1 up (go_other up' same') in
       subst (λ (r : AtomicRange). AreDisjoint r away) (sym same) (λ row. inl (before.1 row))
-  apart_by (GoesOn up same) (StaysThere up' same') apart =
+  apart_by (MovesOn up same) (StaysThere up' same') apart =
       let before = stays_before splice.place (place_before splice) (place_after splice) other one there (starts splice).1 up' (go_one up same) in
       subst (AreDisjoint there) (sym same') (λ row. inr (before.1 (sym row)))
-  apart_by (GoesOn up same) (GoesOn up' same') apart = go_apart (place_before splice) (place_after splice) one other there away apart (go_one up same) (go_other up' same')
+  apart_by (MovesOn up same) (MovesOn up' same') apart = go_apart (place_before splice) (place_after splice) one other there away apart (go_one up same) (go_other up' same')
 
   ordered_by : Left splice one there → Left splice other away → IsUpTo (range_start one) (range_start other) → IsUpTo (range_start there) (range_start away)
   ordered_by (StaysThere up same) (StaysThere up' same') h = subst (λ (r : AtomicRange). IsUpTo (range_start r) (range_start away)) (sym same) (subst (λ (r : AtomicRange). IsUpTo (range_start one) (range_start r)) (sym same') h)
-  ordered_by (StaysThere up same) (GoesOn up' same') h =
+  ordered_by (StaysThere up same) (MovesOn up' same') h =
       let before = stays_before splice.place (place_before splice) (place_after splice) one other away (starts splice).1 up (go_other up' same') in
       subst (λ (r : AtomicRange). IsUpTo (range_start r) (range_start away)) (sym same) (before.0, λ row. omega (arith, before.1 row))
-  ordered_by (GoesOn up same) (StaysThere up' same') h =
+  ordered_by (MovesOn up same) (StaysThere up' same') h =
       let between = (starts splice).0 in
       absurd (omega (arith, up.0, up.1, up'.0, up'.1, h.0, h.1, between.0, between.1))
-  ordered_by (GoesOn up same) (GoesOn up' same') h = go_in_order (place_before splice) (place_after splice) one other there away h (go_one up same) (go_other up' same')
+  ordered_by (MovesOn up same) (MovesOn up' same') h = go_in_order (place_before splice) (place_after splice) one other there away h (go_one up same) (go_other up' same')
 
 -- ---- ranges that are left are valid and in order
 
 pub valid_moved : (text : List Symbol) (splice : Splice) (ranges : List AtomicRange) → Fits text splice → AreValid (lines text) ranges → AreValid (lines (applied text splice)) (moved_ranges ranges splice)
 unfolding moved_ranges
 valid_moved text splice ranges h valid =
-    let Was : AtomicRange → Type 0 = IsPart (lines text) in
-    let parts : AllByRecursion Was ranges = recursion_from_All Was ranges valid.parts in
+    let Was : AtomicRange → Type 0 = IsRangeOfLine (lines text) in
+    let components : AllByRecursion Was ranges = recursion_from_All Was ranges valid.components in
     record {
-      parts = All-from_recursion (IsPart (lines (applied text splice))) (moved_ranges ranges splice)
-          (each_left Was (IsPart (lines (applied text splice))) (moved_range splice) (λ old new part e. (covers_the_same text splice old new h part e).part) ranges parts);
+      components = All-from_recursion (IsRangeOfLine (lines (applied text splice))) (moved_ranges ranges splice)
+          (each_left Was (IsRangeOfLine (lines (applied text splice))) (moved_range splice) (λ old new in_line e. (covers_the_same text splice old new h in_line e).in_line) ranges components);
       disjoint = AllPairs-later AreDisjoint (moved_ranges ranges splice)
           (later_left Was AreDisjoint AreDisjoint (moved_range splice)
           (λ one other there away p q apart e k. apart_by splice one other there away p.1 q.1 (left splice one there e) (left splice other away k) apart)
-          ranges parts (later-AllPairs AreDisjoint ranges valid.disjoint));
+          ranges components (later-AllPairs AreDisjoint ranges valid.disjoint));
     }
 
 up_to-not_before : (one other : AtomicRange) → is_range_before other one ≡ false → IsUpTo (range_start one) (range_start other)
@@ -292,9 +292,9 @@ not_before-up_to one other h = grind (arith, nat_tests)
 pub in_order_moved : (text : List Symbol) (splice : Splice) (ranges : List AtomicRange) → Fits text splice → AreValid (lines text) ranges → AreInOrder ranges → AreInOrder (moved_ranges ranges splice)
 unfolding moved_ranges
 in_order_moved text splice ranges h valid ordered =
-    let Was : AtomicRange → Type 0 = IsPart (lines text) in
+    let Was : AtomicRange → Type 0 = IsRangeOfLine (lines text) in
     let later : EachLater (NotBefore is_range_before) ranges = subst (EachLater (NotBefore is_range_before)) ordered (sorted-in_order ranges) in
     sym (in_order-sorted (moved_ranges ranges splice) (moved_ranges ranges splice)
     (later_left Was (NotBefore is_range_before) (NotBefore is_range_before) (moved_range splice)
     (λ one other there away p q up e k. not_before-up_to there away (ordered_by splice one other there away p.1 q.1 (left splice one there e) (left splice other away k) (up_to-not_before one other up)))
-    ranges (recursion_from_All Was ranges valid.parts) later) (λ z. refl))
+    ranges (recursion_from_All Was ranges valid.components) later) (λ z. refl))

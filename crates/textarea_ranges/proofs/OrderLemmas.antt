@@ -62,8 +62,8 @@ each-in_order P (range ∷ rest) all = rw (insert_among-put range (in_order rest
 pub each_from_in_order : (P : AtomicRange → Type 0) (ranges : List AtomicRange) → AllByRecursion P (in_order ranges) → AllByRecursion P ranges
 each_from_in_order P [] all = tt
 each_from_in_order P (range ∷ rest) all =
-    let parts = each_from_put P is_range_before range (in_order rest) (rw (insert_among-put range (in_order rest)) at all) in
-    (parts.0, each_from_in_order P rest parts.1)
+    let components = each_from_put P is_range_before range (in_order rest) (rw (insert_among-put range (in_order rest)) at all) in
+    (components.0, each_from_in_order P rest components.1)
 
 pub later-in_order : (R : AtomicRange → AtomicRange → Type 0) → ((x y : AtomicRange) → R x y → R y x) → (ranges : List AtomicRange) → EachLater R ranges → EachLater R (in_order ranges)
 later-in_order R flip [] later = tt
@@ -73,5 +73,5 @@ later-in_order R flip (range ∷ rest) later =
 pub later_from_in_order : (R : AtomicRange → AtomicRange → Type 0) → ((x y : AtomicRange) → R x y → R y x) → (ranges : List AtomicRange) → EachLater R (in_order ranges) → EachLater R ranges
 later_from_in_order R flip [] later = tt
 later_from_in_order R flip (range ∷ rest) later =
-    let parts = later_from_put R flip is_range_before range (in_order rest) (rw (insert_among-put range (in_order rest)) at later) in
-    (each_from_in_order (R range) rest parts.0, later_from_in_order R flip rest parts.1)
+    let components = later_from_put R flip is_range_before range (in_order rest) (rw (insert_among-put range (in_order rest)) at later) in
+    (each_from_in_order (R range) rest components.0, later_from_in_order R flip rest components.1)

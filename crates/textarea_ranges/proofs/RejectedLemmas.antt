@@ -3,7 +3,7 @@ use Rattle.std.proofs.Common.{◌≡◌, ◌≢◌, ◌↔◌, ℕ, ◌+◌, ◌
 use Rattle.std.proofs.lemmas.Bool.Decides.{nat_tests}
 use Rattle.std.proofs.lemmas.List.{append_assoc, drop_more, get_or_past, length-map}
 use Rattle.std.proofs.lemmas.List.Elements.{All-from_recursion, recursion_from_All}
-use Rattle.textarea_ranges.specs.Prelude.{Global, AllByRecursion, AtomicRange, RejectedAtomicRange, AtomicRangeRejectReason, line_of, characters_of, lines_of, AreInOrder, in_order, is_range_before, free_from, last_valid, reason, rejected_after, rejected_of, with_reason, AreAccepted, AreRejected, AreDisjoint, AreValid, IsPart}
+use Rattle.textarea_ranges.specs.Prelude.{Global, AllByRecursion, AtomicRange, RejectedAtomicRange, AtomicRangeRejectReason, line_of, characters_of, lines_of, AreInOrder, in_order, is_range_before, free_from, last_valid, reason, rejected_after, rejected_of, with_reason, AreAccepted, AreRejected, AreDisjoint, AreValid, IsRangeOfLine}
 use Rattle.textarea_ranges.proofs.Lists.{AllPairs-later, EachLater, each_both, each_weaker, later-AllPairs}
 use Rattle.textarea_ranges.proofs.Sorts.{NotBefore}
 use Rattle.textarea_ranges.proofs.OrderLemmas.{AreInOrder-in_order, each-in_order, each_from_in_order, later-in_order, later_from_in_order, sorted-in_order}
@@ -18,8 +18,8 @@ no_columns lines row past = sym (ap length (get_or_past (lines_of lines) row [] 
 
 -- the range is not rejected: it is within a line, and starts at or after the row's free column
 record Suits (rows : List (List ℕ)) (last : Option AtomicRange) (range : AtomicRange) : Type 0 where
-  part : IsPart rows range
-  behind : free_from last range.row ≤ range.start_col
+  in_line : IsRangeOfLine rows range
+  starts_after : free_from last range.row ≤ range.start_col
 
 Suits-reason : (rows : List (List ℕ)) (last : Option AtomicRange) (range : AtomicRange) → reason rows last range ≡ None → Suits rows last range
 Suits-reason rows last range h = grind (arith, nat_tests)
@@ -51,8 +51,8 @@ none_rejected-suit rows last (range ∷ rest) suit =
     ∙ none_rejected-suit rows (Some range) rest suit.1
 
 -- rows and starts of ordered ranges
-not_before_parts : (one other : AtomicRange) → NotBefore is_range_before one other → (one.row ≤ other.row) × (one.row ≡ other.row → one.start_col ≤ other.start_col)
-not_before_parts one other h = (grind (arith, nat_tests), λ same. grind (arith, nat_tests))
+not_before_bounds : (one other : AtomicRange) → NotBefore is_range_before one other → (one.row ≤ other.row) × (one.row ≡ other.row → one.start_col ≤ other.start_col)
+not_before_bounds one other h = (grind (arith, nat_tests), λ same. grind (arith, nat_tests))
 
 -- the one range ends at or before the other's start, if they are in one row
 abbrev EndsBy : AtomicRange → AtomicRange → Type 0
@@ -61,13 +61,13 @@ EndsBy one other = one.row ≡ other.row → one.end_col ≤ other.start_col
 ends_by_all : (rows : List (List ℕ)) (range : AtomicRange) (rest : List AtomicRange) → AllSuit rows (Some range) rest → EachLater (NotBefore is_range_before) (range ∷ rest) → AllByRecursion (EndsBy range) rest
 ends_by_all rows range [] suit order = tt
 ends_by_all rows range (first ∷ rest) suit order =
-    let part = suit.0.part in
-    let up = not_before_parts range first order.0.0 in
-    let here : EndsBy range first = λ same. (let free = free_from-same range first.row same in omega (arith, suit.0.behind)) in
+    let in_line = suit.0.in_line in
+    let up = not_before_bounds range first order.0.0 in
+    let here : EndsBy range first = λ same. (let free = free_from-same range first.row same in omega (arith, suit.0.starts_after)) in
     let below = ends_by_all rows first rest suit.1 order.1 in (
       here,
       each_both (EndsBy first) (NotBefore is_range_before first) (EndsBy range) (λ z ends not_before same.
-          let more = not_before_parts first z not_before in
+          let more = not_before_bounds first z not_before in
           grind (arith, nat_tests)) rest below order.1.0,
     )
 
@@ -78,37 +78,37 @@ disjoint-suit rows last (range ∷ rest) suit order = (
   disjoint-suit rows (Some range) rest suit.1 order.1,
 )
 
-parts-suit : (rows : List (List ℕ)) (last : Option AtomicRange) (ranges : List AtomicRange) → AllSuit rows last ranges → AllByRecursion (IsPart rows) ranges
-parts-suit rows last [] suit = tt
-parts-suit rows last (range ∷ rest) suit = (suit.0.part, parts-suit rows (Some range) rest suit.1)
+components-suit : (rows : List (List ℕ)) (last : Option AtomicRange) (ranges : List AtomicRange) → AllSuit rows last ranges → AllByRecursion (IsRangeOfLine rows) ranges
+components-suit rows last [] suit = tt
+components-suit rows last (range ∷ rest) suit = (suit.0.in_line, components-suit rows (Some range) rest suit.1)
 
-free_behind : (rows : List (List ℕ)) (range z : AtomicRange) → AreDisjoint range z × NotBefore is_range_before range z → IsPart rows z → free_from (Some range) z.row ≤ z.start_col
-free_behind rows range z apart part = grind (arith, nat_tests)
+free_after : (rows : List (List ℕ)) (range z : AtomicRange) → AreDisjoint range z × NotBefore is_range_before range z → IsRangeOfLine rows z → free_from (Some range) z.row ≤ z.start_col
+free_after rows range z apart in_line = grind (arith, nat_tests)
 
-suit-valid : (rows : List (List ℕ)) (last : Option AtomicRange) (ranges : List AtomicRange) → AllByRecursion (λ z. free_from last z.row ≤ z.start_col) ranges → AllByRecursion (IsPart rows) ranges → EachLater AreDisjoint ranges → EachLater (NotBefore is_range_before) ranges → AllSuit rows last ranges
-suit-valid rows last [] free parts disjoint order = tt
-suit-valid rows last (range ∷ rest) free parts disjoint order = (
-  record { part = parts.0; behind = free.0 },
+suit-valid : (rows : List (List ℕ)) (last : Option AtomicRange) (ranges : List AtomicRange) → AllByRecursion (λ z. free_from last z.row ≤ z.start_col) ranges → AllByRecursion (IsRangeOfLine rows) ranges → EachLater AreDisjoint ranges → EachLater (NotBefore is_range_before) ranges → AllSuit rows last ranges
+suit-valid rows last [] free components disjoint order = tt
+suit-valid rows last (range ∷ rest) free components disjoint order = (
+  record { in_line = components.0; starts_after = free.0 },
   suit-valid rows (Some range) rest
-      (each_both (λ z. AreDisjoint range z × NotBefore is_range_before range z) (IsPart rows) (λ z. free_from (Some range) z.row ≤ z.start_col) (free_behind rows range) rest
-      (each_both (AreDisjoint range) (NotBefore is_range_before range) (λ z. AreDisjoint range z × NotBefore is_range_before range z) (λ z p q. (p, q)) rest disjoint.0 order.0) parts.1)
-      parts.1 disjoint.1 order.1,
+      (each_both (λ z. AreDisjoint range z × NotBefore is_range_before range z) (IsRangeOfLine rows) (λ z. free_from (Some range) z.row ≤ z.start_col) (free_after rows range) rest
+      (each_both (AreDisjoint range) (NotBefore is_range_before range) (λ z. AreDisjoint range z × NotBefore is_range_before range z) (λ z p q. (p, q)) rest disjoint.0 order.0) components.1)
+      components.1 disjoint.1 order.1,
 )
 
 -- ---- a whole list
 
 AreDisjoint-flip : (one other : AtomicRange) → AreDisjoint one other → AreDisjoint other one
-AreDisjoint-flip one other h same = elim (h (sym same)) [ inl before ↦ inr before | inr behind ↦ inl behind ]
+AreDisjoint-flip one other h same = elim (h (sym same)) [ inl before ↦ inr before | inr starts_after ↦ inl starts_after ]
 
 pub valid-in_order : (rows : List (List ℕ)) (ranges : List AtomicRange) → AreValid rows ranges → AreValid rows (in_order ranges)
 valid-in_order rows ranges valid = record {
-  parts = All-from_recursion (IsPart rows) (in_order ranges) (each-in_order (IsPart rows) ranges (recursion_from_All (IsPart rows) ranges valid.parts));
+  components = All-from_recursion (IsRangeOfLine rows) (in_order ranges) (each-in_order (IsRangeOfLine rows) ranges (recursion_from_All (IsRangeOfLine rows) ranges valid.components));
   disjoint = AllPairs-later AreDisjoint (in_order ranges) (later-in_order AreDisjoint AreDisjoint-flip ranges (later-AllPairs AreDisjoint ranges valid.disjoint));
 }
 
 pub valid_from_in_order : (rows : List (List ℕ)) (ranges : List AtomicRange) → AreValid rows (in_order ranges) → AreValid rows ranges
 valid_from_in_order rows ranges valid = record {
-  parts = All-from_recursion (IsPart rows) ranges (each_from_in_order (IsPart rows) ranges (recursion_from_All (IsPart rows) (in_order ranges) valid.parts));
+  components = All-from_recursion (IsRangeOfLine rows) ranges (each_from_in_order (IsRangeOfLine rows) ranges (recursion_from_All (IsRangeOfLine rows) (in_order ranges) valid.components));
   disjoint = AllPairs-later AreDisjoint ranges (later_from_in_order AreDisjoint AreDisjoint-flip ranges (later-AllPairs AreDisjoint (in_order ranges) valid.disjoint));
 }
 
@@ -116,32 +116,32 @@ pub valid-none_rejected : (rows : List (List ℕ)) (ranges : List AtomicRange) �
 valid-none_rejected rows ranges h =
     let suit = suit-none_rejected rows None (in_order ranges) h in
     record {
-      parts = All-from_recursion (IsPart rows) (in_order ranges) (parts-suit rows None (in_order ranges) suit);
+      components = All-from_recursion (IsRangeOfLine rows) (in_order ranges) (components-suit rows None (in_order ranges) suit);
       disjoint = AllPairs-later AreDisjoint (in_order ranges) (disjoint-suit rows None (in_order ranges) suit (sorted-in_order ranges));
     }
 
 none_rejected-valid : (rows : List (List ℕ)) (ranges : List AtomicRange) → AreValid rows (in_order ranges) → rejected_of rows (in_order ranges) ≡ []
 none_rejected-valid rows ranges valid =
     none_rejected-suit rows None (in_order ranges)
-    (suit-valid rows None (in_order ranges) (each_weaker (IsPart rows) (λ z. 0 ≤ z.start_col) (λ z part. zero-le) (in_order ranges) parts) parts (later-AllPairs AreDisjoint (in_order ranges) valid.disjoint) (sorted-in_order ranges))
+    (suit-valid rows None (in_order ranges) (each_weaker (IsRangeOfLine rows) (λ z. 0 ≤ z.start_col) (λ z in_line. zero-le) (in_order ranges) components) components (later-AllPairs AreDisjoint (in_order ranges) valid.disjoint) (sorted-in_order ranges))
   where
-    parts : AllByRecursion (IsPart rows) (in_order ranges)
-    parts = recursion_from_All (IsPart rows) (in_order ranges) valid.parts
+    components : AllByRecursion (IsRangeOfLine rows) (in_order ranges)
+    components = recursion_from_All (IsRangeOfLine rows) (in_order ranges) valid.components
 
 pub accepted_if_valid : (rows : List (List ℕ)) (ranges : List AtomicRange) → (rejected_of rows (in_order ranges) ≡ []) ↔ AreValid rows ranges
 accepted_if_valid rows ranges = (λ h. valid_from_in_order rows ranges (valid-none_rejected rows ranges h), λ valid. none_rejected-valid rows ranges (valid-in_order rows ranges valid))
 
 -- ---- the two results of `validate`
 
-pub AreAccepted-in_order : (rows : List (List ℕ)) (given held : List AtomicRange) (rejected : List RejectedAtomicRange) → held ≡ in_order given → rejected ≡ rejected_of rows held → rejected ≡ [] → AreAccepted rows given held
-AreAccepted-in_order rows given held rejected order listed none =
-    let nothing : rejected_of rows held ≡ [] = sym listed ∙ none in
-    record { order = order; sorted = subst AreInOrder (sym order) (AreInOrder-in_order given); valid = subst (AreValid rows) (sym order) (valid-none_rejected rows given (ap (rejected_of rows) (sym order) ∙ nothing)); none = nothing }
+pub AreAccepted-in_order : (rows : List (List ℕ)) (supplied stored : List AtomicRange) (rejected : List RejectedAtomicRange) → stored ≡ in_order supplied → rejected ≡ rejected_of rows stored → rejected ≡ [] → AreAccepted rows supplied stored
+AreAccepted-in_order rows supplied stored rejected order listed none =
+    let nothing : rejected_of rows stored ≡ [] = sym listed ∙ none in
+    record { order = order; sorted = subst AreInOrder (sym order) (AreInOrder-in_order supplied); valid = subst (AreValid rows) (sym order) (valid-none_rejected rows supplied (ap (rejected_of rows) (sym order) ∙ nothing)); none = nothing }
 
-pub AreRejected-in_order : (rows : List (List ℕ)) (given held : List AtomicRange) (rejected : List RejectedAtomicRange) → held ≡ in_order given → rejected ≡ rejected_of rows held → rejected ≢ [] → AreRejected rows given rejected
-AreRejected-in_order rows given held rejected order listed some =
-    let all : rejected ≡ rejected_of rows (in_order given) = listed ∙ ap (rejected_of rows) order in
-    record { listed = all; some = some; invalid = λ valid. some (all ∙ (accepted_if_valid rows given).1 valid) }
+pub AreRejected-in_order : (rows : List (List ℕ)) (supplied stored : List AtomicRange) (rejected : List RejectedAtomicRange) → stored ≡ in_order supplied → rejected ≡ rejected_of rows stored → rejected ≢ [] → AreRejected rows supplied rejected
+AreRejected-in_order rows supplied stored rejected order listed some =
+    let all : rejected ≡ rejected_of rows (in_order supplied) = listed ∙ ap (rejected_of rows) order in
+    record { listed = all; some = some; invalid = λ valid. some (all ∙ (accepted_if_valid rows supplied).1 valid) }
 
 -- the rejected ranges up to a range and those of the rest are all, also with this range judged
 pub listed_on : (rows : List (List ℕ)) (ranges : List AtomicRange) (index : ℕ) (none : AtomicRange) (last after : Option AtomicRange) (items new all : List RejectedAtomicRange) → index < length ranges → items ++ rejected_after rows last (drop index ranges) ≡ all → new ≡ items ++ with_reason (get_or ranges index none) (reason rows last (get_or ranges index none)) → after ≡ last_valid last (get_or ranges index none) (reason rows last (get_or ranges index none)) → new ++ rejected_after rows after (drop (index + 1) ranges) ≡ all

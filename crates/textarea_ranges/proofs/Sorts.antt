@@ -7,7 +7,7 @@ use Rattle.std.proofs.lemmas.List.Sorted.{sorted_far}
 use Rattle.std.specs.List.{AllByRecursion}
 use Rattle.std.specs.Cmp.{IsStrictWeakOrder}
 use Rattle.std.specs.List.Sorted.{IsSortedBy, IsStableBy, ties}
-use Rattle.textarea_ranges.proofs.Lists.{EachLater, filter-kept, first_kept}
+use Rattle.textarea_ranges.proofs.Lists.{EachLater, filter-retained, first_retained}
 
 -- the second element does not come before the first
 abbrev pub NotBefore : {X : Type 0} → (X → X → Bool) → X → X → Type 0
@@ -41,7 +41,7 @@ ties_itself lt o x = ties_from lt x x (not_before_itself lt o x) (not_before_its
 -- the first of a sorted list does not come before the first of the other
 first_not_before : {X : Type 0} (lt : X → X → Bool) → IsStrictWeakOrder lt → (x y : X) (xs ys : List X) → EachLater (NotBefore lt) (y ∷ ys) → filter (ties lt x) (y ∷ ys) ≡ filter (ties lt x) (x ∷ xs) → lt x y ≡ false
 first_not_before lt o x y xs ys later e =
-    first_kept (NotBefore lt y) (ties lt x) (y ∷ ys) x (filter (ties lt x) xs) (not_before_itself lt o y, later.0) (e ∙ filter-kept (ties lt x) x xs (ties_itself lt o x))
+    first_retained (NotBefore lt y) (ties lt x) (y ∷ ys) x (filter (ties lt x) xs) (not_before_itself lt o y, later.0) (e ∙ filter-retained (ties lt x) x xs (ties_itself lt o x))
 
 filter-tails : {X : Type 0} (test : X → Bool) (x y : X) (xs ys : List X) → x ≡ y → filter test (y ∷ ys) ≡ filter test (x ∷ xs) → filter test ys ≡ filter test xs
 filter-tails test x y xs ys same e = grind (arith, nat_tests)
@@ -50,16 +50,16 @@ filter-tails test x y xs ys same e = grind (arith, nat_tests)
 pub same_sorted : {X : Type 0} (lt : X → X → Bool) → IsStrictWeakOrder lt → (xs ys : List X) → EachLater (NotBefore lt) xs → EachLater (NotBefore lt) ys → IsStableBy lt xs ys → xs ≡ ys
 same_sorted lt o [] [] p q stable = refl
 same_sorted lt o [] (y ∷ ys) p q stable =
-    let some : y ∷ filter (ties lt y) ys ≡ [] = sym (filter-kept (ties lt y) y ys (ties_itself lt o y)) ∙ stable y in
+    let some : y ∷ filter (ties lt y) ys ≡ [] = sym (filter-retained (ties lt y) y ys (ties_itself lt o y)) ∙ stable y in
     absurd cc
 same_sorted lt o (x ∷ xs) [] p q stable =
-    let some : x ∷ filter (ties lt x) xs ≡ [] = sym (filter-kept (ties lt x) x xs (ties_itself lt o x)) ∙ sym (stable x) in
+    let some : x ∷ filter (ties lt x) xs ≡ [] = sym (filter-retained (ties lt x) x xs (ties_itself lt o x)) ∙ sym (stable x) in
     absurd cc
 same_sorted {X} lt o (x ∷ xs) (y ∷ ys) p q stable =
     let one : lt x y ≡ false = first_not_before lt o x y xs ys q (stable x) in
     let other : lt y x ≡ false = first_not_before lt o y x ys xs p (sym (stable y)) in
     let both : y ∷ filter (ties lt x) ys ≡ x ∷ filter (ties lt x) xs =
-    sym (filter-kept (ties lt x) y ys (ties_from lt x y one other)) ∙ stable x ∙ filter-kept (ties lt x) x xs (ties_itself lt o x) in
+    sym (filter-retained (ties lt x) y ys (ties_from lt x y one other)) ∙ stable x ∙ filter-retained (ties lt x) x xs (ties_itself lt o x) in
     let first : x ≡ y = cc in
     let rest : xs ≡ ys = same_sorted lt o xs ys p.1 q.1 (λ z. filter-tails (ties lt z) x y xs ys first (stable z)) in
     cc
@@ -88,16 +88,16 @@ pub stable_put : {X : Type 0} (lt : X → X → Bool) → IsStrictWeakOrder lt �
 stable_put lt o x [] z = refl
 stable_put {X} lt o x (y ∷ ys) z = grind (arith, nat_tests, stable_put lt o x ys z, no_third lt o x y z)
 
-behind_first : {X : Type 0} (lt : X → X → Bool) → IsStrictWeakOrder lt → (x y : X) (ys : List X) → lt y x ≡ false → AllByRecursion (NotBefore lt y) ys → AllByRecursion (NotBefore lt x) ys
-behind_first lt o x y [] h all = tt
-behind_first lt o x y (z ∷ zs) h all = (o.chain z y x all.0 h, behind_first lt o x y zs h all.1)
+after_first : {X : Type 0} (lt : X → X → Bool) → IsStrictWeakOrder lt → (x y : X) (ys : List X) → lt y x ≡ false → AllByRecursion (NotBefore lt y) ys → AllByRecursion (NotBefore lt x) ys
+after_first lt o x y [] h all = tt
+after_first lt o x y (z ∷ zs) h all = (o.chain z y x all.0 h, after_first lt o x y zs h all.1)
 
 pub sorted_put : {X : Type 0} (lt : X → X → Bool) → IsStrictWeakOrder lt → (x : X) (ys : List X) → EachLater (NotBefore lt) ys → EachLater (NotBefore lt) (put lt x ys)
 sorted_put lt o x [] later = (tt, tt)
 sorted_put {X} lt o x (y ∷ ys) later =
     elim (cases_Bool (lt y x)) [
       | inl past ↦ rw past (each_put (NotBefore lt y) lt x ys (o.one_way y x past) later.0, sorted_put lt o x ys later.1)
-      | inr here ↦ rw here ((here, behind_first lt o x y ys here later.0), later)
+      | inr here ↦ rw here ((here, after_first lt o x y ys here later.0), later)
     ]
 
 -- ---- a relation of each two, which doesn't depend on the order
@@ -115,9 +115,9 @@ each_from_put P lt x [] all = all
 each_from_put {X} P lt x (y ∷ ys) all =
     elim (cases_Bool (lt y x)) [
       | inl past ↦
-          let parts : AllByRecursion P (y ∷ put lt x ys) = rw past at all in
-          let rest = each_from_put P lt x ys parts.1 in
-          (rest.0, (parts.0, rest.1))
+          let components : AllByRecursion P (y ∷ put lt x ys) = rw past at all in
+          let rest = each_from_put P lt x ys components.1 in
+          (rest.0, (components.0, rest.1))
       | inr here ↦ rw here at all
     ]
 
@@ -126,9 +126,9 @@ later_from_put R flip lt x [] later = later
 later_from_put {X} R flip lt x (y ∷ ys) later =
     elim (cases_Bool (lt y x)) [
       | inl past ↦
-          let parts : EachLater R (y ∷ put lt x ys) = rw past at later in
-          let first = each_from_put (R y) lt x ys parts.0 in
-          let rest = later_from_put R flip lt x ys parts.1 in
+          let components : EachLater R (y ∷ put lt x ys) = rw past at later in
+          let first = each_from_put (R y) lt x ys components.0 in
+          let rest = later_from_put R flip lt x ys components.1 in
           ((flip y x first.0, rest.0), (first.1, rest.1))
       | inr here ↦ rw here at later
     ]

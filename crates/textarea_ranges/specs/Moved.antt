@@ -7,7 +7,7 @@ use Rattle.textarea_text.specs.Splice.{Splice, place_after, place_before}
 use Rattle.textarea_text.specs.PlacesAfterSplice.{is_up_to, shifted}
 use Rattle.textarea_data.specs.declared.range.AtomicRange.{AtomicRange}
 use Rattle.textarea_ranges.specs.Lookup.{IsInside, Overlaps, range_end, range_start}
-use Rattle.textarea_ranges.specs.Valid.{IsPart}
+use Rattle.textarea_ranges.specs.Valid.{IsRangeOfLine}
 
 -- the range, with both ends moved with the text after the old position to the new one
 abbrev pub shifted_range : Place → Place → AtomicRange → AtomicRange
@@ -48,7 +48,7 @@ covered_characters rows range =
 
 -- the new range is within a line of the new text, and covers the characters of the old one
 pub record CoversTheSame (text new_text : List Symbol) (old new : AtomicRange) : Type 0 where
-  pub part : IsPart (lines new_text) new
+  pub in_line : IsRangeOfLine (lines new_text) new
   pub same : covered_characters (lines new_text) new ≡ covered_characters (lines text) old
 
 -- a splice between two positions disturbs a range: it inserts strictly inside, or removes some of

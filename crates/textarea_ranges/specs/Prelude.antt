@@ -18,4 +18,4 @@ pub use Rattle.textarea_ranges.specs.Moved.{CoversTheSame, Disturbs, DisturbsBy,
 unfoldable pub use Rattle.textarea_ranges.specs.Moved.{moved_ranges}
 pub use Rattle.textarea_ranges.specs.Order.{AreInOrder, IsInOrder, in_order, insert_among, is_range_before}
 pub use Rattle.textarea_ranges.specs.Rejected.{AreAccepted, AreRejected, free_from, last_valid, reason, rejected_after, rejected_of, with_reason}
-pub use Rattle.textarea_ranges.specs.Valid.{AreDisjoint, AreValid, IsPart}
+pub use Rattle.textarea_ranges.specs.Valid.{AreDisjoint, AreValid, IsRangeOfLine}

@@ -50,15 +50,15 @@ abbrev pub rejected_of : List (List ℕ) → List AtomicRange → List RejectedA
 rejected_of rows ranges = rejected_after rows None ranges
 
 -- the ranges are accepted: they are stored in order, they are valid, and none is rejected
-pub record AreAccepted (rows : List (List ℕ)) (given held : List AtomicRange) : Type 0 where
-  pub order : held ≡ in_order given
-  pub sorted : AreInOrder held
-  pub valid : AreValid rows held
-  pub none : rejected_of rows held ≡ []
+pub record AreAccepted (rows : List (List ℕ)) (supplied stored : List AtomicRange) : Type 0 where
+  pub order : stored ≡ in_order supplied
+  pub sorted : AreInOrder stored
+  pub valid : AreValid rows stored
+  pub none : rejected_of rows stored ≡ []
 
 -- the ranges are rejected: all that have a reason are listed, at least one, and they are not valid
-pub record AreRejected (rows : List (List ℕ)) (given : List AtomicRange)
+pub record AreRejected (rows : List (List ℕ)) (supplied : List AtomicRange)
     (rejected : List RejectedAtomicRange) : Type 0 where
-  pub listed : rejected ≡ rejected_of rows (in_order given)
+  pub listed : rejected ≡ rejected_of rows (in_order supplied)
   pub some : rejected ≢ []
-  pub invalid : ¬ AreValid rows given
+  pub invalid : ¬ AreValid rows supplied

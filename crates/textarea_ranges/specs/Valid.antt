@@ -5,8 +5,8 @@ use Rattle.textarea_data.specs.declared.range.AtomicRange.{AtomicRange}
 
 -- the range is within a line, with at least one character: its row exists, it starts before its
 -- end, and ends at or before its line's end
-abbrev pub IsPart : List (List ℕ) → AtomicRange → Type 0
-IsPart rows range =
+abbrev pub IsRangeOfLine : List (List ℕ) → AtomicRange → Type 0
+IsRangeOfLine rows range =
     (range.row < length rows) × (range.start_col < range.end_col)
     × (range.end_col ≤ length (line_of rows range.row))
 
@@ -17,5 +17,5 @@ AreDisjoint one other =
 
 -- each range of the list is within a line, and no two of them share a character
 pub record AreValid (rows : List (List ℕ)) (ranges : List AtomicRange) : Type 0 where
-  pub parts : All (IsPart rows) ranges
+  pub components : All (IsRangeOfLine rows) ranges
   pub disjoint : AllPairs AreDisjoint ranges

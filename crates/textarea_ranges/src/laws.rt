@@ -1,6 +1,6 @@
 //! Laws of ranges, each stated as the contract of a function without a body.
 ghost use Rattle.std.specs.Prelude.{◌≡◌, ◌↔◌, ℕ, List, [], All, Contains, MatchOption, None, Some};
-ghost use Rattle.textarea_ranges.specs.Prelude.{Symbol, lines, Place, Fits, Splice, applied, AtomicDeleteDirection, AtomicRange, IsRangeAtPlace, IsInside, range_at_place, range_around, CoversTheSame, Disturbs, moved_range, moved_ranges, AreInOrder, IsInOrder, in_order, rejected_of, AreValid, IsPart};
+ghost use Rattle.textarea_ranges.specs.Prelude.{Symbol, lines, Place, Fits, Splice, applied, AtomicDeleteDirection, AtomicRange, IsRangeAtPlace, IsInside, range_at_place, range_around, CoversTheSame, Disturbs, moved_range, moved_ranges, AreInOrder, IsInOrder, in_order, rejected_of, AreValid, IsRangeOfLine};
 
 /// Ordered ranges are the same ranges by row and start, and those with the same start keep their
 /// order. No other list is so. Ordering them again changes nothing.
@@ -24,7 +24,7 @@ pub fn only_one_is_found()
         (range : AtomicRange)
         → AreValid rows ranges → Contains ranges range
         → IsInside place range → range_around ranges place ≡ Some range }
-    ensures hit { (rows : List (List ℕ)) (ranges : List AtomicRange) (place : Place)
+    ensures at_place { (rows : List (List ℕ)) (ranges : List AtomicRange) (place : Place)
         (direction : AtomicDeleteDirection) (range : AtomicRange)
         → AreValid rows ranges → Contains ranges range
         → IsRangeAtPlace place direction range → range_at_place ranges place direction ≡ Some
@@ -38,7 +38,8 @@ pub fn found_exactly_if_there()
         (range_around ranges place)
         (All (λ range. ¬ IsInside place range) ranges)
         (λ range. Contains ranges range × IsInside place range) }
-    ensures hit { (ranges : List AtomicRange) (place : Place) (direction : AtomicDeleteDirection)
+    ensures at_place { (ranges : List AtomicRange) (place : Place)
+        (direction : AtomicDeleteDirection)
         → MatchOption (range_at_place ranges place direction)
         (All (λ range. ¬ IsRangeAtPlace place direction range) ranges)
         (λ range. Contains ranges range × IsRangeAtPlace place direction range) }
@@ -50,7 +51,7 @@ pub fn found_exactly_if_there()
 /// new text, and ordered ranges stay ordered.
 pub fn ranges_follow_the_text()
     ensures covers { (text : List Symbol) (splice : Splice) (old new : AtomicRange)
-        → Fits text splice → IsPart (lines text) old → moved_range splice old ≡ Some new
+        → Fits text splice → IsRangeOfLine (lines text) old → moved_range splice old ≡ Some new
         → CoversTheSame text (applied text splice) old new }
     ensures dropped { (splice : Splice) (range : AtomicRange)
         → ((moved_range splice range ≡ None) ↔ Disturbs splice range) }

@@ -18,8 +18,8 @@ pub fn move_ranges(
     requires small { (new.0 ≤ size_limit) × (new.1 ≤ size_limit) }
     ensures { ranges.new.items ≡ filter_map (moved_by start old new) ranges.old.items }
 {
-    let kept = close_up(ranges.as_mut_slice(), start, old, new);
-    ranges.truncate(kept);
+    let retained = close_up(ranges.as_mut_slice(), start, old, new);
+    ranges.truncate(retained);
 }
 
 // Moves the ranges, puts those that are left at the front, and returns their number.
@@ -32,16 +32,16 @@ fn close_up(
     requires movable { All IsMovable ranges.old }
     requires small { (new.0 ≤ size_limit) × (new.1 ≤ size_limit) }
     ensures within { result ≤ length ranges.old }
-    ensures kept { take result ranges.new ≡ filter_map (moved_by start old new) ranges.old }
+    ensures retained { take result ranges.new ≡ filter_map (moved_by start old new) ranges.old }
 {
-    let mut kept = 0;
+    let mut retained = 0;
     for index in 0..ranges.len() {
         if let Some(range) = moved(ranges[index], start, old, new) {
-            ranges[kept] = range;
-            kept += 1;
+            ranges[retained] = range;
+            retained += 1;
         }
     }
-    kept
+    retained
 }
 
 // The moved range; none if it is dropped.
@@ -56,8 +56,8 @@ fn moved(
     ensures { result ≡ moved_by start old new range }
 {
     let first = (range.row, range.start_col);
-    let behind = (range.row, range.end_col);
-    if is_up_to(behind, start) {
+    let after = (range.row, range.end_col);
+    if is_up_to(after, start) {
         return Some(range);
     }
     if !is_up_to(old, first) {
@@ -67,6 +67,6 @@ fn moved(
     Some(AtomicRange {
         row: place.0,
         start_col: place.1,
-        end_col: shift(behind, old, new).1,
+        end_col: shift(after, old, new).1,
     })
 }

@@ -19,7 +19,7 @@ pub fn validate(
     lines: &[String],
 ) -> Result<Result<Vec<AtomicRange>, AtomicRangeError>, AllocError>
     ensures { IfOk result (λ outcome. MatchResult outcome
-        (λ held. AreAccepted (lines_of lines.now) ranges.items held.items)
+        (λ stored. AreAccepted (lines_of lines.now) ranges.items stored.items)
         (λ error. AreRejected (lines_of lines.now) ranges.items error.rejected.items)) }
 {
     let ordered = in_order(ranges)?;

@@ -7,7 +7,7 @@ use Rattle.textarea_search.specs.declared.error.SearchError.{SearchError}
 use Rattle.textarea_search.specs.declared.error.SearchError.TheVariants.{Memory, Pattern}
 use Rattle.tui_textarea.specs.State.{State}
 use Rattle.tui_textarea.specs.Calls.{with_ranges_if}
-use Rattle.tui_textarea.specs.Outcomes.{IsPatternAnswer}
+use Rattle.tui_textarea.specs.Outcomes.{IsPatternCallResult}
 use Rattle.tui_textarea.specs.Patterns.{IsPatternResult}
 use Rattle.tui_textarea.specs.CallResults.{call_result}
 use Rattle.textarea_calls.specs.declared.answer.Answer.{Answer}
@@ -18,22 +18,22 @@ with_rejected [] state ranges some = absurd (some refl)
 with_rejected (range ∷ rejected) state ranges some = refl
 
 -- the result of setting a pattern is one that the call may return
-pub pattern_told : {T E : Type 0} (state : State) (text : List ℕ) (outcome : Result T SearchError) (told : Result Answer E)
-    → IsPatternResult outcome told → (text ≡ [] → IsOk outcome) → (state.pattern ≡ Some text → IsOk outcome)
+pub pattern_result_is : {T E : Type 0} (state : State) (text : List ℕ) (outcome : Result T SearchError) (result_is : Result Answer E)
+    → IsPatternResult outcome result_is → (text ≡ [] → IsOk outcome) → (state.pattern ≡ Some text → IsOk outcome)
     → IfErr outcome (IsPatternFailure text) → IfErr outcome (IsErrorFor text)
-    → IfOk told (λ answer. IsPatternAnswer state text (call_result answer))
-pattern_told state text outcome (Err error) is empty present refused carried = tt
-pattern_told state text (Ok set) (Ok answer) is empty present refused carried =
-    subst (IsPatternAnswer state text) (sym is.1) refl
-pattern_told state text (Err (Memory error)) (Ok answer) is empty present refused carried =
+    → IfOk result_is (λ answer. IsPatternCallResult state text (call_result answer))
+pattern_result_is state text outcome (Err error) is empty present ran_out carried = tt
+pattern_result_is state text (Ok set) (Ok answer) is empty present ran_out carried =
+    subst (IsPatternCallResult state text) (sym is.1) refl
+pattern_result_is state text (Err (Memory error)) (Ok answer) is empty present ran_out carried =
     let never : false ≡ true = is in cc
-pattern_told state text (Err (Pattern error)) (Ok answer) is empty present refused carried =
-    subst (IsPatternAnswer state text) (sym is.1) (record {
+pattern_result_is state text (Err (Pattern error)) (Ok answer) is empty present ran_out carried =
+    subst (IsPatternCallResult state text) (sym is.1) (record {
       is_new = record {
         some = λ none. let never : false ≡ true = empty none in cc;
         other = λ same. let never : false ≡ true = present same in cc;
       };
       error = error;
-      because = refused;
+      because = ran_out;
       carried = carried;
     })

@@ -2,7 +2,7 @@
 ghost use Rattle.std.specs.Prelude.{◌≡◌, OnErr, OnOk, IfOk};
 ghost use Rattle.textarea_calls.specs.CallGroups.{call_of_attempt, call_of_write};
 ghost use Rattle.textarea_calls.specs.Possible.{CanBeMade};
-ghost use Rattle.tui_textarea.specs.Outcomes.{IsAnswer, IsAfterCall, IsBufferAfter, IsBufferOutOfMemory, RanOutOfMemory};
+ghost use Rattle.tui_textarea.specs.Outcomes.{IsResultOf, IsAfterCall, IsBufferAfter, IsBufferOutOfMemory, RanOutOfMemory};
 ghost use Rattle.tui_textarea.specs.CallResults.{call_result, Done, Flag};
 
 use crate::questions::ask;
@@ -23,12 +23,12 @@ pub fn perform(
     buffer: &mut Buffer,
 ) -> Result<Answer, AllocError>
     requires { CanBeMade call }
-    ensures answer { IfOk result (λ answer. IsAnswer area.old call.entry (call_result answer)) }
+    ensures answer { IfOk result (λ answer. IsResultOf area.old call.entry (call_result answer)) }
     ensures ok { IfOk result
         (λ answer. IsAfterCall area.old call.entry (call_result answer) area.new) }
     ensures err { OnErr result (RanOutOfMemory area.old call.entry area.new) }
-    ensures shown { OnOk result (IsBufferAfter call.entry area.new buffer.old buffer.new) }
-    ensures spared { OnErr result (IsBufferOutOfMemory call.entry buffer.old buffer.new) }
+    ensures displayed { OnOk result (IsBufferAfter call.entry area.new buffer.old buffer.new) }
+    ensures buffer_left { OnErr result (IsBufferOutOfMemory call.entry buffer.old buffer.new) }
 {
     match kind_of(call) {
         Kind::Edit(edit) => area.edit(edit).map(Answer::Flag),
@@ -51,7 +51,7 @@ pub fn perform(
 
 /// Inserts a character or a line break, or copies the selection.
 pub fn write(area: &mut TextArea<'_>, call: Write) -> Result<(), AllocError>
-    ensures answer { OnOk result (IsAnswer area.old (call_of_write call) Done) }
+    ensures answer { OnOk result (IsResultOf area.old (call_of_write call) Done) }
     ensures ok { OnOk result (IsAfterCall area.old (call_of_write call) Done area.new) }
     ensures err { OnErr result (RanOutOfMemory area.old (call_of_write call) area.new) }
 {
@@ -65,7 +65,7 @@ pub fn write(area: &mut TextArea<'_>, call: Write) -> Result<(), AllocError>
 // Makes another call that returns whether there was something to do.
 fn attempt(area: &mut TextArea<'_>, call: Attempt<'_>) -> Result<bool, AllocError>
     ensures answer { IfOk result
-        (λ done. IsAnswer area.old (call_of_attempt call.entry) (Flag done)) }
+        (λ done. IsResultOf area.old (call_of_attempt call.entry) (Flag done)) }
     ensures ok { IfOk result
         (λ done. IsAfterCall area.old (call_of_attempt call.entry) (Flag done) area.new) }
     ensures err { OnErr result (RanOutOfMemory area.old (call_of_attempt call.entry) area.new) }

@@ -23,7 +23,7 @@ pub struct Screen<'a> {
 
 impl fmt::Display for Report<'_, '_> {
     fn fmt<W: fmt::Write>(&self, f: &mut fmt::Formatter<W>) -> fmt::Result {
-        write_answers(f, self.answers)?;
+        write_results(f, self.answers)?;
         write_lines(f, self.area.lines())?;
         write_cursor(f, self.area.cursor())?;
         write_selection(f, self.area.selection_range())?;
@@ -34,7 +34,7 @@ impl fmt::Display for Report<'_, '_> {
     }
 }
 
-fn write_answers<W: fmt::Write>(f: &mut fmt::Formatter<W>, answers: &[Answer]) -> fmt::Result {
+fn write_results<W: fmt::Write>(f: &mut fmt::Formatter<W>, answers: &[Answer]) -> fmt::Result {
     for (index, answer) in answers.iter().enumerate() {
         writeln!(f, "{} {answer}", index + 1)?;
     }

@@ -1,7 +1,7 @@
 // Calls that return the cursor's position or a setting.
 ghost use Rattle.std.specs.Prelude.{◌≡◌};
 ghost use Rattle.textarea_calls.specs.CallGroups.{call_of_question};
-ghost use Rattle.tui_textarea.specs.Outcomes.{IsAnswer, IsAfterCall};
+ghost use Rattle.tui_textarea.specs.Outcomes.{IsResultOf, IsAfterCall};
 ghost use Rattle.tui_textarea.specs.CallResults.{call_result};
 
 use textarea_calls::Answer;
@@ -10,7 +10,7 @@ use tui_textarea::TextArea;
 
 // Returns the cursor's position or a setting.
 pub fn ask(area: &TextArea<'_>, call: Question) -> Answer
-    ensures answer { IsAnswer area.now (call_of_question call) (call_result result) }
+    ensures answer { IsResultOf area.now (call_of_question call) (call_result result) }
     ensures ok { IsAfterCall area.now (call_of_question call) (call_result result) area.now }
 {
     match call {
@@ -24,8 +24,8 @@ pub fn ask(area: &TextArea<'_>, call: Question) -> Answer
         Question::MaxHistories => Answer::Number(area.max_histories()),
         Question::UndoCoalescing => Answer::Flag(area.undo_coalescing()),
         Question::WrapMode => Answer::WrapMode(area.wrap_mode()),
-        Question::LineNumberStyle => Answer::StyleIfShown(area.line_number_style()),
-        Question::PlaceholderStyle => Answer::StyleIfShown(area.placeholder_style()),
+        Question::LineNumberStyle => Answer::StyleIfVisible(area.line_number_style()),
+        Question::PlaceholderStyle => Answer::StyleIfVisible(area.placeholder_style()),
         Question::MinRows => Answer::Number(area.min_rows() as usize),
         Question::MaxRows => Answer::Number(area.max_rows() as usize),
         Question::Style => Answer::Style(area.style()),

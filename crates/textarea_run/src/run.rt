@@ -99,14 +99,14 @@ fn make(area: &mut TextArea<'_>, call: Call<'_>, buffer: &mut Buffer) -> Result<
     requires { CanBeMade call }
     ensures made { IfOk result (λ answer.
         CallLeads area.old buffer.old call.entry (call_result answer) area.new buffer.new) }
-    ensures goes { IfOk result (λ answer.
+    ensures ranges_follow { IfOk result (λ answer.
         RangesFollowCall area.old call.entry (call_result answer) area.new) }
     ensures err { OnErr result (RanOutOfMemory area.old call.entry area.new) }
-    ensures spared { OnErr result (IsBufferOutOfMemory call.entry buffer.old buffer.new) }
+    ensures buffer_left { OnErr result (IsBufferOutOfMemory call.entry buffer.old buffer.new) }
     ensures left { OnErr result (OfSplicesOutOfMemory area.old (λ splices.
         RangesStayWhole area.old.document splices area.new.document)) }
     ensures before { IsSound area.old.document }
-    ensures behind { IsSound area.new.document }
+    ensures after { IsSound area.new.document }
 {
     is_sound(area);
     let outcome = perform(area, call, buffer);

@@ -6,7 +6,7 @@ ghost use Rattle.textarea_screen.specs.Block.{block_view};
 ghost use Rattle.textarea_screen.specs.Text.{text_view};
 ghost use Rattle.tui_textarea.specs.Calls.{with_lines};
 ghost use Rattle.tui_textarea.specs.Measure.{with_surround};
-ghost use Rattle.tui_textarea.specs.Outcomes.{IsAnswer, IsAfterCall, RanOutOfMemory};
+ghost use Rattle.tui_textarea.specs.Outcomes.{IsResultOf, IsAfterCall, RanOutOfMemory};
 ghost use Rattle.tui_textarea.specs.CallResults.{Done};
 
 use crate::memory::allocator;
@@ -19,7 +19,7 @@ use tui_textarea::TextArea;
 /// Sets a text or a setting. Memory can run out.
 pub(crate) fn change(area: &mut TextArea<'_>, call: Change<'_>) -> Result<(), AllocError>
     requires { CanBeMade (call_of_change call) }
-    ensures answer { OnOk result (IsAnswer area.old (call_of_change call.entry) Done) }
+    ensures answer { OnOk result (IsResultOf area.old (call_of_change call.entry) Done) }
     ensures ok { OnOk result (IsAfterCall area.old (call_of_change call.entry) Done area.new) }
     ensures err { OnErr result (RanOutOfMemory area.old (call_of_change call.entry) area.new) }
 {
@@ -80,7 +80,7 @@ fn set_styled_placeholder(area: &mut TextArea<'_>, text: &Text<'static>) -> Resu
 
 /// Moves, scrolls, selects, clears the atomic ranges, or sets an option of tabs or of the history.
 pub fn set(area: &mut TextArea<'_>, call: Setting)
-    ensures answer { IsAnswer area.old (call_of_setting call) Done }
+    ensures answer { IsResultOf area.old (call_of_setting call) Done }
     ensures ok { IsAfterCall area.old (call_of_setting call) Done area.new }
 {
     match call {
@@ -99,7 +99,7 @@ pub fn set(area: &mut TextArea<'_>, call: Setting)
 
 /// Sets how the text and its surroundings look.
 pub(crate) fn set_appearance(area: &mut TextArea<'_>, call: Appearance)
-    ensures answer { IsAnswer area.old (call_of_appearance call) Done }
+    ensures answer { IsResultOf area.old (call_of_appearance call) Done }
     ensures ok { IsAfterCall area.old (call_of_appearance call) Done area.new }
 {
     match call {

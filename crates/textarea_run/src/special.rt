@@ -1,8 +1,8 @@
 // Calls with results of their own forms: on atomic ranges, patterns, heights, hit tests and yanks.
 ghost use Rattle.std.specs.Prelude.{◌≡◌, IfOk, OnErr, OnOk};
 ghost use Rattle.textarea_calls.specs.CallGroups.{call_of_special};
-ghost use Rattle.tui_textarea.specs.Calls.{ranges_answer, rejected_ranges, with_ranges_if};
-ghost use Rattle.tui_textarea.specs.Outcomes.{after_pattern, IsAnswer, IsAfterCall, IsPatternAnswer, RanOutOfMemory};
+ghost use Rattle.tui_textarea.specs.Calls.{ranges_result, rejected_ranges, with_ranges_if};
+ghost use Rattle.tui_textarea.specs.Outcomes.{after_pattern, IsResultOf, IsAfterCall, IsPatternCallResult, RanOutOfMemory};
 ghost use Rattle.tui_textarea.specs.Patterns.{IsNewPattern, IsPatternResult};
 ghost use Rattle.tui_textarea.specs.CallResults.{call_result};
 
@@ -17,7 +17,7 @@ use tui_textarea::TextArea;
 // Makes the call and returns its result.
 pub fn perform_special(area: &mut TextArea<'_>, call: Special<'_>) -> Result<Answer, AllocError>
     ensures answer { IfOk result
-        (λ answer. IsAnswer area.old (call_of_special call.entry) (call_result answer)) }
+        (λ answer. IsResultOf area.old (call_of_special call.entry) (call_result answer)) }
     ensures ok { IfOk result
         (λ answer. IsAfterCall area.old (call_of_special call.entry) (call_result answer)
         area.new) }
@@ -47,7 +47,7 @@ fn copy_and_set_ranges(
     ranges: &[AtomicRange],
 ) -> Result<Answer, AllocError>
     ensures answer { IfOk result
-        (λ answer. call_result answer ≡ ranges_answer (rejected_ranges area.old ranges.now)) }
+        (λ answer. call_result answer ≡ ranges_result (rejected_ranges area.old ranges.now)) }
     ensures ok { OnOk result
         (area.new ≡ with_ranges_if (rejected_ranges area.old ranges.now) area.old ranges.now) }
     ensures err { OnErr result (area.new ≡ area.old) }
@@ -59,7 +59,7 @@ fn copy_and_set_ranges(
 // Sets the ranges, or returns the rejected ones.
 fn set_ranges(area: &mut TextArea<'_>, ranges: Vec<AtomicRange>) -> Result<Answer, AllocError>
     ensures answer { IfOk result
-        (λ answer. call_result answer ≡ ranges_answer (rejected_ranges area.old ranges.items)) }
+        (λ answer. call_result answer ≡ ranges_result (rejected_ranges area.old ranges.items)) }
     ensures ok { OnOk result
         (area.new ≡ with_ranges_if (rejected_ranges area.old ranges.items) area.old ranges.items) }
     ensures err { OnErr result (area.new ≡ area.old) }
@@ -73,22 +73,22 @@ fn set_ranges(area: &mut TextArea<'_>, ranges: Vec<AtomicRange>) -> Result<Answe
 // Sets the search pattern, or returns that it is rejected.
 fn set_search_pattern(area: &mut TextArea<'_>, pattern: &str) -> Result<Answer, AllocError>
     ensures answer { IfOk result
-        (λ answer. IsPatternAnswer area.old pattern.now (call_result answer)) }
+        (λ answer. IsPatternCallResult area.old pattern.now (call_result answer)) }
     ensures ok { IfOk result
         (λ answer. area.new ≡ after_pattern area.old pattern.now (call_result answer)) }
     ensures err { OnErr result (area.new ≡ area.old) }
     ensures may { OnErr result (IsNewPattern area.old pattern.now) }
 {
-    pattern_answer(area.set_search_pattern(pattern))
+    pattern_result(area.set_search_pattern(pattern))
 }
 
 // The result of setting a pattern: done, rejected with an error of `regex`, or out of memory.
-fn pattern_answer(outcome: Result<(), SearchError>) -> Result<Answer, AllocError>
+fn pattern_result(outcome: Result<(), SearchError>) -> Result<Answer, AllocError>
     ensures { IsPatternResult outcome result }
 {
     match outcome {
         Ok(()) => Ok(Answer::Done),
-        Err(SearchError::Pattern(_)) => Ok(Answer::PatternRefused),
+        Err(SearchError::Pattern(_)) => Ok(Answer::PatternRejected),
         Err(SearchError::Memory(error)) => Err(error),
     }
 }

@@ -48,9 +48,9 @@ slice_get-set_other (x ∷ xs) (suc i) (suc j) w h = slice_get-set_other xs i j 
 -- a cell is changed where a test passes, and unchanged elsewhere
 changed_where : (inside here : Bool) (was is : Option CellView) (f : CellView → CellView) → (inside ≡ true → here ≡ true → is ≡ option_map f was) →
     (inside ≡ true → here ≡ false → is ≡ was) → cond inside is None ≡ option_map (λ c. cond here (f c) c) (cond inside was None)
-changed_where true true was is f changed kept = changed refl refl
-changed_where true false was is f changed kept = kept refl refl ∙ sym (option_map_id was)
-changed_where false here was is f changed kept = refl
+changed_where true true was is f changed retained = changed refl refl
+changed_where true false was is f changed retained = retained refl refl ∙ sym (option_map_id was)
+changed_where false here was is f changed retained = refl
 
 -- the cell at (u, v), in the list of all cells
 abbrev cell_in : Rect → List Cell → ℕ → ℕ → Option CellView

@@ -3,4 +3,4 @@ use Rattle.std.specs.Prelude.{ℕ, ◌+◌, Bool, if◌then◌else◌}
 
 -- one row or column for a border or a title, and the padding
 abbrev pub inset_of : Bool → ℕ → ℕ
-inset_of is_taken padding = (if is_taken then 1 else 0) + padding
+inset_of has_border padding = (if has_border then 1 else 0) + padding

@@ -16,7 +16,7 @@ use Rattle.textarea_screen_map.specs.declared.layout.Wrapping.{Wrapping}
 use Rattle.textarea_screen_map.specs.LineRows.{AreRowsOf}
 use Rattle.textarea_blocks.specs.Sums.{range_at, ranges_at, row_total}
 use Rattle.textarea_screen_map.specs.VisualRows.{VisualRow, column_at, greatest_column, row_at, row_width}
-use Rattle.textarea_screen_map.proofs.Holding.{all_at, cut_at, rows_at}
+use Rattle.textarea_screen_map.proofs.Holding.{all_at, wrapped_at, rows_at}
 use Rattle.textarea_screen_map.proofs.Layouts.{length-AreRowsOf}
 use Rattle.textarea_screen_map.proofs.VisualRows.{IsNumbered, line_of, row_count, row_numbered, row_of}
 
@@ -51,28 +51,28 @@ module _ (w : Wrapping) (lines : List (List ℕ)) (rows : List RowsView) (h : Ar
       let line = get_or lines found.line [] in
       let ranges = ranges_at rows found.line in
       let number : IsNumbered (row_at lines rows row) found.line line ranges found.number = rw (← found.row_is) at (row_numbered w lines rows found.line found.number h inside found.there) in
-      let cut = cut_at w lines rows found.line h inside in
+      let wrapped = wrapped_at w lines rows found.line h inside in
       let valid : IsUtf8 (encode_utf8_all line) = (line, ((rows_at w lines rows found.line h inside).characters, refl)) in
       let fitting = all_at (λ l. HasFittingClusters w.tab_len (max w.width 1) (encode_utf8_all l)) lines found.line [] all inside in
-      let within = rows_within w.mode w.tab_len (max w.width 1) (encode_utf8_all line) cut.texts wraps valid fitting cut.cut in
-      let size : length ranges ≡ length cut.texts = ap length cut.ranges_are ∙ length-ranges_from 0 cut.texts in
-      let text = get_or cut.texts found.number [] in
+      let within = rows_within w.mode w.tab_len (max w.width 1) (encode_utf8_all line) wrapped.texts wraps valid fitting wrapped.wrapped in
+      let size : length ranges ≡ length wrapped.texts = ap length wrapped.ranges_are ∙ length-ranges_from 0 wrapped.texts in
+      let text = get_or wrapped.texts found.number [] in
       let text_is : (row_at lines rows row).text ≡ chars text =
-      number.text_is ∙ ap (λ r. chars (bytes_between (encode_utf8_all line) (range_at r found.number))) cut.ranges_are
-      ∙ ap chars (row_bytes [] cut.texts (encode_utf8_all line) found.number (sym cut.joined) (omega (arith, found.there, size))) in
+      number.text_is ∙ ap (λ r. chars (bytes_between (encode_utf8_all line) (range_at r found.number))) wrapped.ranges_are
+      ∙ ap chars (row_bytes [] wrapped.texts (encode_utf8_all line) found.number (sym wrapped.joined) (omega (arith, found.there, size))) in
       let tab = some_tab w.tab_len tabs in
       elim (cases_lt (found.number + 1) (length ranges)) [
         | inl more ↦
             greatest_of_other w.tab_len (max w.width 1) (row_at lines rows row) (number.more more)
             (subst (λ cs. column_at w.tab_len cs (length cs - 1) ≤ max w.width 1) (sym text_is)
             (subst (λ t. end_column t 0 (take (length (chars text) - 1) (chars text)) ≤ max w.width 1) tab
-            (row_within w.tab_len (max w.width 1) cut.texts found.number within (omega (arith, more, size)))))
+            (row_within w.tab_len (max w.width 1) wrapped.texts found.number within (omega (arith, more, size)))))
         | inr most ↦
             let last : found.number + 1 ≡ length ranges = omega (arith, most, found.there) in
             greatest_of_last w.tab_len (max w.width 1) (row_at lines rows row) (number.last last)
             (subst (λ cs. end_column (max w.tab_len 1) 0 cs ≤ max w.width 1) (sym text_is)
             (subst (λ t. end_column t 0 (chars text) ≤ max w.width 1) tab
-            (last_within w.tab_len (max w.width 1) cut.texts found.number within (last ∙ size))))
+            (last_within w.tab_len (max w.width 1) wrapped.texts found.number within (last ∙ size))))
       ]
 
   -- in general: a line has fewer than 2^48 bytes
@@ -82,9 +82,9 @@ module _ (w : Wrapping) (lines : List (List ℕ)) (rows : List RowsView) (h : Ar
       let short = (row_of w lines rows row h (omega (arith, below, row_count w lines rows h))).short in
       let tab : max w.tab_len 1 < 2 ^ 8 = omega (arith, tabs) in
       let whole = end_column-few (max w.tab_len 1) text tab in
-      let part = end_column-few (max w.tab_len 1) (take (length text - 1) text) tab in
+      let segment = end_column-few (max w.tab_len 1) (take (length text - 1) text) tab in
       let size = length-take (length text - 1) text in
       elim ((row_at lines rows row).is_last) as (λ (b : Bool). (if b then row_width w.tab_len (row_at lines rows row) else column_at w.tab_len text (length text - 1)) < 2 ^ 56) [
         | true ↦ omega (arith, whole, short)
-        | false ↦ omega (arith, part, size, short)
+        | false ↦ omega (arith, segment, size, short)
       ]

@@ -7,7 +7,7 @@ use Rattle.std.proofs.lemmas.Str.{encodes-chars, IsUtf8-string_bytes}
 use Rattle.std.specs.List.{concat, AllByRecursion}
 use Rattle.std.specs.Str.{chars}
 use Rattle.textarea_text.specs.Text.{lines_of}
-use Rattle.textarea_text.proofs.Columns.{length_cut}
+use Rattle.textarea_text.proofs.Columns.{length_split}
 use Rattle.textarea_text.proofs.StringRows.{line_at}
 use Rattle.textarea_wrap.specs.RowsView.{RowsView}
 use Rattle.textarea_wrap.specs.WrapRules.{ranges_from}
@@ -37,9 +37,9 @@ last_range at (t ∷ u ∷ rest) (suc k) last =
     omega (arith, last_range (at + length t) (u ∷ rest) k (omega arith), length-append t (concat (u ∷ rest)))
 
 some_texts : (mode : WrapMode) (tab_len width : ℕ) (line : List ℕ) (texts : List (List ℕ)) → AreRowTexts mode tab_len width line texts → concat texts ≡ line → 0 < length texts
-some_texts mode tab_len width [] texts cut joined = omega (arith, ap length cut)
-some_texts mode tab_len width (byte ∷ line) [] cut joined = absurd (omega (arith, ap length joined))
-some_texts mode tab_len width (byte ∷ line) (t ∷ texts) cut joined = omega arith
+some_texts mode tab_len width [] texts wrapped joined = omega (arith, ap length wrapped)
+some_texts mode tab_len width (byte ∷ line) [] wrapped joined = absurd (omega (arith, ap length joined))
+some_texts mode tab_len width (byte ∷ line) (t ∷ texts) wrapped joined = omega arith
 
 first_range : (at : ℕ) (texts : List (List ℕ)) → 0 < length texts → (range_at (ranges_from at texts) 0).0 ≡ at
 first_range at [] some = absurd (omega arith)
@@ -48,11 +48,11 @@ first_range at (t ∷ texts) some = refl
 -- a line has a row, and the first begins at the line's start
 pub some_rows : (mode : WrapMode) (tab_len width : ℕ) (line : List ℕ) (ranges : List (ℕ × ℕ)) → IsWrapped mode tab_len width line ranges → 0 < length ranges
 some_rows mode tab_len width line ranges h =
-    omega (arith, some_texts mode tab_len width line h.texts h.cut h.joined, length-ranges_from 0 h.texts, ap length h.ranges_are)
+    omega (arith, some_texts mode tab_len width line h.texts h.wrapped h.joined, length-ranges_from 0 h.texts, ap length h.ranges_are)
 
 pub first_begins : (mode : WrapMode) (tab_len width : ℕ) (line : List ℕ) (ranges : List (ℕ × ℕ)) → IsWrapped mode tab_len width line ranges → (range_at ranges 0).0 ≡ 0
 first_begins mode tab_len width line ranges h =
-    ap (λ (t : List (ℕ × ℕ)). (range_at t 0).0) h.ranges_are ∙ first_range 0 h.texts (some_texts mode tab_len width line h.texts h.cut h.joined)
+    ap (λ (t : List (ℕ × ℕ)). (range_at t 0).0) h.ranges_are ∙ first_range 0 h.texts (some_texts mode tab_len width line h.texts h.wrapped h.joined)
 
 ends : (row n offset end : ℕ) → row < n → (row + 1 < n → offset < end) → (row + 1 ≡ n → offset ≤ end) → offset ≤ end
 ends row zero offset end within before last = absurd (omega arith)
@@ -90,8 +90,8 @@ rows_at w (line ∷ lines) [] i h within = absurd h
 rows_at w (line ∷ lines) (r ∷ rows) zero h within = h.0
 rows_at w (line ∷ lines) (r ∷ rows) (suc i) h within = rows_at w lines rows i h.1 (omega arith)
 
-pub cut_at : (w : Wrapping) (lines : List (List ℕ)) (rows : List RowsView) (i : ℕ) → AreRowsOf w lines rows → i < length lines → IsWrapped w.mode w.tab_len (max w.width 1) (encode_utf8_all (get_or lines i [])) (ranges_at rows i)
-cut_at w lines rows i h within = rw (get_or-map (λ (r : RowsView). r.ranges) rows i (record { ranges = []; tick = 0 })) (rows_at w lines rows i h within).cut
+pub wrapped_at : (w : Wrapping) (lines : List (List ℕ)) (rows : List RowsView) (i : ℕ) → AreRowsOf w lines rows → i < length lines → IsWrapped w.mode w.tab_len (max w.width 1) (encode_utf8_all (get_or lines i [])) (ranges_at rows i)
+wrapped_at w lines rows i h within = rw (get_or-map (λ (r : RowsView). r.ranges) rows i (record { ranges = []; tick = 0 })) (rows_at w lines rows i h within).wrapped
 
 pub all_at : {X : Type 0} (P : X → Type 0) (items : List X) (i : ℕ) (d : X) → AllByRecursion P items → i < length items → P (get_or items i d)
 all_at P [] i d h within = absurd (omega arith)
@@ -108,18 +108,18 @@ bytes_of_line items i line text within read same =
 
 -- ---- a row and an offset as in the code
 
-pub cut_of : (w : Wrapping) (lines : List (List ℕ)) (rows : List RowsView) (i : ℕ) (ranges : List (ℕ × ℕ)) → ranges ≡ ranges_at rows i → AreRowsOf w lines rows → i < length lines → IsWrapped w.mode w.tab_len (max w.width 1) (encode_utf8_all (get_or lines i [])) ranges
-cut_of w lines rows i ranges e h within =
-    subst (λ (t : List (ℕ × ℕ)). IsWrapped w.mode w.tab_len (max w.width 1) (encode_utf8_all (get_or lines i [])) t) (sym e) (cut_at w lines rows i h within)
+pub wrapped_of : (w : Wrapping) (lines : List (List ℕ)) (rows : List RowsView) (i : ℕ) (ranges : List (ℕ × ℕ)) → ranges ≡ ranges_at rows i → AreRowsOf w lines rows → i < length lines → IsWrapped w.mode w.tab_len (max w.width 1) (encode_utf8_all (get_or lines i [])) ranges
+wrapped_of w lines rows i ranges e h within =
+    subst (λ (t : List (ℕ × ℕ)). IsWrapped w.mode w.tab_len (max w.width 1) (encode_utf8_all (get_or lines i [])) t) (sym e) (wrapped_at w lines rows i h within)
 
 pub offset_within : {Z : Type 0} (line : String Z) (text : List ℕ) (column offset : ℕ) → text ≡ string_bytes line → offset ≡ length (encode_utf8_all (take column (chars text))) → offset ≤ length text
 offset_within line text column offset same e =
-    omega (arith, e, ap length same, ap (λ (t : List ℕ). length (encode_utf8_all (take column (chars t)))) same, length_cut (string_bytes line) column (IsUtf8-string_bytes line))
+    omega (arith, e, ap length same, ap (λ (t : List ℕ). length (encode_utf8_all (take column (chars t)))) same, length_split (string_bytes line) column (IsUtf8-string_bytes line))
 
 -- a row that isn't its line's last is not empty
 one_row_of_none : (mode : WrapMode) (tab_len width : ℕ) (line : List ℕ) (texts : List (List ℕ)) → line ≡ [] → AreRowTexts mode tab_len width line texts → length texts ≡ 1
-one_row_of_none mode tab_len width [] texts e cut = ap length cut
-one_row_of_none mode tab_len width (byte ∷ line) texts e cut = absurd (omega (arith, ap length e))
+one_row_of_none mode tab_len width [] texts e wrapped = ap length wrapped
+one_row_of_none mode tab_len width (byte ∷ line) texts e wrapped = absurd (omega (arith, ap length e))
 
 pub some_bytes : (mode : WrapMode) (tab_len width : ℕ) (line : List ℕ) (ranges : List (ℕ × ℕ)) (row : ℕ) → IsWrapped mode tab_len width line ranges → row + 1 < length ranges → (range_at ranges row).0 < (range_at ranges row).1
 some_bytes mode tab_len width line ranges row h more =
@@ -127,5 +127,5 @@ some_bytes mode tab_len width line ranges row h more =
     elim (cases_lt (range_at ranges row).0 (range_at ranges row).1) [
       | inl less ↦ less
       | inr most ↦
-          absurd (omega (arith, one_row_of_none mode tab_len width line h.texts (range.nonempty (omega (arith, range.ordered, most))) h.cut, length-ranges_from 0 h.texts, ap length h.ranges_are, more))
+          absurd (omega (arith, one_row_of_none mode tab_len width line h.texts (range.nonempty (omega (arith, range.ordered, most))) h.wrapped, length-ranges_from 0 h.texts, ap length h.ranges_are, more))
     ]

@@ -49,17 +49,17 @@ AreRowsOf-replaced w lines new rows others start count h k =
     (AreRowsOf-append w new (drop (start + count) lines) others (drop (start + count) rows) k (AreRowsOf-drop w (start + count) lines rows h))
 
 -- one line more
-pub AreRowsOf-more : {Z : Type 0} (w : Wrapping) (before : List (List ℕ)) (items : List (String Z)) (i : ℕ) (line : String Z) (text : List ℕ) (rows : List RowsView) (cut : RowsView) → i < length items → line ≡ get_or items i line → text ≡ string_bytes line → AreRowsOf w (before ++ take i (lines_of items)) rows → IsWrapped w.mode w.tab_len (max w.width 1) text cut.ranges → length text < size_limit → AreRowsOf w (before ++ take (i + 1) (lines_of items)) (rows ++ cut ∷ [])
-AreRowsOf-more w before items i line text rows cut within read same h k short =
+pub AreRowsOf-more : {Z : Type 0} (w : Wrapping) (before : List (List ℕ)) (items : List (String Z)) (i : ℕ) (line : String Z) (text : List ℕ) (rows : List RowsView) (wrapped : RowsView) → i < length items → line ≡ get_or items i line → text ≡ string_bytes line → AreRowsOf w (before ++ take i (lines_of items)) rows → IsWrapped w.mode w.tab_len (max w.width 1) text wrapped.ranges → length text < size_limit → AreRowsOf w (before ++ take (i + 1) (lines_of items)) (rows ++ wrapped ∷ [])
+AreRowsOf-more w before items i line text rows wrapped within read same h k short =
     let bytes = bytes_of_line items i line text within read same in
-    let here : AreRowsOfLine w (get_or (lines_of items) i []) cut =
+    let here : AreRowsOfLine w (get_or (lines_of items) i []) wrapped =
     record {
       characters = ap all_scalars (line_at items i line within read) ∙ scalars-chars (string_bytes line) (IsUtf8-string_bytes line);
       short = omega (arith, short, ap length bytes);
-      cut = rw bytes at k;
+      wrapped = rw bytes at k;
     } in
     rw (take_more (lines_of items) i [] (omega (arith, length-map items characters_of)), ← append_assoc)
-    (AreRowsOf-append w (before ++ take i (lines_of items)) (get_or (lines_of items) i [] ∷ []) rows (cut ∷ []) h (here, tt))
+    (AreRowsOf-append w (before ++ take i (lines_of items)) (get_or (lines_of items) i [] ∷ []) rows (wrapped ∷ []) h (here, tt))
 
 range_append : (first size more : ℕ) → range_with_len first size ++ range_with_len (first + size) more ≡ range_with_len first (size + more)
 range_append first zero more = grind (arith, common_steps)
@@ -74,9 +74,9 @@ ticks_append count size more =
     let start : count + size + 1 ≡ count + 1 + size = omega arith in rw (start, range_append (count + 1) size more)
 
 -- one line more
-pub ticks_more : (before after : List RowsView) (cut : RowsView) (ticks : List ℕ) (count i : ℕ) → after ≡ before ++ cut ∷ [] → ticks_of before ≡ ticks ++ ticks_after count i → cut.tick ≡ count + i + 1 → ticks_of after ≡ ticks ++ ticks_after count (i + 1)
-ticks_more before after cut ticks count i is e tick =
-    rw (is, map-append (λ (r : RowsView). r.tick) before (cut ∷ []), e, append_assoc, tick, ticks_append count i 1)
+pub ticks_more : (before after : List RowsView) (wrapped : RowsView) (ticks : List ℕ) (count i : ℕ) → after ≡ before ++ wrapped ∷ [] → ticks_of before ≡ ticks ++ ticks_after count i → wrapped.tick ≡ count + i + 1 → ticks_of after ≡ ticks ++ ticks_after count (i + 1)
+ticks_more before after wrapped ticks count i is e tick =
+    rw (is, map-append (λ (r : RowsView). r.tick) before (wrapped ∷ []), e, append_assoc, tick, ticks_append count i 1)
 
 -- two maps of the same lines, when a line has one right list of rows
 pub ranges_same : (w : Wrapping) (lines : List (List ℕ)) (rows others : List RowsView) → ((line : List ℕ) (ranges more : List (ℕ × ℕ)) → IsWrapped w.mode w.tab_len (max w.width 1) line ranges → IsWrapped w.mode w.tab_len (max w.width 1) line more → ranges ≡ more) → AreRowsOf w lines rows → AreRowsOf w lines others → map (λ (r : RowsView). r.ranges) rows ≡ map (λ (r : RowsView). r.ranges) others
@@ -86,20 +86,20 @@ ranges_same w [] [] (s ∷ others) one h k = absurd k
 ranges_same w (line ∷ lines) [] others one h k = absurd h
 ranges_same w (line ∷ lines) (r ∷ rows) [] one h k = absurd k
 ranges_same w (line ∷ lines) (r ∷ rows) (s ∷ others) one h k =
-    ap₂ ◌∷◌ (one (encode_utf8_all line) r.ranges s.ranges h.0.cut k.0.cut) (ranges_same w lines rows others one h.1 k.1)
+    ap₂ ◌∷◌ (one (encode_utf8_all line) r.ranges s.ranges h.0.wrapped k.0.wrapped) (ranges_same w lines rows others one h.1 k.1)
 
 -- without wrapping, the rows depend on neither the width nor the tab stops
 pub whole_anyhow : (tab_len width other_tab_len other_width : ℕ) (line : List ℕ) (ranges : List (ℕ × ℕ)) → IsWrapped mode.None tab_len width line ranges → IsWrapped mode.None other_tab_len other_width line ranges
 whole_anyhow tab_len width other_tab_len other_width [] ranges h =
-    record { texts = h.texts; cut = h.cut; joined = h.joined; ranges_are = h.ranges_are; placed = h.placed }
+    record { texts = h.texts; wrapped = h.wrapped; joined = h.joined; ranges_are = h.ranges_are; placed = h.placed }
 whole_anyhow tab_len width other_tab_len other_width (b ∷ line) ranges h =
-    record { texts = h.texts; cut = h.cut; joined = h.joined; ranges_are = h.ranges_are; placed = h.placed }
+    record { texts = h.texts; wrapped = h.wrapped; joined = h.joined; ranges_are = h.ranges_are; placed = h.placed }
 
 pub whole_anywhere : (w v : Wrapping) (lines : List (List ℕ)) (rows : List RowsView) → w.mode ≡ mode.None → v.mode ≡ mode.None → AreRowsOf w lines rows → AreRowsOf v lines rows
 whole_anywhere w v [] [] e e' h = tt
 whole_anywhere w v [] (r ∷ rows) e e' h = absurd h
 whole_anywhere w v (line ∷ lines) [] e e' h = absurd h
 whole_anywhere w v (line ∷ lines) (r ∷ rows) e e' h = (
-  record { characters = h.0.characters; short = h.0.short; cut = rw e' (whole_anyhow w.tab_len (max w.width 1) v.tab_len (max v.width 1) (encode_utf8_all line) r.ranges (rw e at h.0.cut)) },
+  record { characters = h.0.characters; short = h.0.short; wrapped = rw e' (whole_anyhow w.tab_len (max w.width 1) v.tab_len (max v.width 1) (encode_utf8_all line) r.ranges (rw e at h.0.wrapped)) },
   whole_anywhere w v lines rows e e' h.1,
 )

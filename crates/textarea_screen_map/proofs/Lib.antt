@@ -1,6 +1,6 @@
 pub mod RowColumns
 pub mod Layouts
-pub mod Parts
+pub mod RowSlices
 pub mod Holding
 pub mod VisualRows
 pub mod ThereAndBack

@@ -41,7 +41,7 @@ column_at-less tab_len text i j all h within =
 pub passed : (cs rest : List ℕ) (n c : ℕ) → n ≤ length cs → drop n cs ≡ c ∷ rest → (n < length cs) × (get_or cs n 0 ≡ c) × (drop (n + 1) cs ≡ rest)
 passed cs rest n c within e =
     let below : n < length cs = omega (arith, length-drop n cs, ap length e) in
-    let parts = sym (drop_more cs n 0 below) ∙ e in
+    let components = sym (drop_more cs n 0 below) ∙ e in
     (below, cc, cc)
 
 pub leads_to_first : (t : ℕ) (text : List ℕ) (column index at : ℕ) → index ≤ length text → at ≡ column_at t text index → at ≡ column → ((k : ℕ) → k < index → column_at t text k < column) → LeadsTo t text column index

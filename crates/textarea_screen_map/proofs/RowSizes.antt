@@ -33,11 +33,11 @@ size_of_line mode tab_len width line ranges h =
     let size : length ranges ≡ length (ranges_from 0 h.texts) = ap length h.ranges_are in
     let last : line_bytes ranges ≡ length (concat h.texts) =
     ap line_bytes h.ranges_are ∙ last_range 0 h.texts (length (ranges_from 0 h.texts) - 1) (omega (arith, some, size)) ∙ omega arith in
-    (last ∙ ap length h.joined, few line h.texts ranges h.ranges_are h.cut h.joined h.placed)
+    (last ∙ ap length h.joined, few line h.texts ranges h.ranges_are h.wrapped h.joined h.placed)
   where
     few : (line : List ℕ) (texts : List (List ℕ)) (ranges : List (ℕ × ℕ)) → ranges ≡ ranges_from 0 texts → AreRowTexts mode tab_len width line texts → concat texts ≡ line → AllByRecursion (IsRowRange line) ranges → length ranges ≤ length line + 1
-    few [] texts ranges is cut joined placed = omega (arith, ap length is, length-ranges_from 0 texts, ap length cut)
-    few (byte ∷ line) texts ranges is cut joined placed =
+    few [] texts ranges is wrapped joined placed = omega (arith, ap length is, length-ranges_from 0 texts, ap length wrapped)
+    few (byte ∷ line) texts ranges is wrapped joined placed =
         omega (arith, ap length is, ap length joined, rows_within (byte ∷ line) 0 texts (λ e. absurd (omega (arith, ap length e))) (subst (AllByRecursion (IsRowRange (byte ∷ line))) is placed))
 
 -- lines have the size that their rows give, and no more rows than that
@@ -46,7 +46,7 @@ size_of_lines w [] [] h = (refl, omega arith)
 size_of_lines w [] (r ∷ rows) h = absurd h
 size_of_lines w (line ∷ lines) [] h = absurd h
 size_of_lines w (line ∷ lines) (r ∷ rows) h =
-    grind (arith, common_steps, size_of_line w.mode w.tab_len (max w.width 1) (encode_utf8_all line) r.ranges h.0.cut, size_of_lines w lines rows h.1, weight-append (characters line) (following lines), weight-characters line)
+    grind (arith, common_steps, size_of_line w.mode w.tab_len (max w.width 1) (encode_utf8_all line) r.ranges h.0.wrapped, size_of_lines w lines rows h.1, weight-append (characters line) (following lines), weight-characters line)
 
 -- the same for lines as they are stored
 pub size_of_items : {Z : Type 0} (w : Wrapping) (items : List (String Z)) (rows : List RowsView) → AreRowsOf w (lines_of items) rows → (size_total rows ≡ size_of items) × (row_total rows ≤ size_of items)
@@ -61,4 +61,4 @@ pub some_row : (w : Wrapping) (lines : List (List ℕ)) (rows : List RowsView) �
 some_row w [] rows h some = absurd (omega (arith, some))
 some_row w (line ∷ lines) [] h some = absurd h
 some_row w (line ∷ lines) (r ∷ rest) h some =
-    omega (arith, some_rows w.mode w.tab_len (max w.width 1) (encode_utf8_all line) r.ranges h.0.cut)
+    omega (arith, some_rows w.mode w.tab_len (max w.width 1) (encode_utf8_all line) r.ranges h.0.wrapped)

@@ -33,17 +33,17 @@ before_it t text column index k (inr (inl h)) below = omega (arith, h.1, column_
 before_it t text column index k (inr (inr h)) below = omega (arith, h.1, column_at-le t text k index (omega arith))
 
 -- no column leads to a position after one that it reaches or covers
-not_behind : (t : ℕ) (text : List ℕ) (column index other : ℕ) → LeadsTo t text column index → LeadsTo t text column other → index < other → ⊥
-not_behind t text column index other (inl h) k less = absurd (omega (arith, h.1, before_it t text column other index k less))
-not_behind t text column index other (inr (inl h)) k less =
+not_after : (t : ℕ) (text : List ℕ) (column index other : ℕ) → LeadsTo t text column index → LeadsTo t text column other → index < other → ⊥
+not_after t text column index other (inl h) k less = absurd (omega (arith, h.1, before_it t text column other index k less))
+not_after t text column index other (inr (inl h)) k less =
     absurd (omega (arith, h.2, leads_within t text column other k, column_at-le t text (index + 1) other (omega arith)))
-not_behind t text column index other (inr (inr h)) k less = absurd (omega (arith, h.0, leads_within t text column other k))
+not_after t text column index other (inr (inr h)) k less = absurd (omega (arith, h.0, leads_within t text column other k))
 
 pub leads_to_one : (t : ℕ) (text : List ℕ) (column index other : ℕ) → LeadsTo t text column index → LeadsTo t text column other → index ≡ other
 leads_to_one t text column index other h k =
     elim (cases_lt index other) [
-      | inl less ↦ absurd (not_behind t text column index other h k less)
-      | inr more ↦ elim (cases_lt other index) [ inl less ↦ absurd (not_behind t text column other index k h less) | inr most ↦ omega (arith, more, most) ]
+      | inl less ↦ absurd (not_after t text column index other h k less)
+      | inr more ↦ elim (cases_lt other index) [ inl less ↦ absurd (not_after t text column other index k h less) | inr most ↦ omega (arith, more, most) ]
     ]
 
 -- if each character has a column, a position's own column leads to it
@@ -78,8 +78,8 @@ inside_row t row column index h small some e =
       | inr more ↦ absurd (omega (arith, small, greatest, some e, before_it t row.text column index (length row.text - 1) h (omega (arith, some e, more))))
     ]
 
-pub seen_there : (w : Wrapping) (lines : List (List ℕ)) (rows : List RowsView) (visual : VisualPosition) (place : Place) → AreRowsOf w lines rows → IsPlaceAt w.tab_len lines rows visual place → visual.column ≤ greatest_column w.tab_len (row_at lines rows visual.row) → (column : ℕ) × (column ≤ visual.column) × IsVisualPosition w.tab_len lines rows place (record visual { column = column })
-seen_there w lines rows visual place h p small =
+pub visual_there : (w : Wrapping) (lines : List (List ℕ)) (rows : List RowsView) (visual : VisualPosition) (place : Place) → AreRowsOf w lines rows → IsPlaceAt w.tab_len lines rows visual place → visual.column ≤ greatest_column w.tab_len (row_at lines rows visual.row) → (column : ℕ) × (column ≤ visual.column) × IsVisualPosition w.tab_len lines rows place (record visual { column = column })
+visual_there w lines rows visual place h p small =
     let known = row_of w lines rows visual.row h p.row in
     let row = row_at lines rows visual.row in
     let found = leads_within w.tab_len row.text visual.column (place.1 - row.first) p.leads in (
@@ -97,15 +97,15 @@ seen_there w lines rows visual place h p small =
       },
     )
 
-pub seen_near : (w : Wrapping) (lines : List (List ℕ)) (rows : List RowsView) (visual : VisualPosition) (place : Place) → AreRowsOf w lines rows → IsPlaceNear w.tab_len lines rows visual place → (column : ℕ) × (column ≤ visual.column) × IsVisualPosition w.tab_len lines rows place (record visual { column = column })
-seen_near w lines rows visual place h p =
+pub visual_near : (w : Wrapping) (lines : List (List ℕ)) (rows : List RowsView) (visual : VisualPosition) (place : Place) → AreRowsOf w lines rows → IsPlaceNear w.tab_len lines rows visual place → (column : ℕ) × (column ≤ visual.column) × IsVisualPosition w.tab_len lines rows place (record visual { column = column })
+visual_near w lines rows visual place h p =
     let greatest = greatest_column w.tab_len (row_at lines rows visual.row) in
-    let found = seen_there w lines rows (record visual { column = min visual.column greatest }) place h p (omega arith) in
+    let found = visual_there w lines rows (record visual { column = min visual.column greatest }) place h p (omega arith) in
     (found.0, omega (arith, found.1), found.2)
 
 -- the position that the code finds, from the row's line, first column and characters
-pub place_found : (w : Wrapping) (lines : List (List ℕ)) (rows : List RowsView) (visual : VisualPosition) (line first index : ℕ) (text : List ℕ) → AreRowsOf w lines rows → visual.row < row_total rows → line ≡ (row_at lines rows visual.row).line → first ≡ (row_at lines rows visual.row).first → text ≡ (row_at lines rows visual.row).text → LeadsTo w.tab_len text visual.column index → (first + index < size_limit) × IsPlaceAt w.tab_len lines rows visual (line, first + index)
-place_found w lines rows visual line first index text h below line_is first_is text_is leads =
+pub place_of_index : (w : Wrapping) (lines : List (List ℕ)) (rows : List RowsView) (visual : VisualPosition) (line first index : ℕ) (text : List ℕ) → AreRowsOf w lines rows → visual.row < row_total rows → line ≡ (row_at lines rows visual.row).line → first ≡ (row_at lines rows visual.row).first → text ≡ (row_at lines rows visual.row).text → LeadsTo w.tab_len text visual.column index → (first + index < size_limit) × IsPlaceAt w.tab_len lines rows visual (line, first + index)
+place_of_index w lines rows visual line first index text h below line_is first_is text_is leads =
     let there : visual.row < length (visual_rows lines rows) = omega (arith, below, row_count w lines rows h) in
     let known = row_of w lines rows visual.row h there in
     let row = row_at lines rows visual.row in
@@ -121,8 +121,8 @@ place_found w lines rows visual line first index text h below line_is first_is t
 
 -- ---- visual positions
 
-pub seen_row : (w : Wrapping) (lines : List (List ℕ)) (rows : List RowsView) (place : Place) (visual : VisualPosition) → AreRowsOf w lines rows → IsVisualPosition w.tab_len lines rows place visual → visual.row < row_total rows
-seen_row w lines rows place visual h s = omega (arith, s.row, row_count w lines rows h)
+pub visual_row_is : (w : Wrapping) (lines : List (List ℕ)) (rows : List RowsView) (place : Place) (visual : VisualPosition) → AreRowsOf w lines rows → IsVisualPosition w.tab_len lines rows place visual → visual.row < row_total rows
+visual_row_is w lines rows place visual h s = omega (arith, s.row, row_count w lines rows h)
 
 abbrev greatest_by : Bool → ℕ → VisualRow → ℕ
 greatest_by b t row = cond b (display_end_column t 0 row.text) (column_at t row.text (length row.text - 1))
@@ -133,5 +133,5 @@ column_within t row index true e within before =
     subst (λ (text : List ℕ). column_at t row.text index ≤ display_end_column t 0 text) (take-length row.text) (column_at-le t row.text index (length row.text) within)
 column_within t row index false e within before = column_at-le t row.text index (length row.text - 1) (omega (arith, before e))
 
-pub seen_column : (t : ℕ) (lines : List (List ℕ)) (rows : List RowsView) (place : Place) (visual : VisualPosition) → IsVisualPosition t lines rows place visual → visual.column ≤ greatest_column t (row_at lines rows visual.row)
-seen_column t lines rows place visual s = grind (arith, common_steps, column_within)
+pub visual_column_is : (t : ℕ) (lines : List (List ℕ)) (rows : List RowsView) (place : Place) (visual : VisualPosition) → IsVisualPosition t lines rows place visual → visual.column ≤ greatest_column t (row_at lines rows visual.row)
+visual_column_is t lines rows place visual s = grind (arith, common_steps, column_within)

@@ -17,9 +17,9 @@ use Rattle.textarea_screen_map.specs.LineRows.{AreRowsOf}
 use Rattle.textarea_blocks.specs.Sums.{ranges_at, range_at, row_total}
 use Rattle.textarea_screen_map.specs.VisualRows.{VisualRow, rows_of_line, rows_from, visual_rows, row_at}
 use Rattle.textarea_screen_map.specs.VisualPositions.{IsVisualPosition}
-use Rattle.textarea_screen_map.proofs.Holding.{bytes_of_line, cut_at, holds_offset, range_is, rows_at, some_bytes}
+use Rattle.textarea_screen_map.proofs.Holding.{bytes_of_line, wrapped_at, holds_offset, range_is, rows_at, some_bytes}
 use Rattle.textarea_screen_map.proofs.Layouts.{length-AreRowsOf}
-use Rattle.textarea_screen_map.proofs.Parts.{Parts, characters_between, column_before, column_from, column_to, parts_of, row_within}
+use Rattle.textarea_screen_map.proofs.RowSlices.{RowSlice, characters_between, column_before, column_from, column_to, row_slice_of, row_within}
 
 -- the row has this index in its line
 pub record IsNumbered (row : VisualRow) (number : ℕ) (line : List ℕ) (ranges : List (ℕ × ℕ)) (k : ℕ) : Type 0 where
@@ -103,28 +103,28 @@ line_of (r ∷ rows) row h =
     ]
 
 -- a visual row as a range of its line
-pub record IsCutOut (lines : List (List ℕ)) (rows : List RowsView) (row : ℕ) : Type 0 where
+pub record IsRowSlice (lines : List (List ℕ)) (rows : List RowsView) (row : ℕ) : Type 0 where
   pub line : ℕ
   pub number : ℕ
   pub within : line < length lines
   pub there : number < length (ranges_at rows line)
   pub row_is : row ≡ row_total (take line rows) + number
   pub line_is : (row_at lines rows row).line ≡ line
-  pub parts : Parts (get_or lines line []) (range_at (ranges_at rows line) number)
-  pub first_is : (row_at lines rows row).first ≡ length parts.front
-  pub size_is : length (row_at lines rows row).text ≡ length parts.text
+  pub sliced : RowSlice (get_or lines line []) (range_at (ranges_at rows line) number)
+  pub first_is : (row_at lines rows row).first ≡ length sliced.front
+  pub size_is : length (row_at lines rows row).text ≡ length sliced.text
   pub last : number + 1 ≡ length (ranges_at rows line) → (row_at lines rows row).is_last ≡ true
   pub more : number + 1 < length (ranges_at rows line) → (row_at lines rows row).is_last ≡ false
 
-pub cut_out : (w : Wrapping) (lines : List (List ℕ)) (rows : List RowsView) (row : ℕ) → AreRowsOf w lines rows → row < length (visual_rows lines rows) → IsCutOut lines rows row
-cut_out w lines rows row h below =
+pub row_slice : (w : Wrapping) (lines : List (List ℕ)) (rows : List RowsView) (row : ℕ) → AreRowsOf w lines rows → row < length (visual_rows lines rows) → IsRowSlice lines rows row
+row_slice w lines rows row h below =
     let found = line_of rows row (omega (arith, below, row_count w lines rows h)) in
     let within : found.line < length lines = omega (arith, found.within, length-AreRowsOf w lines rows h) in
     let line = get_or lines found.line [] in
     let ranges = ranges_at rows found.line in
     let number : IsNumbered (row_at lines rows row) found.line line ranges found.number = rw (← found.row_is) at (row_numbered w lines rows found.line found.number h within found.there) in
-    let p : Parts line (range_at ranges found.number) =
-    parts_of line (range_at ranges found.number) (rows_at w lines rows found.line h within).characters (range_is _ _ _ _ ranges found.number (cut_at w lines rows found.line h within) found.there) in
+    let p : RowSlice line (range_at ranges found.number) =
+    row_slice_of line (range_at ranges found.number) (rows_at w lines rows found.line h within).characters (range_is _ _ _ _ ranges found.number (wrapped_at w lines rows found.line h within) found.there) in
     record {
       line = found.line;
       number = found.number;
@@ -132,7 +132,7 @@ cut_out w lines rows row h below =
       there = found.there;
       row_is = found.row_is;
       line_is = number.line_is;
-      parts = p;
+      sliced = p;
       first_is = number.first_is ∙ ap length (sym p.front_is);
       size_is = ap length (number.text_is ∙ sym p.text_is);
       last = number.last;
@@ -156,22 +156,22 @@ more_rows : (is_last : Bool) (number size : ℕ) → number < size → (number +
 more_rows is_last number size there last e =
     elim (cases_lt (number + 1) size) [ inl more ↦ more | inr most ↦ absurd (cc (last (omega (arith, there, most)), e)) ]
 
-row_of_cut : (w : Wrapping) (lines : List (List ℕ)) (rows : List RowsView) (row : ℕ) (p : IsCutOut lines rows row) → AreRowsOf w lines rows → IsRowOfLines lines (row_at lines rows row)
-row_of_cut w lines rows row p h =
+row_of_slice : (w : Wrapping) (lines : List (List ℕ)) (rows : List RowsView) (row : ℕ) (p : IsRowSlice lines rows row) → AreRowsOf w lines rows → IsRowOfLines lines (row_at lines rows row)
+row_of_slice w lines rows row p h =
     let line = get_or lines p.line [] in
     let ranges = ranges_at rows p.line in
-    let held = row_within line (range_at ranges p.number) p.parts in
+    let stored = row_within line (range_at ranges p.number) p.sliced in
     record {
       within = omega (arith, p.within, p.line_is);
-      inside = omega (arith, held, ap (λ (n : ℕ). length (get_or lines n [])) p.line_is, p.first_is, p.size_is);
-      short = omega (arith, held, p.first_is, p.size_is, length-le-encodes line, (rows_at w lines rows p.line h p.within).short);
+      inside = omega (arith, stored, ap (λ (n : ℕ). length (get_or lines n [])) p.line_is, p.first_is, p.size_is);
+      short = omega (arith, stored, p.first_is, p.size_is, length-le-encodes line, (rows_at w lines rows p.line h p.within).short);
       some = λ e.
           let more = more_rows _ p.number (length ranges) p.there p.last e in
-          omega (arith, p.size_is, some_from_bytes p.parts.text (omega (arith, p.parts.text_bytes, some_bytes _ _ _ _ ranges p.number (cut_at w lines rows p.line h p.within) more)));
+          omega (arith, p.size_is, some_from_bytes p.sliced.text (omega (arith, p.sliced.text_bytes, some_bytes _ _ _ _ ranges p.number (wrapped_at w lines rows p.line h p.within) more)));
     }
 
 pub row_of : (w : Wrapping) (lines : List (List ℕ)) (rows : List RowsView) (row : ℕ) → AreRowsOf w lines rows → row < length (visual_rows lines rows) → IsRowOfLines lines (row_at lines rows row)
-row_of w lines rows row h below = row_of_cut w lines rows row (cut_out w lines rows row h below) h
+row_of w lines rows row h below = row_of_slice w lines rows row (row_slice w lines rows row h below) h
 
 pub rows_below : (rows : List RowsView) (i k : ℕ) → i < length rows → k < length (ranges_at rows i) → row_total (take i rows) + k < row_total rows
 rows_below [] i k within there = absurd (omega arith)
@@ -179,20 +179,20 @@ rows_below (r ∷ rows) zero k within there = omega arith
 rows_below (r ∷ rows) (suc i) k within there = omega (arith, rows_below rows i k (omega arith) there)
 
 -- a position is in the last row of its line that begins at or before its offset
-pub seen_in : (w : Wrapping) (lines : List (List ℕ)) (rows : List RowsView) (place : Place) (k offset first column : ℕ) (slice : List ℕ) → AreRowsOf w lines rows → IsPlaceOf lines place → k < length (ranges_at rows place.0) → (range_at (ranges_at rows place.0) k).0 ≤ offset → (k + 1 < length (ranges_at rows place.0) → offset < (range_at (ranges_at rows place.0) (k + 1)).0) → offset ≡ offset_in (get_or lines place.0 []) place.1 → offset ≤ length (encode_utf8_all (get_or lines place.0 [])) → first ≡ row_total (take place.0 rows) → IsUtf8 slice → slice ≡ take (offset - (range_at (ranges_at rows place.0) k).0) (drop (range_at (ranges_at rows place.0) k).0 (encode_utf8_all (get_or lines place.0 []))) → column ≡ display_end_column w.tab_len 0 (chars slice) → (first + k < row_total rows) × IsVisualPosition w.tab_len lines rows place (record { row = first + k; column = column })
-seen_in w lines rows place k offset first column slice h is_place there from next offset_is short first_is valid slice_is column_is =
+pub visual_in : (w : Wrapping) (lines : List (List ℕ)) (rows : List RowsView) (place : Place) (k offset first column : ℕ) (slice : List ℕ) → AreRowsOf w lines rows → IsPlaceOf lines place → k < length (ranges_at rows place.0) → (range_at (ranges_at rows place.0) k).0 ≤ offset → (k + 1 < length (ranges_at rows place.0) → offset < (range_at (ranges_at rows place.0) (k + 1)).0) → offset ≡ offset_in (get_or lines place.0 []) place.1 → offset ≤ length (encode_utf8_all (get_or lines place.0 [])) → first ≡ row_total (take place.0 rows) → IsUtf8 slice → slice ≡ take (offset - (range_at (ranges_at rows place.0) k).0) (drop (range_at (ranges_at rows place.0) k).0 (encode_utf8_all (get_or lines place.0 []))) → column ≡ display_end_column w.tab_len 0 (chars slice) → (first + k < row_total rows) × IsVisualPosition w.tab_len lines rows place (record { row = first + k; column = column })
+visual_in w lines rows place k offset first column slice h is_place there from next offset_is short first_is valid slice_is column_is =
     let line = get_or lines place.0 [] in
     let ranges = ranges_at rows place.0 in
     let range = range_at ranges k in
-    let cut = cut_at w lines rows place.0 h is_place.0 in
-    let p = parts_of line range (rows_at w lines rows place.0 h is_place.0).characters (range_is _ _ _ _ ranges k cut there) in
-    let held = holds_offset _ _ _ _ ranges k offset cut short there from next in
+    let wrapped = wrapped_at w lines rows place.0 h is_place.0 in
+    let p = row_slice_of line range (rows_at w lines rows place.0 h is_place.0).characters (range_is _ _ _ _ ranges k wrapped there) in
+    let stored = holds_offset _ _ _ _ ranges k offset wrapped short there from next in
     let number = rw (← first_is) at (row_numbered w lines rows place.0 k h is_place.0 there) in
     let first_same : (row_at lines rows (first + k)).first ≡ length p.front = number.first_is ∙ ap length (sym p.front_is) in
     let text_same : (row_at lines rows (first + k)).text ≡ p.text = number.text_is ∙ sym p.text_is in
     let size : length (row_at lines rows (first + k)).text ≡ length p.text = ap length text_same in
     let after : length p.front ≤ place.1 = column_from line range p place.1 is_place.1 (omega (arith, from, offset_is)) in
-    let before : place.1 ≤ length p.front + length p.text = column_to line range p place.1 is_place.1 (omega (arith, held.to, offset_is)) in
+    let before : place.1 ≤ length p.front + length p.text = column_to line range p place.1 is_place.1 (omega (arith, stored.to, offset_is)) in
     let spelled : chars slice ≡ take (place.1 - length p.front) p.text =
     characters_between line range p place.1 slice after before valid (slice_is ∙ ap (λ (n : ℕ). take (n - range.0) (drop range.0 (encode_utf8_all line))) offset_is) in
     let below : first + k < row_total rows = omega (arith, first_is, rows_below rows place.0 k (omega (arith, is_place.0, length-AreRowsOf w lines rows h)) there) in (
@@ -205,7 +205,7 @@ seen_in w lines rows place k offset first column slice h is_place there from nex
           to = omega (arith, before, first_same, size);
           before_next = λ e.
               let more = more_rows _ k (length ranges) there number.last e in
-              omega (arith, first_same, size, column_before line range p place.1 (omega (arith, offset_is, held.before_next more)));
+              omega (arith, first_same, size, column_before line range p place.1 (omega (arith, offset_is, stored.before_next more)));
         };
         column = rw (column_is, spelled, first_same, text_same);
       },
@@ -213,8 +213,8 @@ seen_in w lines rows place k offset first column slice h is_place there from nex
 
 -- ---- a visual row as in the code
 
-pub row_shown : (row : VisualRow) (line start first : ℕ) (text : List ℕ) (is_last : Bool) → line ≡ row.line → start ≡ row.start → first ≡ row.first → text ≡ row.text → is_last ≡ row.is_last → record { line = line; start = start; first = first; text = text; is_last = is_last } ≡ row
-row_shown row line start first text is_last l s f t e = rw (l, s, f, t, e) refl
+pub row_displayed : (row : VisualRow) (line start first : ℕ) (text : List ℕ) (is_last : Bool) → line ≡ row.line → start ≡ row.start → first ≡ row.first → text ≡ row.text → is_last ≡ row.is_last → record { line = line; start = start; first = first; text = text; is_last = is_last } ≡ row
+row_displayed row line start first text is_last l s f t e = rw (l, s, f, t, e) refl
 
 pub number_there : (rows : List RowsView) (line number row : ℕ) → line < length rows → row_total (take line rows) + number ≡ row → row < row_total (take (line + 1) rows) → number < length (ranges_at rows line)
 number_there [] line number row within e below = absurd (omega arith)
@@ -242,10 +242,10 @@ last_row v number size there last more =
 
 pub text_of_row : (w : Wrapping) (lines : List (List ℕ)) (rows : List RowsView) (row line number : ℕ) (ranges : List (ℕ × ℕ)) (text : List ℕ) → AreRowsOf w lines rows → line < length lines → number < length (ranges_at rows line) → row_total (take line rows) + number ≡ row → ranges ≡ ranges_at rows line → text ≡ encode_utf8_all (get_or lines line []) → IsTextOfRow (row_at lines rows row) line number ranges text
 text_of_row w lines rows row line number ranges text h within there row_is ranges_is text_is =
-    let cut = cut_at w lines rows line h within in
+    let wrapped = wrapped_at w lines rows line h within in
     let numbered = rw row_is at (row_numbered w lines rows line number h within there) in
     rw (text_is, ranges_is) record {
-      placed = range_is _ _ _ _ (ranges_at rows line) number cut there;
+      placed = range_is _ _ _ _ (ranges_at rows line) number wrapped there;
       short = (rows_at w lines rows line h within).short;
       line_is = sym numbered.line_is;
       start_is = sym numbered.start_is;

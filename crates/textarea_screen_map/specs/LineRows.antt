@@ -13,7 +13,7 @@ use Rattle.textarea_screen_map.specs.declared.layout.Wrapping.{Wrapping}
 pub record AreRowsOfLine (wrapping : Wrapping) (line : List ℕ) (rows : RowsView) : Type 0 where
   pub characters : all_scalars line ≡ true
   pub short : length (encode_utf8_all line) < size_limit
-  pub cut : IsWrapped wrapping.mode wrapping.tab_len (max wrapping.width 1) (encode_utf8_all line) rows.ranges
+  pub wrapped : IsWrapped wrapping.mode wrapping.tab_len (max wrapping.width 1) (encode_utf8_all line) rows.ranges
 
 -- the same wrapping with this number of columns between tab stops
 abbrev pub with_tab_len : Wrapping → ℕ → Wrapping

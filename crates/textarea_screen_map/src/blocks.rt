@@ -31,7 +31,7 @@ pub fn push_lines(
         ≡ ticks_of (all_rows blocks.old.blocks) ++ ticks_after count.old (length lines.now)) }
 {
     let mut from = 0;
-    'cutting: while from < lines.len() {
+    'wraps: while from < lines.len() {
         let to = lines.len().min(from + BLOCK);
         let rows = rows_of(alloc, &lines[from..to], wrapping, count)?;
         blocks.push(rows)?;

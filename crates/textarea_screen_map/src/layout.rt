@@ -42,7 +42,7 @@ pub fn push_rows(
         ≡ ticks_of rows.old.items ++ ticks_after count.old (length lines.now)) }
 {
     for i in 0..lines.len() {
-        let cut = line_ranges(
+        let wrapped = line_ranges(
             alloc,
             lines[i].as_str(),
             wrapping.mode,
@@ -50,7 +50,7 @@ pub fn push_rows(
             wrapping.tab_len,
             count,
         )?;
-        rows.push(cut)?;
+        rows.push(wrapped)?;
     }
     Ok(())
 }
@@ -88,8 +88,8 @@ pub fn rows_in(alloc: Global, lines: &[String], wrapping: Wrapping) -> Result<us
     let mut count = WrapCount::new();
     let mut total = 0;
     for line in lines {
-        let cut = line_ranges(alloc, line.as_str(), mode, width, tab_len, &mut count)?;
-        total += cut.as_slice().len();
+        let wrapped = line_ranges(alloc, line.as_str(), mode, width, tab_len, &mut count)?;
+        total += wrapped.as_slice().len();
     }
     Ok(total)
 }

@@ -71,7 +71,7 @@ impl<'a> TextLayoutView<'a> {
     /// Returns a visual row, as slices of the lines.
     pub fn row_at(&self, row: usize) -> RowText<'a>
         requires { row < row_total self.now.rows }
-        ensures shown { row_of_texts result ≡ row_at self.now.lines self.now.rows row }
+        ensures displayed { row_of_texts result ≡ row_at self.now.lines self.now.rows row }
         ensures number { row_total (take result.line self.now.rows) + result.number ≡ row }
         ensures line { result.line < length self.now.lines }
         ensures front { HasFrontOfLine self.now.lines result }

@@ -1,4 +1,4 @@
-// The actions of keys, with shortcuts and without, and the results of `Action::answer`.
+// The actions of keys, with shortcuts and without, and the results of `Action::flag`.
 use crate::cases::check_each;
 use crate::keys::pressed;
 use std::collections::HashMap;
@@ -14,15 +14,15 @@ use textarea_data::input::{Input, Key};
 use textarea_data::scroll::Scrolling;
 
 /// Whether Ctrl and Alt are pressed.
-type Held = (bool, bool);
+type ModifierFlags = (bool, bool);
 
-const PLAIN: Held = (false, false);
+const PLAIN: ModifierFlags = (false, false);
 
-const CTRL: Held = (true, false);
+const CTRL: ModifierFlags = (true, false);
 
-const ALT: Held = (false, true);
+const ALT: ModifierFlags = (false, true);
 
-const BOTH: Held = (true, true);
+const BOTH: ModifierFlags = (true, true);
 
 const ROW_DOWN: Scrolling = Scrolling::Delta { rows: 1, cols: 0 };
 
@@ -174,7 +174,7 @@ const ANY_MODIFIERS_WITHOUT_SHORTCUTS: [Asked; 11] = [
 ];
 
 /// Whether there are shortcuts, each combination of Ctrl and Alt, and keys.
-type Keys = (bool, &'static [Held], &'static [Asked]);
+type Keys = (bool, &'static [ModifierFlags], &'static [Asked]);
 
 static KEYS: [Keys; 8] = [
     (true, &[PLAIN], &NO_MODIFIERS),
@@ -208,23 +208,29 @@ fn action(has_shortcuts: bool, input: &Input) -> Action {
 }
 
 // Checks the keys with each combination of Ctrl and Alt, with and without Shift.
-fn check_keys(rt: &impl Abort, (has_shortcuts, all_held, asked): &Keys) {
-    for held in *all_held {
+fn check_keys(rt: &impl Abort, (has_shortcuts, all_modifiers, asked): &Keys) {
+    for modifiers in *all_modifiers {
         for (key, wanted) in *asked {
-            let alone = action(*has_shortcuts, &pressed(*key, (held.0, held.1, false)));
-            let shifted = action(*has_shortcuts, &pressed(*key, (held.0, held.1, true)));
+            let single = action(
+                *has_shortcuts,
+                &pressed(*key, (modifiers.0, modifiers.1, false)),
+            );
+            let shifted = action(
+                *has_shortcuts,
+                &pressed(*key, (modifiers.0, modifiers.1, true)),
+            );
             let wanted = (*wanted, with_shift(*wanted));
             assert_eq!(rt;
-                (alone, shifted),
+                (single, shifted),
                 wanted,
-                "{has_shortcuts}, {held:?}, {key:?}"
+                "{has_shortcuts}, {modifiers:?}, {key:?}"
             );
         }
     }
 }
 
 /// An action, and its results for a call that returned false and for one that returned true.
-static ANSWERS: [(Action, [bool; 2]); 18] = [
+static FLAGS: [(Action, [bool; 2]); 18] = [
     (Write(InsertChar('a')), [true, true]),
     (Write(InsertNewline), [true, true]),
     (Edit(InsertTab), [false, true]),
@@ -246,18 +252,18 @@ static ANSWERS: [(Action, [bool; 2]); 18] = [
 ];
 
 #[test]
-fn keys_and_answers(rt: HostRuntime) -> Result<(), Fail> {
+fn keys_and_flags(rt: HostRuntime) -> Result<(), Fail> {
     for keys in &KEYS {
         check_keys(&rt, keys);
     }
     assert!(rt; action_of(&Input::default()) == Nothing);
-    check_each(&rt, &ANSWERS, |_, (action, wanted)| {
-        Ok([action.answer(false), action.answer(true)] == *wanted)
+    check_each(&rt, &FLAGS, |_, (action, wanted)| {
+        Ok([action.flag(false), action.flag(true)] == *wanted)
     })
 }
 
 /// A character with the pressed modifiers, Shift last, and its action.
-type Shortcut = (char, Held, bool, Action);
+type Shortcut = (char, ModifierFlags, bool, Action);
 
 /// Two shortcuts of a program's own; the second is set again.
 static SET: [Shortcut; 3] = [
@@ -283,19 +289,27 @@ fn own_action(own: &HashMap<Input, Action>, input: Input) -> Action {
 #[test]
 fn shortcuts_of_ones_own(rt: HostRuntime) -> Result<(), Fail> {
     let mut own = HashMap::new(rt.alloc());
-    for (c, held, shift, action) in &SET {
-        own.insert(pressed(Key::Char(*c), (held.0, held.1, *shift)), *action)?;
+    for (c, modifiers, shift, action) in &SET {
+        own.insert(
+            pressed(Key::Char(*c), (modifiers.0, modifiers.1, *shift)),
+            *action,
+        )?;
     }
     assert_eq!(rt; own.len(), 2);
-    check_each(&rt, &OWN, |_, (c, held, shift, wanted)| {
-        Ok(own_action(&own, pressed(Key::Char(*c), (held.0, held.1, *shift))) == *wanted)
+    check_each(&rt, &OWN, |_, (c, modifiers, shift, wanted)| {
+        Ok(
+            own_action(
+                &own,
+                pressed(Key::Char(*c), (modifiers.0, modifiers.1, *shift)),
+            ) == *wanted,
+        )
     })
 }
 
 #[test]
-fn shown_by_debug(rt: HostRuntime) -> Result<(), Fail> {
+fn printed_by_debug(rt: HostRuntime) -> Result<(), Fail> {
     let action = MoveWithShift(Down, true);
-    let shown = format!(in rt.alloc(); "{action:?}")?;
-    assert!(rt; shown.as_str() == "MoveWithShift(Down, true)");
+    let displayed = format!(in rt.alloc(); "{action:?}")?;
+    assert!(rt; displayed.as_str() == "MoveWithShift(Down, true)");
     Ok(())
 }

@@ -4,11 +4,11 @@ use textarea_calls::{Answer, Call};
 
 // The texts themselves are not specified.
 #[test]
-fn calls_and_answers_are_printed(rt: HostRuntime) -> Result<(), Fail> {
+fn calls_and_results_are_printed(rt: HostRuntime) -> Result<(), Fail> {
     let call = format!(in rt.alloc(); "{:?}", Call::InsertStr("ab"))?;
     assert!(rt; !call.is_empty());
-    let answer = format!(in rt.alloc(); "{:?}", Answer::Cursor((1, 2)))?;
-    assert!(rt; !answer.is_empty());
+    let printed = format!(in rt.alloc(); "{:?}", Answer::Cursor((1, 2)))?;
+    assert!(rt; !printed.is_empty());
     Ok(())
 }
 

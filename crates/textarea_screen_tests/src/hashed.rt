@@ -1,6 +1,6 @@
 // Keys and inputs as keys of hash maps.
 use crate::cases::check_each;
-use crate::keys::{Held, KEYS, pressed};
+use crate::keys::{KEYS, ModifierFlags, pressed};
 use std::collections::HashMap;
 use std::process::Abort;
 use std::test::Fail;
@@ -9,7 +9,7 @@ use textarea_data::input::{Input, Key};
 /// Keys without an entry.
 static OTHERS: [Key; 2] = [Key::Char('c'), Key::F(1)];
 
-static HELD: [Held; 8] = [
+static MODIFIER_FLAGS: [ModifierFlags; 8] = [
     (false, false, false),
     (false, false, true),
     (false, true, false),
@@ -35,7 +35,7 @@ fn keys(rt: HostRuntime) -> Result<(), Fail> {
 }
 
 /// Inputs, and the number that is found for each if only the first has an entry.
-static FOUND: [(Key, Held, Option<usize>); 5] = [
+static LOOKUPS: [(Key, ModifierFlags, Option<usize>); 5] = [
     (Key::Char('a'), (true, false, true), Some(1)),
     (Key::Char('b'), (true, false, true), None),
     (Key::Char('a'), (false, false, true), None),
@@ -43,8 +43,8 @@ static FOUND: [(Key, Held, Option<usize>); 5] = [
     (Key::Char('a'), (true, false, false), None),
 ];
 
-fn number_of(numbers: &HashMap<Input, usize>, key: Key, held: Held) -> Option<usize> {
-    numbers.get(&pressed(key, held)).copied()
+fn number_of(numbers: &HashMap<Input, usize>, key: Key, modifiers: ModifierFlags) -> Option<usize> {
+    numbers.get(&pressed(key, modifiers)).copied()
 }
 
 // An entry is found by an equal input, and by none that differs in a field.
@@ -52,8 +52,8 @@ fn number_of(numbers: &HashMap<Input, usize>, key: Key, held: Held) -> Option<us
 fn inputs(rt: HostRuntime) -> Result<(), Fail> {
     let mut numbers = HashMap::new(rt.alloc());
     numbers.insert(pressed(Key::Char('a'), (true, false, true)), 1)?;
-    check_each(&rt, &FOUND, |_, (key, held, wanted)| {
-        Ok(number_of(&numbers, *key, *held) == *wanted)
+    check_each(&rt, &LOOKUPS, |_, (key, modifiers, wanted)| {
+        Ok(number_of(&numbers, *key, *modifiers) == *wanted)
     })?;
     check_all(&rt)
 }
@@ -62,17 +62,17 @@ fn inputs(rt: HostRuntime) -> Result<(), Fail> {
 fn check_all(rt: &(impl Abort + AllocGlobal)) -> Result<(), Fail> {
     let mut numbers = HashMap::new(rt.alloc());
     for (key, _) in &KEYS {
-        for held in &HELD {
+        for modifiers in &MODIFIER_FLAGS {
             let number = numbers.len();
-            numbers.insert(pressed(*key, *held), number)?;
+            numbers.insert(pressed(*key, *modifiers), number)?;
         }
     }
     assert!(rt; numbers.len() == 216);
     let mut wanted = 0..216usize;
     for (key, _) in &KEYS {
-        for held in &HELD {
-            let is_found = number_of(&numbers, *key, *held) == wanted.next();
-            assert!(rt; is_found, "{key:?}, {held:?}");
+        for modifiers in &MODIFIER_FLAGS {
+            let is_found = number_of(&numbers, *key, *modifiers) == wanted.next();
+            assert!(rt; is_found, "{key:?}, {modifiers:?}");
         }
     }
     Ok(())

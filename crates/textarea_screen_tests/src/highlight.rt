@@ -53,7 +53,7 @@ type Case = (
 
 /// Rows with only borrowed spans. An end closes the newest start, the highlights have ranks, and
 /// their offsets may be inside a character.
-static LENT: [Case; 10] = [
+static BORROWED: [Case; 10] = [
     (
         "abcdef",
         DRAWN,
@@ -173,7 +173,7 @@ fn ask(row: &mut LineHighlighter<'_>, call: Call) -> Result<(), AllocError> {
     }
 }
 
-fn shown(alloc: Global, (text, look, calls, _): &Case) -> Result<Line<'static>, AllocError> {
+fn display_line(alloc: Global, (text, look, calls, _): &Case) -> Result<Line<'static>, AllocError> {
     let mut row = highlighter(alloc, text, *look);
     for call in *calls {
         ask(&mut row, *call)?;
@@ -203,9 +203,9 @@ fn is_borrowed(line: &Line<'_>) -> bool {
 }
 
 /// Returns whether the row has its spans, and whether they are all borrowed as expected.
-fn is_met(alloc: Global, case: &Case, lends_all: bool) -> Result<bool, AllocError> {
-    let line = shown(alloc, case)?;
-    let is_met = shows(&line, case.3) && is_borrowed(&line) == lends_all;
+fn is_met(alloc: Global, case: &Case, borrows_all: bool) -> Result<bool, AllocError> {
+    let line = display_line(alloc, case)?;
+    let is_met = shows(&line, case.3) && is_borrowed(&line) == borrows_all;
     drop(line);
     Ok(is_met)
 }
@@ -220,7 +220,7 @@ fn is_owned_so(alloc: Global, case: &Case) -> Result<bool, AllocError> {
 
 #[test]
 fn rows_with_their_spans(rt: HostRuntime) -> Result<(), Fail> {
-    check_each(&rt, &LENT, is_borrowed_so)?;
+    check_each(&rt, &BORROWED, is_borrowed_so)?;
     check_each(&rt, &OWNED, is_owned_so)
 }
 

@@ -51,9 +51,9 @@ static NO_KEYS: [&str; 11] = [
 ];
 
 /// Whether Ctrl, Alt and Shift are pressed.
-pub type Held = (bool, bool, bool);
+pub type ModifierFlags = (bool, bool, bool);
 
-pub fn pressed(key: Key, (ctrl, alt, shift): Held) -> Input {
+pub fn pressed(key: Key, (ctrl, alt, shift): ModifierFlags) -> Input {
     Input {
         key,
         ctrl,
@@ -63,7 +63,7 @@ pub fn pressed(key: Key, (ctrl, alt, shift): Held) -> Input {
 }
 
 /// A key, the pressed modifiers, and the form of that input.
-static INPUTS: [(Key, Held, &str); 4] = [
+static INPUTS: [(Key, ModifierFlags, &str); 4] = [
     (
         Key::Esc,
         (true, false, false),
@@ -97,7 +97,7 @@ static NO_INPUTS: [&str; 5] = [
 pub fn check(rt: &(impl Abort + AllocGlobal)) -> Result<(), Fail> {
     check_forms(rt, &KEYS, &NO_KEYS);
     check_rejected::<Input>(rt, &NO_INPUTS);
-    check_each(rt, &INPUTS, |alloc, (key, held, form)| {
-        Ok(is_form(alloc, &pressed(*key, *held), form))
+    check_each(rt, &INPUTS, |alloc, (key, modifiers, form)| {
+        Ok(is_form(alloc, &pressed(*key, *modifiers), form))
     })
 }

@@ -25,19 +25,19 @@ fn places_and_amounts(rt: HostRuntime) {
     assert!(rt; scrolling == Scrolling::Delta { rows: 1, cols: -2 });
 }
 
-fn is_shown<T>(alloc: Global, value: &T) -> Result<bool, AllocError>
+fn is_printed<T>(alloc: Global, value: &T) -> Result<bool, AllocError>
 where
     T: Debug,
 {
-    let shown = format!(in alloc; "{value:?}")?;
-    Ok(!shown.is_empty())
+    let displayed = format!(in alloc; "{value:?}")?;
+    Ok(!displayed.is_empty())
 }
 
 #[test]
-fn shown_by_debug(rt: HostRuntime) -> Result<(), Fail> {
-    let is_key_shown = is_shown(rt.alloc(), &Key::Char('a'))?;
-    assert!(rt; is_key_shown);
-    let is_input_shown = is_shown(rt.alloc(), &Input::default())?;
-    assert!(rt; is_input_shown);
+fn printed_by_debug(rt: HostRuntime) -> Result<(), Fail> {
+    let is_key_printed = is_printed(rt.alloc(), &Key::Char('a'))?;
+    assert!(rt; is_key_printed);
+    let is_input_printed = is_printed(rt.alloc(), &Input::default())?;
+    assert!(rt; is_input_printed);
     Ok(())
 }

@@ -64,9 +64,9 @@ const REJECTED: RejectedAtomicRange = RejectedAtomicRange {
 const REJECTED_FORM: &str =
     r#"{"range":{"row":1,"start_col":2,"end_col":5},"reason":"RowOutOfBounds"}"#;
 
-static REFUSED_RANGES: [(RejectedAtomicRange, &str); 1] = [(REJECTED, REJECTED_FORM)];
+static REJECTED_RANGES: [(RejectedAtomicRange, &str); 1] = [(REJECTED, REJECTED_FORM)];
 
-static NO_REFUSED: [&str; 2] = [
+static NO_REJECTED: [&str; 2] = [
     r#"{"row":1,"start_col":2,"end_col":5}"#,
     r#"{"range":{"row":1,"start_col":2,"end_col":5},"reason":"Row"}"#,
 ];
@@ -83,7 +83,7 @@ pub fn check(rt: &(impl Abort + AllocGlobal)) -> Result<(), Fail> {
     check_forms(rt, &BIASES, &NO_SIDES);
     check_forms(rt, &DIRECTIONS, &NO_SIDES);
     check_forms(rt, &REASONS, &NO_REASONS);
-    check_forms(rt, &REFUSED_RANGES, &NO_REFUSED);
+    check_forms(rt, &REJECTED_RANGES, &NO_REJECTED);
     check_rejected::<AtomicRangeError>(rt, &NO_ERRORS);
     check_error(rt, &[], r#"{"rejected":[]}"#)?;
     check_error(rt, &[REJECTED, REJECTED], REJECTED_TWICE_FORM)

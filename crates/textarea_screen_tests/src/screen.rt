@@ -84,9 +84,9 @@ fn is_area(area: Rect, (x, y, width, height): Numbers) -> bool {
 #[test]
 fn rectangles(rt: HostRuntime) -> Result<(), Fail> {
     // They end at the greatest column and row.
-    check_each(&rt, &AREAS, |_, ((x, y, width, height), kept)| {
+    check_each(&rt, &AREAS, |_, ((x, y, width, height), retained)| {
         let area = Rect::new(*x, *y, *width, *height);
-        Ok(is_area(area, (*x, *y, kept.0, kept.1)))
+        Ok(is_area(area, (*x, *y, retained.0, retained.1)))
     })?;
     // They contain their cells.
     let area = Rect::new(2, 3, 4, 2);

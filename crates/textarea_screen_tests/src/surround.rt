@@ -178,8 +178,8 @@ fn measure(surround: &Surround<'_>, text: (u16, usize, bool)) -> (u16, u16, u16,
 }
 
 /// Returns whether the check passes.
-fn tells(surround: &Surround<'_>, told: Step) -> bool {
-    match told {
+fn reads_back(surround: &Surround<'_>, reported: Step) -> bool {
+    match reported {
         Heights(min, max) => (surround.min_rows(), surround.max_rows()) == (min, max),
         Measure(text, wanted) => measure(surround, text) == wanted,
         Around(width, wanted) => (surround.inner_width(width), surround.chrome(width)) == wanted,
@@ -208,7 +208,7 @@ fn take(alloc: Global, surround: &mut Surround<'static>, step: Step) -> Result<b
         SetPlaceholderColor(color) => surround.set_placeholder_style(colored(color)),
         SetPlaceholder(texts) => set_lines(alloc, surround, None, texts)?,
         SetPlaceholderOfSpans(spans, below) => set_lines(alloc, surround, Some(spans), below)?,
-        _ => return Ok(tells(surround, step)),
+        _ => return Ok(reads_back(surround, step)),
     }
     Ok(true)
 }
@@ -233,7 +233,7 @@ fn is_copied(alloc: Global) -> Result<bool, AllocError> {
     let copied = surround.clone()?;
     surround.remove_block();
     surround.set_placeholder_text("")?;
-    Ok(COPIED.iter().all(|told| tells(&copied, *told)))
+    Ok(COPIED.iter().all(|reported| reads_back(&copied, *reported)))
 }
 
 #[test]

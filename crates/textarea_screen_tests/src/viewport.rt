@@ -94,7 +94,7 @@ fn scrolled_far() -> ((usize, usize), (usize, usize)) {
 }
 
 #[test]
-fn rows_shown_after_scrolls(rt: HostRuntime) -> Result<(), Fail> {
+fn rows_visible_after_scrolls(rt: HostRuntime) -> Result<(), Fail> {
     assert!(rt; Viewport::default().rect() == (0, 0, 0, 0));
     assert!(rt; scrolled_far() == ((4294967294, 3), (2147483646, 0)));
     check_each(&rt, &SCROLLED, |_, scrolled| Ok(is_scrolled(scrolled)))
@@ -142,8 +142,8 @@ fn carets(rt: HostRuntime) -> Result<(), Fail> {
 }
 
 /// Returns the row and column at a cell of "hello", at the left or after an offset of 3.
-fn hit(is_behind_offset: bool, position: Position) -> Option<(usize, usize)> {
-    let view = if is_behind_offset {
+fn hit(is_past_offset: bool, position: Position) -> Option<(usize, usize)> {
+    let view = if is_past_offset {
         RowView::at_offset(drawn(8, 3), Rect::new(10, 5, 8, 3), 3, 0)
     } else {
         RowView::at_left(drawn(8, 1), Rect::new(10, 5, 8, 1), 0)
@@ -158,7 +158,7 @@ fn hits(rt: HostRuntime) -> Result<(), Fail> {
     let empty = Rect::new(65535, 65535, 10, 10);
     assert!(rt; drawn(0, 0).hit_row(empty, 0, corner) == None);
     assert!(rt; Viewport::at_start(Rect::new(10, 5, 8, 1)).rect() == (0, 0, 8, 1));
-    check_each(&rt, &HITS, |_, (is_behind_offset, x, y, wanted)| {
-        Ok(hit(*is_behind_offset, Position { x: *x, y: *y }) == *wanted)
+    check_each(&rt, &HITS, |_, (is_past_offset, x, y, wanted)| {
+        Ok(hit(*is_past_offset, Position { x: *x, y: *y }) == *wanted)
     })
 }

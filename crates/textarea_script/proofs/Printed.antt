@@ -19,10 +19,10 @@ printed_same {T} {E} {old} {new} {inputs} {others} r bytes same_state same_input
 pub session_written : {T E : Type 0} (r : Result T E) (all old new : Option (List ℕ)) (bytes read printed text : List ℕ)
     → bytes ≡ read → IfSome all (λ whole. read ≡ whole) → IsUtf8 bytes → text ≡ printed → IsPrinted (new_state []) (inputs_of_text bytes) printed
     → OnOk r (Appends old new text) → OnOk r (IfSome all (IsSessionWritten old new))
-session_written r all old new bytes read printed text lent read_is valid shown session written =
+session_written r all old new bytes read printed text borrowed read_is valid displayed session written =
     on_ok_weaker r
-    (λ appended. IfSome_then all read_is (λ whole same. subst (IsSessionWritten old new) (lent ∙ same)
-    (record { text = valid; printed = text; session = subst (IsPrinted (new_state []) (inputs_of_text bytes)) (sym shown) session; written = appended })))
+    (λ appended. IfSome_then all read_is (λ whole same. subst (IsSessionWritten old new) (borrowed ∙ same)
+    (record { text = valid; printed = text; session = subst (IsPrinted (new_state []) (inputs_of_text bytes)) (sym displayed) session; written = appended })))
     written
 
 -- bytes that are appended to no bytes are all the bytes

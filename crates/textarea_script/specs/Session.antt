@@ -51,7 +51,7 @@ head mode taken stop =
 pub record Ends (old : State) (inputs : List Input) (mode : Mode) (taken : ℕ) (stop : ModalStop) : Type 0 where
   pub new : State
   pub ended : EndsAs old Normal inputs new mode taken stop
-  pub none_refused : stop ≢ Memory
+  pub none_out_of_memory : stop ≢ Memory
 
 -- the printed text of the inputs' run: mode, number and reason, then the text area, in any form
 pub record IsPrinted (old : State) (inputs : List Input) (printed : List ℕ) : Type 0 where

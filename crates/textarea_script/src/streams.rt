@@ -37,7 +37,7 @@ impl From<AllocError> for Failure {
 
     ghost from_gives = { λ _ failure. failure ≡ Failure.Memory };
 
-    fn from(_refused: AllocError) -> Failure {
+    fn from(_error: AllocError) -> Failure {
         Failure::Memory
     }
 }

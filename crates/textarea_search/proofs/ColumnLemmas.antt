@@ -23,16 +23,16 @@ byte_at cs column = length (encode_utf8_all (take column cs))
 
 -- ---- a byte offset between characters as a column
 
-pub column_at_cut : (line : List ℕ) (byte : ℕ) → IsUtf8 line → IsCharBoundary line byte →
+pub column_at_boundary : (line : List ℕ) (byte : ℕ) → IsUtf8 line → IsCharBoundary line byte →
     (column_of_byte line byte ≤ length (chars line)) × (byte_at (chars line) (column_of_byte line byte) ≡ byte)
-column_at_cut line byte text cut =
+column_at_boundary line byte text boundary =
     let front = take byte line in
-    let is_text : IsUtf8 front = IsUtf8-take line byte text cut in
-    let parts : chars line ≡ chars front ++ chars (drop byte line) =
+    let is_text : IsUtf8 front = IsUtf8-take line byte text boundary in
+    let components : chars line ≡ chars front ++ chars (drop byte line) =
     ap chars (sym (take-append-drop byte line)) ∙ chars-append front (drop byte line) is_text in
-    let all : length (chars line) ≡ length (chars front) + length (chars (drop byte line)) = ap length parts ∙ length-append (chars front) (chars (drop byte line)) in
-    let same : take (length (chars front)) (chars line) ≡ chars front = ap (take (length (chars front))) parts ∙ take_at (chars front) (chars (drop byte line)) (length (chars front)) refl in
-    (omega arith, ap (λ cs. length (encode_utf8_all cs)) same ∙ ap length (encodes-chars front is_text) ∙ length-take-le byte line cut.0)
+    let all : length (chars line) ≡ length (chars front) + length (chars (drop byte line)) = ap length components ∙ length-append (chars front) (chars (drop byte line)) in
+    let same : take (length (chars front)) (chars line) ≡ chars front = ap (take (length (chars front))) components ∙ take_at (chars front) (chars (drop byte line)) (length (chars front)) refl in
+    (omega arith, ap (λ cs. length (encode_utf8_all cs)) same ∙ ap length (encodes-chars front is_text) ∙ length-take-le byte line boundary.0)
 
 -- columns and their byte offsets are in the same order
 byte_at-below : (cs : List ℕ) (i j : ℕ) → i < j → j ≤ length cs → byte_at cs i < byte_at cs j
@@ -45,7 +45,7 @@ byte_at-below (c ∷ cs) (suc i) (suc j) lt le =
     omega (arith, length-append (encode_utf8 c) (encode_utf8_all (take i cs)), length-append (encode_utf8 c) (encode_utf8_all (take j cs)))
 
 -- the byte offset compares to the offsets between characters as the column does to their columns
-pub record StandsFor (line : List ℕ) (column byte : ℕ) : Type 0 where
+pub record IsByteOfColumn (line : List ℕ) (column byte : ℕ) : Type 0 where
   pub inside : column ≤ length (chars line) → byte ≡ byte_at (chars line) column
   pub past : length (chars line) < column → length line < byte
 
@@ -55,15 +55,15 @@ record SameOrder (x y m n : ℕ) : Type 0 where
   same : m ≡ n → x ≡ y
   more : n < m → y < x
 
-module _ (line : List ℕ) (column byte : ℕ) (text : IsUtf8 line) (stands : StandsFor line column byte) (start : ℕ) (cut : IsCharBoundary line start) where
+module _ (line : List ℕ) (column byte : ℕ) (text : IsUtf8 line) (occurs : IsByteOfColumn line column byte) (start : ℕ) (boundary : IsCharBoundary line start) where
   in_order : SameOrder start byte (column_of_byte line start) column
   in_order =
       let cs = chars line in
       let k = column_of_byte line start in
-      let at = column_at_cut line start text cut in
+      let at = column_at_boundary line start text boundary in
       ⊎_elim
-      (λ (beyond : length cs < column). let far = stands.past beyond in record { less = λ _. omega (arith, cut.0); same = λ e. absurd (omega arith); more = λ lt. absurd (omega arith) })
-      (λ (within : column ≤ length cs). let is = stands.inside within in record {
+      (λ (beyond : length cs < column). let far = occurs.past beyond in record { less = λ _. omega (arith, boundary.0); same = λ e. absurd (omega arith); more = λ lt. absurd (omega arith) })
+      (λ (within : column ≤ length cs). let is = occurs.inside within in record {
         less = λ lt. omega (arith, byte_at-below cs k column lt within);
         same = λ e. sym at.1 ∙ ap (byte_at cs) e ∙ sym is;
         more = λ lt. omega (arith, byte_at-below cs column k lt at.0);
@@ -89,14 +89,14 @@ abbrev pub column_of_span : List ℕ → ℕ × ℕ → ℕ
 column_of_span line s = column_of_byte line s.0
 
 module _ (line : List ℕ) (spans : List (ℕ × ℕ)) (lie : All (LiesFrom line 0) spans) (direction : Direction) where
-  pub find_ahead : (column byte : ℕ) (at : Bool) → IsUtf8 line → StandsFor line column byte →
+  pub find_ahead : (column byte : ℕ) (at : Bool) → IsUtf8 line → IsByteOfColumn line column byte →
       option_map (column_of_span line) (find (λ s. is_ahead_in_line direction byte at s.0) (along direction spans))
       ≡ find (is_ahead_in_line direction column at) (along direction (map (column_of_span line) spans))
-  find_ahead column byte at text stands =
+  find_ahead column byte at text occurs =
       let p : ℕ × ℕ → Bool = λ s. is_ahead_in_line direction byte at s.0 in
       let q : ℕ × ℕ → Bool = λ s. is_ahead_in_line direction column at (column_of_span line s) in
       ap (option_map (column_of_span line)) (find-same p q (along direction spans) (All-along (λ s. p s ≡ q s) direction spans
-      (All-weaker (LiesFrom line 0) (λ s. p s ≡ q s) (λ s lies. same_ahead direction s.0 byte (column_of_span line s) column at (in_order line column byte text stands s.0 lies.1)) spans lie)))
+      (All-weaker (LiesFrom line 0) (λ s. p s ≡ q s) (λ s lies. same_ahead direction s.0 byte (column_of_span line s) column at (in_order line column byte text occurs s.0 lies.1)) spans lie)))
       ∙ sym (find-map (is_ahead_in_line direction column at) (column_of_span line) (along direction spans))
       ∙ ap (find (is_ahead_in_line direction column at)) (map_along (column_of_span line) direction spans)
 

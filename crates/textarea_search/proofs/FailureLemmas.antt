@@ -23,17 +23,17 @@ use Rattle.textarea_search.specs.PatternErrors.{IsNoPattern, IsPatternFailure, I
 
 no_pattern : (text : List ℕ) (e : parser.Error) → Refuses default_config text e.kind → e.kind ≢ OutOfMemory → IsNoPattern text
 unfolding Refuses
-no_pattern text e refused other = grind (arith, common_steps, nat_tests)
+no_pattern text e pattern_failure other = grind (arith, common_steps, nat_tests)
 
 pub IsPatternFailure-of_regex : (text : List ℕ) (error : Error) → IsRefusal default_config text error → IsRightKind default_config text error →
     IsPatternFailure text (Pattern error)
-IsPatternFailure-of_regex text error refused right e given =
+IsPatternFailure-of_regex text error pattern_failure right e supplied =
     let same : error ≡ Syntax e = cc in
     let P : Error → Type 0 = IsRightKind default_config text in
-    no_pattern text e (refused e same) (subst P same right)
+    no_pattern text e (pattern_failure e same) (subst P same right)
 
 pub IsErrorFor-of_regex : (text : List ℕ) (error : Error) → IsDefaultFailure text error → error ≢ Internal → IsErrorFor text (Pattern error)
-IsErrorFor-of_regex text error failure sound e given =
+IsErrorFor-of_regex text error failure sound e supplied =
     let same : error ≡ e = cc in
     subst (λ x. IsDefaultFailure text x × (x ≢ Internal)) same (failure, sound)
 
@@ -44,22 +44,22 @@ module _ {P : Type 0} (Q : SearchError → Type 0) (q_of_memory : Q (Memory allo
   own_error (Ok p) own = tt
   own_error (Err e) own = subst Q (sym own) q_of_memory
 
-pub refused_of_built : {P : Type 0} (text : List ℕ) (built : Result Regex Error) (result : Result P SearchError) →
+pub failure_of_built : {P : Type 0} (text : List ℕ) (built : Result Regex Error) (result : Result P SearchError) →
     IfErr built (IsRefusal default_config text) → IfErr built (IsRightKind default_config text) →
     IfOk built (λ _. IfErr result (λ e. e ≡ Memory alloc_error)) → IfErr built (λ error. result ≡ Err (Pattern error)) →
     IfErr result (IsPatternFailure text)
-refused_of_built text (Ok regex) result refused right own carried = own_error (IsPatternFailure text) (λ e is. cc) result own
-refused_of_built text (Err error) result refused right own carried =
-    subst (λ r. IfErr r (IsPatternFailure text)) (sym carried) (IsPatternFailure-of_regex text error refused right)
+failure_of_built text (Ok regex) result pattern_failure right own carried = own_error (IsPatternFailure text) (λ e is. cc) result own
+failure_of_built text (Err error) result pattern_failure right own carried =
+    subst (λ r. IfErr r (IsPatternFailure text)) (sym carried) (IsPatternFailure-of_regex text error pattern_failure right)
 
 pub carried_of_built : {P : Type 0} (text : List ℕ) (built : Result Regex Error) (result : Result P SearchError) →
     IfErr built (IsRefusal default_config text) → IfErr built (IsRightKind default_config text) → IfErr built (HasSpanIn text) →
     IfErr built (λ error. error ≢ Internal) →
     IfOk built (λ _. IfErr result (λ e. e ≡ Memory alloc_error)) → IfErr built (λ error. result ≡ Err (Pattern error)) →
     IfErr result (IsErrorFor text)
-carried_of_built text (Ok regex) result refused right span sound own carried = own_error (IsErrorFor text) (λ e is. cc) result own
-carried_of_built text (Err error) result refused right span sound own carried =
-    subst (λ r. IfErr r (IsErrorFor text)) (sym carried) (IsErrorFor-of_regex text error (refused, right, span) sound)
+carried_of_built text (Ok regex) result pattern_failure right span sound own carried = own_error (IsErrorFor text) (λ e is. cc) result own
+carried_of_built text (Err error) result pattern_failure right span sound own carried =
+    subst (λ r. IfErr r (IsErrorFor text)) (sym carried) (IsErrorFor-of_regex text error (pattern_failure, right, span) sound)
 
 -- a text that was read is a pattern
 no_failure : (o : Option (Nested Re × Names)) (most : ℕ) (tree : Re) (names : Names) →

@@ -54,10 +54,10 @@ module _ (tree : Re) (line : List ℕ) (after : ℕ) where
   first_of_rest (Some x) e = grind (arith, common_steps, some_of_map, matches_after_some)
 
 -- a match starts at or after the byte at which the search for it begins
-pub starts_behind : (tree : Re) (line : List ℕ) (from : ℕ) (r : Option found_match.Match) → option_map match_span r ≡ option_map span (find_str tree line from) →
+pub starts_after : (tree : Re) (line : List ℕ) (from : ℕ) (r : Option found_match.Match) → option_map match_span r ≡ option_map span (find_str tree line from) →
     IfSome r (λ m. from ≤ (match_span m).0)
-starts_behind tree line from None e = tt
-starts_behind tree line from (Some x) e =
+starts_after tree line from None e = tt
+starts_after tree line from (Some x) e =
     let v = some_of_map span (find_str tree line from) (match_span x) (sym e) in
     subst (λ (s : ℕ × ℕ). from ≤ s.0) v.2 (leftmost_within tree line true from v.0 v.1).0
 
@@ -74,19 +74,19 @@ abbrev pub LiesFrom : List ℕ → ℕ → ℕ × ℕ → Type 0
 LiesFrom line after s = (after ≤ s.0 + 1) × IsCharBoundary line s.0
 
 module _ (tree : Re) (line : List ℕ) where
-  leftmost_cut : (from : ℕ) (m : Match) → find_str tree line from ≡ Some m → (from ≤ m.start) × IsCharBoundary line m.start
+  leftmost_boundary : (from : ℕ) (m : Match) → find_str tree line from ≡ Some m → (from ≤ m.start) × IsCharBoundary line m.start
   unfolding find_str
-  leftmost_cut from m e = grind (arith, common_steps, IsFirst-of_first_between _ from (length line) m e, IsCharBoundary-of_test, cond_some)
+  leftmost_boundary from m e = grind (arith, common_steps, IsFirst-of_first_between _ from (length line) m e, IsCharBoundary-of_test, cond_some)
 
   next_lies : (after : ℕ) (m : Match) → next_match true tree line after ≡ Some m → LiesFrom line after (span m)
   next_lies after m e =
       ⊎_elim
       (λ none. absurd (none-some m (sym none ∙ sym (next_same tree line true after (λ x f. absurd (none-some x (sym none ∙ f)))) ∙ e)))
       (λ (some : (x : Match) × (_ ≡ Some x)). elim (cases_lt some.0.trace.end after) [
-        | inl lt ↦ let cut = leftmost_cut after m (sym (next_later tree line true after some.0 some.1 lt) ∙ e) in (omega arith, cut.1)
+        | inl lt ↦ let boundary = leftmost_boundary after m (sym (next_later tree line true after some.0 some.1 lt) ∙ e) in (omega arith, boundary.1)
         | inr ge ↦
             let same = next_same tree line true after (λ x f. subst (λ (y : Match). after ≤ y.trace.end) (same_Some _ _ (sym some.1 ∙ f)) ge) in
-            let cut = leftmost_cut (after - 1) m (sym same ∙ e) in (omega arith, cut.1)
+            let boundary = leftmost_boundary (after - 1) m (sym same ∙ e) in (omega arith, boundary.1)
       ])
       (option_cases (find_str tree line (after - 1)))
 
@@ -126,9 +126,9 @@ last_more byte at s rest last passes =
     joined (Some x) s last = refl
 
 -- one match that doesn't pass, and so none after it does
-pub last_found : (byte : ℕ) (at : Bool) (line : List ℕ) (s : ℕ × ℕ) (rest : List (ℕ × ℕ)) → starts_before byte at s ≡ false → s.0 ≤ s.1 →
+pub last_listed : (byte : ℕ) (at : Bool) (line : List ℕ) (s : ℕ × ℕ) (rest : List (ℕ × ℕ)) → starts_before byte at s ≡ false → s.0 ≤ s.1 →
     All (LiesFrom line (s.1 + 1)) rest → find (starts_before byte at) (reverse (s ∷ rest)) ≡ None
-last_found byte at line s rest fails ordered lie =
+last_listed byte at line s rest fails ordered lie =
     let test = starts_before byte at in
     find-none test (reverse (s ∷ rest)) (All-reverse (λ p. test p ≡ false) (s ∷ rest)
     (All-cons (λ p. test p ≡ false) s rest fails

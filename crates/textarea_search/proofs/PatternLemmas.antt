@@ -37,8 +37,8 @@ bytes_of_char c h = grind (arith, common_steps, nat_tests)
 bytes_of_chars : (cs : List ℕ) → scalars cs ≡ true → AreBytes (encodes cs)
 bytes_of_chars [] h = All-nil (λ b. b < 256)
 bytes_of_chars (c ∷ cs) h =
-    let parts = and_parts (scalar c) (scalars cs) h in
-    All-append (λ b. b < 256) (encode c) (encodes cs) (bytes_of_char c parts.0) (bytes_of_chars cs parts.1)
+    let components = and_parts (scalar c) (scalars cs) h in
+    All-append (λ b. b < 256) (encode c) (encodes cs) (bytes_of_char c components.0) (bytes_of_chars cs components.1)
 
 pub bytes_of_text : (bs : List ℕ) → IsUtf8 bs → AreBytes bs
 bytes_of_text bs text = subst AreBytes text.1.1 (bytes_of_chars text.0 text.1.0)

@@ -28,7 +28,7 @@ place_in_front lines n p le h = grind (arith, common_steps, length-take-le n lin
 
 -- a position in the lines from a row on
 pub place_in_rest : (lines : List (String Global)) (n : ℕ) (p : ℕ × ℕ) → n ≤ length lines → IsPlaceFrom n (take (length lines - n) (drop n lines)) p → IsPlaceIn lines p
-place_in_rest lines n p le given = grind (arith, common_steps, take_rest lines n, length-drop n lines, drop-map, get_or-drop)
+place_in_rest lines n p le supplied = grind (arith, common_steps, take_rest lines n, length-drop n lines, drop-map, get_or-drop)
 
 pub place_of_some : {P Q : ℕ × ℕ → Type 0} (o : Option (ℕ × ℕ)) → IfSome o P → ((p : ℕ × ℕ) → P p → Q p) → IfSome o Q
 place_of_some None h f = tt

@@ -45,11 +45,11 @@ joined None (Some y) first all h = refl
 joined (Some x) beyond first all h = refl
 
 -- none of the front passes, and each element beyond does
-pub find_in_parts : {X : Type 0} (test : X → Bool) (front here beyond : List X) →
+pub find_in_segments : {X : Type 0} (test : X → Bool) (front here beyond : List X) →
     All (λ x. test x ≡ false) front → All (λ x. test x ≡ true) beyond →
     find_or_first test (front ++ (here ++ beyond))
     ≡ option_or (find test here) (option_or (slice_get beyond 0) (slice_get (front ++ here) 0))
-find_in_parts test front here beyond none each =
+find_in_segments test front here beyond none each =
     grind (arith, common_steps, find-append test front (here ++ beyond), find-none test front none, find-append test here beyond, find-first test beyond each, joined, nil_of_first, append-nil)
 
 -- ---- the starts of lines
@@ -73,10 +73,10 @@ starts_from-below columns row high (x ∷ xs) h =
     (starts_from-below columns (row + 1) high xs (omega arith))
 
 -- the starts before a line, in it and after it
-pub starts_in_parts : (columns : List ℕ → List ℕ) (lines : List (List ℕ)) (row : ℕ) (d : List ℕ) → row < length lines →
+pub starts_in_segments : (columns : List ℕ → List ℕ) (lines : List (List ℕ)) (row : ℕ) (d : List ℕ) → row < length lines →
     starts_from columns 0 lines
     ≡ starts_from columns 0 (take row lines) ++ (map (λ column. (row, column)) (columns (get_or lines row d)) ++ starts_from columns (row + 1) (drop (row + 1) lines))
-starts_in_parts columns lines row d within =
+starts_in_segments columns lines row d within =
     rw (take-append-drop, drop_more lines row d within, zero-add, length-take-le row lines (omega arith)) at (starts-append columns 0 (take row lines) (drop row lines))
 
 -- ---- which positions are after a cursor, and which before it
@@ -160,10 +160,10 @@ same_row : (row : ℕ) (b : Bool) → (nat_lt row row || ((row == row) && b)) �
 same_row row b = grind (arith, nat_tests)
 
 module _ (columns : List ℕ → List ℕ) (lines : List (List ℕ)) (row column : ℕ) (at : Bool) (d : List ℕ) (within : row < length lines) where
-  pub next_start_in_parts : found_start Forward (starts_from columns 0 lines) (row, column) at
+  pub next_start_in_segments : found_start Forward (starts_from columns 0 lines) (row, column) at
       ≡ option_or (option_map (λ c. (row, c)) (find (is_past column at) (columns (get_or lines row d))))
       (option_or (slice_get (starts_from columns (row + 1) (drop (row + 1) lines)) 0) (slice_get (starts_from columns 0 (take (row + 1) lines)) 0))
-  next_start_in_parts =
+  next_start_in_segments =
       let test : ℕ × ℕ → Bool = is_later (row, column) at in
       let front = starts_from columns 0 (take row lines) in
       let here : List (ℕ × ℕ) = map (λ c. (row, c)) (columns (get_or lines row d)) in
@@ -177,15 +177,15 @@ module _ (columns : List ℕ → List ℕ) (lines : List (List ℕ)) (row column
       let found : find test here ≡ option_map (λ c. (row, c)) (find (is_past column at) (columns (get_or lines row d))) =
       find-map test (λ c. (row, c)) (columns (get_or lines row d))
       ∙ ap (option_map (λ c. (row, c))) (find-same (λ c. test (row, c)) (is_past column at) (columns (get_or lines row d)) (λ k e lt. same_row row _)) in
-      ap (find_or_first test) (starts_in_parts columns lines row d within)
-      ∙ find_in_parts test front here beyond none each
+      ap (find_or_first test) (starts_in_segments columns lines row d within)
+      ∙ find_in_segments test front here beyond none each
       ∙ ap (λ o. option_or o (option_or (slice_get beyond 0) (slice_get (front ++ here) 0))) found
       ∙ rw (starts_more columns 0 lines row d within, zero-add) refl
 
-  pub previous_start_in_parts : found_start Back (starts_from columns 0 lines) (row, column) at
+  pub previous_start_in_segments : found_start Back (starts_from columns 0 lines) (row, column) at
       ≡ option_or (option_map (λ c. (row, c)) (find (λ c. is_past c at column) (reverse (columns (get_or lines row d)))))
       (option_or (slice_get (reverse (starts_from columns 0 (take row lines))) 0) (slice_get (reverse (starts_from columns row (drop row lines))) 0))
-  previous_start_in_parts =
+  previous_start_in_segments =
       let test : ℕ × ℕ → Bool = λ place. is_later place at (row, column) in
       let front = starts_from columns 0 (take row lines) in
       let here : List (ℕ × ℕ) = map (λ c. (row, c)) (columns (get_or lines row d)) in
@@ -207,9 +207,9 @@ module _ (columns : List ℕ → List ℕ) (lines : List (List ℕ)) (row column
       ∙ append_assoc (reverse beyond) (reverse here) (reverse front) in
       let rest : reverse beyond ++ reverse here ≡ reverse (starts_from columns row (drop row lines)) =
       sym (ap (λ ys. reverse (starts_from columns row ys)) (drop_more lines row d within) ∙ reverse-append here beyond) in
-      ap (λ ys. find_or_first test (reverse ys)) (starts_in_parts columns lines row d within)
+      ap (λ ys. find_or_first test (reverse ys)) (starts_in_segments columns lines row d within)
       ∙ ap (find_or_first test) turned
-      ∙ find_in_parts test (reverse beyond) (reverse here) (reverse front) none each
+      ∙ find_in_segments test (reverse beyond) (reverse here) (reverse front) none each
       ∙ ap (λ o. option_or o (option_or (slice_get (reverse front) 0) (slice_get (reverse beyond ++ reverse here) 0))) found
       ∙ ap (λ ys. option_or (option_map (λ c. (row, c)) (find (λ c. is_past c at column) (reverse (columns (get_or lines row d))))) (option_or (slice_get (reverse front) 0) (slice_get ys 0))) rest
 
@@ -217,41 +217,41 @@ module _ (columns : List ℕ → List ℕ) (lines : List (List ℕ)) (row column
 
 module _ (columns : List ℕ → List ℕ) (lines : List (String Global)) (row column : ℕ) (at : Bool) (line : String Global)
     (within : row < length lines) (is_line : line ≡ get_or lines row line) where
-  forward_parts : found_start Forward (starts_from columns 0 (map string_bytes lines)) (row, column) at
+  forward_segments : found_start Forward (starts_from columns 0 (map string_bytes lines)) (row, column) at
       ≡ option_or (option_map (λ c. (row, c)) (find (is_past column at) (columns (string_bytes line))))
       (option_or (slice_get (starts_from columns (row + 1) (map string_bytes (take (length lines - (row + 1)) (drop (row + 1) lines)))) 0)
       (slice_get (starts_from columns 0 (map string_bytes (take (row + 1) lines))) 0))
-  forward_parts =
+  forward_segments =
       let within' : row < length (map string_bytes lines) = rw length-map within in
       rw (take_rest lines (row + 1), ← drop-map string_bytes (row + 1) lines, ← take-map string_bytes (row + 1) lines, ← text_at lines row line within is_line)
-      (next_start_in_parts columns (map string_bytes lines) row column at (string_bytes line) within')
+      (next_start_in_segments columns (map string_bytes lines) row column at (string_bytes line) within')
 
   pub forward_from : (beyond : Option (ℕ × ℕ)) → find (is_past column at) (columns (string_bytes line)) ≡ None →
       slice_get (starts_from columns (row + 1) (map string_bytes (take (length lines - (row + 1)) (drop (row + 1) lines)))) 0 ≡ beyond →
       found_start Forward (starts_from columns 0 (map string_bytes lines)) (row, column) at
       ≡ option_or beyond (slice_get (starts_from columns 0 (map string_bytes (take (row + 1) lines))) 0)
-  forward_from beyond none e = forward_parts ∙ rw (none, e) refl
+  forward_from beyond none e = forward_segments ∙ rw (none, e) refl
 
-  back_parts : found_start Back (starts_from columns 0 (map string_bytes lines)) (row, column) at
+  back_segments : found_start Back (starts_from columns 0 (map string_bytes lines)) (row, column) at
       ≡ option_or (option_map (λ c. (row, c)) (find (λ c. is_past c at column) (reverse (columns (string_bytes line)))))
       (option_or (slice_get (reverse (starts_from columns 0 (map string_bytes (take row lines)))) 0)
       (slice_get (reverse (starts_from columns row (map string_bytes (take (length lines - row) (drop row lines))))) 0))
-  back_parts =
+  back_segments =
       let within' : row < length (map string_bytes lines) = rw length-map within in
       rw (take_rest lines row, ← drop-map string_bytes row lines, ← take-map string_bytes row lines, ← text_at lines row line within is_line)
-      (previous_start_in_parts columns (map string_bytes lines) row column at (string_bytes line) within')
+      (previous_start_in_segments columns (map string_bytes lines) row column at (string_bytes line) within')
 
   pub found_here : (direction : Direction) (start : ℕ) →
       find (is_ahead_in_line direction column at) (along direction (columns (string_bytes line))) ≡ Some start →
       found_start direction (starts_from columns 0 (map string_bytes lines)) (row, column) at ≡ Some (row, start)
-  found_here Forward start found = forward_parts ∙ rw found refl
-  found_here Back start found = back_parts ∙ rw found refl
+  found_here Forward start found = forward_segments ∙ rw found refl
+  found_here Back start found = back_segments ∙ rw found refl
 
   pub back_from : (before : Option (ℕ × ℕ)) → find (λ c. is_past c at column) (reverse (columns (string_bytes line))) ≡ None →
       slice_get (reverse (starts_from columns 0 (map string_bytes (take row lines)))) 0 ≡ before →
       found_start Back (starts_from columns 0 (map string_bytes lines)) (row, column) at
       ≡ option_or before (slice_get (reverse (starts_from columns row (map string_bytes (take (length lines - row) (drop row lines))))) 0)
-  back_from before none e = back_parts ∙ rw (none, e) refl
+  back_from before none e = back_segments ∙ rw (none, e) refl
 
 -- no start is ahead, in the direction that is known
 pub none_ahead : (direction known : Direction) (columns : List ℕ → List ℕ) (text line : List ℕ) (column : ℕ) (at : Bool) → direction ≡ known → text ≡ line →

@@ -34,7 +34,7 @@ impl Pattern {
     /// Compiles a pattern in the syntax of `regex`.
     pub fn new(alloc: Global, pattern: &str) -> Result<Pattern, SearchError>
         ensures ok { IfOk result (λ built. built ≡ pattern.now) }
-        ensures refused { IfErr result (IsPatternFailure pattern.now) }
+        ensures pattern_failure { IfErr result (IsPatternFailure pattern.now) }
         ensures carried { IfErr result (IsErrorFor pattern.now) }
         ensures own { IfErr result (IsOwnFailure pattern.now) }
     {

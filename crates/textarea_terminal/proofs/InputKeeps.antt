@@ -3,23 +3,24 @@ use Rattle.std.proofs.Common.{◌≡◌, ℕ, Bool, true, false, cond, List, [],
 use Rattle.std.proofs.lemmas.List.{take-append-drop, append_assoc}
 use Rattle.std.specs.Prelude.{option_map}
 
--- what was read ends before the rest of the bytes, and with more bytes it is the same, and these are at the end of the rest
-pub record Kept {A : Type 0} (bytes : List ℕ) (x : A × List ℕ) (read : List ℕ → Option (A × List ℕ)) : Type 0 where
+-- what was read ends before the rest of the bytes, and with more bytes it is the same, and these
+-- are at the end of the rest
+pub record ReadsSame {A : Type 0} (bytes : List ℕ) (x : A × List ℕ) (read : List ℕ → Option (A × List ℕ)) : Type 0 where
   pub front : List ℕ
   pub whole : bytes ≡ front ++ x.1
   pub same : (more : List ℕ) → read more ≡ Some (x.0, x.1 ++ more)
 
 -- that, where something was read
 pub record Keeps {A : Type 0} (bytes : List ℕ) (o : Option (A × List ℕ)) (read : List ℕ → Option (A × List ℕ)) : Type 0 where
-  pub kept : (x : A × List ℕ) → o ≡ Some x → Kept bytes x read
+  pub unchanged : (x : A × List ℕ) → o ≡ Some x → ReadsSame bytes x read
 
 -- nothing
 pub keeps_none : {A : Type 0} (bytes : List ℕ) (read : List ℕ → Option (A × List ℕ)) → Keeps bytes None read
-keeps_none bytes read = record { kept = λ x e. (cc) }
+keeps_none bytes read = record { unchanged = λ x e. (cc) }
 
 -- something
-pub keeps_some : {A : Type 0} (bytes : List ℕ) (x : A × List ℕ) (read : List ℕ → Option (A × List ℕ)) → Kept bytes x read → Keeps bytes (Some x) read
-keeps_some {A} bytes x read h = record { kept = λ y e. let same : x ≡ y = (cc) in let P : A × List ℕ → Type 0 = λ z. Kept bytes z read in subst P same h }
+pub keeps_some : {A : Type 0} (bytes : List ℕ) (x : A × List ℕ) (read : List ℕ → Option (A × List ℕ)) → ReadsSame bytes x read → Keeps bytes (Some x) read
+keeps_some {A} bytes x read h = record { unchanged = λ y e. let same : x ≡ y = (cc) in let P : A × List ℕ → Type 0 = λ z. ReadsSame bytes z read in subst P same h }
 
 -- a value that takes no byte
 pub keeps_here : {A : Type 0} (a : A) (bytes : List ℕ) → Keeps bytes (Some (a, bytes)) (λ more. Some (a, bytes ++ more))
@@ -27,7 +28,7 @@ keeps_here a bytes = keeps_some bytes (a, bytes) _ (record { front = []; whole =
 
 -- a byte before
 pub keeps_byte : {A : Type 0} (b : ℕ) (bytes : List ℕ) (o : Option (A × List ℕ)) (read : List ℕ → Option (A × List ℕ)) → Keeps bytes o read → Keeps (b ∷ bytes) o read
-keeps_byte b bytes o read k = record { kept = λ x e. let h = k.kept x e in record { front = b ∷ h.front; whole = ap (λ xs. b ∷ xs) h.whole; same = h.same } }
+keeps_byte b bytes o read k = record { unchanged = λ x e. let h = k.unchanged x e in record { front = b ∷ h.front; whole = ap (λ xs. b ∷ xs) h.whole; same = h.same } }
 
 -- a value that takes a byte
 pub keeps_one : {A : Type 0} (a : A) (b : ℕ) (bytes : List ℕ) → Keeps (b ∷ bytes) (Some (a, bytes)) (λ more. Some (a, bytes ++ more))
@@ -42,12 +43,12 @@ keeps_if false bytes o p f g h k = k
 pub keeps_map : {A B : Type 0} (h : A → B) (bytes : List ℕ) (o : Option (A × List ℕ)) (f : List ℕ → Option (A × List ℕ)) → Keeps bytes o f → Keeps bytes (option_map (λ x. (h x.0, x.1)) o) (λ more. option_map (λ x. (h x.0, x.1)) (f more))
 keeps_map h bytes None f k = keeps_none bytes _
 keeps_map h bytes (Some x) f k =
-    let kept = k.kept x refl in
-    keeps_some bytes (h x.0, x.1) _ (record { front = kept.front; whole = kept.whole; same = λ more. ap (option_map (λ y. (h y.0, y.1))) (kept.same more) })
+    let unchanged = k.unchanged x refl in
+    keeps_some bytes (h x.0, x.1) _ (record { front = unchanged.front; whole = unchanged.whole; same = λ more. ap (option_map (λ y. (h y.0, y.1))) (unchanged.same more) })
 
 -- what is read from an index on
-pub kept_from : {A : Type 0} (n : ℕ) (bytes : List ℕ) (x : A × List ℕ) (f g : List ℕ → Option (A × List ℕ)) → ((more : List ℕ) → g more ≡ f more) → Kept (drop n bytes) x f → Kept bytes x g
-kept_from n bytes x f g e h = record {
+pub unchanged_from : {A : Type 0} (n : ℕ) (bytes : List ℕ) (x : A × List ℕ) (f g : List ℕ → Option (A × List ℕ)) → ((more : List ℕ) → g more ≡ f more) → ReadsSame (drop n bytes) x f → ReadsSame bytes x g
+unchanged_from n bytes x f g e h = record {
   front = take n bytes ++ h.front;
   whole = sym (take-append-drop n bytes) ∙ ap (λ xs. take n bytes ++ xs) h.whole ∙ sym (append_assoc (take n bytes) h.front x.1);
   same = λ more. e more ∙ h.same more;

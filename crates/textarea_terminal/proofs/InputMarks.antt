@@ -106,9 +106,9 @@ pub nowhere-index_of : (mark bytes : List ℕ) → 0 < length mark → mark_inde
 unfolding mark_index
 nowhere-index_of mark [] some none i at = absurd (omega (arith, at.fits))
 nowhere-index_of mark (b ∷ bytes) some none zero at =
-    let parts = no_place (is_some (after_mark mark (b ∷ bytes))) (mark_index mark bytes) none in
+    let components = no_place (is_some (after_mark mark (b ∷ bytes))) (mark_index mark bytes) none in
     let here = IsAt-begins mark (b ∷ bytes) at in
-    let both : false ≡ true = sym parts.0 ∙ here in (cc)
+    let both : false ≡ true = sym components.0 ∙ here in (cc)
 nowhere-index_of mark (b ∷ bytes) some none (suc i) at =
     nowhere-index_of mark bytes some (no_place (is_some (after_mark mark (b ∷ bytes))) (mark_index mark bytes) none).1 i (IsAt-tail b bytes mark i at)
 
@@ -170,9 +170,9 @@ unfolding after_mark
 after_mark-whole [] bytes rest e = (cc)
 after_mark-whole (m ∷ mark) [] rest e = (cc)
 after_mark-whole (m ∷ mark) (b ∷ bytes) rest e =
-    let parts = chosen_rest (eqb b m) (after_mark mark bytes) rest e in
-    let same = eqb-true b m parts.0 in
-    ap (λ x. x ∷ bytes) same ∙ ap (λ xs. m ∷ xs) (after_mark-whole mark bytes rest parts.1)
+    let components = chosen_rest (eqb b m) (after_mark mark bytes) rest e in
+    let same = eqb-true b m components.0 in
+    ap (λ x. x ∷ bytes) same ∙ ap (λ xs. m ∷ xs) (after_mark-whole mark bytes rest components.1)
 
 -- and more bytes are at the end of what is after it
 pub after_mark-more : (mark bytes rest more : List ℕ) → after_mark mark bytes ≡ Some rest → after_mark mark (bytes ++ more) ≡ Some (rest ++ more)
@@ -180,20 +180,20 @@ unfolding after_mark
 after_mark-more [] bytes rest more e = let same : bytes ≡ rest = (cc) in rw same refl
 after_mark-more (m ∷ mark) [] rest more e = (cc)
 after_mark-more (m ∷ mark) (b ∷ bytes) rest more e =
-    let parts = chosen_rest (eqb b m) (after_mark mark bytes) rest e in
-    rw parts.0 (after_mark-more mark bytes rest more parts.1)
+    let components = chosen_rest (eqb b m) (after_mark mark bytes) rest e in
+    rw components.0 (after_mark-more mark bytes rest more components.1)
 
 -- Bytes that begin with a mark only when more bytes follow are a prefix of the mark.
-pub after_mark-part : (mark bytes more : List ℕ) (rest : List ℕ) → after_mark mark bytes ≡ None → after_mark mark (bytes ++ more) ≡ Some rest → (n : ℕ) × (n < length mark) × (bytes ≡ take n mark)
+pub after_mark-segment : (mark bytes more : List ℕ) (rest : List ℕ) → after_mark mark bytes ≡ None → after_mark mark (bytes ++ more) ≡ Some rest → (n : ℕ) × (n < length mark) × (bytes ≡ take n mark)
 unfolding after_mark
-after_mark-part [] bytes more rest none e = (cc)
-after_mark-part (m ∷ mark) [] more rest none e = (0, omega arith, refl)
-after_mark-part (m ∷ mark) (b ∷ bytes) more rest none e =
-    let parts = chosen_rest (eqb b m) (after_mark mark (bytes ++ more)) rest e in
-    let same = eqb-true b m parts.0 in
-    let no_rest : after_mark mark bytes ≡ None = left_none (eqb b m) (after_mark mark bytes) parts.0 none in
-    let part = after_mark-part mark bytes more rest no_rest parts.1 in
-    (suc part.0, omega (arith, part.1), ap (λ x. x ∷ bytes) same ∙ ap (λ xs. m ∷ xs) part.2)
+after_mark-segment [] bytes more rest none e = (cc)
+after_mark-segment (m ∷ mark) [] more rest none e = (0, omega arith, refl)
+after_mark-segment (m ∷ mark) (b ∷ bytes) more rest none e =
+    let components = chosen_rest (eqb b m) (after_mark mark (bytes ++ more)) rest e in
+    let same = eqb-true b m components.0 in
+    let no_rest : after_mark mark bytes ≡ None = left_none (eqb b m) (after_mark mark bytes) components.0 none in
+    let segment = after_mark-segment mark bytes more rest no_rest components.1 in
+    (suc segment.0, omega (arith, segment.1), ap (λ x. x ∷ bytes) same ∙ ap (λ xs. m ∷ xs) segment.2)
 
 -- a mark written at the front
 pub after_mark-written : (mark rest : List ℕ) → after_mark mark (mark ++ rest) ≡ Some rest
@@ -233,8 +233,8 @@ unfolding after_mark
 still_some [] bytes more e = refl
 still_some (m ∷ mark) [] more e = (cc)
 still_some (m ∷ mark) (b ∷ bytes) more e =
-    let parts = equal_bytes (eqb b m) (after_mark mark bytes) e in
-    rw parts.0 (still_some mark bytes more parts.1)
+    let components = equal_bytes (eqb b m) (after_mark mark bytes) e in
+    rw components.0 (still_some mark bytes more components.1)
 
 -- with more bytes a mark's first index stays
 pub index_of-more : (mark bytes more : List ℕ) (k : ℕ) → mark_index mark bytes ≡ Some k → mark_index mark (bytes ++ more) ≡ Some k

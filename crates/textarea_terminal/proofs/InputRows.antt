@@ -7,7 +7,7 @@ use lib.Utf8.{scalar_cases}
 use Rattle.std.specs.Str.Lossy.{utf8_lossy}
 use Rattle.std.specs.List.{AllByRecursion}
 use Rattle.textarea_terminal.proofs.InputMarks.{IsAt, index_of-first, nowhere-index_of, after_mark-written}
-use Rattle.textarea_terminal.proofs.InputUnits.{unit_at-key, unit-paste_at, unit_at-taken, unit_at-nil}
+use Rattle.textarea_terminal.proofs.InputUnits.{unit_at-key, unit-paste_at, unit_at-consumed, unit_at-nil}
 use Rattle.textarea_terminal.proofs.InputReports.{mouse-read, wheel_up-read, wheel_down-read, size-read, cursor-read}
 use Rattle.textarea_terminal.proofs.InputStreams.{decoding-none, decoding-some}
 use Rattle.textarea_terminal.specs.InputStream.{decoding, with_event}
@@ -304,7 +304,7 @@ written-read bytes value focus_lost_row = focus_lost-read
 
 -- a row is read, whatever comes after it
 pub written-read_before : (bytes : List ℕ) (value : EventValue) (more : List ℕ) → IsSentFor bytes value → unit_at (bytes ++ more) ≡ Some (value, more)
-written-read_before bytes value more h = (unit_at-taken bytes (value, []) (written-read bytes value h)).same more
+written-read_before bytes value more h = (unit_at-consumed bytes (value, []) (written-read bytes value h)).same more
 
 decoding-nil : decoding [] ≡ ([], [])
 decoding-nil = decoding-none [] unit_at-nil

@@ -10,7 +10,7 @@ use Rattle.textarea_terminal.specs.declared.input.parameter.Parameters.TheVarian
 use Rattle.textarea_terminal.specs.InputSequence.{is_inner, is_final, count_front, inner_limit, final_at, after_inner, control_at, shift_key_at, shift_key_after_one, shift_key_after_two, bracket_at, or_else, sequence_event}
 use Rattle.textarea_terminal.specs.InputUnit.{unit_at, after_mark, paste_start, key_or_sequence, escape_at}
 use Rattle.textarea_terminal.specs.InputRow.{AreInner, IsGeneral, digit, decimal, bracket}
-use Rattle.textarea_terminal.proofs.InputParts.{number_from-end, count_front-zero, count_front-cons, count_front-cons_end}
+use Rattle.textarea_terminal.proofs.InputPrefixes.{number_from-end, count_front-zero, count_front-cons, count_front-cons_end}
 use Rattle.textarea_terminal.proofs.InputMarks.{after_mark-whole}
 use Rattle.textarea_terminal.proofs.InputUnits.{control_after_count, control_at-counted, unit-other}
 

@@ -8,13 +8,13 @@ use Rattle.textarea_terminal.specs.InputUnit.{unit_at}
 use Rattle.std.specs.List.{concat}
 use Rattle.textarea_terminal.specs.InputRow.{feeding}
 use Rattle.textarea_terminal.specs.InputStream.{Adds, AddsUpTo, EndsIn, Decoding, with_event, decoding_within, decoding, events_of, begun_bytes}
-use Rattle.textarea_terminal.proofs.InputUnits.{unit_at-taken, unit_at-nil}
+use Rattle.textarea_terminal.proofs.InputUnits.{unit_at-consumed, unit_at-nil}
 
 -- an event takes a byte at least
 pub unit_at-shorter : (bytes : List ℕ) (x : EventValue × List ℕ) → unit_at bytes ≡ Some x → length x.1 < length bytes
 unit_at-shorter bytes x e =
-    let taken = unit_at-taken bytes x e in
-    omega (arith, taken.some, ap length taken.whole ∙ length-append taken.front x.1)
+    let consumed = unit_at-consumed bytes x e in
+    omega (arith, consumed.some, ap length consumed.whole ∙ length-append consumed.front x.1)
 
 within-none : (most : ℕ) (bytes : List ℕ) → unit_at bytes ≡ None → decoding_within most bytes ≡ ([], bytes)
 unfolding decoding_within
@@ -74,9 +74,9 @@ rest_of-begun = by_units (λ bytes. unit_at (begun_bytes bytes) ≡ None)
 pub rest_of-ends : (bytes : List ℕ) → EndsIn bytes (begun_bytes bytes)
 rest_of-ends = by_units (λ bytes. EndsIn bytes (begun_bytes bytes))
     (λ bytes e. record { front = []; whole = sym (ap (λ (d : Decoding). d.1) (decoding-none bytes e)) })
-    (λ bytes x e h. let taken = unit_at-taken bytes x e in record {
-      front = taken.front ++ h.front;
-      whole = taken.whole ∙ ap (λ xs. taken.front ++ xs) (h.whole ∙ ap (λ xs. h.front ++ xs) (sym (ap (λ (d : Decoding). d.1) (decoding-some bytes x e)))) ∙ sym (append_assoc taken.front h.front (begun_bytes bytes));
+    (λ bytes x e h. let consumed = unit_at-consumed bytes x e in record {
+      front = consumed.front ++ h.front;
+      whole = consumed.whole ∙ ap (λ xs. consumed.front ++ xs) (h.whole ∙ ap (λ xs. h.front ++ xs) (sym (ap (λ (d : Decoding). d.1) (decoding-some bytes x e)))) ∙ sym (append_assoc consumed.front h.front (begun_bytes bytes));
     })
 
 drop_front : (front rest : List ℕ) → drop (length (front ++ rest) - length rest) (front ++ rest) ≡ rest
@@ -92,7 +92,8 @@ rest_of-drop bytes =
 pub rest_of-le : (bytes : List ℕ) → length (begun_bytes bytes) ≤ length bytes
 rest_of-le bytes = let ends = rest_of-ends bytes in omega (arith, ap length ends.whole ∙ length-append ends.front (begun_bytes bytes))
 
--- bytes and more bytes: the events of the first, and what is made of what they leave, and of the others
+-- bytes and more bytes: the events of the first, and what is made of what they leave, and of the
+-- others
 abbrev joined : List EventValue → Decoding → Decoding
 joined values d = (values ++ d.0, d.1)
 
@@ -100,7 +101,7 @@ pub decoding-append : (bytes more : List ℕ) → decoding (bytes ++ more) ≡ (
 decoding-append bytes more = by_units (λ bytes. decoding (bytes ++ more) ≡ joined (events_of bytes) (decoding (begun_bytes bytes ++ more)))
     (λ bytes e. sym (ap (λ (d : Decoding). joined d.0 (decoding (d.1 ++ more))) (decoding-none bytes e)))
     (λ bytes x e h.
-    decoding-some (bytes ++ more) (x.0, x.1 ++ more) ((unit_at-taken bytes x e).same more) ∙ ap (with_event x.0) h
+    decoding-some (bytes ++ more) (x.0, x.1 ++ more) ((unit_at-consumed bytes x e).same more) ∙ ap (with_event x.0) h
     ∙ sym (ap (λ (d : Decoding). joined d.0 (decoding (d.1 ++ more))) (decoding-some bytes x e)))
     bytes
 
@@ -148,17 +149,17 @@ AddsUpTo-begun old new all bytes e h =
 
 -- what is left after the front is removed
 pub rest_of-removed : (items all new rest : List ℕ) (n left : ℕ) → items ≡ all → new ≡ drop (n - left) items → n ≡ length items → left ≡ length rest → rest ≡ begun_bytes items → new ≡ begun_bytes all
-rest_of-removed items all new rest n left same removed count kept is =
+rest_of-removed items all new rest n left same removed count unchanged is =
     let cut : n - left ≡ length items - length (begun_bytes items) = omega (arith, ap length is) in
     removed ∙ ap (λ (k : ℕ). drop k items) cut ∙ rest_of-drop items ∙ ap (λ (xs : List ℕ). begun_bytes xs) same
 
 -- ---- slices
 
-pub feeding-concat : (pending : List ℕ) (pieces : List (List ℕ)) → unit_at pending ≡ None → feeding pending pieces ≡ decoding (pending ++ concat pieces)
+pub feeding-concat : (pending : List ℕ) (segments : List (List ℕ)) → unit_at pending ≡ None → feeding pending segments ≡ decoding (pending ++ concat segments)
 feeding-concat pending [] begun = sym (ap decoding (append-nil pending) ∙ decoding-none pending begun)
-feeding-concat pending (piece ∷ pieces) begun =
-    ap (λ (d : Decoding). (events_of (pending ++ piece) ++ d.0, d.1)) (feeding-concat (begun_bytes (pending ++ piece)) pieces (rest_of-begun (pending ++ piece)))
-    ∙ sym (decoding-append (pending ++ piece) (concat pieces)) ∙ ap decoding (append_assoc pending piece (concat pieces))
+feeding-concat pending (segment ∷ segments) begun =
+    ap (λ (d : Decoding). (events_of (pending ++ segment) ++ d.0, d.1)) (feeding-concat (begun_bytes (pending ++ segment)) segments (rest_of-begun (pending ++ segment)))
+    ∙ sym (decoding-append (pending ++ segment) (concat segments)) ∙ ap decoding (append_assoc pending segment (concat segments))
 
 -- what stays at the front of some events, and of those that are added to them
 pub AddsUpTo-front_of_more : (n m : ℕ) (old mid new : List Event) (to_come all : List EventValue) → n ≡ length old → m ≡ length mid → AddsUpTo old mid to_come all → take m new ≡ mid → take n new ≡ old

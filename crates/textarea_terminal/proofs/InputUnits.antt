@@ -14,8 +14,8 @@ use Rattle.textarea_terminal.specs.InputParameter.{is_digit}
 use Rattle.textarea_terminal.specs.InputUnit.{key_at, single_at, with_escape, second_escape_at, escape_at, key_or_sequence, paste_start, paste_end, after_mark, mark_index, paste_at, paste_before, paste_or, unit_at}
 use Rattle.std.specs.Str.Lossy.{utf8_lossy}
 use Rattle.textarea_terminal.specs.InputStream.{Takes}
-use Rattle.textarea_terminal.proofs.InputMarks.{after_mark-whole, after_mark-more, after_mark-part, index_of-fits, index_of-more}
-use Rattle.textarea_terminal.proofs.InputKeeps.{Kept, Keeps, keeps_none, keeps_some, keeps_here, keeps_byte, keeps_one, keeps_if, keeps_map, kept_from}
+use Rattle.textarea_terminal.proofs.InputMarks.{after_mark-whole, after_mark-more, after_mark-segment, index_of-fits, index_of-more}
+use Rattle.textarea_terminal.proofs.InputKeeps.{ReadsSame, Keeps, keeps_none, keeps_some, keeps_here, keeps_byte, keeps_one, keeps_if, keeps_map, unchanged_from}
 
 -- ---- characters and keys
 
@@ -76,11 +76,11 @@ count_front-append : (test : ℕ → Bool) (most : ℕ) (bytes more : List ℕ) 
 unfolding count_front
 count_front-append test zero bytes more h = refl
 count_front-append test (suc most) [] more h = ⊎_elim (λ (e : 0 ≡ suc most). absurd (omega arith)) (λ (e : 0 < 0). absurd (omega arith)) h
-count_front-append test (suc most) (b ∷ bytes) more h = goes_on (test b) (count_front test most bytes) (count_front test most (bytes ++ more)) (count_front-append test most bytes more) h
+count_front-append test (suc most) (b ∷ bytes) more h = count_continues (test b) (count_front test most bytes) (count_front test most (bytes ++ more)) (count_front-append test most bytes more) h
   where
-    goes_on : (t : Bool) (n m : ℕ) → ((n ≡ most) ⊎ (n < length bytes) → m ≡ n) → (cond t (suc n) 0 ≡ suc most) ⊎ (cond t (suc n) 0 < suc (length bytes)) → cond t (suc m) 0 ≡ cond t (suc n) 0
-    goes_on true n m k h = ap suc (k (⊎_elim (λ (e : suc n ≡ suc most). inl (omega arith)) (λ (e : suc n < suc (length bytes)). inr (omega arith)) h))
-    goes_on false n m k h = refl
+    count_continues : (t : Bool) (n m : ℕ) → ((n ≡ most) ⊎ (n < length bytes) → m ≡ n) → (cond t (suc n) 0 ≡ suc most) ⊎ (cond t (suc n) 0 < suc (length bytes)) → cond t (suc m) 0 ≡ cond t (suc n) 0
+    count_continues true n m k h = ap suc (k (⊎_elim (λ (e : suc n ≡ suc most). inl (omega arith)) (λ (e : suc n < suc (length bytes)). inr (omega arith)) h))
+    count_continues false n m k h = refl
 
 -- what is made of a count of inner bytes
 unfoldable pub control_after_count : ℕ → List ℕ → List ℕ → EventAndRest
@@ -112,14 +112,14 @@ counted_out n inner [] x e = limited (eqb n inner_limit) (eqb-true n inner_limit
 
 keeps_control : (bytes : List ℕ) → Keeps bytes (control_at bytes) (λ more. control_at (bytes ++ more))
 keeps_control bytes = record {
-  kept = λ x e.
+  unchanged = λ x e.
       let n = count_front is_inner inner_limit bytes in
       let read = sym (control_at-counted bytes) ∙ e in
       let within = count_front-le is_inner inner_limit bytes in
       let out : (n ≡ inner_limit) ⊎ (n < length bytes) =
       ⊎_elim (λ (k : n ≡ inner_limit). inl k) (λ (k : 0 < length (drop n bytes)). inr (omega (arith, length-drop n bytes))) (counted_out n (take n bytes) (drop n bytes) x read) in
-      kept_from n bytes x _ _ (λ more. control-more n bytes more within (count_front-append is_inner inner_limit bytes more out))
-      ((keeps_closed n (take n bytes) (drop n bytes)).kept x read);
+      unchanged_from n bytes x _ _ (λ more. control-more n bytes more within (count_front-append is_inner inner_limit bytes more out))
+      ((keeps_closed n (take n bytes) (drop n bytes)).unchanged x read);
 }
 
 -- ---- rxvt's keys with Shift
@@ -203,16 +203,16 @@ stays_none (b ∷ bytes) more e = chosen (is_digit b) refl e
 
 keeps_or_else : (bytes : List ℕ) (o p : EventAndRest) (f g : List ℕ → EventAndRest) → Keeps bytes o f → Keeps bytes p g → ((more : List ℕ) → o ≡ None → (f more ≡ None) ⊎ (p ≡ None)) → Keeps bytes (or_else o p) (λ more. or_else (f more) (g more))
 keeps_or_else bytes (Some x) p f g h k stays =
-    let kept = h.kept x refl in
-    keeps_some bytes x _ (record { front = kept.front; whole = kept.whole; same = λ more. ap (λ (o : EventAndRest). or_else o (g more)) (kept.same more) })
+    let unchanged = h.unchanged x refl in
+    keeps_some bytes x _ (record { front = unchanged.front; whole = unchanged.whole; same = λ more. ap (λ (o : EventAndRest). or_else o (g more)) (unchanged.same more) })
 keeps_or_else bytes None None f g h k stays = keeps_none bytes _
 keeps_or_else bytes None (Some x) f g h k stays =
-    let kept = k.kept x refl in
+    let unchanged = k.unchanged x refl in
     keeps_some bytes x _ (record {
-      front = kept.front;
-      whole = kept.whole;
+      front = unchanged.front;
+      whole = unchanged.whole;
       same = λ more. ⊎_elim
-          (λ (e : f more ≡ None). ap (λ (o : EventAndRest). or_else o (g more)) e ∙ kept.same more)
+          (λ (e : f more ≡ None). ap (λ (o : EventAndRest). or_else o (g more)) e ∙ unchanged.same more)
           (λ (e : Some x ≡ None). (cc))
           (stays more refl);
     })
@@ -229,13 +229,13 @@ keeps_single [] = keeps_none [] _
 keeps_single (b ∷ bytes) = keeps_if _ (b ∷ bytes) _ _ _ _ (keeps_one _ b bytes) (keeps_here _ (b ∷ bytes))
 
 -- a sequence after another ESC, where `second` begins at its own
-escape_kept : (second bytes front : List ℕ) (x : EventValue × List ℕ) (f : List ℕ → EventAndRest) → second ≡ front ++ bytes → Kept bytes x f → Kept second (with_escape second x) (λ more. option_map (with_escape (second ++ more)) (f more))
-escape_kept second bytes front (input i, rest) f e h = record {
+escape_unchanged : (second bytes front : List ℕ) (x : EventValue × List ℕ) (f : List ℕ → EventAndRest) → second ≡ front ++ bytes → ReadsSame bytes x f → ReadsSame second (with_escape second x) (λ more. option_map (with_escape (second ++ more)) (f more))
+escape_unchanged second bytes front (input i, rest) f e h = record {
   front = front ++ h.front;
   whole = e ∙ ap (λ xs. front ++ xs) h.whole ∙ sym (append_assoc front h.front rest);
   same = λ more. ap (option_map (with_escape (second ++ more))) (h.same more);
 }
-escape_kept second bytes front (other, rest) f e h = record {
+escape_unchanged second bytes front (other, rest) f e h = record {
   front = [];
   whole = refl;
   same = λ more. ap (option_map (with_escape (second ++ more))) (h.same more);
@@ -243,7 +243,7 @@ escape_kept second bytes front (other, rest) f e h = record {
 
 keeps_with_escape : (second bytes front : List ℕ) (o : EventAndRest) (f : List ℕ → EventAndRest) → second ≡ front ++ bytes → Keeps bytes o f → Keeps second (option_map (with_escape second) o) (λ more. option_map (with_escape (second ++ more)) (f more))
 keeps_with_escape second bytes front None f e h = keeps_none second _
-keeps_with_escape second bytes front (Some x) f e h = keeps_some second (with_escape second x) _ (escape_kept second bytes front x f e (h.kept x refl))
+keeps_with_escape second bytes front (Some x) f e h = keeps_some second (with_escape second x) _ (escape_unchanged second bytes front x f e (h.unchanged x refl))
 
 keeps_twice : (b : ℕ) (bytes : List ℕ) → Keeps (b ∷ bytes) (second_escape_at (b ∷ bytes) bytes) (λ more. second_escape_at (b ∷ bytes ++ more) (bytes ++ more))
 unfolding second_escape_at
@@ -269,13 +269,13 @@ keeps_key_or_sequence b bytes = keeps_if _ bytes _ _ _ _ (keeps_escaped bytes) (
 
 -- ---- pasted texts
 
-pasted_kept : (bytes : List ℕ) (x : EventValue × List ℕ) (o : Option ℕ) → mark_index paste_end bytes ≡ o → option_map (paste_before bytes) o ≡ Some x → Kept bytes x (λ more. paste_at (bytes ++ more))
+pasted_unchanged : (bytes : List ℕ) (x : EventValue × List ℕ) (o : Option ℕ) → mark_index paste_end bytes ≡ o → option_map (paste_before bytes) o ≡ Some x → ReadsSame bytes x (λ more. paste_at (bytes ++ more))
 unfolding paste_at
-pasted_kept bytes x None place e = (cc)
-pasted_kept bytes x (Some k) place e =
+pasted_unchanged bytes x None place e = (cc)
+pasted_unchanged bytes x (Some k) place e =
     let fits : k + 6 ≤ length bytes = index_of-fits paste_end bytes k place in
     let same : paste_before bytes k ≡ x = (cc) in
-    let P : EventValue × List ℕ → Type 0 = λ y. Kept bytes y (λ more. paste_at (bytes ++ more)) in
+    let P : EventValue × List ℕ → Type 0 = λ y. ReadsSame bytes y (λ more. paste_at (bytes ++ more)) in
     subst P same (record {
       front = take (k + 6) bytes;
       whole = sym (take-append-drop (k + 6) bytes);
@@ -285,9 +285,9 @@ pasted_kept bytes x (Some k) place e =
           ∙ ap (λ (xs : List ℕ). Some (paste (utf8_lossy (take k bytes)), xs)) (drop-append-le (k + 6) bytes more fits);
     })
 
-paste_at-kept : (bytes : List ℕ) (x : EventValue × List ℕ) → paste_at bytes ≡ Some x → Kept bytes x (λ more. paste_at (bytes ++ more))
+paste_at-unchanged : (bytes : List ℕ) (x : EventValue × List ℕ) → paste_at bytes ≡ Some x → ReadsSame bytes x (λ more. paste_at (bytes ++ more))
 unfolding paste_at
-paste_at-kept bytes x e = pasted_kept bytes x (mark_index paste_end bytes) refl e
+paste_at-unchanged bytes x e = pasted_unchanged bytes x (mark_index paste_end bytes) refl e
 
 unmapped : {A B : Type 0} (f : A → B) (o : Option A) → option_map f o ≡ None → o ≡ None
 unmapped f None e = refl
@@ -330,44 +330,44 @@ pub unit-other : (bytes : List ℕ) → after_mark paste_start bytes ≡ None �
 unfolding unit_at
 unit-other bytes e = ap (λ (o : Option (List ℕ)). paste_or o (key_or_sequence bytes)) e
 
-taken_text : (bytes text : List ℕ) (x : EventValue × List ℕ) → after_mark paste_start bytes ≡ Some text → unit_at bytes ≡ Some x → Takes bytes x
-taken_text bytes text x e is =
-    let kept = paste_at-kept text x (sym (unit-paste_at bytes text e) ∙ is) in
+takes_text : (bytes text : List ℕ) (x : EventValue × List ℕ) → after_mark paste_start bytes ≡ Some text → unit_at bytes ≡ Some x → Takes bytes x
+takes_text bytes text x e is =
+    let unchanged = paste_at-unchanged text x (sym (unit-paste_at bytes text e) ∙ is) in
     record {
-      front = paste_start ++ kept.front;
+      front = paste_start ++ unchanged.front;
       some = omega arith;
-      whole = after_mark-whole paste_start bytes text e ∙ ap (λ xs. paste_start ++ xs) kept.whole;
-      same = λ more. unit-paste_at (bytes ++ more) (text ++ more) (after_mark-more paste_start bytes text more e) ∙ kept.same more;
+      whole = after_mark-whole paste_start bytes text e ∙ ap (λ xs. paste_start ++ xs) unchanged.whole;
+      same = λ more. unit-paste_at (bytes ++ more) (text ++ more) (after_mark-more paste_start bytes text more e) ∙ unchanged.same more;
     }
 
 still_no_mark : (bytes more : List ℕ) (x : EventValue × List ℕ) (o : Option (List ℕ)) → after_mark paste_start bytes ≡ None → key_or_sequence bytes ≡ Some x → after_mark paste_start (bytes ++ more) ≡ o → after_mark paste_start (bytes ++ more) ≡ None
 still_no_mark bytes more x None none is e = e
 still_no_mark bytes more x (Some rest) none is e =
-    let part = after_mark-part paste_start bytes more rest none e in
-    let begun = ap key_or_sequence part.2 ∙ begun_mark part.0 part.1 in
+    let segment = after_mark-segment paste_start bytes more rest none e in
+    let begun = ap key_or_sequence segment.2 ∙ begun_mark segment.0 segment.1 in
     let both : Some x ≡ None = sym is ∙ begun in (cc)
 
 nothing_read : key_or_sequence [] ≡ None
 unfolding key_or_sequence
 nothing_read = refl
 
-taken_other : (bytes : List ℕ) (x : EventValue × List ℕ) → after_mark paste_start bytes ≡ None → key_or_sequence bytes ≡ Some x → Takes bytes x
-taken_other [] x none is = let both : None ≡ Some x = sym nothing_read ∙ is in (cc)
-taken_other (b ∷ bytes) x none is =
-    let kept = (keeps_key_or_sequence b bytes).kept x is in
+takes_other : (bytes : List ℕ) (x : EventValue × List ℕ) → after_mark paste_start bytes ≡ None → key_or_sequence bytes ≡ Some x → Takes bytes x
+takes_other [] x none is = let both : None ≡ Some x = sym nothing_read ∙ is in (cc)
+takes_other (b ∷ bytes) x none is =
+    let unchanged = (keeps_key_or_sequence b bytes).unchanged x is in
     record {
-      front = b ∷ kept.front;
+      front = b ∷ unchanged.front;
       some = omega arith;
-      whole = ap (λ xs. b ∷ xs) kept.whole;
-      same = λ more. unit-other (b ∷ bytes ++ more) (still_no_mark (b ∷ bytes) more x (after_mark paste_start (b ∷ bytes ++ more)) none is refl) ∙ kept.same more;
+      whole = ap (λ xs. b ∷ xs) unchanged.whole;
+      same = λ more. unit-other (b ∷ bytes ++ more) (still_no_mark (b ∷ bytes) more x (after_mark paste_start (b ∷ bytes ++ more)) none is refl) ∙ unchanged.same more;
     }
 
-taken_by : (bytes : List ℕ) (x : EventValue × List ℕ) (o : Option (List ℕ)) → after_mark paste_start bytes ≡ o → unit_at bytes ≡ Some x → Takes bytes x
-taken_by bytes x None e is = taken_other bytes x e (sym (unit-other bytes e) ∙ is)
-taken_by bytes x (Some text) e is = taken_text bytes text x e is
+takes_by : (bytes : List ℕ) (x : EventValue × List ℕ) (o : Option (List ℕ)) → after_mark paste_start bytes ≡ o → unit_at bytes ≡ Some x → Takes bytes x
+takes_by bytes x None e is = takes_other bytes x e (sym (unit-other bytes e) ∙ is)
+takes_by bytes x (Some text) e is = takes_text bytes text x e is
 
-pub unit_at-taken : (bytes : List ℕ) (x : EventValue × List ℕ) → unit_at bytes ≡ Some x → Takes bytes x
-unit_at-taken bytes x is = taken_by bytes x (after_mark paste_start bytes) refl is
+pub unit_at-consumed : (bytes : List ℕ) (x : EventValue × List ℕ) → unit_at bytes ≡ Some x → Takes bytes x
+unit_at-consumed bytes x is = takes_by bytes x (after_mark paste_start bytes) refl is
 
 pub unit_at-nil : unit_at [] ≡ None
 unfolding unit_at after_mark key_or_sequence
@@ -457,8 +457,8 @@ waits_control : (bytes : List ℕ) → Waits inner_limit bytes (control_at bytes
 waits_control bytes = record {
   bound = λ e.
       let n = count_front is_inner inner_limit bytes in
-      let parts = control_after_count-none n (take n bytes) (drop n bytes) (sym (control_at-counted bytes) ∙ e) in
-      omega (arith, count_front-most is_inner inner_limit bytes, count_front-le is_inner inner_limit bytes, parts.0, parts.1, length-drop n bytes);
+      let components = control_after_count-none n (take n bytes) (drop n bytes) (sym (control_at-counted bytes) ∙ e) in
+      omega (arith, count_front-most is_inner inner_limit bytes, count_front-le is_inner inner_limit bytes, components.0, components.1, length-drop n bytes);
 }
 
 or_else-none : (o p : EventAndRest) → or_else o p ≡ None → p ≡ None

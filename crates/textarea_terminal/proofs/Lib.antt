@@ -1,4 +1,4 @@
-pub mod InputParts
+pub mod InputPrefixes
 pub mod InputMarks
 pub mod InputKeeps
 pub mod InputUnits

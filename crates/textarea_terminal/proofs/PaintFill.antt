@@ -1,4 +1,5 @@
--- The cells of a buffer as a terminal shows them, from one cell to the next; and that they are whole clusters.
+-- The cells of a buffer as a terminal shows them, from one cell to the next; and that they are
+-- whole clusters.
 use Rattle.std.proofs.Common.{◌≡◌, ℕ, zero, suc, ◌+◌, ◌-◌, ◌*◌, ◌/◌, ◌%◌, ◌<◌, ◌≤◌, true, false, ◌&&◌, ◌⊎◌, inl, inr, ⊎_elim, List, [], ◌∷◌, ◌++◌, length, map, take, replicate, refl, sym, ap, ◌∙◌, arith, ltb, leb}
 use Rattle.std.proofs.Common.{set, append_assoc}
 use Rattle.std.proofs.Math.Nat.{mod-lt, div-lt_iff_lt-mul, mul-le-mul_left}
@@ -11,7 +12,7 @@ use Rattle.textarea_screen.specs.declared.screen.cell.Cell.{Cell}
 use Rattle.textarea_screen.specs.declared.screen.buffer.Buffer.{Buffer}
 use Rattle.textarea_screen.specs.declared.screen.rect.Rect.{Rect}
 use Rattle.textarea_terminal.specs.Pen.{look_of}
-use Rattle.textarea_terminal.specs.PaintCells.{cluster_columns, half, is_half, nine_of, shown_alike, blanked, begins_empty, fits_in_row, displayed, cell_in, cells_from, frame_of_buffer, can_begin, are_whole}
+use Rattle.textarea_terminal.specs.PaintCells.{cluster_columns, half, is_half, nine_of, displayed_alike, blanked, begins_empty, fits_in_row, displayed, cell_in, cells_from, frame_of_buffer, can_begin, are_whole}
 use Rattle.textarea_terminal.proofs.ScreenPlain.{cluster_columns-blank}
 
 -- ---- from one cell to the next
@@ -40,16 +41,16 @@ displayed-half area buffer place halves size within some =
     ap (displayed area.width place halves) (cells_from-next area buffer place size within)
     ∙ ap (λ count. displayed area.width place count (cell_in area buffer place ∷ cells_from area buffer (place + 1) (size - (place + 1)))) more
 
-pub displayed-shown : (area : Rect) (buffer : Buffer) (place halves size : ℕ) → place < size → halves ≡ 0 →
+pub displayed-visible : (area : Rect) (buffer : Buffer) (place halves size : ℕ) → place < size → halves ≡ 0 →
     fits_in_row area.width place (cell_in area buffer place) (cells_from area buffer (place + 1) (size - (place + 1))) ≡ true →
     displayed area.width place halves (cells_from area buffer place (size - place))
-    ≡ shown_alike (cell_in area buffer place) ∷ displayed area.width (place + 1) (cluster_columns (cell_in area buffer place).symbol - 1) (cells_from area buffer (place + 1) (size - (place + 1)))
-displayed-shown area buffer place halves size within none fit =
+    ≡ displayed_alike (cell_in area buffer place) ∷ displayed area.width (place + 1) (cluster_columns (cell_in area buffer place).symbol - 1) (cells_from area buffer (place + 1) (size - (place + 1)))
+displayed-visible area buffer place halves size within none fit =
     let cell = cell_in area buffer place in
     let cells = cells_from area buffer (place + 1) (size - (place + 1)) in
     ap (displayed area.width place halves) (cells_from-next area buffer place size within)
     ∙ ap (λ count. displayed area.width place count (cell ∷ cells)) none
-    ∙ cond-true (fits_in_row area.width place cell cells) (shown_alike cell ∷ displayed area.width (place + 1) (cluster_columns cell.symbol - 1) cells)
+    ∙ cond-true (fits_in_row area.width place cell cells) (displayed_alike cell ∷ displayed area.width (place + 1) (cluster_columns cell.symbol - 1) cells)
     (blanked cell ∷ displayed area.width (place + 1) 0 cells) fit
 
 pub displayed-blank : (area : Rect) (buffer : Buffer) (place halves size : ℕ) → place < size → halves ≡ 0 →
@@ -61,7 +62,7 @@ displayed-blank area buffer place halves size within none fit =
     let cells = cells_from area buffer (place + 1) (size - (place + 1)) in
     ap (displayed area.width place halves) (cells_from-next area buffer place size within)
     ∙ ap (λ count. displayed area.width place count (cell ∷ cells)) none
-    ∙ cond-false (fits_in_row area.width place cell cells) (shown_alike cell ∷ displayed area.width (place + 1) (cluster_columns cell.symbol - 1) cells)
+    ∙ cond-false (fits_in_row area.width place cell cells) (displayed_alike cell ∷ displayed area.width (place + 1) (cluster_columns cell.symbol - 1) cells)
     (blanked cell ∷ displayed area.width (place + 1) 0 cells) fit
 
 -- ---- whole clusters
@@ -71,19 +72,19 @@ begins_empty-long zero cells empty = omega arith
 begins_empty-long (suc count) [] empty = cc empty
 begins_empty-long (suc count) (cell ∷ cells) empty = omega (arith, begins_empty-long count cells (and_parts (is_half cell) (begins_empty count cells) empty).1)
 
-shown-bits : (cell : CellView) → ltb (nine_of (look_of cell)).modifier.0 512 ≡ true
-shown-bits cell = lt-ltb _ _ (omega (arith, and_le_r cell.modifier.0 511))
+visible-bits : (cell : CellView) → ltb (nine_of (look_of cell)).modifier.0 512 ≡ true
+visible-bits cell = lt-ltb _ _ (omega (arith, and_le_r cell.modifier.0 511))
 
-shown-begins : (columns place : ℕ) (cell : CellView) (cells : List CellView) → fits_in_row columns place cell cells ≡ true → can_begin columns place (shown_alike cell) ≡ true
-shown-begins columns place cell cells fit =
+visible-begins : (columns place : ℕ) (cell : CellView) (cells : List CellView) → fits_in_row columns place cell cells ≡ true → can_begin columns place (displayed_alike cell) ≡ true
+visible-begins columns place cell cells fit =
     let width = cluster_columns cell.symbol in
     let room = (and_parts (ltb 0 width && leb (place % columns + width) columns) (begins_empty (width - 1) cells) fit).0 in
-    rw room (shown-bits cell)
+    rw room (visible-bits cell)
 
 blank-begins : (columns place : ℕ) (cell : CellView) → 0 < columns → can_begin columns place (blanked cell) ≡ true
 blank-begins columns place cell some =
     let room : place % columns + 1 ≤ columns = omega (arith, mod-lt place some) in
-    rw (cluster_columns-blank, shown-bits cell, le-leb (place % columns + 1) columns room) refl
+    rw (cluster_columns-blank, visible-bits cell, le-leb (place % columns + 1) columns room) refl
 
 pub displayed-whole : (columns place halves : ℕ) (cells : List CellView) → 0 < columns → halves ≤ length cells → are_whole columns place halves (displayed columns place halves cells) ≡ true
 displayed-whole columns place zero [] some long = refl
@@ -94,7 +95,7 @@ displayed-whole columns place zero (cell ∷ cells) some long =
     (λ fit.
     let width = cluster_columns cell.symbol in
     let empty = (and_parts (ltb 0 width && leb (place % columns + width) columns) (begins_empty (width - 1) cells) fit).1 in
-    rw fit (rw (shown-begins columns place cell cells fit) (displayed-whole columns (place + 1) (width - 1) cells some (begins_empty-long (width - 1) cells empty))))
+    rw fit (rw (visible-begins columns place cell cells fit) (displayed-whole columns (place + 1) (width - 1) cells some (begins_empty-long (width - 1) cells empty))))
     (λ other.
     rw other (rw (blank-begins columns place cell some, cluster_columns-blank) (displayed-whole columns (place + 1) 0 cells some (omega arith))))
     (cases_Bool (fits_in_row columns place cell cells))
@@ -130,7 +131,7 @@ pub fill-step : (area : Rect) (buffer : Buffer) (cells : List Cell) (place halve
     map cell_view (take (place + 1) (set cells place cell)) ++ after ≡ frame
 fill-step area buffer cells place halves left cell after frame within next before =
     ap (λ items. map cell_view items ++ after) (take_more_set cells place cell within)
-    ∙ ap (λ shown. shown ++ after) (map-append cell_view (take place cells) (cell ∷ []))
+    ∙ ap (λ visible. visible ++ after) (map-append cell_view (take place cells) (cell ∷ []))
     ∙ append_assoc (map cell_view (take place cells)) (cell_view cell ∷ []) after
     ∙ ap (λ more. map cell_view (take place cells) ++ more) (sym next)
     ∙ before
@@ -150,7 +151,7 @@ fill-end area buffer cells place halves frame at full before =
 pub fresh-more : (cells : List Cell) (cell : Cell) (count : ℕ) → cell_view cell ≡ fresh_cell → map cell_view cells ≡ replicate count fresh_cell →
     map cell_view (cells ++ cell ∷ []) ≡ replicate (count + 1) fresh_cell
 fresh-more cells cell count is all =
-    map-append cell_view cells (cell ∷ []) ∙ ap (λ shown. map cell_view cells ++ shown ∷ []) is ∙ ap (λ shown. shown ++ fresh_cell ∷ []) all ∙ replicate_more count fresh_cell
+    map-append cell_view cells (cell ∷ []) ∙ ap (λ visible. map cell_view cells ++ visible ∷ []) is ∙ ap (λ visible. visible ++ fresh_cell ∷ []) all ∙ replicate_more count fresh_cell
 
 -- ---- whole clusters of an area, which may have no column
 

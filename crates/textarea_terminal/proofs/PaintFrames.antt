@@ -1,5 +1,5 @@
--- A frame that is partly painted: the terminal shows the new cells up to an index, and from there on the old ones, except for the
--- blanks of a cluster that was partly printed over.
+-- A frame that is partly painted: the terminal shows the new cells up to an index, and from there
+-- on the old ones, except for the blanks of a cluster that was partly printed over.
 use Rattle.std.proofs.Common.{◌≡◌, ℕ, zero, suc, ◌+◌, ◌-◌, ◌%◌, ◌<◌, ◌≤◌, true, false, ◌&&◌, ◌==◌, ◌⊎◌, inl, inr, ⊎_elim, List, [], ◌∷◌, ◌++◌, length, drop, replicate, refl, sym, ap, subst, ◌∙◌, arith, ltb, leb}
 use Rattle.std.specs.Bool.{MatchBool}
 use Rattle.std.proofs.lemmas.Bool.{cases_Bool, and_parts, eqb-true, ltb-true}
@@ -39,8 +39,8 @@ cluster_columns-nil = refl
 pub begins-whole : (columns place : ℕ) (cell : CellView) → can_begin columns place cell ≡ true → is_half cell ≡ false
 begins-whole columns place cell begins =
     let width = cluster_columns cell.symbol in
-    let parts = and_parts (ltb 0 width) (leb (place % columns + width) columns) (and_parts (ltb 0 width && leb (place % columns + width) columns) (ltb cell.modifier.0 512) begins).0 in
-    let some : 0 < width = ltb-true 0 width parts.0 in
+    let components = and_parts (ltb 0 width) (leb (place % columns + width) columns) (and_parts (ltb 0 width && leb (place % columns + width) columns) (ltb cell.modifier.0 512) begins).0 in
+    let some : 0 < width = ltb-true 0 width components.0 in
     ⊎_elim
     (λ empty.
     let none : cell.symbol ≡ [] = nil_from_length cell.symbol (eqb-true (length cell.symbol) 0 empty) in
@@ -55,8 +55,8 @@ pub whole-unit : (columns place halves : ℕ) (cell : CellView) (cells : List Ce
     (can_begin columns place cell ≡ true) × (are_whole columns (place + 1) (cluster_columns cell.symbol - 1) cells ≡ true)
 whole-unit columns place zero cell cells not_half whole = and_parts (can_begin columns place cell) (are_whole columns (place + 1) (cluster_columns cell.symbol - 1) cells) whole
 whole-unit columns place (suc halves) cell cells not_half whole =
-    let parts = and_parts (is_plain_half cell) (are_whole columns (place + 1) halves cells) whole in
-    let other = plain_half-half cell parts.0 in
+    let components = and_parts (is_plain_half cell) (are_whole columns (place + 1) halves cells) whole in
+    let other = plain_half-half cell components.0 in
     absurd (cc (other, not_half))
 
 pub whole-drop : (columns : ℕ) (count place halves : ℕ) (cells : List CellView) → are_whole columns place halves cells ≡ true → count ≤ length cells →
@@ -82,7 +82,8 @@ Damaged [] [] = Unit {0}
 Damaged (cell ∷ cells) (old ∷ olds) = MatchBool (is_half old) ((is_half cell ≡ false) × Damaged cells olds) ((cell ∷ cells) ≡ (old ∷ olds))
 Damaged cells olds = ⊥
 
--- the halves of a new cluster at their beginning are there, and the others are the old ones, damaged
+-- the halves of a new cluster at their beginning are there, and the others are the old ones,
+-- damaged
 abbrev pub Ahead : List CellView → List CellView → List CellView → Type 0
 Ahead [] [] [] = Unit {0}
 Ahead (cell ∷ cells) (old ∷ olds) (new ∷ news) = MatchBool (is_half new) ((cell ≡ new) × Ahead cells olds news) (Damaged (cell ∷ cells) (old ∷ olds))
@@ -145,10 +146,10 @@ module _ (rest : CellView → CellView) (blank : (cell : CellView) → is_half (
   Ahead-printed columns place (suc halves) [] (old ∷ olds) (new ∷ news) whole long (inl damaged) = absurd damaged
   Ahead-printed columns place (suc halves) [] (old ∷ olds) (new ∷ news) whole long (inr same) = cc same
   Ahead-printed columns place (suc halves) (cell ∷ cells) (old ∷ olds) (new ∷ news) whole long left =
-      let parts = and_parts (is_plain_half new) (are_whole columns (place + 1) halves news) whole in
-      let is = plain_half-half new parts.0 in
+      let components = and_parts (is_plain_half new) (are_whole columns (place + 1) halves news) whole in
+      let is = plain_half-half new components.0 in
       let after : Damaged cells olds ⊎ (cells ≡ olds) = ⊎_elim (λ damaged. Damaged-rest cell old cells olds damaged) (λ same. inr (rest-same same)) left in
-      rw is (sym (half-is new parts.0), Ahead-printed columns (place + 1) halves cells olds news parts.1 (omega arith) after)
+      rw is (sym (half-is new components.0), Ahead-printed columns (place + 1) halves cells olds news components.1 (omega arith) after)
 
 -- where the old cells are there, and a cluster of both frames has the same halves
 pub Ahead-same : (columns place halves : ℕ) (olds news : List CellView) → are_whole columns place halves olds ≡ true → are_whole columns place halves news ≡ true →
@@ -161,7 +162,7 @@ Ahead-same columns place zero (old ∷ olds) (new ∷ news) old_whole new_whole 
     let new_begins = (and_parts (can_begin columns place new) (are_whole columns (place + 1) (cluster_columns new.symbol - 1) news) new_whole).0 in
     rw (begins-whole columns place new new_begins) (rw (begins-whole columns place old old_begins) refl)
 Ahead-same columns place (suc halves) (old ∷ olds) (new ∷ news) old_whole new_whole long =
-    let olds_parts = and_parts (is_plain_half old) (are_whole columns (place + 1) halves olds) old_whole in
-    let news_parts = and_parts (is_plain_half new) (are_whole columns (place + 1) halves news) new_whole in
-    rw (plain_half-half new news_parts.0)
-    (half-is old olds_parts.0 ∙ sym (half-is new news_parts.0), Ahead-same columns (place + 1) halves olds news olds_parts.1 news_parts.1 (omega arith))
+    let olds_components = and_parts (is_plain_half old) (are_whole columns (place + 1) halves olds) old_whole in
+    let news_components = and_parts (is_plain_half new) (are_whole columns (place + 1) halves news) new_whole in
+    rw (plain_half-half new news_components.0)
+    (half-is old olds_components.0 ∙ sym (half-is new news_components.0), Ahead-same columns (place + 1) halves olds news olds_components.1 news_components.1 (omega arith))

@@ -54,5 +54,5 @@ pub begins-room : (columns : ℕ) (spot : Spot) (cell : CellView) → 0 < column
 begins-room columns spot cell some is begins =
     let width = cluster_columns cell.symbol in
     let room = (and_parts (ltb 0 width && leb (spot.place % columns + width) columns) (ltb cell.modifier.0 512) begins).0 in
-    let parts = and_parts (ltb 0 width) (leb (spot.place % columns + width) columns) room in
-    (ltb-true 0 width parts.0, omega (arith, leb-true (spot.place % columns + width) columns parts.1, column-of columns spot some is))
+    let components = and_parts (ltb 0 width) (leb (spot.place % columns + width) columns) room in
+    (ltb-true 0 width components.0, omega (arith, leb-true (spot.place % columns + width) columns components.1, column-of columns spot some is))

@@ -81,12 +81,12 @@ Between-next place old new cells ts o n os ns old_at new_at is ahead = record {
 }
 
 -- the cell is shown already
-kept : (rest : List CellView) (o n : CellView) (os ns : List CellView) → Ahead rest (o ∷ os) (n ∷ ns) → (is_half n ≡ true) ⊎ (o ≡ n) →
+unchanged : (rest : List CellView) (o n : CellView) (os ns : List CellView) → Ahead rest (o ∷ os) (n ∷ ns) → (is_half n ≡ true) ⊎ (o ≡ n) →
     (is_half n ≡ false → Ahead os os ns) → (ts : List CellView) × (rest ≡ n ∷ ts) × Ahead ts os ns
-kept [] o n os ns ahead same like = absurd ahead
-kept (t ∷ ts) o n os ns ahead same like =
+unchanged [] o n os ns ahead same like = absurd ahead
+unchanged (t ∷ ts) o n os ns ahead same like =
     ⊎_elim
-    (λ is. let parts = rw is at ahead in (ts, ap (λ cell. cell ∷ ts) parts.0, parts.1))
+    (λ is. let components = rw is at ahead in (ts, ap (λ cell. cell ∷ ts) components.0, components.1))
     (λ is.
     let as_old : o ≡ n = ⊎_elim (λ other. absurd (cc (other, is))) (λ e. e) same in
     let not_half : is_half o ≡ false = ap is_half as_old ∙ is in
@@ -105,9 +105,9 @@ covered rest blank columns place front (t ∷ ts) o n os ns ahead is some whole 
     let unbroken = Damaged-first rest blank t o ts os damaged in
     let halves = replicate (width - 1) half in
     let more : width ≡ suc (width - 1) = omega arith in
-    let behind : drop width (t ∷ ts) ≡ drop (width - 1) ts = ap (λ k. drop k (t ∷ ts)) more in (
+    let rest_after : drop width (t ∷ ts) ≡ drop (width - 1) ts = ap (λ k. drop k (t ∷ ts)) more in (
       halves ++ mended rest (drop (width - 1) ts),
-      rw (unbroken, behind) (append_assoc front (n ∷ halves) (mended rest (drop (width - 1) ts))),
+      rw (unbroken, rest_after) (append_assoc front (n ∷ halves) (mended rest (drop (width - 1) ts))),
       Ahead-printed rest blank columns place (width - 1) ts os ns whole long (Damaged-rest rest blank t o ts os damaged),
     )
 
@@ -139,10 +139,10 @@ on-screen place old new cells o n os ns old_at new_at within between =
     omega (arith, some, full, ap length between.cells_are, length-append (take place new) between.rest)
 
 -- the cells after a cell that is as it was
-Between-kept : (columns place : ℕ) (old new cells : List CellView) (o n : CellView) (os ns : List CellView) → Split place old o os → Split place new n ns →
+Between-unchanged : (columns place : ℕ) (old new cells : List CellView) (o n : CellView) (os ns : List CellView) → Split place old o os → Split place new n ns →
     are_whole columns 0 0 old ≡ true → are_whole columns 0 0 new ≡ true → length old ≡ length new → place < length new → (is_half n ≡ true) ⊎ (o ≡ n) →
     Between place old new cells → Between (place + 1) old new cells
-Between-kept columns place old new cells o n os ns old_at new_at old_whole new_whole long within same between =
+Between-unchanged columns place old new cells o n os ns old_at new_at old_whole new_whole long within same between =
     let ahead : Ahead between.rest (o ∷ os) (n ∷ ns) = rw (old_at.here, new_at.here) at between.ahead in
     let long' : length os ≡ length ns = lengths place old new o n os ns old_at new_at long in
     let like : is_half n ≡ false → Ahead os os ns = λ whole.
@@ -151,7 +151,7 @@ Between-kept columns place old new cells o n os ns old_at new_at old_whole new_w
     let news = whole-at columns place new n ns new_at new_whole (omega arith) whole in
     let olds' : are_whole columns (place + 1) (cluster_columns n.symbol - 1) os ≡ true = subst (λ (cell : CellView). are_whole columns (place + 1) (cluster_columns cell.symbol - 1) os ≡ true) as_old olds.1 in
     Ahead-same columns (place + 1) (cluster_columns n.symbol - 1) os ns olds' news.1 long' in
-    let step = kept between.rest o n os ns ahead same like in
+    let step = unchanged between.rest o n os ns ahead same like in
     Between-next place old new cells step.0 o n os ns old_at new_at (between.cells_are ∙ ap (λ rest. take place new ++ rest) step.1) step.2
 
 -- the cells after a cell whose cluster is printed
@@ -174,13 +174,14 @@ Between-changed columns place old new cells o n os ns rest blank old_at new_at n
 
 -- ---- the terminal
 
-pub record Midway (brush : Brush) (width place : ℕ) (old new : List CellView) (is_caret_shown : Bool) (terminal : Terminal) : Type 0 where
+pub record Midway (brush : Brush) (width place : ℕ) (old new : List CellView) (is_caret_visible : Bool) (terminal : Terminal) : Type 0 where
   pub knows : Knows brush terminal
   pub columns : terminal.columns ≡ width
-  pub caret : terminal.has_cursor_shown ≡ is_caret_shown
+  pub caret : terminal.has_visible_cursor ≡ is_caret_visible
   pub between : Between place old new terminal.cells
 
--- the cursor is known to be at the cell where the next cluster begins, unless that is the first of a row
+-- the cursor is known to be at the cell where the next cluster begins, unless that is the first of
+-- a row
 abbrev pub Tracks : ℕ → ℕ → Option ℕ → List CellView → Type 0
 Tracks columns place at [] = Unit {0}
 Tracks columns place at (cell ∷ cells) = MatchBool (is_half cell) (Tracks columns (place + 1) at cells) ((place % columns == 0) ≡ false → at ≡ Some place)
@@ -193,12 +194,13 @@ Tracks-after columns place zero end (cell ∷ cells) whole at =
     let here : end ≡ place = omega arith in
     rw (begins-whole columns place cell begins) (λ inside. ap (cursor_after columns) here ∙ cond-false (place % columns == 0) None (Some place) inside)
 Tracks-after columns place (suc halves) end (cell ∷ cells) whole at =
-    let parts = and_parts (is_plain_half cell) (are_whole columns (place + 1) halves cells) whole in
-    rw (plain_half-half cell parts.0) (Tracks-after columns (place + 1) halves end cells parts.1 (omega arith))
+    let components = and_parts (is_plain_half cell) (are_whole columns (place + 1) halves cells) whole in
+    rw (plain_half-half cell components.0) (Tracks-after columns (place + 1) halves end cells components.1 (omega arith))
 
--- the controls so far change a terminal that shows the old cells up to this index, and print what has changed there
+-- the controls so far change a terminal that shows the old cells up to this index, and print what
+-- has changed there
 pub record Reaches (start brush : Brush) (columns place : ℕ) (old new : List CellView) (controls : List Control) : Type 0 where
-  pub brings : (terminal : Terminal) (is_caret_shown : Bool) → Shows start columns old is_caret_shown terminal → Midway brush columns place old new is_caret_shown (run controls terminal)
+  pub brings : (terminal : Terminal) (is_caret_visible : Bool) → Shows start columns old is_caret_visible terminal → Midway brush columns place old new is_caret_visible (run controls terminal)
   pub prints : (later : List (List ℕ)) → AreChanges (drop place old) (drop place new) later → AreChanges old new (prints_of controls ++ later)
   pub follows : Bool
   pub tracks : follows ≡ true → Tracks columns place brush.at (drop place new)
@@ -209,7 +211,7 @@ pub record Reaches (start brush : Brush) (columns place : ℕ) (old new : List C
 pub Reaches-start : (start : Brush) (columns : ℕ) (old new : List CellView) → are_whole columns 0 0 old ≡ true → are_whole columns 0 0 new ≡ true → length old ≡ length new →
     Reaches start start columns 0 old new []
 Reaches-start start columns old new old_whole new_whole long = record {
-  brings = λ terminal is_caret_shown shows. record {
+  brings = λ terminal is_caret_visible shows. record {
     knows = shows.knows;
     columns = shows.columns;
     caret = shows.caret;
@@ -229,8 +231,8 @@ no-cells cells place at = ap (λ p. drop p cells) at ∙ drop-length cells
 pub Reaches-end : (start brush : Brush) (columns place : ℕ) (old new : List CellView) (controls : List Control) → place ≡ length new → length old ≡ length new →
     Reaches start brush columns place old new controls → Repaints columns old new start brush controls
 Reaches-end start brush columns place old new controls at long reaches = record {
-  brings = λ terminal is_caret_shown shows.
-      let midway = reaches.brings terminal is_caret_shown shows in
+  brings = λ terminal is_caret_visible shows.
+      let midway = reaches.brings terminal is_caret_visible shows in
       record { knows = midway.knows; columns = midway.columns; caret = midway.caret; cells = Between-end place old new _ at long midway.between };
   prints =
       let no_old : drop place old ≡ [] = ap (λ p. drop p old) (at ∙ sym long) ∙ drop-length old in
@@ -255,11 +257,11 @@ record Moved (columns place : ℕ) (old new : List CellView) (at : Option ℕ) (
   tracks : follows ≡ true → Tracks columns (place + 1) at (drop (place + 1) new)
   moves : (later : ℕ) → HasRuns columns (place + 1) follows (drop (place + 1) old) (drop (place + 1) new) later → (total : ℕ) × (HasRuns columns 0 false old new total × (count + later ≤ total))
 
-kept-moves : (columns place : ℕ) (old new : List CellView) (o n : CellView) (os ns : List CellView) (at : Option ℕ) (count : ℕ) (follows : Bool) →
+unchanged-moves : (columns place : ℕ) (old new : List CellView) (o n : CellView) (os ns : List CellView) (at : Option ℕ) (count : ℕ) (follows : Bool) →
     Split place old o os → Split place new n ns → (is_half n ≡ true) ⊎ (o ≡ n) → (follows ≡ true → Tracks columns place at (drop place new)) →
     ((later : ℕ) → HasRuns columns place follows (drop place old) (drop place new) later → (total : ℕ) × (HasRuns columns 0 false old new total × (count + later ≤ total))) →
     Moved columns place old new at count
-kept-moves columns place old new o n os ns at count follows old_at new_at same tracks moves =
+unchanged-moves columns place old new o n os ns at count follows old_at new_at same tracks moves =
     ⊎_elim
     (λ is. record {
       follows = follows;
@@ -276,22 +278,22 @@ kept-moves columns place old new o n os ns at count follows old_at new_at same t
     (cases_Bool (is_half n))
 
 -- a half of a cluster, or a cluster that is as it was
-pub Reaches-kept : (start before after : Brush) (columns place : ℕ) (old new : List CellView) (o n : CellView) (os ns : List CellView) (xs ys : List Control) →
+pub Reaches-unchanged : (start before after : Brush) (columns place : ℕ) (old new : List CellView) (o n : CellView) (os ns : List CellView) (xs ys : List Control) →
     Split place old o os → Split place new n ns → are_whole columns 0 0 old ≡ true → are_whole columns 0 0 new ≡ true → length old ≡ length new → place < length new →
     (is_half n ≡ true) ⊎ (o ≡ n) → KeepsCell before after o n ys → Reaches start before columns place old new xs → Reaches start after columns (place + 1) old new (xs ++ ys)
-Reaches-kept start before after columns place old new o n os ns xs ys old_at new_at old_whole new_whole long within same keeps reaches =
+Reaches-unchanged start before after columns place old new o n os ns xs ys old_at new_at old_whole new_whole long within same keeps reaches =
     let all : xs ++ ys ≡ xs = ap (λ more. xs ++ more) keeps.none ∙ append-nil xs in
     let at' : before.at ≡ after.at = ap (λ (b : Brush). b.at) (sym keeps.brush) in
     let pen' : after.pen ≡ before.pen = ap (λ (b : Brush). b.pen) keeps.brush in
-    let moved = kept-moves columns place old new o n os ns before.at (moves_of xs) reaches.follows old_at new_at same reaches.tracks reaches.moves in
+    let moved = unchanged-moves columns place old new o n os ns before.at (moves_of xs) reaches.follows old_at new_at same reaches.tracks reaches.moves in
     record {
-      brings = λ terminal is_caret_shown shows.
-          let midway = reaches.brings terminal is_caret_shown shows in
+      brings = λ terminal is_caret_visible shows.
+          let midway = reaches.brings terminal is_caret_visible shows in
           rw (all, keeps.brush) (record {
             knows = midway.knows;
             columns = midway.columns;
             caret = midway.caret;
-            between = Between-kept columns place old new _ o n os ns old_at new_at old_whole new_whole long within same midway.between;
+            between = Between-unchanged columns place old new _ o n os ns old_at new_at old_whole new_whole long within same midway.between;
           });
       prints = λ later changes.
           rw all (reaches.prints later (rw (old_at.here, new_at.here) (inl (same, rw (old_at.next, new_at.next) at changes))));
@@ -312,9 +314,9 @@ pub Reaches-changed : (start before after : Brush) (columns place : ℕ) (old ne
     Split place old o os → Split place new n ns → are_whole columns 0 0 old ≡ true → are_whole columns 0 0 new ≡ true → length old ≡ length new → place < length new →
     ChangesCell before after columns place o n ys → Reaches start before columns place old new xs → Reaches start after columns (place + 1) old new (xs ++ ys)
 Reaches-changed start before after columns place old new o n os ns xs ys old_at new_at old_whole new_whole long within changes reaches = record {
-  brings = λ terminal is_caret_shown shows.
+  brings = λ terminal is_caret_visible shows.
       let one = run xs terminal in
-      let midway = reaches.brings terminal is_caret_shown shows in
+      let midway = reaches.brings terminal is_caret_visible shows in
       let there : place < length one.cells = on-screen place old new one.cells o n os ns old_at new_at within midway.between in
       let ran : run (xs ++ ys) terminal ≡ with_cell columns place n one = run-append xs ys terminal ∙ changes.prints.1 one midway.knows midway.columns there in
       rw (ran, changes.brush) (record {
@@ -362,7 +364,7 @@ Reaches-step start before after columns place olds old os news new xs ys old_at 
     let long' : length olds ≡ length (map cell_view news) = long ∙ sym (length-map news cell_view) in
     let within' : place < length (map cell_view news) = omega (arith, length-map news cell_view) in
     ⊎_elim
-    (λ kept. Reaches-kept start before after columns place olds (map cell_view news) old (cell_view new) os ns xs ys old_at new_at old_whole new_whole long' within' kept.0 kept.1 reaches)
+    (λ unchanged. Reaches-unchanged start before after columns place olds (map cell_view news) old (cell_view new) os ns xs ys old_at new_at old_whole new_whole long' within' unchanged.0 unchanged.1 reaches)
     (λ changed. Reaches-changed start before after columns place olds (map cell_view news) old (cell_view new) os ns xs ys old_at new_at old_whole new_whole long' within' changed reaches)
     step
 

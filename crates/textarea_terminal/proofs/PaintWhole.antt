@@ -16,26 +16,26 @@ use Rattle.textarea_terminal.proofs.ControlLemmas.{Wrote-then, run-append, print
 pub puts-caret : (at : Option ℕ) (known : Option Bool) (columns place : ℕ) (xs ys : List Control) → MovesTo at columns place xs → SetsCursor known true ys →
     PutsCaret at known columns (Some place) (xs ++ ys)
 puts-caret at known columns place xs ys moves sets = record {
-  brings = λ terminal here is_shown same within.
-      run-append xs ys terminal ∙ ap (run ys) (moves.1 terminal here same within) ∙ sets.1 (record terminal { cursor = Some place }) is_shown;
+  brings = λ terminal here is_printed same within.
+      run-append xs ys terminal ∙ ap (run ys) (moves.1 terminal here same within) ∙ sets.1 (record terminal { cursor = Some place }) is_printed;
   prints = rw (prints_of-append xs ys, moves.0, sets.0) refl;
   moves = omega (arith, moves_of-append xs ys, moves.3, sets.3);
   pens = omega (arith, pens_of-append xs ys, moves.4, sets.4);
-  still = λ is_shown here. rw (moves.2 here, sets.2 is_shown) refl;
+  still = λ is_printed here. rw (moves.2 here, sets.2 is_printed) refl;
 }
 
 pub hides-caret : (at : Option ℕ) (known : Option Bool) (columns : ℕ) (ys : List Control) → SetsCursor known false ys → PutsCaret at known columns None ys
 hides-caret at known columns ys sets = record {
-  brings = λ terminal here is_shown same within. sets.1 terminal is_shown;
+  brings = λ terminal here is_printed same within. sets.1 terminal is_printed;
   prints = sets.0;
   moves = omega (arith, sets.3);
   pens = sets.4;
-  still = λ is_shown here. sets.2 is_shown;
+  still = λ is_printed here. sets.2 is_printed;
 }
 
-still-known : (known : Option Bool) (before after : Bool) → after ≡ before → IfSome known (λ is_shown. before ≡ is_shown) → IfSome known (λ is_shown. after ≡ is_shown)
-still-known None before after same is_shown = tt
-still-known (Some b) before after same is_shown = same ∙ is_shown
+still-known : (known : Option Bool) (before after : Bool) → after ≡ before → IfSome known (λ is_printed. before ≡ is_printed) → IfSome known (λ is_printed. after ≡ is_printed)
+still-known None before after same is_printed = tt
+still-known (Some b) before after same is_printed = same ∙ is_printed
 
 within-cells : (caret : Option ℕ) (cells new : List CellView) → cells ≡ new → IfSome caret (λ place. place < length new) → IfSome caret (λ place. place < length cells)
 within-cells None cells new same within = tt
@@ -49,15 +49,15 @@ caret-known : (caret : Option ℕ) (terminal : Terminal) → IsCaret caret termi
 caret-known None terminal is = tt
 caret-known (Some place) terminal is = is.1
 
-caret-shown : (caret : Option ℕ) (terminal : Terminal) → IsCaret caret terminal → terminal.has_cursor_shown ≡ is_some caret
-caret-shown None terminal is = is
-caret-shown (Some place) terminal is = is.0
+caret-visible : (caret : Option ℕ) (terminal : Terminal) → IsCaret caret terminal → terminal.has_visible_cursor ≡ is_some caret
+caret-visible None terminal is = is
+caret-visible (Some place) terminal is = is.0
 
 caret-same : (old new : Option ℕ) → old ≡ new → IfSome new (λ place. old ≡ Some place)
 caret-same old None same = tt
 caret-same old (Some place) same = same
 
-caret-there : (caret : Option ℕ) (terminal : Terminal) → IsCaret caret (record terminal { cursor = option_or caret terminal.cursor; has_cursor_shown = is_some caret; is_updating = false })
+caret-there : (caret : Option ℕ) (terminal : Terminal) → IsCaret caret (record terminal { cursor = option_or caret terminal.cursor; has_visible_cursor = is_some caret; is_updating = false })
 caret-there None terminal = refl
 caret-there (Some place) terminal = (refl, refl)
 
@@ -65,12 +65,12 @@ pub finishes : (start brush : Brush) (known : Option Bool) (columns : ℕ) (old 
     IfSome caret (λ place. place < length new) → Repaints columns old new start brush xs → PutsCaret brush.at known columns caret ys → EndsUpdate brush.is_updating zs →
     PaintsFrame start known columns old (record { cells = new; caret = caret }) (xs ++ (ys ++ zs))
 finishes start brush known columns old new caret xs ys zs within repaints puts ends = record {
-  brings = λ terminal knows is_shown same cells.
+  brings = λ terminal knows is_printed same cells.
       let one = run xs terminal in
-      let shows = repaints.brings terminal terminal.has_cursor_shown (record { knows = knows; columns = same; cells = cells; caret = refl }) in
-      let two : Terminal = record one { cursor = option_or caret one.cursor; has_cursor_shown = is_some caret } in
+      let shows = repaints.brings terminal terminal.has_visible_cursor (record { knows = knows; columns = same; cells = cells; caret = refl }) in
+      let two : Terminal = record one { cursor = option_or caret one.cursor; has_visible_cursor = is_some caret } in
       let three : Terminal = record two { is_updating = false } in
-      let put : run ys one ≡ two = puts.brings one shows.knows.cursor (still-known known terminal.has_cursor_shown one.has_cursor_shown shows.caret is_shown) shows.columns (within-cells caret one.cells new shows.cells within) in
+      let put : run ys one ≡ two = puts.brings one shows.knows.cursor (still-known known terminal.has_visible_cursor one.has_visible_cursor shows.caret is_printed) shows.columns (within-cells caret one.cells new shows.cells within) in
       let ran : run (xs ++ (ys ++ zs)) terminal ≡ three =
       run-append xs (ys ++ zs) terminal ∙ run-append ys zs one ∙ ap (run zs) put ∙ ends.1 two shows.knows.updating in
       let F : PaintedFrame = record { cells = new; caret = caret } in
@@ -80,18 +80,18 @@ finishes start brush known columns old new caret xs ys zs within repaints puts e
       subst (AreChanges old new) (sym texts) repaints.prints;
   moves = (repaints.moves.0, (repaints.moves.1.0, omega (arith, repaints.moves.1.1, moves_of-append xs (ys ++ zs), moves_of-append ys zs, puts.moves, ends.3)));
   pens = (repaints.pens.0, (repaints.pens.1.0, omega (arith, repaints.pens.1.1, pens_of-append xs (ys ++ zs), pens_of-append ys zs, puts.pens, ends.4)));
-  still = λ same is_shown here not_begun.
+  still = λ same is_printed here not_begun.
       let quiet = repaints.still same in
       let here' : IfSome caret (λ place. brush.at ≡ Some place) = still-there caret brush.at start.at (ap (λ (b : Brush). b.at) quiet.1) here in
-      rw (quiet.0, puts.still is_shown here', ends.2 (ap (λ (b : Brush). b.is_updating) quiet.1 ∙ not_begun)) refl;
+      rw (quiet.0, puts.still is_printed here', ends.2 (ap (λ (b : Brush). b.is_updating) quiet.1 ∙ not_begun)) refl;
 }
 
 -- from a terminal that shows the frame painted last
 pub paints-known : (columns size : ℕ) (old new : PaintedFrame) (xs : List Control) → PaintsFrame (record { at = old.caret; pen = None; is_updating = false }) (Some (is_some old.caret)) columns old.cells new xs →
     Paints columns size (Some old) new xs
 paints-known columns size old new xs finish = record {
-  brings = λ terminal shown.
-      finish.brings terminal (record { cursor = caret-known old.caret terminal shown.caret; pen = tt; updating = shown.updating }) (caret-shown old.caret terminal shown.caret) shown.columns shown.cells;
+  brings = λ terminal visible.
+      finish.brings terminal (record { cursor = caret-known old.caret terminal visible.caret; pen = tt; updating = visible.updating }) (caret-visible old.caret terminal visible.caret) visible.columns visible.cells;
   prints = finish.prints;
   moves = finish.moves;
   pens = (finish.pens.0, (finish.pens.1.0, omega (arith, finish.pens.1.1)));
@@ -104,11 +104,11 @@ paints-known columns size old new xs finish = record {
 pub paints-unknown : (columns size : ℕ) (old : List CellView) (new : PaintedFrame) (xs ys : List Control) → old ≡ replicate size fresh_cell → Clears xs →
     PaintsFrame (record { at = None; pen = Some plain_look; is_updating = true }) None columns old new ys → Paints columns size None new (xs ++ ys)
 paints-unknown columns size old new xs ys erased clears finish = record {
-  brings = λ terminal shown.
+  brings = λ terminal visible.
       let one : Terminal = record terminal { cells = replicate (length terminal.cells) fresh_cell; pen = plain_look; is_updating = true } in
       let ran : run (xs ++ ys) terminal ≡ run ys one = run-append xs ys terminal ∙ ap (run ys) (clears.1 terminal) in
       subst (ShowsFrame columns new) (sym ran)
-      (finish.brings one (record { cursor = tt; pen = refl; updating = refl }) tt shown.0 (ap (λ n. replicate n fresh_cell) shown.1 ∙ sym erased));
+      (finish.brings one (record { cursor = tt; pen = refl; updating = refl }) tt visible.0 (ap (λ n. replicate n fresh_cell) visible.1 ∙ sym erased));
   prints =
       let texts : prints_of (xs ++ ys) ≡ prints_of ys = rw (prints_of-append xs ys, clears.0) refl in
       subst (λ cells. AreChanges cells new.cells (prints_of (xs ++ ys))) erased (subst (AreChanges old new.cells) (sym texts) finish.prints);
@@ -139,6 +139,6 @@ Wrote-frame start brush known columns old new caret within first second =
     (λ xs rest repaints end.
     subst R (ap (λ more. xs ++ more) (sym end.whole)) (finishes start brush known columns old new caret xs end.first end.last within repaints end.puts end.ends))
 
-pub within-shown : (caret : Option ℕ) (items : List Cell) → IfSome caret (λ place. place < length items) → IfSome caret (λ place. place < length (map cell_view items))
-within-shown None items within = tt
-within-shown (Some place) items within = omega (arith, length-map items cell_view)
+pub within-visible : (caret : Option ℕ) (items : List Cell) → IfSome caret (λ place. place < length items) → IfSome caret (λ place. place < length (map cell_view items))
+within-visible None items within = tt
+within-visible (Some place) items within = omega (arith, length-map items cell_view)

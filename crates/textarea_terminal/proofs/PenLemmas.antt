@@ -1,4 +1,5 @@
--- Renditions and their bytes, one after another; and that the renditions of a look give it to a pen that was reset.
+-- Renditions and their bytes, one after another; and that the renditions of a look give it to a pen
+-- that was reset.
 use Rattle.std.proofs.Common.{◌≡◌, ℕ, ◌<◌, Bool, true, false, ◌==◌, List, [], ◌∷◌, ◌++◌, refl, sym, ap, ◌∙◌, append_assoc, add-one, ◌+◌, cond, get_or, drop}
 use Rattle.std.specs.Fmt.{decimal}
 use Rattle.std.proofs.Math.Seq.{drop-cons}
@@ -86,15 +87,15 @@ added-all bits below =
     added-keeps plain_look (record { 0 = bits }) all_numbers
     ∙ ap (λ (n : ℕ). record plain_look { modifier = record { 0 = n } }) (eqb-true _ _ (all_below-at gives_back 512 bits all_give_back below))
 
-foreground-given : (color bg : Color) (modifier : Modifier) →
+foreground-present : (color bg : Color) (modifier : Modifier) →
     rendered_all (record { fg = Reset; bg = bg; modifier = modifier }) (foreground color) ≡ record { fg = color; bg = bg; modifier = modifier }
-foreground-given Reset bg modifier = refl
-foreground-given color bg modifier = refl
+foreground-present Reset bg modifier = refl
+foreground-present color bg modifier = refl
 
-background-given : (color fg : Color) (modifier : Modifier) →
+background-present : (color fg : Color) (modifier : Modifier) →
     rendered_all (record { fg = fg; bg = Reset; modifier = modifier }) (background color) ≡ record { fg = fg; bg = color; modifier = modifier }
-background-given Reset fg modifier = refl
-background-given color fg modifier = refl
+background-present Reset fg modifier = refl
+background-present color fg modifier = refl
 
 -- a pen that was reset has the look after the renditions of that look
 pub rendered-look : (look : Look) → look.modifier.0 < 512 → rendered_all plain_look (renditions_of look) ≡ look
@@ -103,5 +104,5 @@ rendered-look look below =
     let mods = added look.modifier all_numbers in
     rendered_all-append plain_look (mods ++ foreground look.fg) (background look.bg)
     ∙ ap (λ (l : Look). rendered_all l (background look.bg))
-    (rendered_all-append plain_look mods (foreground look.fg) ∙ ap (λ (l : Look). rendered_all l (foreground look.fg)) (added-all look.modifier.0 below) ∙ foreground-given look.fg Reset look.modifier)
-    ∙ background-given look.bg look.fg look.modifier
+    (rendered_all-append plain_look mods (foreground look.fg) ∙ ap (λ (l : Look). rendered_all l (foreground look.fg)) (added-all look.modifier.0 below) ∙ foreground-present look.fg Reset look.modifier)
+    ∙ background-present look.bg look.fg look.modifier

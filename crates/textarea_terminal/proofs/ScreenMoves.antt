@@ -48,14 +48,14 @@ needed-once pen look one all (inr other) same = inr (other.0, same ∙ other.1)
 pub prints-cell : (brush : Brush) (columns place : ℕ) (cell : CellView) → can_begin columns place cell ≡ true → (begin move take : List Control) →
     BeginsUpdate brush.is_updating begin → MovesTo brush.at columns place move → TakesLook brush.pen (look_of cell) take →
     PrintsCell brush columns place cell (begin ++ (move ++ (take ++ Print cell.symbol ∷ [])))
-prints-cell brush columns place cell begins begin move take begun moved taken = (
+prints-cell brush columns place cell begins begin move take begun moved consumed = (
   rw (
     prints_of-append begin (move ++ (take ++ Print cell.symbol ∷ [])),
     prints_of-append move (take ++ Print cell.symbol ∷ []),
     prints_of-append take (Print cell.symbol ∷ []),
     begun.0,
     moved.0,
-    taken.0,
+    consumed.0,
   ) refl,
   λ terminal knows same within.
       let one : Terminal = record terminal { is_updating = true } in
@@ -67,11 +67,11 @@ prints-cell brush columns place cell begins begin move take begun moved taken = 
       ∙ run-append move (take ++ last) one
       ∙ ap (run (take ++ last)) (moved.1 one knows.cursor same within)
       ∙ run-append take last two
-      ∙ ap (run last) (taken.1 two knows.pen)
+      ∙ ap (run last) (consumed.1 two knows.pen)
       ∙ print-there terminal columns place cell same begins,
-  omega (arith, moves_of-append begin (move ++ (take ++ Print cell.symbol ∷ [])), moves_of-append move (take ++ Print cell.symbol ∷ []), moves_of-append take (Print cell.symbol ∷ []), begun.2, moved.3, taken.2),
-  λ here. omega (arith, moves_of-append begin (move ++ (take ++ Print cell.symbol ∷ [])), moves_of-append move (take ++ Print cell.symbol ∷ []), moves_of-append take (Print cell.symbol ∷ []), begun.2, ap moves_of (moved.2 here), taken.2),
-  needed-once brush.pen (look_of cell) (pens_of take) (pens_of (begin ++ (move ++ (take ++ Print cell.symbol ∷ [])))) taken.3
+  omega (arith, moves_of-append begin (move ++ (take ++ Print cell.symbol ∷ [])), moves_of-append move (take ++ Print cell.symbol ∷ []), moves_of-append take (Print cell.symbol ∷ []), begun.2, moved.3, consumed.2),
+  λ here. omega (arith, moves_of-append begin (move ++ (take ++ Print cell.symbol ∷ [])), moves_of-append move (take ++ Print cell.symbol ∷ []), moves_of-append take (Print cell.symbol ∷ []), begun.2, ap moves_of (moved.2 here), consumed.2),
+  needed-once brush.pen (look_of cell) (pens_of take) (pens_of (begin ++ (move ++ (take ++ Print cell.symbol ∷ [])))) consumed.3
       (omega (arith, pens_of-append begin (move ++ (take ++ Print cell.symbol ∷ [])), pens_of-append move (take ++ Print cell.symbol ∷ []), pens_of-append take (Print cell.symbol ∷ []), begun.3, moved.4)),
 )
 
@@ -84,13 +84,13 @@ written-four a b c d e xs ys zs symbol first second third fourth =
 pub Wrote-cell : (brush : Brush) (columns place : ℕ) (cell : CellView) (look : Look) → can_begin columns place cell ≡ true → look ≡ look_of cell →
     {a b c d e : List ℕ} → Wrote a b (BeginsUpdate brush.is_updating) → Wrote b c (MovesTo brush.at columns place) → Wrote c d (TakesLook brush.pen look) →
     e ≡ d ++ cell.symbol → Wrote a e (PrintsCell brush columns place cell)
-Wrote-cell brush columns place cell look begins is_look {a} {b} {c} {d} {e} begun moved taken printed =
+Wrote-cell brush columns place cell look begins is_look {a} {b} {c} {d} {e} begun moved consumed printed =
     let last = Print cell.symbol ∷ [] in
-    let Takes : Look → Type 0 = λ l. TakesLook brush.pen l taken.controls in
+    let Takes : Look → Type 0 = λ l. TakesLook brush.pen l consumed.controls in
     record {
-      controls = begun.controls ++ (moved.controls ++ (taken.controls ++ last));
-      bytes = written-four a b c d e begun.controls moved.controls taken.controls cell.symbol begun.bytes moved.bytes taken.bytes printed;
-      with_ranges = prints-cell brush columns place cell begins begun.controls moved.controls taken.controls begun.with_ranges moved.with_ranges (subst Takes is_look taken.with_ranges);
+      controls = begun.controls ++ (moved.controls ++ (consumed.controls ++ last));
+      bytes = written-four a b c d e begun.controls moved.controls consumed.controls cell.symbol begun.bytes moved.bytes consumed.bytes printed;
+      with_ranges = prints-cell brush columns place cell begins begun.controls moved.controls consumed.controls begun.with_ranges moved.with_ranges (subst Takes is_look consumed.with_ranges);
     }
 
 -- ---- tests of what is known

@@ -1,4 +1,5 @@
--- A table of what terminals send: bytes and their event. And the events of bytes that arrive in slices.
+-- A table of what terminals send: bytes and their event. And the events of bytes that arrive in
+-- slices.
 use Rattle.std.specs.Prelude.{◌≡◌, ◌≢◌, ℕ, ◌+◌, ◌-◌, ◌/◌, ◌%◌, ◌<◌, ◌≤◌, Bool, true, nat_lt, List, [], ◌∷◌, ◌++◌, length, map, None, codes, Contains, encode_utf8, if◌then◌else◌}
 use Rattle.std.specs.List.{flat_map, AllByRecursion}
 use Rattle.std.specs.Char.{IsScalar}
@@ -57,14 +58,16 @@ letter_rows = flat_map (λ r.
     (bracket (r.0 ∷ []), input_of_key r.1) ∷ (27 ∷ 79 ∷ r.0 ∷ [], input_of_key r.1)
     ∷ map (λ m. (bracket (49 ∷ 59 ∷ digit m ∷ r.0 ∷ []), input_with r.1 m)) modifier_parameters) letter_keys
 
--- numbered keys: ESC [ number ~, ESC [ number ; modifiers ~, and rxvt's: $ with Shift, ^ with Ctrl, @ with both
+-- numbered keys: ESC [ number ~, ESC [ number ; modifiers ~, and rxvt's: $ with Shift, ^ with Ctrl,
+-- @ with both
 unfoldable pub numbered_rows : List KeyRow
 numbered_rows = flat_map (λ r.
     (bracket (decimal r.0 ++ 126 ∷ []), input_of_key r.1) ∷ (bracket (decimal r.0 ++ 36 ∷ []), input_with r.1 2)
     ∷ (bracket (decimal r.0 ++ 94 ∷ []), input_with r.1 5) ∷ (bracket (decimal r.0 ++ 64 ∷ []), input_with r.1 6)
     ∷ map (λ m. (bracket (decimal r.0 ++ 59 ∷ digit m ∷ 126 ∷ []), input_with r.1 m)) modifier_parameters) numbered_keys
 
--- rxvt's arrows with Shift and Ctrl, the Linux console's F1 to F5, Tab with Shift, and the keypad's Enter
+-- rxvt's arrows with Shift and Ctrl, the Linux console's F1 to F5, Tab with Shift, and the keypad's
+-- Enter
 unfoldable pub other_rows : List KeyRow
 other_rows =
     map (λ r. (bracket (r.0 ∷ []), input_with r.1 2)) small_letter_keys
@@ -140,8 +143,8 @@ bytes_of_rows rows = flat_map (λ r. r.0) rows
 abbrev pub AreInner : List ℕ → Type 0
 AreInner bytes = AllByRecursion (λ b. (is_inner b ≡ true) × (b ≢ 36)) bytes
 
--- Parameters and intermediate bytes, with no $, that with this final byte are no start mark of a pasted text and begin no sequence
--- of the Linux console.
+-- Parameters and intermediate bytes, with no $, that with this final byte are no start mark of a
+-- pasted text and begin no sequence of the Linux console.
 pub record IsGeneral (inner : List ℕ) (last : ℕ) : Type 0 where
   pub inner_bytes : AreInner inner
   pub short : length inner < inner_limit
@@ -151,8 +154,9 @@ pub record IsGeneral (inner : List ℕ) (last : ℕ) : Type 0 where
 
 -- ---- slices
 
--- the events of pending bytes and of slices of bytes after them, fed one by one, and the pending bytes after the last
+-- the events of pending bytes and of slices of bytes after them, fed one by one, and the pending
+-- bytes after the last
 abbrev pub feeding : List ℕ → List (List ℕ) → Decoding
 feeding pending [] = ([], pending)
-feeding pending (piece ∷ pieces) =
-    let now = decoding (pending ++ piece) in let later = feeding now.1 pieces in (now.0 ++ later.0, later.1)
+feeding pending (segment ∷ segments) =
+    let now = decoding (pending ++ segment) in let later = feeding now.1 segments in (now.0 ++ later.0, later.1)

@@ -132,11 +132,11 @@ IsStep before after columns place old new controls =
 -- ---- a frame
 
 -- the terminal is as the brush knows it, and shows these cells, and its cursor or not
-pub record Shows (brush : Brush) (width : ℕ) (frame : List CellView) (is_caret_shown : Bool) (terminal : Terminal) : Type 0 where
+pub record Shows (brush : Brush) (width : ℕ) (frame : List CellView) (is_caret_visible : Bool) (terminal : Terminal) : Type 0 where
   pub knows : Knows brush terminal
   pub columns : terminal.columns ≡ width
   pub cells : terminal.cells ≡ frame
-  pub caret : terminal.has_cursor_shown ≡ is_caret_shown
+  pub caret : terminal.has_visible_cursor ≡ is_caret_visible
 
 -- these texts, in order, are those of the new clusters that begin in a changed cell
 abbrev pub AreChanges : List CellView → List CellView → List (List ℕ) → Type 0
@@ -146,7 +146,8 @@ AreChanges (old ∷ olds) (new ∷ news) texts =
     ⊎ ((is_half new ≡ false) × (old ≢ new) × ((later : List (List ℕ)) × (texts ≡ new.symbol ∷ later) × AreChanges olds news later))
 AreChanges olds news texts = ⊥
 
--- the number of runs of changed clusters, each in one row; `follows` if the cluster before these cells has changed
+-- the number of runs of changed clusters, each in one row; `follows` if the cluster before these
+-- cells has changed
 abbrev pub HasRuns : ℕ → ℕ → Bool → List CellView → List CellView → ℕ → Type 0
 HasRuns columns place follows [] [] runs = runs ≡ 0
 HasRuns columns place follows (old ∷ olds) (new ∷ news) runs =
@@ -165,12 +166,12 @@ HasLooks pen (old ∷ olds) (new ∷ news) looks =
     × ((later : ℕ) × ((count : ℕ) × (IsNeeded pen (look_of new) count × (looks ≡ count + later) × HasLooks (Some (look_of new)) olds news later))))
 HasLooks pen olds news looks = ⊥
 
--- The controls change a terminal that shows the old cells to show the new ones, and neither show nor hide its cursor. They print
--- only changed clusters, with at most one move for each run, and change the pen only if the look changes. There are none if
--- nothing has changed.
+-- The controls change a terminal that shows the old cells to show the new ones, and neither show
+-- nor hide its cursor. They print only changed clusters, with at most one move for each run, and
+-- change the pen only if the look changes. There are none if nothing has changed.
 pub record Repaints (columns : ℕ) (old new : List CellView) (before after : Brush) (controls : List Control) : Type 0 where
-  pub brings : (terminal : Terminal) (is_caret_shown : Bool) → Shows before columns old is_caret_shown terminal →
-      Shows after columns new is_caret_shown (run controls terminal)
+  pub brings : (terminal : Terminal) (is_caret_visible : Bool) → Shows before columns old is_caret_visible terminal →
+      Shows after columns new is_caret_visible (run controls terminal)
   pub prints : AreChanges old new (prints_of controls)
   pub moves : (runs : ℕ) × (HasRuns columns 0 false old new runs × (moves_of controls ≤ runs))
   pub pens : (looks : ℕ) × (HasLooks before.pen old new looks × (pens_of controls ≤ looks))
@@ -178,15 +179,16 @@ pub record Repaints (columns : ℕ) (old new : List CellView) (before after : Br
 
 -- ---- what a painter promises
 
--- a painted frame: the cells, row after row, and the index of the caret's cell, if the caret is shown
+-- a painted frame: the cells, row after row, and the index of the caret's cell, if the caret is
+-- shown
 pub record PaintedFrame : Type 0 where
   pub cells : List CellView
   pub caret : Option ℕ
 
 -- the cursor is shown at this index, or not shown
 abbrev pub IsCaret : Option ℕ → Terminal → Type 0
-IsCaret None terminal = terminal.has_cursor_shown ≡ false
-IsCaret (Some place) terminal = (terminal.has_cursor_shown ≡ true) × (terminal.cursor ≡ Some place)
+IsCaret None terminal = terminal.has_visible_cursor ≡ false
+IsCaret (Some place) terminal = (terminal.has_visible_cursor ≡ true) × (terminal.cursor ≡ Some place)
 
 -- the terminal shows exactly these cells and this caret, and no update is open
 pub record ShowsFrame (width : ℕ) (frame : PaintedFrame) (terminal : Terminal) : Type 0 where
@@ -210,10 +212,11 @@ abbrev pub first_pen : Option PaintedFrame → Option Look
 first_pen None = Some plain_look
 first_pen (Some frame) = None
 
--- The controls make a terminal show the frame, if it shows the frame before, or, if that is unknown, has this size. They print each
--- changed cluster once and nothing else. They move the cursor at most once for each run of changed clusters and once for the caret,
--- and change the pen at most once for each change of the look and once more. There are none if neither a cell nor the caret has
--- changed.
+-- The controls make a terminal show the frame, if it shows the frame before, or, if that is
+-- unknown, has this size. They print each changed cluster once and nothing else. They move the
+-- cursor at most once for each run of changed clusters and once for the caret, and change the pen
+-- at most once for each change of the look and once more. There are none if neither a cell nor the
+-- caret has changed.
 pub record Paints (columns size : ℕ) (before : Option PaintedFrame) (frame : PaintedFrame) (controls : List Control) : Type 0 where
   pub brings : (terminal : Terminal) → ShowsKnown columns size before terminal → ShowsFrame columns frame (run controls terminal)
   pub prints : AreChanges (first_cells size before) frame.cells (prints_of controls)
@@ -235,7 +238,7 @@ Clears controls =
 abbrev pub SetsCursor : Option Bool → Bool → List Control → Type 0
 SetsCursor known wanted controls =
     (prints_of controls ≡ [])
-    × ((terminal : Terminal) → IfSome known (λ is_shown. terminal.has_cursor_shown ≡ is_shown) → run controls terminal ≡ record terminal { has_cursor_shown = wanted })
+    × ((terminal : Terminal) → IfSome known (λ is_printed. terminal.has_visible_cursor ≡ is_printed) → run controls terminal ≡ record terminal { has_visible_cursor = wanted })
     × (known ≡ Some wanted → controls ≡ [])
     × (moves_of controls ≡ 0) × (pens_of controls ≡ 0)
 
@@ -249,9 +252,9 @@ EndsUpdate is_updating controls =
 
 -- the cursor is moved to the caret and shown, or hidden
 pub record PutsCaret (at : Option ℕ) (known : Option Bool) (width : ℕ) (caret : Option ℕ) (controls : List Control) : Type 0 where
-  pub brings : (terminal : Terminal) → IfSome at (λ here. terminal.cursor ≡ Some here) → IfSome known (λ is_shown. terminal.has_cursor_shown ≡ is_shown) →
+  pub brings : (terminal : Terminal) → IfSome at (λ here. terminal.cursor ≡ Some here) → IfSome known (λ is_printed. terminal.has_visible_cursor ≡ is_printed) →
       terminal.columns ≡ width → IfSome caret (λ place. place < length terminal.cells) →
-      run controls terminal ≡ record terminal { cursor = option_or caret terminal.cursor; has_cursor_shown = is_some caret }
+      run controls terminal ≡ record terminal { cursor = option_or caret terminal.cursor; has_visible_cursor = is_some caret }
   pub prints : prints_of controls ≡ []
   pub moves : moves_of controls ≤ 1
   pub pens : pens_of controls ≡ 0
@@ -267,7 +270,7 @@ pub record Ends (brush : Brush) (known : Option Bool) (width : ℕ) (caret : Opt
 
 -- the cells and then the caret are changed from the known state to the frame
 pub record PaintsFrame (brush : Brush) (known : Option Bool) (width : ℕ) (old : List CellView) (frame : PaintedFrame) (controls : List Control) : Type 0 where
-  pub brings : (terminal : Terminal) → Knows brush terminal → IfSome known (λ is_shown. terminal.has_cursor_shown ≡ is_shown) → terminal.columns ≡ width →
+  pub brings : (terminal : Terminal) → Knows brush terminal → IfSome known (λ is_printed. terminal.has_visible_cursor ≡ is_printed) → terminal.columns ≡ width →
       terminal.cells ≡ old → ShowsFrame width frame (run controls terminal)
   pub prints : AreChanges old frame.cells (prints_of controls)
   pub moves : (runs : ℕ) × (HasRuns width 0 false old frame.cells runs × (moves_of controls ≤ runs + 1))

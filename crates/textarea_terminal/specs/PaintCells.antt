@@ -12,7 +12,8 @@ use Rattle.textarea_terminal.specs.Pen.{look_of, in_look}
 use Rattle.textarea_terminal.specs.declared.output.look.Look.{Look}
 use Rattle.unicode_segmentation.specs.Grapheme.{graphemes}
 
--- the columns of a text that is one grapheme cluster; 0 for other texts, and for clusters that can't be shown
+-- the columns of a text that is one grapheme cluster; 0 for other texts, and for clusters that
+-- can't be shown
 unfoldable pub cluster_columns : List ℕ → ℕ
 cluster_columns text = if length (graphemes true text) == 1 then columns_of text else 0
 
@@ -27,8 +28,8 @@ is_half cell = length cell.symbol == 0
 abbrev pub nine_of : Look → Look
 nine_of look = record look { modifier = record { 0 = bit_and look.modifier.0 511 } }
 
-abbrev pub shown_alike : CellView → CellView
-shown_alike cell = in_look (nine_of (look_of cell)) cell.symbol
+abbrev pub displayed_alike : CellView → CellView
+displayed_alike cell = in_look (nine_of (look_of cell)) cell.symbol
 
 -- the cell with a blank instead of its text
 abbrev pub blanked : CellView → CellView
@@ -40,24 +41,26 @@ begins_empty zero cells = true
 begins_empty (suc count) [] = false
 begins_empty (suc count) (cell ∷ cells) = is_half cell && begins_empty count cells
 
--- a terminal of this number of columns can show the text of the cell at this index, before these cells: the text is a cluster that
--- ends in its row, and the texts of the cells that it covers are empty
+-- a terminal of this number of columns can show the text of the cell at this index, before these
+-- cells: the text is a cluster that ends in its row, and the texts of the cells that it covers are
+-- empty
 abbrev pub fits_in_row : ℕ → ℕ → CellView → List CellView → Bool
 fits_in_row columns place cell cells =
     nat_lt 0 (cluster_columns cell.symbol)
     && nat_le (place % columns + cluster_columns cell.symbol) columns && begins_empty (cluster_columns cell.symbol - 1) cells
 
--- cells, row after row, as a terminal shows them, from left to right: the next `halves` of them belong to a cluster that began
--- before them
+-- cells, row after row, as a terminal shows them, from left to right: the next `halves` of them
+-- belong to a cluster that began before them
 abbrev pub displayed : ℕ → ℕ → ℕ → List CellView → List CellView
 displayed columns place halves [] = []
 displayed columns place (suc halves) (cell ∷ cells) = half ∷ displayed columns (place + 1) halves cells
 displayed columns place zero (cell ∷ cells) =
     if fits_in_row columns place cell cells
-    then shown_alike cell ∷ displayed columns (place + 1) (cluster_columns cell.symbol - 1) cells
+    then displayed_alike cell ∷ displayed columns (place + 1) (cluster_columns cell.symbol - 1) cells
     else blanked cell ∷ displayed columns (place + 1) 0 cells
 
--- the buffer's cell at an index in an area, counted row after row; a fresh one if the buffer has none
+-- the buffer's cell at an index in an area, counted row after row; a fresh one if the buffer has
+-- none
 abbrev pub cell_in : Rect → Buffer → ℕ → CellView
 cell_in area buffer place = unwrap_or (cell_at buffer (area.x + place % area.width) (area.y + place / area.width)) fresh_cell
 
@@ -79,13 +82,14 @@ is_own color = false
 abbrev pub is_plain_half : CellView → Bool
 is_plain_half cell = is_half cell && is_own cell.fg && is_own cell.bg && (cell.modifier.0 == 0)
 
--- a terminal of this number of columns can show the cluster that begins in this cell: it ends in its row
+-- a terminal of this number of columns can show the cluster that begins in this cell: it ends in
+-- its row
 abbrev pub can_begin : ℕ → ℕ → CellView → Bool
 can_begin columns place cell =
     nat_lt 0 (cluster_columns cell.symbol) && nat_le (place % columns + cluster_columns cell.symbol) columns && nat_lt cell.modifier.0 512
 
--- the cells are those of clusters that a terminal of this number of columns can show, each whole in its row; the first `halves` of
--- them belong to a cluster that began before them
+-- the cells are those of clusters that a terminal of this number of columns can show, each whole in
+-- its row; the first `halves` of them belong to a cluster that began before them
 abbrev pub are_whole : ℕ → ℕ → ℕ → List CellView → Bool
 are_whole columns place halves [] = halves == 0
 are_whole columns place (suc halves) (cell ∷ cells) = is_plain_half cell && are_whole columns (place + 1) halves cells

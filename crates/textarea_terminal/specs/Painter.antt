@@ -11,4 +11,4 @@ painter_area painter = painter.area
 
 -- the frame that was painted last, unless the terminal's content is unknown
 abbrev pub painted : Painter → Option PaintedFrame
-painted painter = if painter.is_known then Some (record { cells = map cell_view painter.shown.items; caret = painter.caret }) else None
+painted painter = if painter.is_known then Some (record { cells = map cell_view painter.visible.items; caret = painter.caret }) else None

@@ -9,17 +9,18 @@ use Rattle.textarea_terminal.specs.declared.output.look.Look.{Look}
 
 pub record Terminal : Type 0 where
   pub columns : ℕ
-  -- what each cell shows, row after row; every cluster ends in its row; there are none if the content is unknown
+  -- what each cell shows, row after row; every cluster ends in its row; there are none if the
+  -- content is unknown
   pub cells : List CellView
   -- the index of the cursor's cell, if it is known
   pub cursor : Option ℕ
-  pub has_cursor_shown : Bool
+  pub has_visible_cursor : Bool
   -- the look of what is printed next
   pub pen : Look
   -- an update has begun, and has not ended
   pub is_updating : Bool
-  -- the look of the blank that is left of a cluster that is partly printed over, by the look of the pen and the cell before;
-  -- terminals differ in it
+  -- the look of the blank that is left of a cluster that is partly printed over, by the look of the
+  -- pen and the cell before; terminals differ in it
   pub rest_look : Look → CellView → Look
 
 -- ---- printing
@@ -41,7 +42,8 @@ abbrev pub begins_half : List CellView → Bool
 begins_half [] = false
 begins_half (cell ∷ cells) = is_half cell
 
--- the cells before the cursor and from it on, with a cluster of this number of columns printed there
+-- the cells before the cursor and from it on, with a cluster of this number of columns printed
+-- there
 abbrev pub printed : (CellView → CellView) → CellView → ℕ → List CellView → List CellView → List CellView
 printed rest cell width before after =
     (if begins_half after then reverse (mended_back rest (reverse before)) else before)
@@ -76,8 +78,8 @@ apply_control (MoveTo row column) terminal = record terminal {
 }
 apply_control (SetPen renditions) terminal = record terminal { pen = rendered_all plain_look renditions }
 apply_control EraseAll terminal = record terminal { cells = replicate (length terminal.cells) (in_look terminal.pen (32 ∷ [])) }
-apply_control ShowCursor terminal = record terminal { has_cursor_shown = true }
-apply_control HideCursor terminal = record terminal { has_cursor_shown = false }
+apply_control ShowCursor terminal = record terminal { has_visible_cursor = true }
+apply_control HideCursor terminal = record terminal { has_visible_cursor = false }
 apply_control BeginUpdate terminal = record terminal { is_updating = true }
 apply_control EndUpdate terminal = record terminal { is_updating = false }
 

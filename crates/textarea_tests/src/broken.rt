@@ -8,7 +8,7 @@ use std::io::{ErrorKind, Read, Write};
 #[derive(Drop)]
 pub struct BrokenReader<'a> {
     text: &'a [u8],
-    piece: usize,
+    segment: usize,
     reads: usize,
     is_interrupted: bool,
     is_next_interrupted: bool,
@@ -18,13 +18,13 @@ pub struct BrokenReader<'a> {
 impl<'a> BrokenReader<'a> {
     pub fn new(
         text: &'a [u8],
-        piece: usize,
+        segment: usize,
         is_interrupted: bool,
         reads: usize,
     ) -> BrokenReader<'a> {
         BrokenReader {
             text,
-            piece,
+            segment,
             reads,
             is_interrupted,
             is_next_interrupted: is_interrupted,
@@ -49,9 +49,9 @@ impl Read for BrokenReader<'_> {
             return Err(io::Error::from(ErrorKind::BrokenPipe));
         };
         self.reads = left;
-        let count = self.piece.min(self.text.len()).min(buf.len());
-        let (piece, rest) = self.text.split_at(count);
-        buf[..count].copy_from_slice(piece);
+        let count = self.segment.min(self.text.len()).min(buf.len());
+        let (segment, rest) = self.text.split_at(count);
+        buf[..count].copy_from_slice(segment);
         self.text = rest;
         Ok(count)
     }
@@ -61,15 +61,15 @@ impl Read for BrokenReader<'_> {
 #[derive(Drop)]
 pub struct BrokenWriter {
     page: Vec<u8>,
-    piece: usize,
+    segment: usize,
     writes: usize,
 }
 
 impl BrokenWriter {
-    pub fn new(alloc: Global, piece: usize, writes: usize) -> BrokenWriter {
+    pub fn new(alloc: Global, segment: usize, writes: usize) -> BrokenWriter {
         BrokenWriter {
             page: Vec::new(alloc),
-            piece,
+            segment,
             writes,
         }
     }
@@ -86,7 +86,7 @@ impl Write for BrokenWriter {
             return Err(io::Error::from(ErrorKind::BrokenPipe));
         };
         self.writes = left;
-        let count = self.piece.min(buf.len());
+        let count = self.segment.min(buf.len());
         self.page.extend_from_slice(&buf[..count])?;
         Ok(count)
     }

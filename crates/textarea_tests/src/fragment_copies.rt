@@ -7,30 +7,30 @@ use std::test::Fail;
 use tui_textarea::TextArea;
 
 // Returns whether the text area has these lines, and returns them as `into_lines`.
-fn holds(made: Result<TextArea<'_>, AllocError>, wanted: &[&str]) -> Result<bool, AllocError> {
+fn has_lines(made: Result<TextArea<'_>, AllocError>, wanted: &[&str]) -> Result<bool, AllocError> {
     let area = made?;
-    let is_held = are_lines(area.lines(), wanted);
+    let is_stored = are_lines(area.lines(), wanted);
     let lines = area.into_lines();
-    Ok(is_held && are_lines(lines.as_slice(), wanted))
+    Ok(is_stored && are_lines(lines.as_slice(), wanted))
 }
 
 #[test]
 fn a_text_area_of_lines(rt: HostRuntime) -> Result<(), Fail> {
     let lines = strings(rt.alloc(), &["a", "b"])?;
-    assert!(rt; holds(TextArea::new(lines), &["a", "b"])?);
+    assert!(rt; has_lines(TextArea::new(lines), &["a", "b"])?);
     Ok(())
 }
 
 #[test]
 fn an_empty_text_area(rt: HostRuntime) -> Result<(), Fail> {
-    assert!(rt; holds(TextArea::try_default(rt.alloc()), &[""])?);
+    assert!(rt; has_lines(TextArea::try_default(rt.alloc()), &[""])?);
     Ok(())
 }
 
 #[test]
 fn a_text_area_of_texts(rt: HostRuntime) -> Result<(), Fail> {
     let made = TextArea::from_strs(rt.alloc(), ["a", "b"].into_iter());
-    assert!(rt; holds(made, &["a", "b"])?);
+    assert!(rt; has_lines(made, &["a", "b"])?);
     Ok(())
 }
 
@@ -46,7 +46,7 @@ fn check_of_strings(
     wanted: &[&str],
 ) -> Result<(), Fail> {
     let lines = strings(rt.alloc(), texts)?.into_iter();
-    assert!(rt; holds(TextArea::from_strings(rt.alloc(), lines), wanted)?);
+    assert!(rt; has_lines(TextArea::from_strings(rt.alloc(), lines), wanted)?);
     Ok(())
 }
 
@@ -65,9 +65,9 @@ pub fn copy_is_independent(area: &mut TextArea<'_>) -> Result<bool, AllocError> 
 
 fn copy_and_change(area: &mut TextArea<'_>) -> Result<bool, AllocError> {
     let copy = area.clone()?;
-    let stands_alone = change_beside(area, &copy);
+    let is_independent = change_beside(area, &copy);
     drop(copy);
-    stands_alone
+    is_independent
 }
 
 fn change_beside(area: &mut TextArea<'_>, copy: &TextArea<'_>) -> Result<bool, AllocError> {

@@ -15,10 +15,10 @@ pub fn lines_of_x(alloc: Global) -> Result<Vec<String>, AllocError> {
 }
 
 /// Selects, draws and scrolls many lines, and returns whether each state is correct.
-pub fn are_shown_and_scrolled(alloc: Global, area: &mut TextArea<'_>) -> Result<bool, AllocError> {
+pub fn are_drawn_and_scrolled(alloc: Global, area: &mut TextArea<'_>) -> Result<bool, AllocError> {
     area.select_all();
     draw(alloc, area)?;
-    Ok(are_shown(area)? && are_scrolled(area))
+    Ok(are_drawn(area)? && are_scrolled(area))
 }
 
 fn draw(alloc: Global, area: &mut TextArea<'_>) -> Result<(), AllocError> {
@@ -35,7 +35,7 @@ const HEIGHT: TextAreaMeasure = TextAreaMeasure {
     max_rows: 65535,
 };
 
-fn are_shown(area: &mut TextArea<'_>) -> Result<bool, AllocError> {
+fn are_drawn(area: &mut TextArea<'_>) -> Result<bool, AllocError> {
     let is_at_end = area.cursor() == (69_999, 1)
         && area.rendered_cursor_position() == Some(Position { x: 1, y: 4 })
         && area.viewport().scroll_top() == (69_995, 0);

@@ -193,13 +193,13 @@ fn check(rt: &(impl Abort + AllocGlobal), row: &Row, words: &[String]) {
 
 #[test]
 fn no_words(rt: HostRuntime) -> Result<(), Fail> {
-    let mut told = Vec::new(rt.alloc());
+    let mut reported = Vec::new(rt.alloc());
     let refused = io::Error::from(ErrorKind::OutOfMemory);
-    assert!(rt; serve_bad_arguments(&refused, &mut told) == OUT_OF_MEMORY);
-    assert!(rt; told.as_slice() == b"no memory\n".as_slice());
-    let mut told = Vec::new(rt.alloc());
+    assert!(rt; serve_bad_arguments(&refused, &mut reported) == OUT_OF_MEMORY);
+    assert!(rt; reported.as_slice() == b"no memory\n".as_slice());
+    let mut reported = Vec::new(rt.alloc());
     let no_text = io::Error::from(ErrorKind::InvalidData);
-    assert!(rt; serve_bad_arguments(&no_text, &mut told) == UNPARSED);
-    assert!(rt; told.as_slice() == b"not read\n".as_slice());
+    assert!(rt; serve_bad_arguments(&no_text, &mut reported) == UNPARSED);
+    assert!(rt; reported.as_slice() == b"not read\n".as_slice());
     Ok(())
 }

@@ -58,7 +58,7 @@ struct Row {
     fragment_copies: &'static [u8],
     status: u8,
     printed: &'static str,
-    told: &'static str,
+    reported: &'static str,
 }
 
 static ROWS: [Row; 4] = [
@@ -67,28 +67,28 @@ static ROWS: [Row; 4] = [
         fragment_copies: SCRIPT,
         status: DONE,
         printed: SCRIPT_PRINTED,
-        told: "",
+        reported: "",
     },
     Row {
         words: &["modal"],
         fragment_copies: KEYS,
         status: DONE,
         printed: KEYS_PRINTED,
-        told: "",
+        reported: "",
     },
     Row {
         words: &[],
         fragment_copies: b"nothing",
         status: UNPARSED,
         printed: "",
-        told: "line 1: not read\n",
+        reported: "line 1: not read\n",
     },
     Row {
         words: &["modal"],
         fragment_copies: b"i\xff",
         status: UNPARSED,
         printed: "",
-        told: "not read\n",
+        reported: "not read\n",
     },
 ];
 
@@ -96,22 +96,22 @@ static ROWS: [Row; 4] = [
 fn streams_that_fail(rt: HostRuntime) -> Result<(), Fail> {
     for row in &ROWS {
         let words = strings(rt.alloc(), row.words)?;
-        read_in_pieces(&rt, words.as_slice(), row);
-        write_in_pieces(&rt, words.as_slice(), row);
+        read_in_segments(&rt, words.as_slice(), row);
+        write_in_segments(&rt, words.as_slice(), row);
         drop(words);
     }
     Ok(())
 }
 
 // Tries readers that fail at each read in turn, and one that never fails.
-fn read_in_pieces(rt: &(impl Abort + AllocGlobal), words: &[String], row: &Row) {
+fn read_in_segments(rt: &(impl Abort + AllocGlobal), words: &[String], row: &Row) {
     let fragment_copies = row.fragment_copies;
-    for (piece, is_interrupted) in [(1, false), (1, true), (7, false), (64, true)] {
+    for (segment, is_interrupted) in [(1, false), (1, true), (7, false), (64, true)] {
         for reads in 0..fragment_copies.len() + 2 {
-            let mut reader = BrokenReader::new(fragment_copies, piece, is_interrupted, reads);
+            let mut reader = BrokenReader::new(fragment_copies, segment, is_interrupted, reads);
             read_from(rt, words, &mut reader, row);
             // One read for each byte, and one that reports the end.
-            assert!(rt; piece != 1 || reader.has_failed() == (reads <= fragment_copies.len()));
+            assert!(rt; segment != 1 || reader.has_failed() == (reads <= fragment_copies.len()));
         }
     }
 }
@@ -133,7 +133,7 @@ fn read_from(
     );
     let wanted = match reader.has_failed() {
         true => (STREAM_FAILED, "", ""),
-        false => (row.status, row.printed, row.told),
+        false => (row.status, row.printed, row.reported),
     };
     assert_eq!(rt; found, wanted);
 }
@@ -141,16 +141,16 @@ fn read_from(
 /// The bytes of one write of the output, the number of such writes, and the bytes of error output.
 #[derive(Clone, Copy)]
 struct Limits {
-    piece: usize,
+    segment: usize,
     writes: usize,
-    told: usize,
+    reported: usize,
 }
 
 // Tries writers that fail at each write in turn, and at none: for the output, then for the errors.
-fn write_in_pieces(rt: &(impl Abort + AllocGlobal), words: &[String], row: &Row) {
-    let told = usize::MAX;
-    for piece in [1, 7, 64] {
-        let all = row.printed.len().div_ceil(piece);
+fn write_in_segments(rt: &(impl Abort + AllocGlobal), words: &[String], row: &Row) {
+    let reported = usize::MAX;
+    for segment in [1, 7, 64] {
+        let all = row.printed.len().div_ceil(segment);
         for writes in 0..all + 2 {
             // One write more than the text needs is left for the flush.
             let is_written = row.printed.is_empty() || writes > all;
@@ -160,20 +160,20 @@ fn write_in_pieces(rt: &(impl Abort + AllocGlobal), words: &[String], row: &Row)
                 STREAM_FAILED
             };
             let limits = Limits {
-                piece,
+                segment,
                 writes,
-                told,
+                reported,
             };
             write_to(rt, words, row, limits, status);
         }
     }
     // A failing error output changes no status.
-    for told in 0..20 {
-        let (piece, writes) = (64, usize::MAX);
+    for reported in 0..20 {
+        let (segment, writes) = (64, usize::MAX);
         let limits = Limits {
-            piece,
+            segment,
             writes,
-            told,
+            reported,
         };
         write_to(rt, words, row, limits, row.status);
     }
@@ -188,24 +188,24 @@ fn write_to(
     status: u8,
 ) {
     let Limits {
-        piece,
+        segment,
         writes,
-        told,
+        reported,
     } = limits;
     let mut reader = row.fragment_copies;
-    let mut output = BrokenWriter::new(rt.alloc(), piece, writes);
-    let mut errors = BrokenWriter::new(rt.alloc(), 1, told);
+    let mut output = BrokenWriter::new(rt.alloc(), segment, writes);
+    let mut errors = BrokenWriter::new(rt.alloc(), 1, reported);
     let ended = serve_arguments(rt.alloc(), words, &mut reader, &mut output, &mut errors);
     let found = (ended, output.text(), errors.text());
     let wanted = (
         status,
-        beginning(row.printed, writes.saturating_mul(piece)),
-        beginning(row.told, told),
+        beginning(row.printed, writes.saturating_mul(segment)),
+        beginning(row.reported, reported),
     );
     assert_eq!(rt;
         found,
         wanted,
-        "{writes} writes of {piece} bytes, {told} told"
+        "{writes} writes of {segment} bytes, {reported} told"
     );
 }
 

@@ -1,6 +1,6 @@
 // Trials with a text area. One function owns each text area, and the others borrow it.
 use crate::fragment_copies::copy_is_independent;
-use crate::many_lines::{are_shown_and_scrolled, lines_of_x};
+use crate::many_lines::{are_drawn_and_scrolled, lines_of_x};
 use crate::quick_start::is_as_described;
 use std::alloc::{AllocError, Global};
 use tui_textarea::TextArea;
@@ -28,7 +28,7 @@ impl Trial {
     fn is_right(self, alloc: Global, area: &mut TextArea<'_>) -> Result<bool, AllocError> {
         match self {
             Trial::Copy => copy_is_independent(area),
-            Trial::ManyLines => are_shown_and_scrolled(alloc, area),
+            Trial::ManyLines => are_drawn_and_scrolled(alloc, area),
             Trial::QuickStart => is_as_described(area),
         }
     }

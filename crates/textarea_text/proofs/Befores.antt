@@ -19,8 +19,8 @@ pub text_place : {Z : Type 0} (items : List (String Z)) (place : Place) → IsPl
 text_place items place h =
     subst (λ (rows : List (List ℕ)). IsPlaceOf rows place) (sym (lines-joined (lines_of items) (omega (arith, h.0)))) h
 
-pub character_stands : (rows : List (List ℕ)) (row column c : ℕ) → row < length rows → column ≤ length (get_or rows row []) → drop column (get_or rows row []) ≡ c ∷ drop (column + 1) (get_or rows row []) → OccursAt (joined rows) (row, column) (Character c ∷ [])
-character_stands rows row column c within inside found =
+pub character_occurs : (rows : List (List ℕ)) (row column c : ℕ) → row < length rows → column ≤ length (get_or rows row []) → drop column (get_or rows row []) ≡ c ∷ drop (column + 1) (get_or rows row []) → OccursAt (joined rows) (row, column) (Character c ∷ [])
+character_occurs rows row column c within inside found =
     let here = get_or rows row [] in
     let was : joined (here ∷ []) ≡ characters (take column here) ++ (Character c ∷ characters (drop (column + 1) here)) =
     wrap_line here column ∙ ap (λ t. characters (take column here) ++ characters t) found in
@@ -30,8 +30,8 @@ rows_around_two : (rows : List (List ℕ)) (row : ℕ) → row + 1 < length rows
 rows_around_two rows row within =
     grind (arith, common_steps, take-append-drop row rows, drop_more)
 
-pub break_stands : (rows : List (List ℕ)) (row : ℕ) → row + 1 < length rows → OccursAt (joined rows) (row, length (get_or rows row [])) (Break ∷ [])
-break_stands rows row within =
+pub break_occurs : (rows : List (List ℕ)) (row : ℕ) → row + 1 < length rows → OccursAt (joined rows) (row, length (get_or rows row [])) (Break ∷ [])
+break_occurs rows row within =
     let here = get_or rows row [] in
     let next = get_or rows (row + 1) [] in
     let was : joined (here ∷ next ∷ []) ≡ characters here ++ (Break ∷ characters next) = ap (λ t. characters here ++ (Break ∷ t)) (append-nil (characters next)) in
@@ -47,7 +47,7 @@ character_before items place line c h some read found =
     let here : get_or rows place.0 [] ≡ characters_of line = line_at items place.0 line (omega (arith, h.0, length-map items characters_of)) read in
     let start : IsPlaceOf rows (place.0, place.1 - 1) = (h.0, omega (arith, h.1)) in
     is_before (text_of items) (place.0, place.1 - 1) (Character c) place (text_place items (place.0, place.1 - 1) start)
-    (character_stands rows place.0 (place.1 - 1) c h.0 start.1 (subst (λ (l : List ℕ). drop (place.1 - 1) l ≡ c ∷ drop (place.1 - 1 + 1) l) (sym here) found))
+    (character_occurs rows place.0 (place.1 - 1) c h.0 start.1 (subst (λ (l : List ℕ). drop (place.1 - 1) l ≡ c ∷ drop (place.1 - 1 + 1) l) (sym here) found))
     (pair_is place place.0 (place.1 - 1 + 1) refl (omega arith))
 
 -- before a position at the start of a line below another there is a break
@@ -56,9 +56,9 @@ break_before items place line column h none some read e =
     let rows = lines_of items in
     let here : get_or rows (place.0 - 1) [] ≡ characters_of line = line_at items (place.0 - 1) line (omega (arith, h.0, length-map items characters_of)) read in
     let at : length (get_or rows (place.0 - 1) []) ≡ column = ap length here ∙ sym e in
-    let stands : OccursAt (text_of items) (place.0 - 1, column) (Break ∷ []) =
-    subst (λ (n : ℕ). OccursAt (text_of items) (place.0 - 1, n) (Break ∷ [])) at (break_stands rows (place.0 - 1) (omega (arith, h.0))) in
-    is_before (text_of items) (place.0 - 1, column) Break place (text_place items (place.0 - 1, column) (omega (arith, h.0), omega (arith, at))) stands
+    let occurs : OccursAt (text_of items) (place.0 - 1, column) (Break ∷ []) =
+    subst (λ (n : ℕ). OccursAt (text_of items) (place.0 - 1, n) (Break ∷ [])) at (break_occurs rows (place.0 - 1) (omega (arith, h.0))) in
+    is_before (text_of items) (place.0 - 1, column) Break place (text_place items (place.0 - 1, column) (omega (arith, h.0), omega (arith, at))) occurs
     (pair_is place (place.0 - 1 + 1) 0 (omega arith) none)
 
 -- a call of `next` that returns a character

@@ -7,7 +7,7 @@ use Rattle.std.proofs.lemmas.List.{append-nil, append_assoc, drop_more, length-a
 use Rattle.textarea_text.specs.Text.{Symbol, characters, characters_of, following, joined, lines_of, text_of}
 use Rattle.textarea_text.specs.Place.{Place, IsPlaceOf, IsUpTo, index_of}
 use Rattle.textarea_text.proofs.Splices.{joined-append}
-use Rattle.textarea_text.proofs.TextPlaces.{part_rows, index_parted}
+use Rattle.textarea_text.proofs.TextPlaces.{parted_rows, index_parted}
 use Rattle.textarea_text.specs.Between.{symbols_between}
 
 -- ---- the lines up to a position
@@ -31,26 +31,26 @@ place_until rows from to h h' up = grind (arith, common_steps, nat_tests)
 -- the text, split at two positions
 record Between (rows : List (List ℕ)) (from to : Place) : Type 0 where
   index : index_of (joined rows) to ≡ index_of (joined rows) from + length (joined (lines_from_column from.1 (drop from.0 (lines_until rows to))))
-  part_is : symbols_between (joined rows) from to ≡ joined (lines_from_column from.1 (drop from.0 (lines_until rows to)))
+  between_is : symbols_between (joined rows) from to ≡ joined (lines_from_column from.1 (drop from.0 (lines_until rows to)))
 
-part-append : (front middle back : List Symbol) (i j : ℕ) → i ≡ length front → j ≡ length (front ++ middle) → take (j - i) (drop i ((front ++ middle) ++ back)) ≡ middle
-part-append front middle back i j here there = grind (arith, common_steps, nat_tests)
+between-append : (front middle back : List Symbol) (i j : ℕ) → i ≡ length front → j ≡ length (front ++ middle) → take (j - i) (drop i ((front ++ middle) ++ back)) ≡ middle
+between-append front middle back i j here there = grind (arith, common_steps, nat_tests)
 
-until_is : (rows : List (List ℕ)) (to : Place) (h : IsPlaceOf rows to) → (part_rows rows to.0 to.1 h).front ≡ joined (lines_until rows to)
-unfolding part_rows
+until_is : (rows : List (List ℕ)) (to : Place) (h : IsPlaceOf rows to) → (parted_rows rows to.0 to.1 h).front ≡ joined (lines_until rows to)
+unfolding parted_rows
 until_is rows to h =
     grind (arith, common_steps, append-nil, joined-append)
 
-back_is : (rows : List (List ℕ)) (from : Place) (h : IsPlaceOf rows from) → (part_rows rows from.0 from.1 h).back ≡ joined (lines_from_column from.1 (drop from.0 rows))
-unfolding part_rows
+back_is : (rows : List (List ℕ)) (from : Place) (h : IsPlaceOf rows from) → (parted_rows rows from.0 from.1 h).back ≡ joined (lines_from_column from.1 (drop from.0 rows))
+unfolding parted_rows
 back_is rows from h = ap (λ t. joined (lines_from_column from.1 t)) (sym (drop_more rows from.0 [] h.0))
 
 between : (rows : List (List ℕ)) (from to : Place) → IsPlaceOf rows from → IsPlaceOf rows to → IsUpTo from to → Between rows from to
 between rows from to h h' before =
     let until = lines_until rows to in
     let inside = place_until rows from to h h' before in
-    let first = part_rows until from.0 from.1 inside in
-    let second = part_rows rows to.0 to.1 h' in
+    let first = parted_rows until from.0 from.1 inside in
+    let second = parted_rows rows to.0 to.1 h' in
     let middle = joined (lines_from_column from.1 (drop from.0 until)) in
     let front : second.front ≡ first.front ++ middle = until_is rows to h' ∙ first.is ∙ ap (λ t. first.front ++ t) (back_is until from inside) in
     let whole : joined rows ≡ (first.front ++ middle) ++ second.back = second.is ∙ ap (λ t. t ++ second.back) front in
@@ -60,8 +60,8 @@ between rows from to h h' before =
     ap (λ t. index_of t to) second.is ∙ index_parted to second.front second.back second.ends ∙ ap length front in
     record {
       index = omega (arith, length-append first.front middle);
-      part_is = ap (λ t. take (index_of (joined rows) to - index_of (joined rows) from) (drop (index_of (joined rows) from) t)) whole
-          ∙ part-append first.front middle second.back (index_of (joined rows) from) (index_of (joined rows) to) here there;
+      between_is = ap (λ t. take (index_of (joined rows) to - index_of (joined rows) from) (drop (index_of (joined rows) from) t)) whole
+          ∙ between-append first.front middle second.back (index_of (joined rows) from) (index_of (joined rows) to) here there;
     }
 
 length-following : (rows : List (List ℕ)) → length rows ≤ length (following rows)
@@ -72,11 +72,11 @@ length-following (line ∷ rest) = omega (arith, length-following rest, length-a
 index-lower : (rows : List (List ℕ)) (place lower : Place) → IsPlaceOf rows place → IsPlaceOf rows lower → place.0 < lower.0 → index_of (joined rows) place < index_of (joined rows) lower
 index-lower rows place lower h h' below =
     let until = lines_until rows lower in
-    let parts = between rows place lower h h' (omega arith, λ same. omega arith) in
+    let components = between rows place lower h h' (omega arith, λ same. omega arith) in
     let inside : place.0 + 1 < length until = omega (arith, length-lines_until rows lower h'.0) in
     omega (
       arith,
-      parts.index,
+      components.index,
       ap (λ t. length (joined (lines_from_column place.1 t))) (drop_more until place.0 [] (omega arith)),
       length-append (characters (drop place.1 (get_or until place.0 []))) (following (drop (place.0 + 1) until)),
       length-following (drop (place.0 + 1) until),
@@ -89,32 +89,32 @@ up_to_from_index rows from to h h' ordered = grind (arith, index-lower rows to f
 -- ---- the lines of a fragment, copied one by one
 
 -- the lines of the text between the positions
-abbrev pub part_lines : List (List ℕ) → Place → Place → List (List ℕ)
-part_lines rows from to = lines_from_column from.1 (drop from.0 (lines_until rows to))
+abbrev pub lines_between : List (List ℕ) → Place → Place → List (List ℕ)
+lines_between rows from to = lines_from_column from.1 (drop from.0 (lines_until rows to))
 
 -- the lines so far, and those still to be copied, from the column of the row on
-abbrev pub PiecesSoFar : {Z : Type 0} → List (String Z) → List (List ℕ) → Place → Place → ℕ → ℕ → Type 0
-PiecesSoFar pieces rows from to row column =
-    lines_of pieces ++ lines_from_column column (drop row (lines_until rows to)) ≡ part_lines rows from to
+abbrev pub LinesSoFar : {Z : Type 0} → List (String Z) → List (List ℕ) → Place → Place → ℕ → ℕ → Type 0
+LinesSoFar fragment_lines rows from to row column =
+    lines_of fragment_lines ++ lines_from_column column (drop row (lines_until rows to)) ≡ lines_between rows from to
 
 -- at first there is no line
-pub pieces_none : {Z : Type 0} (pieces : List (String Z)) (rows : List (List ℕ)) (from to : Place) (row : ℕ) → pieces ≡ [] → row ≡ from.0 → PiecesSoFar pieces rows from to row from.1
-pieces_none pieces rows from to row none first =
+pub lines_none : {Z : Type 0} (fragment_lines : List (String Z)) (rows : List (List ℕ)) (from to : Place) (row : ℕ) → fragment_lines ≡ [] → row ≡ from.0 → LinesSoFar fragment_lines rows from to row from.1
+lines_none fragment_lines rows from to row none first =
     grind (arith, common_steps)
 
-pub pieces_more : {Z : Type 0} (pieces more : List (String Z)) (piece : List ℕ) (rows : List (List ℕ)) (from to : Place) (row column next_row : ℕ) → to.0 < length rows → row < to.0 → PiecesSoFar pieces rows from to row column → lines_of more ≡ lines_of pieces ++ piece ∷ [] → piece ≡ drop column (get_or rows row []) → next_row ≡ row + 1 → PiecesSoFar more rows from to next_row 0
-pieces_more pieces more piece rows from to row column next_row within below h is cut next = grind (arith, common_steps, nat_tests)
+pub lines_more : {Z : Type 0} (fragment_lines more : List (String Z)) (fragment_line : List ℕ) (rows : List (List ℕ)) (from to : Place) (row column next_row : ℕ) → to.0 < length rows → row < to.0 → LinesSoFar fragment_lines rows from to row column → lines_of more ≡ lines_of fragment_lines ++ fragment_line ∷ [] → fragment_line ≡ drop column (get_or rows row []) → next_row ≡ row + 1 → LinesSoFar more rows from to next_row 0
+lines_more fragment_lines more fragment_line rows from to row column next_row within below h is split_text next = grind (arith, common_steps, nat_tests)
 
-pub pieces_done : {Z : Type 0} (pieces more : List (String Z)) (piece : List ℕ) (rows : List (List ℕ)) (from to : Place) (row column : ℕ) → to.0 < length rows → row ≡ to.0 → PiecesSoFar pieces rows from to row column → lines_of more ≡ lines_of pieces ++ piece ∷ [] → piece ≡ drop column (take to.1 (get_or rows to.0 [])) → lines_of more ≡ part_lines rows from to
-pieces_done pieces more piece rows from to row column within last h is cut = grind (arith, common_steps, nat_tests)
+pub lines_done : {Z : Type 0} (fragment_lines more : List (String Z)) (fragment_line : List ℕ) (rows : List (List ℕ)) (from to : Place) (row column : ℕ) → to.0 < length rows → row ≡ to.0 → LinesSoFar fragment_lines rows from to row column → lines_of more ≡ lines_of fragment_lines ++ fragment_line ∷ [] → fragment_line ≡ drop column (take to.1 (get_or rows to.0 [])) → lines_of more ≡ lines_between rows from to
+lines_done fragment_lines more fragment_line rows from to row column within last h is split_text = grind (arith, common_steps, nat_tests)
 
-pub part_from_lines : {Z : Type 0} (lines pieces : List (String Z)) (from to : Place) → IsPlaceOf (lines_of lines) from → IsPlaceOf (lines_of lines) to → IsUpTo from to → lines_of pieces ≡ part_lines (lines_of lines) from to → text_of pieces ≡ symbols_between (text_of lines) from to
-part_from_lines lines pieces from to h h' before e = ap joined e ∙ sym (between (lines_of lines) from to h h' before).part_is
+pub between_from_lines : {Z : Type 0} (lines fragment_lines : List (String Z)) (from to : Place) → IsPlaceOf (lines_of lines) from → IsPlaceOf (lines_of lines) to → IsUpTo from to → lines_of fragment_lines ≡ lines_between (lines_of lines) from to → text_of fragment_lines ≡ symbols_between (text_of lines) from to
+between_from_lines lines fragment_lines from to h h' before e = ap joined e ∙ sym (between (lines_of lines) from to h h' before).between_is
 
 -- ---- the rows from the start's to the end's, counted from the start's
 
-pub line_in_part : {Z : Type 0} (lines : List (String Z)) (start count i : ℕ) (line : String Z) → start + count ≤ length lines → i < count → line ≡ get_or (take count (drop start lines)) i line → get_or (lines_of lines) (start + i) [] ≡ characters_of line
-line_in_part lines start count i line within below is = grind (arith, common_steps, nat_tests)
+pub line_in_between : {Z : Type 0} (lines : List (String Z)) (start count i : ℕ) (line : String Z) → start + count ≤ length lines → i < count → line ≡ get_or (take count (drop start lines)) i line → get_or (lines_of lines) (start + i) [] ≡ characters_of line
+line_in_between lines start count i line within below is = grind (arith, common_steps, nat_tests)
 
 pub column_within : (rows : List (List ℕ)) (from : Place) (i column : ℕ) → IsPlaceOf rows from → (i ≡ 0 → column ≡ from.1) → (0 < i → column ≡ 0) → column ≤ length (get_or rows (from.0 + i) [])
 column_within rows from zero column h first later = omega (arith, first refl, h.1, ap (λ n. length (get_or rows n [])) (add-zero from.0))

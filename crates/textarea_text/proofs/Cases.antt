@@ -7,26 +7,26 @@ use Rattle.unicode_width.specs.Width.{char_width}
 use Rattle.textarea_text.specs.Tab.{width_of}
 
 -- "a\r\nb\r"
-given_with_return : fragment_symbols (97 ∷ 13 ∷ 10 ∷ 98 ∷ 13 ∷ []) ≡ Character 97 ∷ Break ∷ Character 98 ∷ Character 13 ∷ []
-given_with_return = refl
+fragment_with_return : fragment_symbols (97 ∷ 13 ∷ 10 ∷ 98 ∷ 13 ∷ []) ≡ Character 97 ∷ Break ∷ Character 98 ∷ Character 13 ∷ []
+fragment_with_return = refl
 
 -- "a\r\r\nb": one carriage return is dropped
-given_with_two_returns : fragment_symbols (97 ∷ 13 ∷ 13 ∷ 10 ∷ 98 ∷ []) ≡ Character 97 ∷ Character 13 ∷ Break ∷ Character 98 ∷ []
-given_with_two_returns = refl
+fragment_with_two_returns : fragment_symbols (97 ∷ 13 ∷ 13 ∷ 10 ∷ 98 ∷ []) ≡ Character 97 ∷ Character 13 ∷ Break ∷ Character 98 ∷ []
+fragment_with_two_returns = refl
 
-given_none : fragment_symbols [] ≡ []
-given_none = refl
+fragment_none : fragment_symbols [] ≡ []
+fragment_none = refl
 
 -- "\n\n"
-given_breaks : fragment_symbols (10 ∷ 10 ∷ []) ≡ Break ∷ Break ∷ []
-given_breaks = refl
+fragment_breaks : fragment_symbols (10 ∷ 10 ∷ []) ≡ Break ∷ Break ∷ []
+fragment_breaks = refl
 
 written_break : fragment_text (Character 97 ∷ Break ∷ Break ∷ Character 13 ∷ []) ≡ 97 ∷ 10 ∷ 10 ∷ 13 ∷ []
 written_break = refl
 
 -- "ab", "cd": from after the a to after the c
-part_of_two_lines : symbols_between (Character 97 ∷ Character 98 ∷ Break ∷ Character 99 ∷ Character 100 ∷ []) (0, 1) (1, 1) ≡ Character 98 ∷ Break ∷ Character 99 ∷ []
-part_of_two_lines = refl
+between_two_lines : symbols_between (Character 97 ∷ Character 98 ∷ Break ∷ Character 99 ∷ Character 100 ∷ []) (0, 1) (1, 1) ≡ Character 98 ∷ Break ∷ Character 99 ∷ []
+between_two_lines = refl
 
 clip_row : clip ((97 ∷ 98 ∷ []) ∷ (99 ∷ []) ∷ []) (7, 2) ≡ (1, 1)
 clip_row = refl

@@ -23,37 +23,37 @@ HasNoLineFeed cs = NonePass (λ d. nat_eq d 10) cs
 abbrev pub StandApart : List ℕ → List ℕ → Type 0
 StandApart line rest = (front : List ℕ) → line ≡ front ++ 13 ∷ [] → begins_with_line_feed rest ≡ false
 
-symbols_for-kept : (c : ℕ) (behind : List ℕ) → nat_eq c 10 ≡ false → (c ≡ 13 → begins_with_line_feed behind ≡ false) → symbols_for c behind ≡ Character c ∷ []
-symbols_for-kept c behind other apart = grind (arith, nat_tests)
+symbols_for-retained : (c : ℕ) (rest_after : List ℕ) → nat_eq c 10 ≡ false → (c ≡ 13 → begins_with_line_feed rest_after ≡ false) → symbols_for c rest_after ≡ Character c ∷ []
+symbols_for-retained c rest_after other apart = grind (arith, nat_tests)
 
 apart-next : (c : ℕ) (cs rest : List ℕ) → HasNoLineFeed cs → StandApart (c ∷ cs) rest → c ≡ 13 → begins_with_line_feed (cs ++ rest) ≡ false
 apart-next c [] rest none apart e = apart [] (ap (λ d. d ∷ []) e)
 apart-next c (d ∷ cs) rest none apart e = none.0
 
-pub given-append : (line rest : List ℕ) → HasNoLineFeed line → StandApart line rest → fragment_symbols (line ++ rest) ≡ characters line ++ fragment_symbols rest
-given-append [] rest none apart = refl
-given-append (c ∷ cs) rest none apart =
-    rw (symbols_for-kept c (cs ++ rest) none.0 (apart-next c cs rest none.1 apart))
-    (ap (λ t. Character c ∷ t) (given-append cs rest none.1 (λ front e. apart (c ∷ front) (ap (λ t. c ∷ t) e))))
+pub fragment_symbols-append : (line rest : List ℕ) → HasNoLineFeed line → StandApart line rest → fragment_symbols (line ++ rest) ≡ characters line ++ fragment_symbols rest
+fragment_symbols-append [] rest none apart = refl
+fragment_symbols-append (c ∷ cs) rest none apart =
+    rw (symbols_for-retained c (cs ++ rest) none.0 (apart-next c cs rest none.1 apart))
+    (ap (λ t. Character c ∷ t) (fragment_symbols-append cs rest none.1 (λ front e. apart (c ∷ front) (ap (λ t. c ∷ t) e))))
 
 -- a text without a line feed is one line
-pub given-last : (line : List ℕ) → HasNoLineFeed line → fragment_symbols line ≡ characters line
-given-last line none = simp append-nil at (given-append line [] none (λ front e. refl))
+pub fragment_symbols-last : (line : List ℕ) → HasNoLineFeed line → fragment_symbols line ≡ characters line
+fragment_symbols-last line none = simp append-nil at (fragment_symbols-append line [] none (λ front e. refl))
 
 -- a line that a line feed ends, and one that a carriage return and a line feed end
-given-line : (line behind : List ℕ) → HasNoLineFeed line → ((front : List ℕ) → line ≢ front ++ 13 ∷ []) → fragment_symbols (line ++ 10 ∷ behind) ≡ characters line ++ (Break ∷ fragment_symbols behind)
-given-line line behind none other = given-append line (10 ∷ behind) none (λ front e. absurd (other front e))
+fragment_symbols-line : (line rest_after : List ℕ) → HasNoLineFeed line → ((front : List ℕ) → line ≢ front ++ 13 ∷ []) → fragment_symbols (line ++ 10 ∷ rest_after) ≡ characters line ++ (Break ∷ fragment_symbols rest_after)
+fragment_symbols-line line rest_after none other = fragment_symbols-append line (10 ∷ rest_after) none (λ front e. absurd (other front e))
 
-given-line_with_return : (line behind : List ℕ) → HasNoLineFeed line → fragment_symbols (line ++ (13 ∷ 10 ∷ behind)) ≡ characters line ++ (Break ∷ fragment_symbols behind)
-given-line_with_return line behind none = given-append line (13 ∷ 10 ∷ behind) none (λ front e. refl)
+fragment_symbols-line_with_return : (line rest_after : List ℕ) → HasNoLineFeed line → fragment_symbols (line ++ (13 ∷ 10 ∷ rest_after)) ≡ characters line ++ (Break ∷ fragment_symbols rest_after)
+fragment_symbols-line_with_return line rest_after none = fragment_symbols-append line (13 ∷ 10 ∷ rest_after) none (λ front e. refl)
 
 -- ---- the same for texts as bytes
 
 no_line_feed : (bs : List ℕ) → IsUtf8 bs → NoCharPasses (λ d. nat_eq d 10) bs → HasNoLineFeed (chars bs)
 no_line_feed bs text none = subst HasNoLineFeed (encodes_same none.0 (chars bs) (none.1 ∙ sym (encodes-chars bs text))) none.2
 
-pub given-last_text : (bs : List ℕ) → IsUtf8 bs → NoCharPasses (λ d. nat_eq d 10) bs → fragment_symbols (chars bs) ≡ characters (chars bs)
-given-last_text bs text none = given-last (chars bs) (no_line_feed bs text none)
+pub fragment_symbols-last_text : (bs : List ℕ) → IsUtf8 bs → NoCharPasses (λ d. nat_eq d 10) bs → fragment_symbols (chars bs) ≡ characters (chars bs)
+fragment_symbols-last_text bs text none = fragment_symbols-last (chars bs) (no_line_feed bs text none)
 
 front-none : (xs ys : List ℕ) → HasNoLineFeed (xs ++ ys) → HasNoLineFeed xs
 front-none [] ys none = tt
@@ -64,23 +64,23 @@ unfolding chars
 chars_return bs text = chars-append bs (13 ∷ []) text
 
 -- a line without the carriage return at its end, if it has one
-given-stripped : (behind : List ℕ) (whole : Bor (List ℕ)) (stripped : Option (Bor (List ℕ))) → IsUtf8 whole.now → IsUtf8 (unwrap_or stripped whole).now → HasNoLineFeed (chars whole.now) → MatchOption stripped ((front : List ℕ) → whole.now ≢ front ++ 13 ∷ []) (λ x. whole.now ≡ x.now ++ 13 ∷ []) → fragment_symbols (chars whole.now ++ 10 ∷ behind) ≡ characters (chars (unwrap_or stripped whole).now) ++ (Break ∷ fragment_symbols behind)
-given-stripped behind whole None text text' none h =
-    grind (arith, common_steps, given-line, encodes-chars whole.now text, encodes-append, encode_ascii)
-given-stripped behind whole (Some line) text text' none h =
-    grind (arith, common_steps, chars_return line.now text', append_assoc (chars line.now) (13 ∷ []) (10 ∷ behind), given-line_with_return, front-none)
+fragment_symbols-stripped : (rest_after : List ℕ) (whole : Bor (List ℕ)) (stripped : Option (Bor (List ℕ))) → IsUtf8 whole.now → IsUtf8 (unwrap_or stripped whole).now → HasNoLineFeed (chars whole.now) → MatchOption stripped ((front : List ℕ) → whole.now ≢ front ++ 13 ∷ []) (λ x. whole.now ≡ x.now ++ 13 ∷ []) → fragment_symbols (chars whole.now ++ 10 ∷ rest_after) ≡ characters (chars (unwrap_or stripped whole).now) ++ (Break ∷ fragment_symbols rest_after)
+fragment_symbols-stripped rest_after whole None text text' none h =
+    grind (arith, common_steps, fragment_symbols-line, encodes-chars whole.now text, encodes-append, encode_ascii)
+fragment_symbols-stripped rest_after whole (Some line) text text' none h =
+    grind (arith, common_steps, chars_return line.now text', append_assoc (chars line.now) (13 ∷ []) (10 ∷ rest_after), fragment_symbols-line_with_return, front-none)
 
 -- a text, split at its first line feed
-pub given-cut : (bs behind : List ℕ) (i j : ℕ) (line : Bor (List ℕ)) (stripped : Option (Bor (List ℕ))) → IsUtf8 bs → IsUtf8 (unwrap_or stripped line).now → NoCharPasses (λ d. nat_eq d 10) (take i bs) → HasCharAt 10 bs i j → line.now ≡ take i bs → behind ≡ drop j bs → MatchOption stripped ((front : List ℕ) → line.now ≢ front ++ 13 ∷ []) (λ x. line.now ≡ x.now ++ 13 ∷ []) → fragment_symbols (chars bs) ≡ characters (chars (unwrap_or stripped line).now) ++ (Break ∷ fragment_symbols (chars behind))
-given-cut bs behind i j line stripped text text' none at front_is behind_is h =
+pub fragment_symbols-split_text : (bs rest_after : List ℕ) (i j : ℕ) (line : Bor (List ℕ)) (stripped : Option (Bor (List ℕ))) → IsUtf8 bs → IsUtf8 (unwrap_or stripped line).now → NoCharPasses (λ d. nat_eq d 10) (take i bs) → HasCharAt 10 bs i j → line.now ≡ take i bs → rest_after ≡ drop j bs → MatchOption stripped ((front : List ℕ) → line.now ≢ front ++ 13 ∷ []) (λ x. line.now ≡ x.now ++ 13 ∷ []) → fragment_symbols (chars bs) ≡ characters (chars (unwrap_or stripped line).now) ++ (Break ∷ fragment_symbols (chars rest_after))
+fragment_symbols-split_text bs rest_after i j line stripped text text' none at front_is symbol_after_is h =
     let within : i < length bs = omega (arith, at.after.0) in
     let boundary = IsCharBoundary-before_ascii bs i within (omega (arith, at.byte (omega arith))) in
     let front : IsUtf8 line.now = subst IsUtf8 (sym front_is) (IsUtf8-take bs i text boundary) in
-    let cut : chars bs ≡ chars line.now ++ 10 ∷ chars behind =
+    let split_text : chars bs ≡ chars line.now ++ 10 ∷ chars rest_after =
     ap chars (sym (take-append-drop i bs) ∙ ap (λ t. t ++ drop i bs) (sym front_is)) ∙ chars-append line.now (drop i bs) front
     ∙ ap (λ t. chars line.now ++ t) (chars_past_char (drop i bs) (drop j bs) 10 (IsUtf8-drop bs i text boundary) at.split)
-    ∙ ap (λ t. chars line.now ++ 10 ∷ chars t) (sym behind_is) in
-    ap fragment_symbols cut ∙ given-stripped (chars behind) line stripped front text' (no_line_feed line.now front (subst (NoCharPasses (λ d. nat_eq d 10)) (sym front_is) none)) h
+    ∙ ap (λ t. chars line.now ++ 10 ∷ chars t) (sym symbol_after_is) in
+    ap fragment_symbols split_text ∙ fragment_symbols-stripped (chars rest_after) line stripped front text' (no_line_feed line.now front (subst (NoCharPasses (λ d. nat_eq d 10)) (sym front_is) none)) h
 
 -- ---- lines, split off one after another
 
@@ -88,13 +88,13 @@ pub leading-append : (xs ys : List (List ℕ)) → leading (xs ++ ys) ≡ leadin
 leading-append [] ys = refl
 leading-append (x ∷ xs) ys = rw (leading-append xs ys) (simp append_assoc)
 
-pub given_more : {Z : Type 0} (pieces more : List (String Z)) (piece : String Z) (rest line behind : List ℕ) (whole : List Symbol) → leading (lines_of pieces) ++ fragment_symbols rest ≡ whole → fragment_symbols rest ≡ characters line ++ (Break ∷ fragment_symbols behind) → characters_of piece ≡ line → more ≡ pieces ++ piece ∷ [] → leading (lines_of more) ++ fragment_symbols behind ≡ whole
-given_more pieces more piece rest line behind whole h cut e is =
-    rw (is, map-append, leading-append, append_assoc, append_assoc, e, ← cut) h
+pub fragment_more : {Z : Type 0} (fragment_lines more : List (String Z)) (fragment_line : String Z) (rest line rest_after : List ℕ) (whole : List Symbol) → leading (lines_of fragment_lines) ++ fragment_symbols rest ≡ whole → fragment_symbols rest ≡ characters line ++ (Break ∷ fragment_symbols rest_after) → characters_of fragment_line ≡ line → more ≡ fragment_lines ++ fragment_line ∷ [] → leading (lines_of more) ++ fragment_symbols rest_after ≡ whole
+fragment_more fragment_lines more fragment_line rest line rest_after whole h split_text e is =
+    rw (is, map-append, leading-append, append_assoc, append_assoc, e, ← split_text) h
 
-pub given_done : {Z : Type 0} (pieces more : List (String Z)) (piece : String Z) (rest : List ℕ) (whole : List Symbol) → leading (lines_of pieces) ++ fragment_symbols rest ≡ whole → fragment_symbols rest ≡ characters rest → characters_of piece ≡ rest → more ≡ pieces ++ piece ∷ [] → text_of more ≡ whole
-given_done pieces more piece rest whole h last e is =
-    rw (is, map-append, joined-append (lines_of pieces) (characters_of piece ∷ []) (omega arith), append-nil, e, ← last) h
+pub fragment_done : {Z : Type 0} (fragment_lines more : List (String Z)) (fragment_line : String Z) (rest : List ℕ) (whole : List Symbol) → leading (lines_of fragment_lines) ++ fragment_symbols rest ≡ whole → fragment_symbols rest ≡ characters rest → characters_of fragment_line ≡ rest → more ≡ fragment_lines ++ fragment_line ∷ [] → text_of more ≡ whole
+fragment_done fragment_lines more fragment_line rest whole h last e is =
+    rw (is, map-append, joined-append (lines_of fragment_lines) (characters_of fragment_line ∷ []) (omega arith), append-nil, e, ← last) h
 
 -- ---- lines, joined by line feeds
 
@@ -112,14 +112,14 @@ pub chars_line_feed : (bs new : List ℕ) → IsUtf8 bs → new ≡ bs ++ encode
 unfolding chars
 chars_line_feed bs new text e = ap chars e ∙ ap (λ t. chars (bs ++ t)) (encode_ascii 10 (omega arith)) ∙ chars-append bs (10 ∷ []) text
 
-pub written_more : {Z : Type 0} (first text next_text piece : List ℕ) (rest : List (String Z)) (number : ℕ) → text ≡ first ++ fragment_text (following (take number (lines_of rest))) → number < length rest → next_text ≡ (text ++ 10 ∷ []) ++ piece → piece ≡ get_or (lines_of rest) number [] → next_text ≡ first ++ fragment_text (following (take (number + 1) (lines_of rest)))
-written_more first text next_text piece rest number h within now e =
+pub written_more : {Z : Type 0} (first text next_text fragment_line : List ℕ) (rest : List (String Z)) (number : ℕ) → text ≡ first ++ fragment_text (following (take number (lines_of rest))) → number < length rest → next_text ≡ (text ++ 10 ∷ []) ++ fragment_line → fragment_line ≡ get_or (lines_of rest) number [] → next_text ≡ first ++ fragment_text (following (take (number + 1) (lines_of rest)))
+written_more first text next_text fragment_line rest number h within now e =
     grind (arith, common_steps, take_more, length-map rest characters_of, following-append, written-append, written-characters, append-nil, append_assoc)
 
-pub written_done : {Z : Type 0} (first : String Z) (pieces rest : List (String Z)) (begins text : List ℕ) (number : ℕ) → text ≡ begins ++ fragment_text (following (take number (lines_of rest))) → take number (lines_of rest) ≡ lines_of rest → begins ≡ characters_of first → pieces ≡ first ∷ rest → text ≡ fragment_text (text_of pieces)
-written_done first pieces rest begins text number h all e is = rw (h, all, e, is, written-append, written-characters) refl
+pub written_done : {Z : Type 0} (first : String Z) (fragment_lines rest : List (String Z)) (begins text : List ℕ) (number : ℕ) → text ≡ begins ++ fragment_text (following (take number (lines_of rest))) → take number (lines_of rest) ≡ lines_of rest → begins ≡ characters_of first → fragment_lines ≡ first ∷ rest → text ≡ fragment_text (text_of fragment_lines)
+written_done first fragment_lines rest begins text number h all e is = rw (h, all, e, is, written-append, written-characters) refl
 
 -- ---- copied lines
 
-pub copied_more : {Z : Type 0} (pieces copy more : List (String Z)) (piece : String Z) (number : ℕ) → lines_of copy ≡ take number (lines_of pieces) → more ≡ copy ++ piece ∷ [] → number < length pieces → characters_of piece ≡ get_or (lines_of pieces) number [] → lines_of more ≡ take (number + 1) (lines_of pieces)
-copied_more pieces copy more piece number h is within e = grind (arith, common_steps)
+pub copied_more : {Z : Type 0} (fragment_lines copy more : List (String Z)) (fragment_line : String Z) (number : ℕ) → lines_of copy ≡ take number (lines_of fragment_lines) → more ≡ copy ++ fragment_line ∷ [] → number < length fragment_lines → characters_of fragment_line ≡ get_or (lines_of fragment_lines) number [] → lines_of more ≡ take (number + 1) (lines_of fragment_lines)
+copied_more fragment_lines copy more fragment_line number h is within e = grind (arith, common_steps)

@@ -51,14 +51,14 @@ offset_read items place line text offset h read same e =
     e ∙ ap (λ t. offset_in (chars t) place.1) same ∙ ap (λ t. offset_in t place.1) (sym (line_at items place.0 line (row_within items place h) read))
 
 -- the byte offset of a position in the line that was read
-pub offset_given : {Z : Type 0} (items : List (String Z)) (place : Place) (line : String Z) (offset : ℕ) → IsPlaceOf (lines_of items) place → line ≡ get_or items place.0 line → offset ≡ offset_at (lines_of items) place → offset ≡ offset_in (characters_of line) place.1
-offset_given items place line offset h read e =
+pub offset_of_place : {Z : Type 0} (items : List (String Z)) (place : Place) (line : String Z) (offset : ℕ) → IsPlaceOf (lines_of items) place → line ≡ get_or items place.0 line → offset ≡ offset_at (lines_of items) place → offset ≡ offset_in (characters_of line) place.1
+offset_of_place items place line offset h read e =
     e ∙ ap (λ t. offset_in t place.1) (line_at items place.0 line (row_within items place h) read)
 
 -- the position where the replacement begins stays one, with the same byte offset
-pub place_kept : {Z : Type 0} (items : List (String Z)) (line new : String Z) (start : Place) (later : ℕ) (more : List ℕ) (offset : ℕ) → IsPlaceOf (lines_of items) start → line ≡ get_or items start.0 line → offset ≡ offset_at (lines_of items) start → characters_of new ≡ take start.1 (characters_of line) ++ (more ++ drop later (characters_of line)) → IsPlaceOf (lines_of (set items start.0 new)) start × (offset ≡ offset_at (lines_of (set items start.0 new)) start)
-place_kept items line new start later more offset h read e is =
-    grind (arith, common_steps, row_within items start h, length-set items start.0 new, line_at, get_or-set_at items start.0 start.0 new new, length-take-le start.1 (characters_of line) (column_within items start line h read), column_within items start line h read, take_at, length-map, length-append, offset_given items start line offset h read e)
+pub place_unchanged : {Z : Type 0} (items : List (String Z)) (line new : String Z) (start : Place) (later : ℕ) (more : List ℕ) (offset : ℕ) → IsPlaceOf (lines_of items) start → line ≡ get_or items start.0 line → offset ≡ offset_at (lines_of items) start → characters_of new ≡ take start.1 (characters_of line) ++ (more ++ drop later (characters_of line)) → IsPlaceOf (lines_of (set items start.0 new)) start × (offset ≡ offset_at (lines_of (set items start.0 new)) start)
+place_unchanged items line new start later more offset h read e is =
+    grind (arith, common_steps, row_within items start h, length-set items start.0 new, line_at, get_or-set_at items start.0 start.0 new new, length-take-le start.1 (characters_of line) (column_within items start line h read), column_within items start line h read, take_at, length-map, length-append, offset_of_place items start line offset h read e)
 
 -- what the calls of `String` require
 pub split_point : (bs : List ℕ) (column offset : ℕ) → IsUtf8 bs → offset ≡ offset_in (chars bs) column → IsCharBoundary bs offset

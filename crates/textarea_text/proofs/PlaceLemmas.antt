@@ -7,9 +7,9 @@ use Rattle.textarea_text.specs.Text.{Break, characters, characters_of, following
 use Rattle.textarea_text.specs.Place.{Place, IsPlace, IsPlaceOf, end, index_of, place_of, row_start}
 use Rattle.textarea_text.specs.Size.{size_of}
 use Rattle.textarea_text.proofs.Splices.{end-append, end-characters, end-leading, joined-append, lines-joined}
-use Rattle.textarea_text.proofs.TextPlaces.{part_rows, index_parted}
-use Rattle.textarea_text.proofs.Befores.{break_stands}
-use Rattle.textarea_text.proofs.StringRows.{stands_until}
+use Rattle.textarea_text.proofs.TextPlaces.{parted_rows, index_parted}
+use Rattle.textarea_text.proofs.Befores.{break_occurs}
+use Rattle.textarea_text.proofs.StringRows.{occurs_until}
 
 -- ---- a position is at its index
 
@@ -21,27 +21,27 @@ pub record IsAt (rows : List (List ℕ)) (place : Place) (index : ℕ) : Type 0 
 
 pub is_at : (rows : List (List ℕ)) (place : Place) (index : ℕ) → IsPlaceOf rows place → index_of (joined rows) place ≡ index → IsAt rows place index
 is_at rows place index h e =
-    let parts = part_rows rows place.0 place.1 h in
-    let here : index_of (joined rows) place ≡ length parts.front = ap (λ t. index_of t place) parts.is ∙ index_parted place parts.front parts.back parts.ends in
-    let front : take index (joined rows) ≡ parts.front = ap (take index) parts.is ∙ take_at parts.front parts.back index (sym here ∙ e) in
+    let components = parted_rows rows place.0 place.1 h in
+    let here : index_of (joined rows) place ≡ length components.front = ap (λ t. index_of t place) components.is ∙ index_parted place components.front components.back components.ends in
+    let front : take index (joined rows) ≡ components.front = ap (take index) components.is ∙ take_at components.front components.back index (sym here ∙ e) in
     record {
-      value = sym (ap (end (0, 0)) front ∙ parts.ends);
+      value = sym (ap (end (0, 0)) front ∙ components.ends);
       is_place = h;
       index_is = e;
-      within = omega (arith, ap length parts.is, length-append parts.front parts.back);
+      within = omega (arith, ap length components.is, length-append components.front components.back);
     }
 
 -- the end of the last line is the text's end
 pub is_at_end : (rows : List (List ℕ)) (row column : ℕ) → row + 1 ≡ length rows → column ≡ length (get_or rows row []) → IsAt rows (row, column) (length (joined rows))
-unfolding part_rows
+unfolding parted_rows
 is_at_end rows row column last at =
     let h : IsPlaceOf rows (row, column) = (omega arith, omega arith) in
-    let parts = part_rows rows row column h in
-    let none : parts.back ≡ [] =
+    let components = parted_rows rows row column h in
+    let none : components.back ≡ [] =
     ap (λ t. characters t ++ following (drop (row + 1) rows)) (drop_all column (get_or rows row []) (omega arith)) ∙ ap following (drop_all (row + 1) rows (omega arith)) in
     is_at rows (row, column) (length (joined rows)) h
-    (ap (λ t. index_of t (row, column)) parts.is ∙ index_parted (row, column) parts.front parts.back parts.ends
-    ∙ sym (ap length (parts.is ∙ ap (λ t. parts.front ++ t) none ∙ append-nil parts.front)))
+    (ap (λ t. index_of t (row, column)) components.is ∙ index_parted (row, column) components.front components.back components.ends
+    ∙ sym (ap length (components.is ∙ ap (λ t. components.front ++ t) none ∙ append-nil components.front)))
 
 -- the next row begins after this row's line and the break
 pub row_start-next : (rows : List (List ℕ)) (row : ℕ) → row + 1 < length rows → row_start (joined rows) (row + 1) ≡ row_start (joined rows) row + length (get_or rows row []) + 1
@@ -49,7 +49,7 @@ row_start-next rows row within =
     let line = get_or rows row [] in
     let here : IsPlace (joined rows) (row, length line) =
     subst (λ (r : List (List ℕ)). IsPlaceOf r (row, length line)) (sym (lines-joined rows (omega arith))) (omega arith, omega arith) in
-    omega (arith, (stands_until (joined rows) (row, length line) (Break ∷ []) here (break_stands rows row within)).1)
+    omega (arith, (occurs_until (joined rows) (row, length line) (Break ∷ []) here (break_occurs rows row within)).1)
 
 -- ---- symbols ahead: if the rest ends in the row, and if the row is the last one
 
@@ -74,15 +74,15 @@ end_of_lines : (place : Place) (first : List ℕ) (above : List (List ℕ)) (las
 end_of_lines place first above last =
     grind (arith, common_steps, end-append, end-characters place.0 place.1 first, end-leading, end-characters)
 
-end_of_parts : (place : Place) (above : List (List ℕ)) (last : List ℕ) → 0 < length above → end place (joined (above ++ last ∷ [])) ≡ (place.0 + length above, length last)
-end_of_parts place [] last some = absurd (omega arith)
-end_of_parts place (first ∷ above) last some =
+end_of_rows : (place : Place) (above : List (List ℕ)) (last : List ℕ) → 0 < length above → end place (joined (above ++ last ∷ [])) ≡ (place.0 + length above, length last)
+end_of_rows place [] last some = absurd (omega arith)
+end_of_rows place (first ∷ above) last some =
     ap (end place) (joined-append (first ∷ above) (last ∷ []) (omega arith) ∙ ap (λ t. leading (first ∷ above) ++ t) (append-nil (characters last)))
     ∙ end_of_lines place first above last
 
 pub end_of_more : (place : Place) (rows : List (List ℕ)) (last : ℕ) → last + 1 ≡ length rows → 0 < last → end place (joined rows) ≡ (place.0 + last, length (get_or rows last []))
 end_of_more place rows last all some =
-    grind (arith, common_steps, take_all, take_more, end_of_parts, length-take-le)
+    grind (arith, common_steps, take_all, take_more, end_of_rows, length-take-le)
 
 pub end_of_single : (place : Place) (rows : List (List ℕ)) → length rows ≡ 1 → end place (joined rows) ≡ (place.0, place.1 + length (get_or rows 0 []))
 end_of_single place [] one = absurd (omega arith)
@@ -90,8 +90,8 @@ end_of_single place (line ∷ []) one = end_of_one place line
 end_of_single place (line ∷ next ∷ rest) one = absurd (omega arith)
 
 -- a line of a fragment has at most the fragment's size, less one, in characters
-pub length-piece : {Z : Type 0} (pieces : List (String Z)) (i : ℕ) → i < length pieces → length (get_or (lines_of pieces) i []) + 1 ≤ size_of pieces
-length-piece [] i within = absurd (omega arith)
-length-piece (piece ∷ rest) zero within =
-    omega (arith, length-le-encodes (characters_of piece), ap length (encodes-chars (string_bytes piece) (IsUtf8-string_bytes piece)))
-length-piece (piece ∷ rest) (suc i) within = omega (arith, length-piece rest i (omega arith))
+pub length-fragment_line : {Z : Type 0} (fragment_lines : List (String Z)) (i : ℕ) → i < length fragment_lines → length (get_or (lines_of fragment_lines) i []) + 1 ≤ size_of fragment_lines
+length-fragment_line [] i within = absurd (omega arith)
+length-fragment_line (fragment_line ∷ rest) zero within =
+    omega (arith, length-le-encodes (characters_of fragment_line), ap length (encodes-chars (string_bytes fragment_line) (IsUtf8-string_bytes fragment_line)))
+length-fragment_line (fragment_line ∷ rest) (suc i) within = omega (arith, length-fragment_line rest i (omega arith))

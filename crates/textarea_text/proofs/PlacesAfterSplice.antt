@@ -25,34 +25,34 @@ pub record Spliced (text : List Symbol) (splice : Splice) : Type 0 where
   pub index : (n : ℕ) → carried_index splice (length gone + n) ≡ length come + n
 
 spliced_in : (text : List Symbol) (place : Place) (symbols : List Symbol) → Parted text place → Spliced text (record { place = place; symbols = symbols; inserts = true })
-spliced_in text place symbols parts = record {
-  front = parts.front;
+spliced_in text place symbols components = record {
+  front = components.front;
   gone = [];
   come = symbols;
-  back = parts.back;
-  was = parts.is;
-  now = ap (λ t. applied t (record { place = place; symbols = symbols; inserts = true })) parts.is
-      ∙ inserted_at parts.front parts.back symbols place (index_parted place parts.front parts.back parts.ends);
-  starts = parts.ends;
+  back = components.back;
+  was = components.is;
+  now = ap (λ t. applied t (record { place = place; symbols = symbols; inserts = true })) components.is
+      ∙ inserted_at components.front components.back symbols place (index_parted place components.front components.back components.ends);
+  starts = components.ends;
   before = refl;
   after = refl;
   index = λ n. omega arith;
 }
 
-spliced_out : (text : List Symbol) (place : Place) (symbols : List Symbol) (parts : Parted text place) → take (length symbols) parts.back ≡ symbols → Spliced text (record { place = place; symbols = symbols; inserts = false })
-spliced_out text place symbols parts stands =
-    let rest = drop (length symbols) parts.back in
-    let was : text ≡ parts.front ++ (symbols ++ rest) =
-    parts.is ∙ ap (λ t. parts.front ++ t) (sym (take-append-drop (length symbols) parts.back) ∙ ap (λ t. t ++ rest) stands) in
+spliced_out : (text : List Symbol) (place : Place) (symbols : List Symbol) (components : Parted text place) → take (length symbols) components.back ≡ symbols → Spliced text (record { place = place; symbols = symbols; inserts = false })
+spliced_out text place symbols components occurs =
+    let rest = drop (length symbols) components.back in
+    let was : text ≡ components.front ++ (symbols ++ rest) =
+    components.is ∙ ap (λ t. components.front ++ t) (sym (take-append-drop (length symbols) components.back) ∙ ap (λ t. t ++ rest) occurs) in
     record {
-      front = parts.front;
+      front = components.front;
       gone = symbols;
       come = [];
       back = rest;
       was = was;
       now = ap (λ t. applied t (record { place = place; symbols = symbols; inserts = false })) was
-          ∙ removed_at parts.front rest symbols place (index_parted place parts.front (symbols ++ rest) parts.ends);
-      starts = parts.ends;
+          ∙ removed_at components.front rest symbols place (index_parted place components.front (symbols ++ rest) components.ends);
+      starts = components.ends;
       before = refl;
       after = refl;
       index = λ n. omega arith;
@@ -61,8 +61,8 @@ spliced_out text place symbols parts stands =
 spliced_by : (inserts : Bool) (text : List Symbol) (place : Place) (symbols : List Symbol) → IsPlace text place → Allows inserts text place symbols → Spliced text (record { place = place; symbols = symbols; inserts = inserts })
 spliced_by true text place symbols h allowed = spliced_in text place symbols (parted text place h)
 spliced_by false text place symbols h allowed =
-    let parts = parted text place h in
-    spliced_out text place symbols parts (standing text place symbols parts allowed)
+    let components = parted text place h in
+    spliced_out text place symbols components (standing text place symbols components allowed)
 
 pub spliced : (text : List Symbol) (splice : Splice) → Fits text splice → Spliced text splice
 spliced text splice h = spliced_by splice.inserts text splice.place splice.symbols h.is_place h.allowed
@@ -76,10 +76,10 @@ end_from place (Character c ∷ symbols) =
 end_from place (Break ∷ symbols) =
     grind (arith, common_steps, end_from (place.0 + 1, 0) symbols)
 
-pub end_behind : (place : Place) (symbol : Symbol) (symbols : List Symbol) → IsBefore place (end place (symbol ∷ symbols))
-end_behind place (Character c) symbols =
+pub end_after : (place : Place) (symbol : Symbol) (symbols : List Symbol) → IsBefore place (end place (symbol ∷ symbols))
+end_after place (Character c) symbols =
     grind (arith, common_steps, end_from (place.0, place.1 + 1) symbols)
-end_behind place Break symbols =
+end_after place Break symbols =
     grind (arith, common_steps, end_from (place.0 + 1, 0) symbols)
 
 never : (one other : Place) → IsBefore one other → IsUpTo other one → ⊥
@@ -122,19 +122,19 @@ pub record FrontStays (text : List Symbol) (splice : Splice) (front : List Symbo
   pub back : List Symbol
   pub is : applied text splice ≡ front ++ back
 
-pub front_stays : (text : List Symbol) (splice : Splice) → Fits text splice → (place : Place) (parts : Parted text place) → IsUpTo place splice.place → FrontStays text splice parts.front
-front_stays text splice h place parts up =
-    let cut = spliced text splice h in
-    elim (fork cut.front (cut.gone ++ cut.back) parts.front parts.back (sym cut.was ∙ parts.is)) [
+pub front_stays : (text : List Symbol) (splice : Splice) → Fits text splice → (place : Place) (components : Parted text place) → IsUpTo place splice.place → FrontStays text splice components.front
+front_stays text splice h place components up =
+    let split_text = spliced text splice h in
+    elim (fork split_text.front (split_text.gone ++ split_text.back) components.front components.back (sym split_text.was ∙ components.is)) [
       | inl found ↦ record {
-        back = found.0 ++ (cut.come ++ cut.back);
-        is = cut.now ∙ ap (λ t. t ++ (cut.come ++ cut.back)) found.1 ∙ append_assoc parts.front found.0 (cut.come ++ cut.back);
+        back = found.0 ++ (split_text.come ++ split_text.back);
+        is = split_text.now ∙ ap (λ t. t ++ (split_text.come ++ split_text.back)) found.1 ∙ append_assoc components.front found.0 (split_text.come ++ split_text.back);
       }
       | inr found ↦
           let ends : end splice.place (found.0 ∷ found.1) ≡ place =
-          ap (λ (p : Place). end p (found.0 ∷ found.1)) (sym cut.starts) ∙ sym (end-append (0, 0) cut.front (found.0 ∷ found.1))
-          ∙ ap (end (0, 0)) (sym found.2) ∙ parts.ends in
-          absurd (never splice.place place (subst (IsBefore splice.place) ends (end_behind splice.place found.0 found.1)) up)
+          ap (λ (p : Place). end p (found.0 ∷ found.1)) (sym split_text.starts) ∙ sym (end-append (0, 0) split_text.front (found.0 ∷ found.1))
+          ∙ ap (end (0, 0)) (sym found.2) ∙ components.ends in
+          absurd (never splice.place place (subst (IsBefore splice.place) ends (end_after splice.place found.0 found.1)) up)
     ]
 
 pub record BackStays (text : List Symbol) (splice : Splice) (place : Place) (back : List Symbol) : Type 0 where
@@ -143,77 +143,77 @@ pub record BackStays (text : List Symbol) (splice : Splice) (place : Place) (bac
   pub ends : end (0, 0) front ≡ carried_place splice place
   pub index : length front ≡ carried_index splice (index_of text place)
 
-pub back_stays : (text : List Symbol) (splice : Splice) → Fits text splice → (place : Place) (parts : Parted text place) → IsUpTo (place_before splice) place → BackStays text splice place parts.back
-back_stays text splice h place parts up =
-    let cut = spliced text splice h in
-    let old : end (0, 0) (cut.front ++ cut.gone) ≡ place_before splice =
-    end-append (0, 0) cut.front cut.gone ∙ ap (λ (p : Place). end p cut.gone) cut.starts ∙ cut.before in
-    let new : end (0, 0) (cut.front ++ cut.come) ≡ place_after splice =
-    end-append (0, 0) cut.front cut.come ∙ ap (λ (p : Place). end p cut.come) cut.starts ∙ cut.after in
-    elim (fork parts.front parts.back (cut.front ++ cut.gone) cut.back (sym parts.is ∙ cut.was ∙ sym (append_assoc cut.front cut.gone cut.back))) [
+pub back_stays : (text : List Symbol) (splice : Splice) → Fits text splice → (place : Place) (components : Parted text place) → IsUpTo (place_before splice) place → BackStays text splice place components.back
+back_stays text splice h place components up =
+    let split_text = spliced text splice h in
+    let old : end (0, 0) (split_text.front ++ split_text.gone) ≡ place_before splice =
+    end-append (0, 0) split_text.front split_text.gone ∙ ap (λ (p : Place). end p split_text.gone) split_text.starts ∙ split_text.before in
+    let new : end (0, 0) (split_text.front ++ split_text.come) ≡ place_after splice =
+    end-append (0, 0) split_text.front split_text.come ∙ ap (λ (p : Place). end p split_text.come) split_text.starts ∙ split_text.after in
+    elim (fork components.front components.back (split_text.front ++ split_text.gone) split_text.back (sym components.is ∙ split_text.was ∙ sym (append_assoc split_text.front split_text.gone split_text.back))) [
       | inl found ↦
           let more = found.0 in
           let there : end (place_before splice) more ≡ place =
-          ap (λ (p : Place). end p more) (sym old) ∙ sym (end-append (0, 0) (cut.front ++ cut.gone) more)
-          ∙ ap (end (0, 0)) (sym found.1) ∙ parts.ends in
-          let at : index_of text place ≡ length cut.gone + (length cut.front + length more) =
-          ap (λ t. index_of t place) parts.is ∙ index_parted place parts.front parts.back parts.ends
-          ∙ omega (arith, ap length found.1, length-append (cut.front ++ cut.gone) more, length-append cut.front cut.gone) in
+          ap (λ (p : Place). end p more) (sym old) ∙ sym (end-append (0, 0) (split_text.front ++ split_text.gone) more)
+          ∙ ap (end (0, 0)) (sym found.1) ∙ components.ends in
+          let at : index_of text place ≡ length split_text.gone + (length split_text.front + length more) =
+          ap (λ t. index_of t place) components.is ∙ index_parted place components.front components.back components.ends
+          ∙ omega (arith, ap length found.1, length-append (split_text.front ++ split_text.gone) more, length-append split_text.front split_text.gone) in
           record {
-            front = (cut.front ++ cut.come) ++ more;
-            is = cut.now ∙ sym (append_assoc cut.front cut.come cut.back)
-                ∙ ap (λ t. (cut.front ++ cut.come) ++ t) found.2
-                ∙ sym (append_assoc (cut.front ++ cut.come) more parts.back);
-            ends = end-append (0, 0) (cut.front ++ cut.come) more
+            front = (split_text.front ++ split_text.come) ++ more;
+            is = split_text.now ∙ sym (append_assoc split_text.front split_text.come split_text.back)
+                ∙ ap (λ t. (split_text.front ++ split_text.come) ++ t) found.2
+                ∙ sym (append_assoc (split_text.front ++ split_text.come) more components.back);
+            ends = end-append (0, 0) (split_text.front ++ split_text.come) more
                 ∙ ap (λ (p : Place). end p more) new
                 ∙ sym (shifted_end (place_before splice) (place_after splice) more)
                 ∙ ap (carried_place splice) there;
-            index = omega (arith, length-append (cut.front ++ cut.come) more, length-append cut.front cut.come)
-                ∙ sym (cut.index (length cut.front + length more)) ∙ ap (carried_index splice) (sym at);
+            index = omega (arith, length-append (split_text.front ++ split_text.come) more, length-append split_text.front split_text.come)
+                ∙ sym (split_text.index (length split_text.front + length more)) ∙ ap (carried_index splice) (sym at);
           }
       | inr found ↦
           let ends : end place (found.0 ∷ found.1) ≡ place_before splice =
-          ap (λ (p : Place). end p (found.0 ∷ found.1)) (sym parts.ends) ∙ sym (end-append (0, 0) parts.front (found.0 ∷ found.1))
+          ap (λ (p : Place). end p (found.0 ∷ found.1)) (sym components.ends) ∙ sym (end-append (0, 0) components.front (found.0 ∷ found.1))
           ∙ ap (end (0, 0)) (sym found.2) ∙ old in
-          absurd (never place (place_before splice) (subst (IsBefore place) ends (end_behind place found.0 found.1)) up)
+          absurd (never place (place_before splice) (subst (IsBefore place) ends (end_after place found.0 found.1)) up)
     ]
 
 -- ---- the same for positions
 
 pub stays : (text : List Symbol) (splice : Splice) (place : Place) → Fits text splice → IsPlace text place → IsUpTo place splice.place → Stays text splice place
 stays text splice place h is_place up =
-    let parts = parted text place is_place in
-    let kept = front_stays text splice h place parts up in
-    let at : index_of text place ≡ length parts.front =
-    ap (λ t. index_of t place) parts.is ∙ index_parted place parts.front parts.back parts.ends in
-    let now : index_of (applied text splice) place ≡ length parts.front =
-    ap (λ t. index_of t place) kept.is ∙ index_parted place parts.front kept.back parts.ends in
+    let components = parted text place is_place in
+    let retained = front_stays text splice h place components up in
+    let at : index_of text place ≡ length components.front =
+    ap (λ t. index_of t place) components.is ∙ index_parted place components.front components.back components.ends in
+    let now : index_of (applied text splice) place ≡ length components.front =
+    ap (λ t. index_of t place) retained.is ∙ index_parted place components.front retained.back components.ends in
     record {
-      is_place = subst (λ t. IsPlace t place) (sym kept.is) (place_parted place parts.front kept.back parts.ends);
+      is_place = subst (λ t. IsPlace t place) (sym retained.is) (place_parted place components.front retained.back components.ends);
       index = now ∙ sym at;
       before = ap (λ n. take n (applied text splice)) at
-          ∙ ap (take (length parts.front)) kept.is
-          ∙ take_at parts.front kept.back (length parts.front) refl
-          ∙ sym (take_at parts.front parts.back (length parts.front) refl)
-          ∙ ap (take (length parts.front)) (sym parts.is)
+          ∙ ap (take (length components.front)) retained.is
+          ∙ take_at components.front retained.back (length components.front) refl
+          ∙ sym (take_at components.front components.back (length components.front) refl)
+          ∙ ap (take (length components.front)) (sym components.is)
           ∙ ap (λ n. take n text) (sym at);
     }
 
-pub goes_along : (text : List Symbol) (splice : Splice) (place : Place) → Fits text splice → IsPlace text place → IsUpTo (place_before splice) place → FollowsText text splice place
-goes_along text splice place h is_place up =
-    let parts = parted text place is_place in
-    let kept = back_stays text splice h place parts up in
-    let at : index_of text place ≡ length parts.front =
-    ap (λ t. index_of t place) parts.is ∙ index_parted place parts.front parts.back parts.ends in
-    let now : index_of (applied text splice) (carried_place splice place) ≡ length kept.front =
-    ap (λ t. index_of t (carried_place splice place)) kept.is ∙ index_parted (carried_place splice place) kept.front parts.back kept.ends in
+pub follows_splice : (text : List Symbol) (splice : Splice) (place : Place) → Fits text splice → IsPlace text place → IsUpTo (place_before splice) place → FollowsText text splice place
+follows_splice text splice place h is_place up =
+    let components = parted text place is_place in
+    let retained = back_stays text splice h place components up in
+    let at : index_of text place ≡ length components.front =
+    ap (λ t. index_of t place) components.is ∙ index_parted place components.front components.back components.ends in
+    let now : index_of (applied text splice) (carried_place splice place) ≡ length retained.front =
+    ap (λ t. index_of t (carried_place splice place)) retained.is ∙ index_parted (carried_place splice place) retained.front components.back retained.ends in
     record {
-      is_place = subst (λ t. IsPlace t (carried_place splice place)) (sym kept.is) (place_parted (carried_place splice place) kept.front parts.back kept.ends);
-      index = now ∙ kept.index;
-      behind = ap (λ n. drop n (applied text splice)) now
-          ∙ ap (drop (length kept.front)) kept.is
-          ∙ drop_at kept.front parts.back (length kept.front) refl
-          ∙ sym (drop_at parts.front parts.back (length parts.front) refl)
-          ∙ ap (drop (length parts.front)) (sym parts.is)
+      is_place = subst (λ t. IsPlace t (carried_place splice place)) (sym retained.is) (place_parted (carried_place splice place) retained.front components.back retained.ends);
+      index = now ∙ retained.index;
+      after = ap (λ n. drop n (applied text splice)) now
+          ∙ ap (drop (length retained.front)) retained.is
+          ∙ drop_at retained.front components.back (length retained.front) refl
+          ∙ sym (drop_at components.front components.back (length components.front) refl)
+          ∙ ap (drop (length components.front)) (sym components.is)
           ∙ ap (λ n. drop n text) (sym at);
     }

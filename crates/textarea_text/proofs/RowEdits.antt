@@ -4,7 +4,7 @@ use Rattle.std.proofs.lemmas.Grind.{common_steps}
 use Rattle.std.proofs.lemmas.List.{append-nil, take-append-drop, drop_more, length-take-le}
 use Rattle.textarea_text.specs.Text.{Symbol, characters, joined}
 use Rattle.textarea_text.specs.Place.{Place, OccursAt, index_of}
-use Rattle.textarea_text.proofs.Splices.{characters-append, spliced_stands}
+use Rattle.textarea_text.proofs.Splices.{characters-append, spliced_occurs}
 
 -- the lines around a row
 pub rows_around : (rows : List (List ℕ)) (row : ℕ) → row < length rows → rows ≡ take row rows ++ ((get_or rows row [] ∷ []) ++ drop (row + 1) rows)
@@ -16,9 +16,9 @@ wrap_line line column =
     grind (arith, common_steps, append-nil (characters line), take-append-drop column line, characters-append (take column line) (drop column line))
 
 -- the text at a position, with the length of the symbols
-abbrev StandsAt_part : List Symbol → Place → List Symbol → List Symbol
-StandsAt_part text place symbols = take (length symbols) (drop (index_of text place) text)
+abbrev slice_at_place : List Symbol → Place → List Symbol → List Symbol
+slice_at_place text place symbols = take (length symbols) (drop (index_of text place) text)
 
 pub rows_stand : (rows middle below : List (List ℕ)) (start : List ℕ) (row column : ℕ) (symbols rest : List Symbol) → row < length rows → rows ≡ take row rows ++ (middle ++ below) → length start ≡ column → 0 < length middle → joined middle ≡ characters start ++ (symbols ++ rest) → OccursAt (joined rows) (row, column) symbols
-rows_stand rows middle below start row column symbols rest within parts at some was =
-    grind (arith, common_steps, length-take-le, spliced_stands)
+rows_stand rows middle below start row column symbols rest within components at some was =
+    grind (arith, common_steps, length-take-le, spliced_occurs)

@@ -64,10 +64,10 @@ weight_inserted text place symbols =
     omega (arith, whole, weight-append (take i text) (symbols ++ drop i text), weight-append symbols (drop i text))
 
 pub weight_removed : (text : List Symbol) (place : Place) (symbols : List Symbol) → OccursAt text place symbols → weight (removed text place symbols) + weight symbols ≡ weight text
-weight_removed text place symbols stands =
+weight_removed text place symbols occurs =
     let i = index_of text place in
     let rest = drop (i + length symbols) text in
-    let behind : drop i text ≡ symbols ++ rest =
-    sym (take-append-drop (length symbols) (drop i text)) ∙ ap (λ t. t ++ drop (length symbols) (drop i text)) stands ∙ ap (λ t. symbols ++ t) (drop-drop (length symbols) i text) in
+    let after : drop i text ≡ symbols ++ rest =
+    sym (take-append-drop (length symbols) (drop i text)) ∙ ap (λ t. t ++ drop (length symbols) (drop i text)) occurs ∙ ap (λ t. symbols ++ t) (drop-drop (length symbols) i text) in
     let whole = sym (weight-append (take i text) (drop i text)) ∙ ap weight (take-append-drop i text) in
-    omega (arith, whole, ap weight behind, weight-append symbols rest, weight-append (take i text) rest)
+    omega (arith, whole, ap weight after, weight-append symbols rest, weight-append (take i text) rest)

@@ -33,8 +33,8 @@ joined-append_below [] below some = absurd (omega arith)
 joined-append_below (first ∷ middle) below some =
     grind (arith, common_steps, following-append middle below, append_assoc (characters first) (following middle) (following below))
 
-pub joined_parts : (above middle below : List (List ℕ)) → 0 < length middle → joined (above ++ (middle ++ below)) ≡ leading above ++ (joined middle ++ following below)
-joined_parts above middle below some =
+pub joined_three : (above middle below : List (List ℕ)) → 0 < length middle → joined (above ++ (middle ++ below)) ≡ leading above ++ (joined middle ++ following below)
+joined_three above middle below some =
     grind (arith, common_steps, joined-append, length-append middle below, joined-append_below middle below some)
 
 lines-front : (line : List ℕ) (rest : List Symbol) (next : List (List ℕ)) → lines rest ≡ [] ∷ next → lines (characters line ++ rest) ≡ line ∷ next
@@ -98,8 +98,8 @@ pub removed_at : (xs ys symbols : List Symbol) (place : Place) → index_of (xs 
 removed_at xs ys symbols place e =
     grind (arith, common_steps, take_at xs (symbols ++ ys) (length xs), append_assoc xs symbols ys, drop_at (xs ++ symbols) ys (length xs + length symbols) (length-append xs symbols), length-append xs symbols)
 
-pub stands_at : (xs ys symbols : List Symbol) (place : Place) → index_of (xs ++ (symbols ++ ys)) place ≡ length xs → OccursAt (xs ++ (symbols ++ ys)) place symbols
-stands_at xs ys symbols place e =
+pub occurs_at : (xs ys symbols : List Symbol) (place : Place) → index_of (xs ++ (symbols ++ ys)) place ≡ length xs → OccursAt (xs ++ (symbols ++ ys)) place symbols
+occurs_at xs ys symbols place e =
     grind (arith, common_steps, drop_at xs (symbols ++ ys) (length xs), take_at symbols ys (length symbols))
 
 -- ---- the one lemma of all edits: of neighbouring lines the middle ones change
@@ -107,12 +107,12 @@ stands_at xs ys symbols place e =
 -- the whole text, split at a position of the middle lines
 pub whole : (above middle below : List (List ℕ)) (start : List ℕ) (rest : List Symbol) → 0 < length middle → joined middle ≡ characters start ++ rest → joined (above ++ (middle ++ below)) ≡ (leading above ++ characters start) ++ (rest ++ following below)
 whole above middle below start rest some e =
-    grind (arith, common_steps, joined_parts above middle below some, append_assoc (characters start) rest (following below), append_assoc (leading above) (characters start) (rest ++ following below))
+    grind (arith, common_steps, joined_three above middle below some, append_assoc (characters start) rest (following below), append_assoc (leading above) (characters start) (rest ++ following below))
 
-pub index_of_part : (above : List (List ℕ)) (start : List ℕ) (rest : List Symbol) → index_of ((leading above ++ characters start) ++ rest) (length above, length start) ≡ length (leading above ++ characters start)
-index_of_part above start rest =
+pub index_after_rows : (above : List (List ℕ)) (start : List ℕ) (rest : List Symbol) → index_of ((leading above ++ characters start) ++ rest) (length above, length start) ≡ length (leading above ++ characters start)
+index_after_rows above start rest =
     grind (arith, common_steps, append_assoc (leading above) (characters start) rest, index_of_front above start rest)
 
-pub spliced_stands : (above middle below : List (List ℕ)) (start : List ℕ) (symbols rest : List Symbol) → 0 < length middle → joined middle ≡ characters start ++ (symbols ++ rest) → OccursAt (joined (above ++ (middle ++ below))) (length above, length start) symbols
-spliced_stands above middle below start symbols rest some was =
-    grind (arith, common_steps, whole above middle below start (symbols ++ rest) some was, append_assoc symbols rest (following below), stands_at (leading above ++ characters start) (rest ++ following below) symbols (length above, length start) (index_of_part above start (symbols ++ (rest ++ following below))), index_of_part above start (symbols ++ (rest ++ following below)))
+pub spliced_occurs : (above middle below : List (List ℕ)) (start : List ℕ) (symbols rest : List Symbol) → 0 < length middle → joined middle ≡ characters start ++ (symbols ++ rest) → OccursAt (joined (above ++ (middle ++ below))) (length above, length start) symbols
+spliced_occurs above middle below start symbols rest some was =
+    grind (arith, common_steps, whole above middle below start (symbols ++ rest) some was, append_assoc symbols rest (following below), occurs_at (leading above ++ characters start) (rest ++ following below) symbols (length above, length start) (index_after_rows above start (symbols ++ (rest ++ following below))), index_after_rows above start (symbols ++ (rest ++ following below)))

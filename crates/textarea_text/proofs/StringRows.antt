@@ -9,7 +9,7 @@ use Rattle.textarea_text.specs.Text.{Symbol, Character, Break, characters, follo
 use Rattle.textarea_text.specs.Place.{Place, IsPlaceOf, IsPlace, OccursAt, end, index_of, changed, removed, ReplacesRows}
 use Rattle.textarea_text.proofs.Columns.{IsCharBoundary-column, offset_in}
 use Rattle.textarea_text.proofs.Splices.{joined-append, joined-append_below, characters-append, following-append, whole, lines-joined, end-append}
-use Rattle.textarea_text.proofs.TextPlaces.{part_rows, index_parted, parted, standing, place_parted}
+use Rattle.textarea_text.proofs.TextPlaces.{parted_rows, index_parted, parted, standing, place_parted}
 
 pub line_at : {Z : Type 0} (items : List (String Z)) (row : ℕ) (line : String Z) → row < length items → line ≡ get_or items row line → get_or (lines_of items) row [] ≡ characters_of line
 line_at items row line within e = get_or-map characters_of items row line [] within ∙ ap characters_of (sym e)
@@ -60,17 +60,17 @@ pub rows_done : {Z : Type 0} (rows new : List (String Z)) (line last : String Z)
 rows_done rows new line last head first tail whole_first rest h begins e is =
     grind (arith, common_steps, map-append characters_of rows (last ∷ []), joined_last (lines_of rows) (characters_of line) tail, characters-append head first, append_assoc (characters head) (characters first) (following rest), append_assoc (characters head) (characters first ++ following rest) (characters tail))
 
-front_of : (rows : List (List ℕ)) (place : Place) (h : IsPlaceOf rows place) → take (index_of (joined rows) place) (joined rows) ≡ (part_rows rows place.0 place.1 h).front
+front_of : (rows : List (List ℕ)) (place : Place) (h : IsPlaceOf rows place) → take (index_of (joined rows) place) (joined rows) ≡ (parted_rows rows place.0 place.1 h).front
 front_of rows place h =
-    grind (arith, common_steps, part_rows rows place.0 place.1 h, index_parted, take_at)
+    grind (arith, common_steps, parted_rows rows place.0 place.1 h, index_parted, take_at)
 
-back_of : (rows : List (List ℕ)) (place : Place) (h : IsPlaceOf rows place) → drop (index_of (joined rows) place) (joined rows) ≡ (part_rows rows place.0 place.1 h).back
+back_of : (rows : List (List ℕ)) (place : Place) (h : IsPlaceOf rows place) → drop (index_of (joined rows) place) (joined rows) ≡ (parted_rows rows place.0 place.1 h).back
 back_of rows place h =
-    grind (arith, common_steps, part_rows rows place.0 place.1 h, index_parted, drop_at)
+    grind (arith, common_steps, parted_rows rows place.0 place.1 h, index_parted, drop_at)
 
 -- the whole text after the new lines replaced those from the start's row to the end's
 pub rows_replaced : (rows new : List (List ℕ)) (start to : Place) (symbols : List Symbol) → IsPlaceOf rows start → IsPlaceOf rows to → ReplacesRows rows start to symbols new → joined (take start.0 rows ++ (new ++ drop (to.0 + 1) rows)) ≡ changed (joined rows) start to symbols
-unfolding part_rows
+unfolding parted_rows
 rows_replaced rows new start to symbols h h' is =
     let head = take start.1 (get_or rows start.0 []) in
     let tail = drop to.1 (get_or rows to.0 []) in
@@ -103,22 +103,22 @@ columns_ordered place (Character c ∷ symbols) e = omega (arith, columns_ordere
 columns_ordered place (Break ∷ symbols) e = absurd (omega (arith, e, rows_ordered (place.0 + 1, 0) symbols))
 
 -- symbols at a position of a text end at a position, and its index is greater by their number
-pub stands_until : (text : List Symbol) (place : Place) (symbols : List Symbol) → IsPlace text place → OccursAt text place symbols → IsPlace text (end place symbols) × (index_of text (end place symbols) ≡ index_of text place + length symbols)
-stands_until text place symbols h stands =
-    let parts = parted text place h in
-    let rest = drop (length symbols) parts.back in
-    let was : text ≡ (parts.front ++ symbols) ++ rest =
-    parts.is ∙ ap (λ t. parts.front ++ t) (sym (take-append-drop (length symbols) parts.back) ∙ ap (λ t. t ++ rest) (standing text place symbols parts stands))
-    ∙ sym (append_assoc parts.front symbols rest) in
-    let ends : end (0, 0) (parts.front ++ symbols) ≡ end place symbols = end-append (0, 0) parts.front symbols ∙ ap (λ (p : Place). end p symbols) parts.ends in
-    let at : index_of text (end place symbols) ≡ length (parts.front ++ symbols) =
-    ap (λ t. index_of t (end place symbols)) was ∙ index_parted (end place symbols) (parts.front ++ symbols) rest ends in
-    let here : index_of text place ≡ length parts.front = ap (λ t. index_of t place) parts.is ∙ index_parted place parts.front parts.back parts.ends in
-    (subst (λ t. IsPlace t (end place symbols)) (sym was) (place_parted (end place symbols) (parts.front ++ symbols) rest ends), omega (arith, length-append parts.front symbols))
+pub occurs_until : (text : List Symbol) (place : Place) (symbols : List Symbol) → IsPlace text place → OccursAt text place symbols → IsPlace text (end place symbols) × (index_of text (end place symbols) ≡ index_of text place + length symbols)
+occurs_until text place symbols h occurs =
+    let components = parted text place h in
+    let rest = drop (length symbols) components.back in
+    let was : text ≡ (components.front ++ symbols) ++ rest =
+    components.is ∙ ap (λ t. components.front ++ t) (sym (take-append-drop (length symbols) components.back) ∙ ap (λ t. t ++ rest) (standing text place symbols components occurs))
+    ∙ sym (append_assoc components.front symbols rest) in
+    let ends : end (0, 0) (components.front ++ symbols) ≡ end place symbols = end-append (0, 0) components.front symbols ∙ ap (λ (p : Place). end p symbols) components.ends in
+    let at : index_of text (end place symbols) ≡ length (components.front ++ symbols) =
+    ap (λ t. index_of t (end place symbols)) was ∙ index_parted (end place symbols) (components.front ++ symbols) rest ends in
+    let here : index_of text place ≡ length components.front = ap (λ t. index_of t place) components.is ∙ index_parted place components.front components.back components.ends in
+    (subst (λ t. IsPlace t (end place symbols)) (sym was) (place_parted (end place symbols) (components.front ++ symbols) rest ends), omega (arith, length-append components.front symbols))
 
 pub changed_by_none : (text : List Symbol) (place to : Place) (symbols first : List Symbol) → IsPlace text place → OccursAt text place symbols → to ≡ end place symbols → first ≡ [] → changed text place to first ≡ removed text place symbols
-changed_by_none text place to symbols first h stands e none =
-    grind (arith, common_steps, stands_until text place symbols h stands)
+changed_by_none text place to symbols first h occurs e none =
+    grind (arith, common_steps, occurs_until text place symbols h occurs)
 
 pub row_within : {Z : Type 0} (items : List (String Z)) (place : Place) → IsPlaceOf (lines_of items) place → place.0 < length items
 row_within items place h = omega (arith, h.0, length-map items characters_of)

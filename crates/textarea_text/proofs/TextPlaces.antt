@@ -5,24 +5,24 @@ use Rattle.std.proofs.lemmas.List.{append_assoc, length-append, take-append-drop
 use Rattle.textarea_text.specs.Text.{Symbol, Character, Break, characters, following, leading, joined, lines, on_first}
 use Rattle.textarea_text.specs.Place.{Place, end, index_of, place_of, inserted, removed, OccursAt, IsPlaceOf, IsPlace, IsSymbolBefore}
 use Rattle.textarea_text.specs.Splice.{Splice, Fits, Allows, applied, inverse, place_after}
-use Rattle.textarea_text.proofs.Splices.{whole, index_of_part, end_of_front, end-append, inserted_at, removed_at, stands_at}
+use Rattle.textarea_text.proofs.Splices.{whole, index_after_rows, end_of_front, end-append, inserted_at, removed_at, occurs_at}
 use Rattle.textarea_text.proofs.RowEdits.{rows_around, wrap_line}
 
 -- ---- each text is whole lines and the start of one more
 
-pub record Cut (text : List Symbol) : Type 0 where
+pub record SplitText (text : List Symbol) : Type 0 where
   pub above : List (List ℕ)
   pub start : List ℕ
   pub is : text ≡ leading above ++ characters start
 
-cut_more : (c : ℕ) (text : List Symbol) (above : List (List ℕ)) (start : List ℕ) → text ≡ leading above ++ characters start → Cut (Character c ∷ text)
-cut_more c text [] start e = record { above = []; start = c ∷ start; is = ap (λ t. Character c ∷ t) e }
-cut_more c text (line ∷ above) start e = record { above = (c ∷ line) ∷ above; start = start; is = ap (λ t. Character c ∷ t) e }
+split_more : (c : ℕ) (text : List Symbol) (above : List (List ℕ)) (start : List ℕ) → text ≡ leading above ++ characters start → SplitText (Character c ∷ text)
+split_more c text [] start e = record { above = []; start = c ∷ start; is = ap (λ t. Character c ∷ t) e }
+split_more c text (line ∷ above) start e = record { above = (c ∷ line) ∷ above; start = start; is = ap (λ t. Character c ∷ t) e }
 
-pub cut : (text : List Symbol) → Cut text
-cut [] = record { above = []; start = []; is = refl }
-cut (Character c ∷ text) = let rest = cut text in cut_more c text rest.above rest.start rest.is
-cut (Break ∷ text) = let rest = cut text in record { above = [] ∷ rest.above; start = rest.start; is = ap (λ t. Break ∷ t) rest.is }
+pub split_text : (text : List Symbol) → SplitText text
+split_text [] = record { above = []; start = []; is = refl }
+split_text (Character c ∷ text) = let rest = split_text text in split_more c text rest.above rest.start rest.is
+split_text (Break ∷ text) = let rest = split_text text in record { above = [] ∷ rest.above; start = rest.start; is = ap (λ t. Break ∷ t) rest.is }
 
 -- the lines of a text of which a prefix is known
 first_line : (line : List ℕ) (text : List Symbol) → (more : List ℕ) × (rest : List (List ℕ)) × (lines (characters line ++ text) ≡ (line ++ more) ∷ rest)
@@ -45,22 +45,22 @@ lines-leading (line ∷ above) text =
 -- the end of a prefix is a position of the text, and the prefix's length is its index
 pub IsPlace-end : (front back : List Symbol) → IsPlace (front ++ back) (end (0, 0) front)
 IsPlace-end front back =
-    let parts = cut front in
-    let found = first_line parts.start back in
-    let rows : lines (front ++ back) ≡ parts.above ++ ((parts.start ++ found.0) ∷ found.1) =
-    ap (λ t. lines (t ++ back)) parts.is ∙ ap lines (append_assoc (leading parts.above) (characters parts.start) back)
-    ∙ lines-leading parts.above (characters parts.start ++ back) ∙ ap (λ t. parts.above ++ t) found.2 in
-    let place : end (0, 0) front ≡ (length parts.above, length parts.start) = ap (end (0, 0)) parts.is ∙ end_of_front parts.above parts.start in
-    let here : get_or (parts.above ++ ((parts.start ++ found.0) ∷ found.1)) (length parts.above) [] ≡ parts.start ++ found.0 = get_or_at parts.above (parts.start ++ found.0) found.1 [] (length parts.above) refl in
-    let held : IsPlaceOf (parts.above ++ ((parts.start ++ found.0) ∷ found.1)) (length parts.above, length parts.start) = (
-      omega (arith, length-append parts.above ((parts.start ++ found.0) ∷ found.1)),
-      omega (arith, ap length here, length-append parts.start found.0),
+    let components = split_text front in
+    let found = first_line components.start back in
+    let rows : lines (front ++ back) ≡ components.above ++ ((components.start ++ found.0) ∷ found.1) =
+    ap (λ t. lines (t ++ back)) components.is ∙ ap lines (append_assoc (leading components.above) (characters components.start) back)
+    ∙ lines-leading components.above (characters components.start ++ back) ∙ ap (λ t. components.above ++ t) found.2 in
+    let place : end (0, 0) front ≡ (length components.above, length components.start) = ap (end (0, 0)) components.is ∙ end_of_front components.above components.start in
+    let here : get_or (components.above ++ ((components.start ++ found.0) ∷ found.1)) (length components.above) [] ≡ components.start ++ found.0 = get_or_at components.above (components.start ++ found.0) found.1 [] (length components.above) refl in
+    let stored : IsPlaceOf (components.above ++ ((components.start ++ found.0) ∷ found.1)) (length components.above, length components.start) = (
+      omega (arith, length-append components.above ((components.start ++ found.0) ∷ found.1)),
+      omega (arith, ap length here, length-append components.start found.0),
     ) in
-    subst (λ (r : List (List ℕ)). IsPlaceOf r (end (0, 0) front)) (sym rows) (subst (IsPlaceOf (parts.above ++ ((parts.start ++ found.0) ∷ found.1))) (sym place) held)
+    subst (λ (r : List (List ℕ)). IsPlaceOf r (end (0, 0) front)) (sym rows) (subst (IsPlaceOf (components.above ++ ((components.start ++ found.0) ∷ found.1))) (sym place) stored)
 
 pub index_of-end : (front back : List Symbol) → index_of (front ++ back) (end (0, 0) front) ≡ length front
 index_of-end front back =
-    grind (arith, common_steps, cut front, front, back, end_of_front, index_of_part)
+    grind (arith, common_steps, split_text front, front, back, end_of_front, index_after_rows)
 
 -- ---- a position splits the text
 
@@ -70,8 +70,8 @@ pub record Parted (text : List Symbol) (place : Place) : Type 0 where
   pub is : text ≡ front ++ back
   pub ends : end (0, 0) front ≡ place
 
-unfoldable pub part_rows : (rows : List (List ℕ)) (row column : ℕ) → IsPlaceOf rows (row, column) → Parted (joined rows) (row, column)
-part_rows rows row column place =
+unfoldable pub parted_rows : (rows : List (List ℕ)) (row column : ℕ) → IsPlaceOf rows (row, column) → Parted (joined rows) (row, column)
+parted_rows rows row column place =
     let line = get_or rows row [] in
     record {
       front = leading (take row rows) ++ characters (take column line);
@@ -104,8 +104,8 @@ joined-lines (Break ∷ text) = following-lines text
 
 pub parted : (text : List Symbol) (place : Place) → IsPlace text place → Parted text place
 parted text place h =
-    let parts = part_rows (lines text) place.0 place.1 h in
-    record { front = parts.front; back = parts.back; is = sym (joined-lines text) ∙ parts.is; ends = parts.ends }
+    let components = parted_rows (lines text) place.0 place.1 h in
+    record { front = components.front; back = components.back; is = sym (joined-lines text) ∙ components.is; ends = components.ends }
 
 pub index_parted : (place : Place) (front back : List Symbol) → end (0, 0) front ≡ place → index_of (front ++ back) place ≡ length front
 index_parted place front back e = ap (λ (p : Place). index_of (front ++ back) p) (sym e) ∙ index_of-end front back
@@ -128,9 +128,9 @@ index_within text place h =
 
 -- ---- the text at a position
 
-pub standing : (text : List Symbol) (place : Place) (symbols : List Symbol) (parts : Parted text place) → OccursAt text place symbols → take (length symbols) parts.back ≡ symbols
-standing text place symbols parts h =
-    grind (arith, common_steps, index_parted place parts.front parts.back parts.ends, drop_at parts.front parts.back (length parts.front))
+pub standing : (text : List Symbol) (place : Place) (symbols : List Symbol) (components : Parted text place) → OccursAt text place symbols → take (length symbols) components.back ≡ symbols
+standing text place symbols components h =
+    grind (arith, common_steps, index_parted place components.front components.back components.ends, drop_at components.front components.back (length components.front))
 
 -- ---- a splice and its inverse
 
@@ -140,40 +140,40 @@ pub record TakesBack (text : List Symbol) (splice : Splice) : Type 0 where
   pub back : applied (applied text splice) (inverse splice) ≡ text
   pub is_place : IsPlace (applied text splice) (place_after splice)
 
-inserted_parted : (text : List Symbol) (place : Place) (symbols : List Symbol) (parts : Parted text place) → inserted text place symbols ≡ parts.front ++ (symbols ++ parts.back)
-inserted_parted text place symbols parts =
-    ap (λ t. inserted t place symbols) parts.is ∙ inserted_at parts.front parts.back symbols place (index_parted place parts.front parts.back parts.ends)
+inserted_parted : (text : List Symbol) (place : Place) (symbols : List Symbol) (components : Parted text place) → inserted text place symbols ≡ components.front ++ (symbols ++ components.back)
+inserted_parted text place symbols components =
+    ap (λ t. inserted t place symbols) components.is ∙ inserted_at components.front components.back symbols place (index_parted place components.front components.back components.ends)
 
 removed_parted : (front back symbols : List Symbol) (place : Place) → end (0, 0) front ≡ place → removed (front ++ (symbols ++ back)) place symbols ≡ front ++ back
 removed_parted front back symbols place e = removed_at front back symbols place (index_parted place front (symbols ++ back) e)
 
-takes_back_inserted : (text : List Symbol) (place : Place) (symbols : List Symbol) (parts : Parted text place) → 0 < length symbols → TakesBack text (record { place = place; symbols = symbols; inserts = true })
-takes_back_inserted text place symbols parts some =
-    let now : inserted text place symbols ≡ parts.front ++ (symbols ++ parts.back) = inserted_parted text place symbols parts in
-    let whole_place : IsPlace (parts.front ++ (symbols ++ parts.back)) place = place_parted place parts.front (symbols ++ parts.back) parts.ends in
-    let stands : OccursAt (parts.front ++ (symbols ++ parts.back)) place symbols = stands_at parts.front parts.back symbols place (index_parted place parts.front (symbols ++ parts.back) parts.ends) in
-    let ended : IsPlace ((parts.front ++ symbols) ++ parts.back) (end place symbols) =
-    place_parted (end place symbols) (parts.front ++ symbols) parts.back (end-append (0, 0) parts.front symbols ∙ ap (λ (p : Place). end p symbols) parts.ends) in
+takes_back_inserted : (text : List Symbol) (place : Place) (symbols : List Symbol) (components : Parted text place) → 0 < length symbols → TakesBack text (record { place = place; symbols = symbols; inserts = true })
+takes_back_inserted text place symbols components some =
+    let now : inserted text place symbols ≡ components.front ++ (symbols ++ components.back) = inserted_parted text place symbols components in
+    let whole_place : IsPlace (components.front ++ (symbols ++ components.back)) place = place_parted place components.front (symbols ++ components.back) components.ends in
+    let occurs : OccursAt (components.front ++ (symbols ++ components.back)) place symbols = occurs_at components.front components.back symbols place (index_parted place components.front (symbols ++ components.back) components.ends) in
+    let ended : IsPlace ((components.front ++ symbols) ++ components.back) (end place symbols) =
+    place_parted (end place symbols) (components.front ++ symbols) components.back (end-append (0, 0) components.front symbols ∙ ap (λ (p : Place). end p symbols) components.ends) in
     record {
       fits = record {
         some = some;
         is_place = subst (λ t. IsPlace t place) (sym now) whole_place;
-        allowed = subst (λ t. OccursAt t place symbols) (sym now) stands;
+        allowed = subst (λ t. OccursAt t place symbols) (sym now) occurs;
       };
-      back = ap (λ t. removed t place symbols) now ∙ removed_parted parts.front parts.back symbols place parts.ends ∙ sym parts.is;
-      is_place = subst (λ t. IsPlace t (end place symbols)) (append_assoc parts.front symbols parts.back ∙ sym now) ended;
+      back = ap (λ t. removed t place symbols) now ∙ removed_parted components.front components.back symbols place components.ends ∙ sym components.is;
+      is_place = subst (λ t. IsPlace t (end place symbols)) (append_assoc components.front symbols components.back ∙ sym now) ended;
     }
 
-takes_back_removed : (text : List Symbol) (place : Place) (symbols : List Symbol) (parts : Parted text place) → 0 < length symbols → OccursAt text place symbols → TakesBack text (record { place = place; symbols = symbols; inserts = false })
-takes_back_removed text place symbols parts some stands =
-    let rest = drop (length symbols) parts.back in
-    let was : text ≡ parts.front ++ (symbols ++ rest) =
-    parts.is ∙ ap (λ t. parts.front ++ t) (sym (take-append-drop (length symbols) parts.back) ∙ ap (λ t. t ++ rest) (standing text place symbols parts stands)) in
-    let now : removed text place symbols ≡ parts.front ++ rest = ap (λ t. removed t place symbols) was ∙ removed_parted parts.front rest symbols place parts.ends in
-    let whole_place : IsPlace (parts.front ++ rest) place = place_parted place parts.front rest parts.ends in
+takes_back_removed : (text : List Symbol) (place : Place) (symbols : List Symbol) (components : Parted text place) → 0 < length symbols → OccursAt text place symbols → TakesBack text (record { place = place; symbols = symbols; inserts = false })
+takes_back_removed text place symbols components some occurs =
+    let rest = drop (length symbols) components.back in
+    let was : text ≡ components.front ++ (symbols ++ rest) =
+    components.is ∙ ap (λ t. components.front ++ t) (sym (take-append-drop (length symbols) components.back) ∙ ap (λ t. t ++ rest) (standing text place symbols components occurs)) in
+    let now : removed text place symbols ≡ components.front ++ rest = ap (λ t. removed t place symbols) was ∙ removed_parted components.front rest symbols place components.ends in
+    let whole_place : IsPlace (components.front ++ rest) place = place_parted place components.front rest components.ends in
     record {
       fits = record { some = some; is_place = subst (λ t. IsPlace t place) (sym now) whole_place; allowed = tt };
-      back = ap (λ t. inserted t place symbols) now ∙ inserted_at parts.front rest symbols place (index_parted place parts.front rest parts.ends) ∙ sym was;
+      back = ap (λ t. inserted t place symbols) now ∙ inserted_at components.front rest symbols place (index_parted place components.front rest components.ends) ∙ sym was;
       is_place = subst (λ t. IsPlace t place) (sym now) whole_place;
     }
 
@@ -187,25 +187,25 @@ takes_back text splice h = takes_back_by splice.inserts text splice.place splice
 -- ---- the symbol before a position
 
 pub is_before : (text : List Symbol) (start : Place) (symbol : Symbol) (place : Place) → IsPlace text start → OccursAt text start (symbol ∷ []) → place ≡ end start (symbol ∷ []) → IsSymbolBefore text place start symbol
-is_before text start symbol place h stands e =
-    let parts = parted text start h in
-    let found : take 1 parts.back ≡ symbol ∷ [] = standing text start (symbol ∷ []) parts stands in
-    let split : text ≡ (parts.front ++ symbol ∷ []) ++ drop 1 parts.back =
-    parts.is ∙ ap (λ t. parts.front ++ t) (sym (take-append-drop 1 parts.back) ∙ ap (λ t. t ++ drop 1 parts.back) found)
-    ∙ sym (append_assoc parts.front (symbol ∷ []) (drop 1 parts.back)) in
-    let ended : end (0, 0) (parts.front ++ symbol ∷ []) ≡ place =
-    end-append (0, 0) parts.front (symbol ∷ []) ∙ ap (λ (p : Place). end p (symbol ∷ [])) parts.ends ∙ sym e in
-    let behind : index_of text place ≡ length (parts.front ++ symbol ∷ []) =
-    ap (λ t. index_of t place) split ∙ index_parted place (parts.front ++ symbol ∷ []) (drop 1 parts.back) ended in
-    let at : index_of text place - 1 ≡ length parts.front = omega (arith, length-append parts.front (symbol ∷ [])) in
+is_before text start symbol place h occurs e =
+    let components = parted text start h in
+    let found : take 1 components.back ≡ symbol ∷ [] = standing text start (symbol ∷ []) components occurs in
+    let split : text ≡ (components.front ++ symbol ∷ []) ++ drop 1 components.back =
+    components.is ∙ ap (λ t. components.front ++ t) (sym (take-append-drop 1 components.back) ∙ ap (λ t. t ++ drop 1 components.back) found)
+    ∙ sym (append_assoc components.front (symbol ∷ []) (drop 1 components.back)) in
+    let ended : end (0, 0) (components.front ++ symbol ∷ []) ≡ place =
+    end-append (0, 0) components.front (symbol ∷ []) ∙ ap (λ (p : Place). end p (symbol ∷ [])) components.ends ∙ sym e in
+    let after : index_of text place ≡ length (components.front ++ symbol ∷ []) =
+    ap (λ t. index_of t place) split ∙ index_parted place (components.front ++ symbol ∷ []) (drop 1 components.back) ended in
+    let at : index_of text place - 1 ≡ length components.front = omega (arith, length-append components.front (symbol ∷ [])) in
     record {
-      index = omega (arith, length-append parts.front (symbol ∷ []));
-      start_is = ap (λ n. end (0, 0) (take n text)) at ∙ ap (λ t. end (0, 0) (take (length parts.front) t)) parts.is
-          ∙ ap (end (0, 0)) (take_at parts.front parts.back (length parts.front) refl) ∙ parts.ends;
-      symbol_is = ap (λ n. take 1 (drop n text)) at ∙ ap (λ t. take 1 (drop (length parts.front) t)) parts.is
-          ∙ ap (take 1) (drop_at parts.front parts.back (length parts.front) refl) ∙ found;
+      index = omega (arith, length-append components.front (symbol ∷ []));
+      start_is = ap (λ n. end (0, 0) (take n text)) at ∙ ap (λ t. end (0, 0) (take (length components.front) t)) components.is
+          ∙ ap (end (0, 0)) (take_at components.front components.back (length components.front) refl) ∙ components.ends;
+      symbol_is = ap (λ n. take 1 (drop n text)) at ∙ ap (λ t. take 1 (drop (length components.front) t)) components.is
+          ∙ ap (take 1) (drop_at components.front components.back (length components.front) refl) ∙ found;
       is_place = h;
-      stands = stands;
+      occurs = occurs;
       ends = e;
     }
 

@@ -8,7 +8,7 @@ use Rattle.textarea_util.specs.Replaced.{replaced}
 use Rattle.textarea_text.specs.Splice.{Splice, Allows, Fits, applied}
 use Rattle.textarea_text.specs.Touched.{breaks_of}
 use Rattle.textarea_text.proofs.Splices.{characters-append, lines-joined}
-use Rattle.textarea_text.proofs.StringRows.{changed_by_none, rows_replaced, stands_until}
+use Rattle.textarea_text.proofs.StringRows.{changed_by_none, rows_replaced, occurs_until}
 
 pub breaks_of-append : (xs ys : List Symbol) → breaks_of (xs ++ ys) ≡ breaks_of xs + breaks_of ys
 breaks_of-append [] ys = omega arith
@@ -76,7 +76,7 @@ line_of_splice false rows new place symbols some h some' allowed none e =
     let text = joined rows in
     let is_place : IsPlace text place = subst (λ (t : List (List ℕ)). IsPlaceOf t place) (sym (lines-joined rows some')) h in
     let to = end place symbols in
-    let there : IsPlaceOf rows to = subst (λ (t : List (List ℕ)). IsPlaceOf t to) (lines-joined rows some') (stands_until text place symbols is_place allowed).0 in
+    let there : IsPlaceOf rows to = subst (λ (t : List (List ℕ)). IsPlaceOf t to) (lines-joined rows some') (occurs_until text place symbols is_place allowed).0 in
     line_between rows new place to [] some h there (omega (arith, end_row place symbols)) refl
     (e ∙ sym (changed_by_none text place to symbols [] is_place allowed refl refl))
 

@@ -13,7 +13,7 @@ use Rattle.textarea_text.specs.Words.{class_of, class_at, is_space_class, begins
 use Rattle.textarea_text.specs.declared.word.CharKind.{CharKind}
 use Rattle.textarea_text.specs.declared.word.CharKind.TheVariants.{Space, Punct, Other}
 use Rattle.textarea_text.specs.declared.word.Edge.{Edge}
-use Rattle.textarea_text.specs.declared.word.Edge.TheVariants.{Start, Behind}
+use Rattle.textarea_text.specs.declared.word.Edge.TheVariants.{Start, Past}
 
 -- the class of the character before a column, or Space at the line's start
 abbrev pub class_before : List ℕ → ℕ → CharKind
@@ -79,7 +79,7 @@ is_past_word-class_before line (suc e) within =
 
 is_edge-class_before : (edge : Edge) (line : List ℕ) (e : ℕ) → e < length line → is_edge edge line e ≡ lies_between edge (class_before line e) (class_at line e)
 is_edge-class_before Start = is_word_start-class_before
-is_edge-class_before Behind = is_past_word-class_before
+is_edge-class_before Past = is_past_word-class_before
 
 -- a word's last character is followed by one of another class
 pub is_word_last-inside : (line : List ℕ) (e : ℕ) → suc e < length line → is_word_last line e ≡ ends (class_at line e) (class_at line (suc e))
@@ -94,11 +94,11 @@ is_word_last-last line e last =
 -- ---- the test of each search in an iteration
 
 pub is_earlier_word_start-turn : (line : List ℕ) (start n column : ℕ) (before kind : CharKind) (b : Bool) → n < start → IsTurn line n column kind → before ≡ class_before line n → begins before kind ≡ b → is_earlier_word_start line start n ≡ b
-is_earlier_word_start-turn line start n column before kind b earlier turn behind tells =
+is_earlier_word_start-turn line start n column before kind b earlier turn is_after shows =
     grind (arith, common_steps, is_word_start-class_before line n turn.within)
 
 pub is_later_edge-turn : (edge : Edge) (line : List ℕ) (start n column : ℕ) (before kind : CharKind) (b : Bool) → start < column → IsTurn line n column kind → before ≡ class_before line n → lies_between edge before kind ≡ b → is_later_edge edge line start n ≡ b
-is_later_edge-turn edge line start n column before kind b later turn behind tells =
+is_later_edge-turn edge line start n column before kind b later turn is_after shows =
     grind (arith, common_steps, is_edge-class_before edge line n turn.within)
 
 -- ---- where a test fails: on the wrong side of the start, or past the line
@@ -114,7 +114,7 @@ is_later_edge-past edge line start e past =
   where
     by : (edge : Edge) → nat_lt e (length line) ≡ false → is_later_edge edge line start e ≡ false
     by Start outside = rw outside (and-false (nat_lt start e))
-    by Behind outside = rw outside (and-false (nat_lt start e))
+    by Past outside = rw outside (and-false (nat_lt start e))
 
 pub is_word_last_from-past : (line : List ℕ) (start e : ℕ) → length line ≤ e → is_word_last_from line start e ≡ false
 is_word_last_from-past line start e past =
@@ -127,11 +127,11 @@ is_earlier_word_start-past line start e past =
 -- ---- the column before an iteration's, which may be a word's last
 
 pub is_word_last_from-turn : (line : List ℕ) (start column : ℕ) (before kind : CharKind) (b : Bool) → start < column → IsTurn line column column kind → before ≡ class_before line column → ends before kind ≡ b → is_word_last_from line start (column - 1) ≡ b
-is_word_last_from-turn line start zero before kind b later turn behind tells = absurd (omega arith)
-is_word_last_from-turn line start (suc m) before kind b later turn behind tells =
+is_word_last_from-turn line start zero before kind b later turn is_after shows = absurd (omega arith)
+is_word_last_from-turn line start (suc m) before kind b later turn is_after shows =
     let at : suc m - 1 ≡ m = omega arith in
     let first : nat_le start m ≡ true = grind (arith, nat_tests) in
-    rw (at, first, is_word_last-inside line m turn.within, ← behind, ← turn.kind_is) tells
+    rw (at, first, is_word_last-inside line m turn.within, ← is_after, ← turn.kind_is) shows
 
 -- the end of the line counts as a Space
 last_before_space : (kind : CharKind) → not (is_space_class kind) ≡ ends kind Space
@@ -140,8 +140,8 @@ last_before_space Punct = refl
 last_before_space Other = refl
 
 pub is_word_last_from-end : (line : List ℕ) (start column : ℕ) (before : CharKind) (b : Bool) → start < column → column ≡ length line → before ≡ class_before line column → ends before Space ≡ b → is_word_last_from line start (column - 1) ≡ b
-is_word_last_from-end line start zero before b later whole behind tells = absurd (omega arith)
-is_word_last_from-end line start (suc m) before b later whole behind tells =
+is_word_last_from-end line start zero before b later whole is_after shows = absurd (omega arith)
+is_word_last_from-end line start (suc m) before b later whole is_after shows =
     grind (arith, common_steps, is_word_last-last line m whole, last_before_space before)
 
 pub is_word_last_from-early : (line : List ℕ) (start e : ℕ) → e < start → is_word_last_from line start e ≡ false

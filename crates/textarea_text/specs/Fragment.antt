@@ -10,9 +10,9 @@ begins_with_line_feed (c ∷ cs) = c == 10
 -- the symbols for a character, given the characters after it: a break for a line feed, none for a
 -- carriage return, 13, directly before a line feed, and else the character
 abbrev pub symbols_for : ℕ → List ℕ → List Symbol
-symbols_for c behind =
+symbols_for c after =
     if c == 10 then Break ∷ []
-    else (if c == 13 && begins_with_line_feed behind then [] else Character c ∷ [])
+    else (if c == 13 && begins_with_line_feed after then [] else Character c ∷ [])
 
 -- the symbols of a text with line feeds: each line feed is a break, a carriage return directly
 -- before one is dropped, and every other character stays

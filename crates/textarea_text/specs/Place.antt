@@ -92,5 +92,5 @@ pub record IsSymbolBefore (text : List Symbol) (place start : Place) (symbol : S
   pub start_is : place_of text (index_of text place - 1) ≡ start
   pub symbol_is : take 1 (drop (index_of text place - 1) text) ≡ symbol ∷ []
   pub is_place : IsPlace text start
-  pub stands : OccursAt text start (symbol ∷ [])
+  pub occurs : OccursAt text start (symbol ∷ [])
   pub ends : place ≡ end start (symbol ∷ [])

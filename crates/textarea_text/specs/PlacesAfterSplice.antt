@@ -36,5 +36,5 @@ pub record FollowsText (text : List Symbol) (splice : Splice) (place : Place) : 
   pub is_place : IsPlace (applied text splice) (carried_place splice place)
   pub index : index_of (applied text splice) (carried_place splice place)
       ≡ carried_index splice (index_of text place)
-  pub behind : drop (index_of (applied text splice) (carried_place splice place)) (applied text splice)
+  pub after : drop (index_of (applied text splice) (carried_place splice place)) (applied text splice)
       ≡ drop (index_of text place) text

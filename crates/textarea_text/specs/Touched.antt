@@ -23,9 +23,9 @@ abbrev pub new_line_count : Splice → ℕ
 new_line_count splice = cond splice.inserts (breaks_of splice.symbols + 1) 1
 
 -- the replacement puts the symbols instead of the text between two positions of these lines
-pub record ReplacesPart (lines : List (String Global)) (start to : Place) (symbols : List Symbol) (replacement : Replacement) : Type 0 where
+pub record ReplacesBetween (lines : List (String Global)) (start to : Place) (symbols : List Symbol) (replacement : Replacement) : Type 0 where
   pub row : replacement.row ≡ start.0
-  pub going : replacement.row + replacement.count ≡ to.0 + 1
+  pub removed_lines : replacement.row + replacement.count ≡ to.0 + 1
   pub coming : vec_len replacement.lines ≡ breaks_of symbols + 1
   pub within : replacement.row + replacement.count ≤ length lines
   pub text : text_of (replaced lines replacement.row replacement.count replacement.lines.items) ≡ changed (text_of lines) start to symbols
@@ -34,7 +34,7 @@ pub record ReplacesPart (lines : List (String Global)) (start to : Place) (symbo
 -- changes, and the text is then the one after the splice
 pub record IsReplacementFor (lines : List (String Global)) (splice : Splice) (replacement : Replacement) : Type 0 where
   pub row : replacement.row ≡ splice.place.0
-  pub going : replacement.count ≡ replaced_line_count splice
+  pub removed_lines : replacement.count ≡ replaced_line_count splice
   pub coming : vec_len replacement.lines ≡ new_line_count splice
   pub within : replacement.row + replacement.count ≤ length lines
   pub text : text_of (replaced lines replacement.row replacement.count replacement.lines.items) ≡ applied (text_of lines) splice

@@ -8,7 +8,7 @@ use Rattle.textarea_text.specs.Nearest.{least_below, greatest_below}
 use Rattle.textarea_text.specs.declared.word.CharKind.{CharKind}
 use Rattle.textarea_text.specs.declared.word.CharKind.TheVariants.{Space, Punct, Other}
 use Rattle.textarea_text.specs.declared.word.Edge.{Edge}
-use Rattle.textarea_text.specs.declared.word.Edge.TheVariants.{Start, Behind}
+use Rattle.textarea_text.specs.declared.word.Edge.TheVariants.{Start, Past}
 
 -- the class of a character, given by its code: 95 is the `_`
 unfoldable pub class_of : ℕ → CharKind
@@ -58,11 +58,11 @@ is_past_word line e =
 -- column `e` has this edge of a word; `lies_between` tests the classes around the edge
 abbrev pub is_edge : Edge → List ℕ → ℕ → Bool
 is_edge Start line e = is_word_start line e
-is_edge Behind line e = is_past_word line e
+is_edge Past line e = is_past_word line e
 
 abbrev pub lies_between : Edge → CharKind → CharKind → Bool
 lies_between Start before kind = begins before kind
-lies_between Behind before kind = ends before kind
+lies_between Past before kind = ends before kind
 
 -- ---- what the four searches look for from a column, `start`
 

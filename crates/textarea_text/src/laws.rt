@@ -11,7 +11,7 @@ pub fn places_follow_the_text()
     ensures before { (text : List Symbol) (splice : Splice) (place : Place)
         → Fits text splice → IsPlace text place → IsUpTo place splice.place
         → Stays text splice place }
-    ensures behind { (text : List Symbol) (splice : Splice) (place : Place)
+    ensures after { (text : List Symbol) (splice : Splice) (place : Place)
         → Fits text splice → IsPlace text place → IsUpTo (place_before splice) place
         → FollowsText text splice place }
 {}

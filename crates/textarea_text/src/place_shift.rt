@@ -13,7 +13,7 @@ pub fn is_up_to(one: (usize, usize), other: (usize, usize)) -> bool
 /// Moves `place` with the text after `old`, which moves to `new`. In the row of `old` it keeps its
 /// distance from `old` in columns. In a row below it keeps its distance in rows, and its column.
 pub fn shift(place: (usize, usize), old: (usize, usize), new: (usize, usize)) -> (usize, usize)
-    requires behind { IsUpTo old place }
+    requires after { IsUpTo old place }
     requires row { new.0 + place.0 ≤ usize.MAX }
     requires column { new.1 + place.1 ≤ usize.MAX }
     ensures { result ≡ shifted old new place }

@@ -89,12 +89,12 @@ pub fn clip(lines: &[String], place: (usize, usize)) -> (usize, usize)
 }
 
 /// Returns the position where a fragment ends that is inserted at `place`.
-pub fn end_of(place: (usize, usize), pieces: &[String]) -> (usize, usize)
-    requires some { 0 < length pieces.now }
-    requires room { place.0 + place.1 + size_of pieces.now ≤ usize.MAX }
-    ensures { result ≡ end place (text_of pieces.now) }
+pub fn end_of(place: (usize, usize), fragment_lines: &[String]) -> (usize, usize)
+    requires some { 0 < length fragment_lines.now }
+    requires room { place.0 + place.1 + size_of fragment_lines.now ≤ usize.MAX }
+    ensures { result ≡ end place (text_of fragment_lines.now) }
 {
-    let last = line_end(pieces, last_row(pieces));
+    let last = line_end(fragment_lines, last_row(fragment_lines));
     if last.0 == 0 {
         (place.0, place.1 + last.1)
     } else {

@@ -7,7 +7,7 @@ ghost use Rattle.textarea_text.specs.Offset.{offset_at};
 ghost use Rattle.textarea_text.specs.Place.{IsPlaceOf, IsSymbolBefore, ReplacesRows, index_of};
 ghost use Rattle.textarea_util.specs.Replaced.{replaced};
 ghost use Rattle.textarea_text.specs.Size.{size_of};
-ghost use Rattle.textarea_text.specs.Touched.{ReplacesPart};
+ghost use Rattle.textarea_text.specs.Touched.{ReplacesBetween};
 
 use std::alloc::{AllocError, Global};
 use textarea_util::limit::within_limit;
@@ -172,7 +172,7 @@ pub fn prepare_replacement(
     requires to { IsPlaceOf (lines_of lines.now) to }
     requires ordered { from.0 ≤ to.0 }
     ensures { IfOk result
-        (ReplacesPart lines.now from to
+        (ReplacesBetween lines.now from to
         (characters (chars first.now) ++ following (lines_of rest.now))) }
 {
     let new = new_rows(alloc, lines, from, to, first, rest)?;
@@ -202,8 +202,8 @@ fn new_rows(
     let before = lines[start.0].as_str();
     let offset = byte_offset(before, start.1);
     let head = &before[..offset];
-    let behind = lines[end.0].as_str();
-    let tail = &behind[end_offset(behind, end, start, offset)..];
+    let after = lines[end.0].as_str();
+    let tail = &after[end_offset(after, end, start, offset)..];
     let mut rows = Vec::with_capacity(alloc, rest.len() + 1)?;
     push_rows(&mut rows, head, first, rest, tail)?;
     Ok(rows)
@@ -253,8 +253,8 @@ fn push_new_lines(
     ensures len { OnOk result (vec_len rows.new ≡ length rest.now) }
 {
     let alloc = *rows.allocator();
-    for piece in rest {
-        let next = String::from_str(alloc, piece.as_str())?;
+    for fragment_line in rest {
+        let next = String::from_str(alloc, fragment_line.as_str())?;
         rows.push(std::mem::replace(line, next))?;
     }
     Ok(())

@@ -13,9 +13,9 @@ pub fn spaces_to_stop(line: &str, column: usize, tab_length: u8) -> u8
     requires within { column ≤ length (chars line.now) }
     ensures { result ≡ tab_length - (width_of (take column (chars line.now)) % tab_length) }
 {
-    let mut behind_stop = 0usize;
+    let mut after_stop = 0usize;
     for c in text_before(line, column).chars() {
-        behind_stop = (behind_stop + c.width().unwrap_or(0)) % tab_length as usize;
+        after_stop = (after_stop + c.width().unwrap_or(0)) % tab_length as usize;
     }
-    tab_length - behind_stop as u8
+    tab_length - after_stop as u8
 }

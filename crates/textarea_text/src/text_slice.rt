@@ -18,28 +18,33 @@ pub fn between(
     requires from { IsPlaceOf (lines_of lines.now) from }
     requires to { IsPlaceOf (lines_of lines.now) to }
     requires ordered { index_of (text_of lines.now) from ≤ index_of (text_of lines.now) to }
-    ensures len { IfOk result (λ pieces. vec_len pieces + from.0 ≡ to.0 + 1) }
+    ensures len { IfOk result (λ fragment_lines. vec_len fragment_lines + from.0 ≡ to.0 + 1) }
     ensures text { IfOk result
-        (λ pieces. text_of pieces.items ≡ symbols_between (text_of lines.now) from to) }
+        (λ fragment_lines. text_of fragment_lines.items ≡ symbols_between (text_of lines.now) from
+        to) }
 {
-    let mut pieces = Vec::with_capacity(alloc, to.0 - from.0 + 1)?;
+    let mut fragment_lines = Vec::with_capacity(alloc, to.0 - from.0 + 1)?;
     let mut start = from.1;
     for line in &lines[from.0..to.0] {
-        push_line(&mut pieces, text_from(line.as_str(), start))?;
+        push_line(&mut fragment_lines, text_from(line.as_str(), start))?;
         start = 0;
     }
-    push_line(&mut pieces, text_between(lines[to.0].as_str(), start, to.1))?;
-    Ok(pieces)
+    push_line(
+        &mut fragment_lines,
+        text_between(lines[to.0].as_str(), start, to.1),
+    )?;
+    Ok(fragment_lines)
 }
 
 // Appends a copy of the text.
-fn push_line(pieces: &mut Vec<String>, text: &str) -> Result<(), AllocError>
+fn push_line(fragment_lines: &mut Vec<String>, text: &str) -> Result<(), AllocError>
     ensures rows { OnOk result
-        (lines_of pieces.new.items ≡ lines_of pieces.old.items ++ chars text.now ∷ []) }
-    ensures len { OnOk result (vec_len pieces.new ≡ vec_len pieces.old + 1) }
+        (lines_of fragment_lines.new.items ≡ lines_of fragment_lines.old.items ++ chars text.now ∷
+        []) }
+    ensures len { OnOk result (vec_len fragment_lines.new ≡ vec_len fragment_lines.old + 1) }
 {
-    let piece = String::from_str(*pieces.allocator(), text)?;
-    pieces.push(piece)?;
+    let fragment_line = String::from_str(*fragment_lines.allocator(), text)?;
+    fragment_lines.push(fragment_line)?;
     Ok(())
 }
 

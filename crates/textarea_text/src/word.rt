@@ -54,7 +54,7 @@ impl CharKind {
 #[derive(Clone, Copy)]
 enum Edge {
     Start,
-    Behind,
+    Past,
 }
 
 impl Edge {
@@ -64,7 +64,7 @@ impl Edge {
     {
         match self {
             Edge::Start => kind.begins_word(before),
-            Edge::Behind => before.ends_word(kind),
+            Edge::Past => before.ends_word(kind),
         }
     }
 }
@@ -101,7 +101,7 @@ pub fn find_word_exclusive_end_forward(line: &str, start_column: usize) -> Optio
     ensures value { result ≡ next_past_word (chars line.now) start_column }
     ensures within { IfSome result (λ e. (start_column < e) × (e < length (chars line.now))) }
 {
-    find_edge_forward(line, start_column, Edge::Behind)
+    find_edge_forward(line, start_column, Edge::Past)
 }
 
 /// Returns the least column from `start_column` on that has a word's last character.

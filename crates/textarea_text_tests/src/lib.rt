@@ -4,11 +4,11 @@
 #[cfg(test)]
 mod cases;
 #[cfg(test)]
+mod fragments;
+#[cfg(test)]
 mod lines;
 #[cfg(test)]
 mod map;
-#[cfg(test)]
-mod pieces;
 #[cfg(test)]
 mod ranges;
 #[cfg(test)]

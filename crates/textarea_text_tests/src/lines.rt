@@ -226,23 +226,23 @@ fn layout_from_scratch(text_layout: &TextLayout) -> Result<TextLayout, AllocErro
     )
 }
 
-fn is_line_alike(text_layout: &TextLayout, anew: &TextLayout, row: usize, end: usize) -> bool {
+fn is_line_alike(text_layout: &TextLayout, fresh: &TextLayout, row: usize, end: usize) -> bool {
     for column in 0..=end {
         let visual = visual_of(text_layout, (row, column));
-        if visual == None || visual != visual_of(anew, (row, column)) {
+        if visual == None || visual != visual_of(fresh, (row, column)) {
             return false;
         }
     }
     true
 }
 
-fn is_alike(text_layout: &TextLayout, anew: &TextLayout) -> bool {
+fn is_alike(text_layout: &TextLayout, fresh: &TextLayout) -> bool {
     for (row, line) in text_layout.lines().iter().enumerate() {
-        if !is_line_alike(text_layout, anew, row, column_count(line.as_str())) {
+        if !is_line_alike(text_layout, fresh, row, column_count(line.as_str())) {
             return false;
         }
     }
-    text_layout.row_count() == anew.row_count()
+    text_layout.row_count() == fresh.row_count()
 }
 
 fn is_as_fresh(text_layout: &TextLayout) -> Result<bool, AllocError> {
@@ -259,9 +259,9 @@ fn make_and_take_back(
 {
     text_layout.apply(edit.change())?;
     let end = visual_end(text_layout);
-    let was_as_anew = is_as_fresh(text_layout)?;
+    let was_as_fresh = is_as_fresh(text_layout)?;
     text_layout.apply(edit.inverse())?;
-    let is_right = was_as_anew && is_as_fresh(text_layout)?;
+    let is_right = was_as_fresh && is_as_fresh(text_layout)?;
     Ok(if is_right { Some(end) } else { None })
 }
 
@@ -324,10 +324,10 @@ fn prepares(
     expected: &[&str],
 ) -> Result<bool, AllocError> {
     let prepared = text_layout.prepare_width(inner_width)?;
-    let is_kept = has_rows(&text_layout.view(), rows);
+    let is_cached = has_rows(&text_layout.view(), rows);
     let is_prepared = has_rows(&text_layout.view_with(&prepared), expected);
     drop(prepared);
-    Ok(is_kept && is_prepared)
+    Ok(is_cached && is_prepared)
 }
 
 // Sets tab stops of lines that are not wrapped. No line is wrapped again.
@@ -438,7 +438,7 @@ fn rows_are_those_from_scratch_in_all(rt: HostRuntime) -> Result<(), Fail> {
     check_each(&rt, &SHAPES, is_right_in)
 }
 
-static HELD: [Step; 6] = [
+static STORED: [Step; 6] = [
     Empty(true),
     Settings(WHOLE),
     End(1, (0, 0)),
@@ -448,9 +448,9 @@ static HELD: [Step; 6] = [
 ];
 
 // Whether a line replaces the empty text, and is returned.
-fn is_held(alloc: Global) -> Result<bool, AllocError> {
+fn is_stored(alloc: Global) -> Result<bool, AllocError> {
     let mut text_layout = text_layout(alloc, &[], WHOLE)?;
-    let leads_there = lead_there(&mut text_layout, &HELD)?;
+    let leads_there = lead_there(&mut text_layout, &STORED)?;
     let lines = text_layout.into_lines();
     Ok(leads_there && lines.len() == 1 && lines[0].as_str() == "abc")
 }
@@ -476,7 +476,7 @@ fn is_view_borrowed(alloc: Global) -> Result<bool, AllocError> {
 
 #[test]
 fn lines_are_stored_and_borrowed(rt: HostRuntime) -> Result<(), Fail> {
-    assert!(rt; is_held(rt.alloc())?);
+    assert!(rt; is_stored(rt.alloc())?);
     assert!(rt; is_view_borrowed(rt.alloc())?);
     Ok(())
 }

@@ -257,10 +257,10 @@ impl Numbers {
 }
 
 fn some_line(alloc: Global, numbers: &mut Numbers) -> Result<String, AllocError> {
-    let pieces = ["a", " ", "\t", "犬", "e\u{301}", "word ", "🐶", "-"];
+    let segments = ["a", " ", "\t", "犬", "e\u{301}", "word ", "🐶", "-"];
     let mut line = String::new(alloc);
-    for _piece in 0..numbers.below(24) {
-        line.push_str(pieces[numbers.below(8)])?;
+    for _segment in 0..numbers.below(24) {
+        line.push_str(segments[numbers.below(8)])?;
     }
     Ok(line)
 }
@@ -330,8 +330,8 @@ fn is_as_fresh(
 ) -> Result<bool, AllocError>
     requires { AreRowsOf map.now.wrapping (lines_of lines.now) map.now.rows }
 {
-    let anew = ScreenMap::new(alloc, lines, wrapping, counter)?;
-    Ok(is_same(map, &anew, lines))
+    let fresh = ScreenMap::new(alloc, lines, wrapping, counter)?;
+    Ok(is_same(map, &fresh, lines))
 }
 
 // Lines, and the lines that they replace, both fewer than the limit.

@@ -6,7 +6,7 @@ use textarea_data::range::AtomicRangeRejectReason::*;
 use textarea_data::range::{AtomicRange, AtomicRangeRejectReason, RejectedAtomicRange};
 use textarea_ranges::validate::validate;
 
-fn part(row: usize, start_col: usize, end_col: usize) -> AtomicRange {
+fn range_of(row: usize, start_col: usize, end_col: usize) -> AtomicRange {
     AtomicRange {
         row,
         start_col,
@@ -20,30 +20,30 @@ fn rejected(range: AtomicRange, reason: AtomicRangeRejectReason) -> RejectedAtom
 
 fn accepts(alloc: Global) -> Result<bool, AllocError> {
     let lines = strings(alloc, &["a犬c"])?;
-    let given = vec![in alloc; part(0, 1, 3), part(0, 0, 1)]?;
-    let expected = [part(0, 0, 1), part(0, 1, 3)];
-    match validate(alloc, given, lines.as_slice())? {
-        Ok(held) => Ok(held.as_slice() == expected.as_slice()),
+    let input = vec![in alloc; range_of(0, 1, 3), range_of(0, 0, 1)]?;
+    let expected = [range_of(0, 0, 1), range_of(0, 1, 3)];
+    match validate(alloc, input, lines.as_slice())? {
+        Ok(stored) => Ok(stored.as_slice() == expected.as_slice()),
         Err(_) => Ok(false),
     }
 }
 
 fn rejects(alloc: Global) -> Result<bool, AllocError> {
     let lines = strings(alloc, &["abc"])?;
-    let given = vec![in alloc;
-        part(0, 2, 4),
-        part(1, 0, 1),
-        part(0, 1, 1),
-        part(0, 0, 2),
-        part(0, 1, 3),
+    let input = vec![in alloc;
+        range_of(0, 2, 4),
+        range_of(1, 0, 1),
+        range_of(0, 1, 1),
+        range_of(0, 0, 2),
+        range_of(0, 1, 3),
     ]?;
     let expected = [
-        rejected(part(0, 1, 1), Empty),
-        rejected(part(0, 1, 3), OverlapsPrevious),
-        rejected(part(0, 2, 4), ColumnOutOfBounds),
-        rejected(part(1, 0, 1), RowOutOfBounds),
+        rejected(range_of(0, 1, 1), Empty),
+        rejected(range_of(0, 1, 3), OverlapsPrevious),
+        rejected(range_of(0, 2, 4), ColumnOutOfBounds),
+        rejected(range_of(1, 0, 1), RowOutOfBounds),
     ];
-    match validate(alloc, given, lines.as_slice())? {
+    match validate(alloc, input, lines.as_slice())? {
         Ok(_) => Ok(false),
         Err(error) => Ok(error.rejected.as_slice() == expected.as_slice()),
     }
@@ -56,7 +56,7 @@ fn accepted(rt: HostRuntime) -> Result<(), Fail> {
 }
 
 #[test]
-fn refused(rt: HostRuntime) -> Result<(), Fail> {
+fn are_rejected(rt: HostRuntime) -> Result<(), Fail> {
     assert!(rt; rejects(rt.alloc())?);
     Ok(())
 }

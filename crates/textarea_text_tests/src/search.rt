@@ -185,14 +185,14 @@ fn searches_in_lines(rt: HostRuntime) -> Result<(), Fail> {
 }
 
 /// A pattern, a line with its number, and its matches.
-type Kept = (
+type Cached = (
     &'static str,
     (usize, &'static str),
     &'static [(usize, usize)],
 );
 
 /// Lines whose matches are listed one after another, with a cache for one line.
-static KEPT: [Kept; 5] = [
+static CACHED: [Cached; 5] = [
     ("fo+", (0, "foo fo"), &[(0, 3), (4, 6)]),
     ("fo+", (0, "foo fo"), &[(0, 3), (4, 6)]),
     ("fo+", (7, "a fo"), &[(2, 4)]),
@@ -207,11 +207,11 @@ fn are_same(spans: &[(usize, usize)], listed: &[(usize, usize)]) -> bool {
 // Lists the matches of a line into a vector that may have others.
 fn list_cached(
     search: &Search,
-    kept: &mut MatchCache,
+    cached: &mut MatchCache,
     (number, line): (usize, &str),
     spans: &mut Vec<(usize, usize)>,
 ) -> Result<(), AllocError> {
-    let mut matcher = search.caching_matcher(kept, 1)?;
+    let mut matcher = search.caching_matcher(cached, 1)?;
     matcher.spans_into(number, line, spans)
 }
 
@@ -219,22 +219,22 @@ fn list_cached(
 fn lists_cached(
     alloc: Global,
     search: &mut Search,
-    kept: &mut MatchCache,
+    cached: &mut MatchCache,
     spans: &mut Vec<(usize, usize)>,
-    (pattern, line, listed): &Kept,
+    (pattern, line, listed): &Cached,
 ) -> Result<bool, AllocError> {
     let is_set = search.set_pattern(alloc, pattern).is_ok();
-    list_cached(search, kept, *line, spans)?;
+    list_cached(search, cached, *line, spans)?;
     Ok(is_set && are_same(spans, listed))
 }
 
 #[test]
 fn cached_line_after_line(rt: HostRuntime) -> Result<(), Fail> {
     let mut search = Search::default();
-    let mut kept = MatchCache::new(rt.alloc());
+    let mut cached = MatchCache::new(rt.alloc());
     let mut spans = Vec::new(rt.alloc());
-    check_each(&rt, &KEPT, |alloc, line| {
-        lists_cached(alloc, &mut search, &mut kept, &mut spans, line)
+    check_each(&rt, &CACHED, |alloc, line| {
+        lists_cached(alloc, &mut search, &mut cached, &mut spans, line)
     })
 }
 
@@ -250,7 +250,7 @@ static SETTINGS: [Setting; 4] = [
 ];
 
 // Whether a pattern is set or, if it is not in the syntax of `regex`, rejected.
-fn is_taken(alloc: Global, search: &mut Search, pattern: &str, is_set: bool) -> bool {
+fn is_accepted(alloc: Global, search: &mut Search, pattern: &str, is_set: bool) -> bool {
     match &search.set_pattern(alloc, pattern) {
         Ok(()) => is_set,
         Err(SearchError::Pattern(regex::Error::Syntax(_))) => !is_set,
@@ -271,7 +271,7 @@ fn is_for(alloc: Global, search: &Search, pattern: Option<&str>) -> Result<bool,
 fn patterns(rt: HostRuntime) -> Result<(), Fail> {
     let mut search = Search::default();
     check_each(&rt, &SETTINGS, |alloc, (pattern, is_set, wanted)| {
-        Ok(is_taken(alloc, &mut search, pattern, *is_set) && is_for(alloc, &search, *wanted)?)
+        Ok(is_accepted(alloc, &mut search, pattern, *is_set) && is_for(alloc, &search, *wanted)?)
     })
 }
 

@@ -42,7 +42,7 @@ static LINES: [Wrapped; 23] = [
 ];
 
 // The texts of visual rows, each followed by a bar.
-fn shown(alloc: Global, line: &str, rows: &[(usize, usize)]) -> Result<String, AllocError> {
+fn rows_text(alloc: Global, line: &str, rows: &[(usize, usize)]) -> Result<String, AllocError> {
     let mut text = String::new(alloc);
     for (start, end) in rows {
         if let Some(row) = line.get(*start..*end) {
@@ -58,7 +58,7 @@ fn is_wrapped(alloc: Global, case: &Wrapped) -> Result<bool, AllocError> {
     let (line, mode, width, tab_len, expected) = *case;
     let rows = line_ranges(alloc, line, mode, width, tab_len, &mut WrapCount::new())?;
     let copy = rows.clone()?;
-    Ok(shown(alloc, line, copy.as_slice())?.as_str() == expected)
+    Ok(rows_text(alloc, line, copy.as_slice())?.as_str() == expected)
 }
 
 #[test]

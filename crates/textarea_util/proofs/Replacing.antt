@@ -45,12 +45,12 @@ replaced_by_more items new start count shared below within all some size =
     let low : length under ≡ below = omega (arith, length-drop (start + shared) items) in
     let whole : (above ++ (first ++ under)) ++ rest ≡ above ++ (first ++ (under ++ rest)) = append_assoc above (first ++ under) rest ∙ ap (λ t. above ++ t) (append_assoc first under rest) in
     let front : take (start + shared) ((above ++ (first ++ under)) ++ rest) ≡ above ++ first = ap (take (start + shared)) whole ∙ take_two above first (under ++ rest) (start + shared) seam in
-    let behind : drop (start + shared) ((above ++ (first ++ under)) ++ rest) ≡ under ++ rest = ap (drop (start + shared)) whole ∙ drop_two above first (under ++ rest) (start + shared) seam in
+    let after : drop (start + shared) ((above ++ (first ++ under)) ++ rest) ≡ under ++ rest = ap (drop (start + shared)) whole ∙ drop_two above first (under ++ rest) (start + shared) seam in
     let last : drop (start + shared + below) ((above ++ (first ++ under)) ++ rest) ≡ rest =
-    sym (drop-drop below (start + shared) ((above ++ (first ++ under)) ++ rest)) ∙ ap (drop below) behind ∙ drop_at under rest below low in
+    sym (drop-drop below (start + shared) ((above ++ (first ++ under)) ++ rest)) ∙ ap (drop below) after ∙ drop_at under rest below low in
     ap (λ t. t ++ (drop (start + shared + below) ((above ++ (first ++ under)) ++ rest) ++ take below (drop (start + shared) ((above ++ (first ++ under)) ++ rest)))) front
     ∙ ap (λ t. (above ++ first) ++ (t ++ take below (drop (start + shared) ((above ++ (first ++ under)) ++ rest)))) last
-    ∙ ap (λ t. (above ++ first) ++ (rest ++ take below t)) behind
+    ∙ ap (λ t. (above ++ first) ++ (rest ++ take below t)) after
     ∙ ap (λ t. (above ++ first) ++ (rest ++ t)) (take_at under rest below low)
     ∙ append_assoc above first (rest ++ under)
     ∙ ap (λ t. above ++ t) (sym (append_assoc first rest under) ∙ ap (λ t. t ++ under) (take-append-drop shared new))

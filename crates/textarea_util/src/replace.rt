@@ -11,10 +11,10 @@ pub fn replace_items<T: Drop>(items: &mut Vec<T>, start: usize, count: usize, mu
     ensures len { vec_len items.new + count ≡ vec_len items.old + vec_len new }
 {
     let shared = count.min(new.len());
-    swap_parts(items, start, &mut new, shared);
-    remove_part(&mut new, 0, shared);
+    swap_segments(items, start, &mut new, shared);
+    remove_segment(&mut new, 0, shared);
     if shared < count {
-        remove_part(items, start + shared, start + count);
+        remove_segment(items, start + shared, start + count);
     } else if !new.is_empty() {
         let below = items.len() - (start + shared);
         let _ = items.append(&mut new);
@@ -23,7 +23,7 @@ pub fn replace_items<T: Drop>(items: &mut Vec<T>, start: usize, count: usize, mu
 }
 
 // Swaps the `count` items from `start` on with the first `count` items of `new`.
-fn swap_parts<T>(items: &mut Vec<T>, start: usize, new: &mut Vec<T>, count: usize)
+fn swap_segments<T>(items: &mut Vec<T>, start: usize, new: &mut Vec<T>, count: usize)
     requires within { start + count ≤ vec_len items.old }
     requires there { count ≤ vec_len new.old }
     ensures items { items.new.items
@@ -45,7 +45,7 @@ fn swap_slices<T>(items: &mut [T], start: usize, new: &mut [T], count: usize)
     items[start..start + count].swap_with_slice(&mut new[..count]);
 }
 
-fn remove_part<T: Drop>(items: &mut Vec<T>, start: usize, end: usize)
+fn remove_segment<T: Drop>(items: &mut Vec<T>, start: usize, end: usize)
     requires ordered { start ≤ end }
     requires within { end ≤ vec_len items.old }
     ensures items { items.new.items ≡ take start items.old.items ++ drop end items.old.items }

@@ -2,18 +2,18 @@
 use Rattle.std.proofs.Common.{◌≡◌, ℕ, ◌+◌, ◌==◌, ◌&&◌, Bool, true, false, List, [], ◌∷◌, ◌++◌, length, refl, sym, ap, ◌∙◌, subst, arith}
 use Rattle.std.proofs.lemmas.Bool.{cond-false}
 use Rattle.std.proofs.lemmas.List.{length-append}
-use Rattle.textarea_view.specs.Prelude.{ShowsRow, row_cell, RowArea, Changes, KeepsOutside, CellView, contains, is_in_row, LineView, Buffer, Rect, AreShown, DrawnTo, lines_change, VisualRow, row_at, highlights_of, row_highlights, SceneState}
+use Rattle.textarea_view.specs.Prelude.{ShowsRow, row_cell, RowArea, Changes, KeepsOutside, CellView, contains, is_in_row, LineView, Buffer, Rect, AreDisplayed, DrawnTo, lines_change, VisualRow, row_at, highlights_of, row_highlights, SceneState}
 use Rattle.textarea_screen.proofs.ChangeLemmas.{Changes-none, Changes-then, KeepsOutside-from_changes, KeepsOutside-then, KeepsOutside-wider}
 
 -- the highlights of a row's text are those of the row
-pub told : (scene : SceneState) (number : ℕ) (row : VisualRow) → row ≡ row_at scene.rows.lines scene.rows.rows number → highlights_of scene row ≡ row_highlights scene number
+pub highlights_are : (scene : SceneState) (number : ℕ) (row : VisualRow) → row ≡ row_at scene.rows.lines scene.rows.rows number → highlights_of scene row ≡ row_highlights scene number
 unfolding row_highlights
-told scene number row e = ap (highlights_of scene) e
+highlights_are scene number row e = ap (highlights_of scene) e
 
-AreShown-push : (scene : SceneState) (row : ℕ) (lines : List LineView) (line : LineView) → AreShown scene row lines → ShowsRow (row_highlights scene (row + length lines)) line → AreShown scene row (lines ++ line ∷ [])
-AreShown-push scene row [] line h shows = (subst (λ n. ShowsRow (row_highlights scene n) line) (omega arith) shows, tt)
-AreShown-push scene row (first ∷ lines) line h shows =
-    (h.0, AreShown-push scene (row + 1) lines line h.1 (subst (λ n. ShowsRow (row_highlights scene n) line) (omega arith) shows))
+AreDisplayed-push : (scene : SceneState) (row : ℕ) (lines : List LineView) (line : LineView) → AreDisplayed scene row lines → ShowsRow (row_highlights scene (row + length lines)) line → AreDisplayed scene row (lines ++ line ∷ [])
+AreDisplayed-push scene row [] line h shows = (subst (λ n. ShowsRow (row_highlights scene n) line) (omega arith) shows, tt)
+AreDisplayed-push scene row (first ∷ lines) line h shows =
+    (h.0, AreDisplayed-push scene (row + 1) lines line h.1 (subst (λ n. ShowsRow (row_highlights scene n) line) (omega arith) shows))
 
 pub lines_change-push : (rows : RowArea) (y : ℕ) (lines : List LineView) (line : LineView) (column row : ℕ) (cell : CellView) → row_cell rows (y + length lines) line column row (lines_change rows y lines column row cell) ≡ lines_change rows y (lines ++ line ∷ []) column row cell
 lines_change-push rows y [] line column row cell = ap (λ n. row_cell rows n line column row cell) (omega arith)
@@ -22,13 +22,13 @@ lines_change-push rows y (first ∷ lines) line column row cell =
     ∙ lines_change-push rows (y + 1) lines line column row (row_cell rows y first column row cell)
 
 pub drawn_none : (scene : SceneState) (top : ℕ) (rows : RowArea) (buffer : Buffer) → DrawnTo scene top rows buffer buffer 0
-drawn_none scene top rows buffer = record { lines = []; many = refl; shown = tt; change = Changes-none buffer (lines_change rows rows.area.y []) (λ x y cell. refl) }
+drawn_none scene top rows buffer = record { lines = []; many = refl; displayed = tt; change = Changes-none buffer (lines_change rows rows.area.y []) (λ x y cell. refl) }
 
 pub drawn_more : (scene : SceneState) (top : ℕ) (rows : RowArea) (old now new : Buffer) (count : ℕ) (line : LineView) → DrawnTo scene top rows old now count → ShowsRow (row_highlights scene (top + count)) line → Changes now new (row_cell rows (rows.area.y + count) line) → DrawnTo scene top rows old new (count + 1)
 drawn_more scene top rows old now new count line h shows change = record {
   lines = h.lines ++ line ∷ [];
   many = omega (arith, length-append h.lines (line ∷ []), h.many);
-  shown = AreShown-push scene top h.lines line h.shown (subst (λ n. ShowsRow (row_highlights scene (top + n)) line) (sym h.many) shows);
+  displayed = AreDisplayed-push scene top h.lines line h.displayed (subst (λ n. ShowsRow (row_highlights scene (top + n)) line) (sym h.many) shows);
   change = Changes-then (lines_change rows rows.area.y (h.lines ++ line ∷ [])) h.change
       (subst (λ n. Changes now new (row_cell rows (rows.area.y + n) line)) (sym h.many) change)
       (λ x y cell. lines_change-push rows rows.area.y h.lines line x y cell);

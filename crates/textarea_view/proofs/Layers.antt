@@ -32,15 +32,15 @@ FilledWith b frame viewport inner old new = (lines : List LineView) × AreLinesW
 pub filled_by_placeholder : (frame : FrameState) (viewport : ViewportState) (inner : Rect) (old new : Buffer) → shows_placeholder frame ≡ true →
     Changes old new (placeholder_change frame.scene.look frame.surround.placeholder.style viewport inner (drawn_lines frame.scene.look frame.surround.placeholder.lines inner (area_of old))) →
     IsFilledBy frame viewport inner old new
-filled_by_placeholder frame viewport inner old new shown change =
-    subst (λ b. FilledWith b frame viewport inner old new) (sym shown)
+filled_by_placeholder frame viewport inner old new displayed change =
+    subst (λ b. FilledWith b frame viewport inner old new) (sym displayed)
     (drawn_lines frame.scene.look frame.surround.placeholder.lines inner (area_of old), refl, change)
 
 pub filled_by_rows : (frame : FrameState) (viewport : ViewportState) (inner : Rect) (old new : Buffer) → shows_placeholder frame ≡ false →
     ((lines : List LineView) × FillsArea frame.scene viewport.row inner (area_of old) lines × Changes old new (rows_change frame.scene.look viewport inner lines)) →
     IsFilledBy frame viewport inner old new
-filled_by_rows frame viewport inner old new shown drawn =
-    subst (λ b. FilledWith b frame viewport inner old new) (sym shown) drawn
+filled_by_rows frame viewport inner old new displayed drawn =
+    subst (λ b. FilledWith b frame viewport inner old new) (sym displayed) drawn
 
 style_outside : (inner : Rect) (style : Style) (x y : ℕ) (cell : CellView) → contains inner x y ≡ false → style_change inner style x y cell ≡ cell
 style_outside inner style x y cell outside = cond-false (contains inner x y) _ _ outside
@@ -59,8 +59,8 @@ outside_of area inner within x y outside = by (contains inner x y) refl
     by false e = refl
     by true e = cc (within x y e, outside)
 
-pub kept_around : (area inner : Rect) (old now new : Buffer) → ((x y : ℕ) → IsTrue (contains inner x y) → IsTrue (contains area x y)) → KeepsOutside (contains area) old now → KeepsOutside (contains inner) now new → KeepsOutside (contains area) old new
-kept_around area inner old now new within around inside =
+pub unchanged_around : (area inner : Rect) (old now new : Buffer) → ((x y : ℕ) → IsTrue (contains inner x y) → IsTrue (contains area x y)) → KeepsOutside (contains area) old now → KeepsOutside (contains inner) now new → KeepsOutside (contains area) old new
+unchanged_around area inner old now new within around inside =
     KeepsOutside-then around (KeepsOutside-wider (contains area) inside (outside_of area inner within))
 
 pub framed : (frame : FrameState) (viewport : ViewportState) (area inner : Rect) (old now new : Buffer) → Changes old now (block_change frame.surround.block area) → IsFilledBy frame viewport inner now new →

@@ -1,5 +1,5 @@
 pub mod Drawing
-mod Found
+mod Matches
 mod Holds
 mod OneFilling
 mod Placeholder

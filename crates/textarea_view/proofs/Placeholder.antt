@@ -5,7 +5,7 @@ use Rattle.std.proofs.lemmas.Bool.{cond-false}
 use Rattle.std.proofs.lemmas.Bool.Decides.{nat_tests}
 use Rattle.std.proofs.lemmas.List.{length-take, map-append, map_more, take_more}
 use Rattle.textarea_view.specs.Prelude.{CursorCellRender, Draw, Hidden, content_bytes, row_clusters, span_clusters, cells_of_row, placed_row, row_cell, row_change, RowArea, Changes, CellView, is_in_row, patched, ContentView, LineView, SpanView, content_view, span_view, text_bytes, BorrowedBytes, SpanText, Borrowed, Owned, Buffer, Style, Span, lines_change, after_cursor, blank, cell_of_line, borrowed_line, borrowed_span, placeholder_lines}
-use Rattle.textarea_paint.specs.Row.{first_shown_column}
+use Rattle.textarea_paint.specs.Row.{first_visible_column}
 use Rattle.textarea_screen.proofs.ChangeLemmas.{Changes-as, Changes-then}
 use Rattle.textarea_view.proofs.Drawing.{lines_change-push}
 
@@ -35,16 +35,16 @@ display_bytes (Owned text) = refl
 abbrev made : ContentView → Style → SpanView
 made content style = record { content = content; style = style }
 
-pub lent_from : (item lent : Span) (bytes : List ℕ) → content_view lent.content ≡ BorrowedBytes bytes → lent.style ≡ item.style → bytes ≡ text_bytes item.content →
-    span_view lent ≡ borrowed_span (span_view item)
-lent_from item lent bytes content style are = ap₂ made (content ∙ ap BorrowedBytes (are ∙ display_bytes item.content)) style
+pub borrowed_from : (item borrowed : Span) (bytes : List ℕ) → content_view borrowed.content ≡ BorrowedBytes bytes → borrowed.style ≡ item.style → bytes ≡ text_bytes item.content →
+    span_view borrowed ≡ borrowed_span (span_view item)
+borrowed_from item borrowed bytes content style are = ap₂ made (content ∙ ap BorrowedBytes (are ∙ display_bytes item.content)) style
 
 -- one more borrowed span, after the blank
-pub lent_more : (items done more : List Span) (i : ℕ) (item lent : Span) (style : Style) → i < length items → map span_view done ≡ blank style ∷ map borrowed_span (map span_view (take i items)) →
-    item ≡ get_or items i item → span_view lent ≡ borrowed_span (span_view item) → more ≡ done ++ lent ∷ [] → map span_view more ≡ blank style ∷ map borrowed_span (map span_view (take (i + 1) items))
-lent_more items done more i item lent style within known is same pushed =
+pub borrowed_more : (items done more : List Span) (i : ℕ) (item borrowed : Span) (style : Style) → i < length items → map span_view done ≡ blank style ∷ map borrowed_span (map span_view (take i items)) →
+    item ≡ get_or items i item → span_view borrowed ≡ borrowed_span (span_view item) → more ≡ done ++ borrowed ∷ [] → map span_view more ≡ blank style ∷ map borrowed_span (map span_view (take (i + 1) items))
+borrowed_more items done more i item borrowed style within known is same pushed =
     let before = map span_view (take i items) in
-    ap (map span_view) pushed ∙ map-append span_view done (lent ∷ []) ∙ ap (λ (spans : List SpanView). spans ++ span_view lent ∷ []) known
+    ap (map span_view) pushed ∙ map-append span_view done (borrowed ∷ []) ∙ ap (λ (spans : List SpanView). spans ++ span_view borrowed ∷ []) known
     ∙ ap (λ (spans : List SpanView). blank style ∷ spans)
     (ap (λ (span : SpanView). map borrowed_span before ++ span ∷ []) (same ∙ ap (λ (span : Span). borrowed_span (span_view span)) is)
     ∙ sym (map-append borrowed_span before (span_view (get_or items i item) ∷ [])) ∙ ap (map borrowed_span) (sym (map_more span_view items i item within)))
@@ -66,23 +66,23 @@ lines_more rows lines old now new count line d within is drawn change =
 
 -- ---- borrowed texts
 
-clusters-lent : (style : Style) (spans : List SpanView) → flat_map (span_clusters style) (map borrowed_span spans) ≡ flat_map (span_clusters style) spans
-clusters-lent style [] = refl
-clusters-lent style (span ∷ spans) = ap (λ cs. span_clusters style span ++ cs) (clusters-lent style spans)
+clusters-borrowed : (style : Style) (spans : List SpanView) → flat_map (span_clusters style) (map borrowed_span spans) ≡ flat_map (span_clusters style) spans
+clusters-borrowed style [] = refl
+clusters-borrowed style (span ∷ spans) = ap (λ cs. span_clusters style span ++ cs) (clusters-borrowed style spans)
 
 -- a line after the blank has the same clusters, borrowed or owned
-clusters_behind : (style own : Style) (line : LineView) → row_clusters style (after_cursor (Draw own) (borrowed_line line)) ≡ row_clusters style (after_cursor (Draw own) line)
-clusters_behind style own line = ap (λ cs. span_clusters (patched style line.style) (blank own) ++ cs) (clusters-lent (patched style line.style) line.spans)
+clusters_after : (style own : Style) (line : LineView) → row_clusters style (after_cursor (Draw own) (borrowed_line line)) ≡ row_clusters style (after_cursor (Draw own) line)
+clusters_after style own line = ap (λ cs. span_clusters (patched style line.style) (blank own) ++ cs) (clusters-borrowed (patched style line.style) line.spans)
 
 -- so it puts the same into each cell
 row_cell-like : (rows : RowArea) (y : ℕ) (a b : LineView) → row_clusters rows.style a ≡ row_clusters rows.style b → (column row : ℕ) (cell : CellView) → row_cell rows y a column row cell ≡ row_cell rows y b column row cell
 unfolding row_cell
 row_cell-like rows y a b same column row cell =
     ap (λ cs. cond (is_in_row rows.area y column row)
-    (row_change (cells_of_row rows.area y) (first_shown_column rows.alignment rows.left) (placed_row rows.alignment rows.area.width cs) column row cell) cell) same
+    (row_change (cells_of_row rows.area y) (first_visible_column rows.alignment rows.left) (placed_row rows.alignment rows.area.width cs) column row cell) cell) same
 
-pub drawn_behind : (rows : RowArea) (y : ℕ) (own : Style) (line shown : LineView) (old new : Buffer) → shown ≡ after_cursor (Draw own) (borrowed_line line) → Changes old new (row_cell rows y shown) →
+pub drawn_after : (rows : RowArea) (y : ℕ) (own : Style) (line displayed : LineView) (old new : Buffer) → displayed ≡ after_cursor (Draw own) (borrowed_line line) → Changes old new (row_cell rows y displayed) →
     Changes old new (row_cell rows y (after_cursor (Draw own) line))
-drawn_behind rows y own line shown old new is change =
+drawn_after rows y own line displayed old new is change =
     Changes-as (row_cell rows y (after_cursor (Draw own) line)) change
-    (row_cell-like rows y shown (after_cursor (Draw own) line) (ap (row_clusters rows.style) is ∙ clusters_behind rows.style own line))
+    (row_cell-like rows y displayed (after_cursor (Draw own) line) (ap (row_clusters rows.style) is ∙ clusters_after rows.style own line))

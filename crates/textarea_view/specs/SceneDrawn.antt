@@ -13,9 +13,9 @@ use Rattle.textarea_view.specs.SceneRows.{row_highlights}
 use Rattle.textarea_view.specs.Scene.{SceneState}
 
 -- the lines show the visual rows from this one on, one each
-abbrev pub AreShown : SceneState → ℕ → List LineView → Type 0
-AreShown scene row [] = Unit {0}
-AreShown scene row (line ∷ lines) = ShowsRow (row_highlights scene row) line × AreShown scene (row + 1) lines
+abbrev pub AreDisplayed : SceneState → ℕ → List LineView → Type 0
+AreDisplayed scene row [] = Unit {0}
+AreDisplayed scene row (line ∷ lines) = ShowsRow (row_highlights scene row) line × AreDisplayed scene (row + 1) lines
 
 -- the number of rows of an area that are above the end of a buffer's area
 abbrev pub rows_above_end : Rect → Rect → ℕ
@@ -24,7 +24,7 @@ rows_above_end area buffer = min (area.y + area.height) (buffer.y + buffer.heigh
 -- the lines shown from the top on: one for each visual row, while area and buffer have room
 pub record FillsArea (scene : SceneState) (top : ℕ) (area buffer : Rect) (lines : List LineView) : Type 0 where
   pub all : length lines ≡ min (rows_above_end area buffer) (row_total scene.rows.rows - top)
-  pub shown : AreShown scene top lines
+  pub displayed : AreDisplayed scene top lines
 
 -- a cell after lines are drawn one below the other, the first in row `y`
 abbrev pub lines_change : RowArea → ℕ → List LineView → Change
@@ -35,7 +35,7 @@ lines_change rows y (line ∷ lines) column row cell = lines_change rows (y + 1)
 pub record DrawnTo (scene : SceneState) (top : ℕ) (rows : RowArea) (old new : Buffer) (count : ℕ) : Type 0 where
   pub lines : List LineView
   pub many : length lines ≡ count
-  pub shown : AreShown scene top lines
+  pub displayed : AreDisplayed scene top lines
   pub change : Changes old new (lines_change rows rows.area.y lines)
 
 -- the number of columns between the left edge of the area and the start of the visual row's line

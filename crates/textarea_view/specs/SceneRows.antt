@@ -48,8 +48,8 @@ with_line_number scene row h =
     then with_number h row.line (number_digits scene) scene.look.line_number_style
     else with_placeholder h (number_digits scene) scene.look.line_number_style
 
-abbrev pub with_number_shown : SceneState → VisualRow → Highlights → Highlights
-with_number_shown scene row h = if scene.line_numbers then with_line_number scene row h else h
+abbrev pub with_row_number : SceneState → VisualRow → Highlights → Highlights
+with_row_number scene row h = if scene.line_numbers then with_line_number scene row h else h
 
 -- ---- the cursor and its line
 
@@ -77,13 +77,13 @@ abbrev pub to_in : VisualRow → Range → ℕ
 to_in row range = if row.line == range.1.0 then range.1.1 - row.start else length (row_bytes row)
 
 -- that section, if the row's line is in the range
-abbrev pub part_of : VisualRow → Range → Option (ℕ × ℕ)
-part_of row range = if is_in_range row.line range then Some (from_in row range, to_in row range) else None
+abbrev pub segment_in : VisualRow → Range → Option (ℕ × ℕ)
+segment_in row range = if is_in_range row.line range then Some (from_in row range, to_in row range) else None
 
 -- a highlight of that section
-abbrev pub with_part : VisualRow → Range → Style → ℕ → Highlights → Highlights
-with_part row range style rank h =
-    option_map_or (λ (part : ℕ × ℕ). with_highlight h part.0 part.1 style rank) (part_of row range) h
+abbrev pub with_range_segment : VisualRow → Range → Style → ℕ → Highlights → Highlights
+with_range_segment row range style rank h =
+    option_map_or (λ (segment : ℕ × ℕ). with_highlight h segment.0 segment.1 style rank) (segment_in row range) h
 
 -- ---- matches
 
@@ -116,10 +116,10 @@ abbrev pub match_range : VisualRow → ℕ × ℕ → Range
 match_range row found = ((row.line, found.0), (row.line, found.1))
 
 abbrev pub with_match : Style → VisualRow → Highlights → ℕ × ℕ → Highlights
-with_match style row h found = with_part row (match_range row found) style search_rank h
+with_match style row h found = with_range_segment row (match_range row found) style search_rank h
 
-abbrev pub with_matches_found : SceneState → VisualRow → Highlights → Highlights
-with_matches_found scene row h = fold (with_match scene.look.search_style row) h (matches_in (searched_lines scene) row.line)
+abbrev pub with_search_matches : SceneState → VisualRow → Highlights → Highlights
+with_search_matches scene row h = fold (with_match scene.look.search_style row) h (matches_in (searched_lines scene) row.line)
 
 -- ---- the selection
 
@@ -131,19 +131,19 @@ abbrev pub byte_range : List (List ℕ) → Place × Place → Range
 byte_range lines selection = (byte_place lines selection.0, byte_place lines selection.1)
 
 -- the row's section; and in a line's last row the break, if the selection continues after that line
-abbrev pub with_selected_part : VisualRow → Highlights → Range → Highlights
-with_selected_part row h range =
-    option_map_or (λ (part : ℕ × ℕ). with_segment h part.0 part.1 (row.is_last && nat_lt row.line range.1.0))
-    (part_of row range) h
+abbrev pub with_selected_segment : VisualRow → Highlights → Range → Highlights
+with_selected_segment row h range =
+    option_map_or (λ (segment : ℕ × ℕ). with_segment h segment.0 segment.1 (row.is_last && nat_lt row.line range.1.0))
+    (segment_in row range) h
 
 abbrev pub with_selected : SceneState → VisualRow → Highlights → Highlights
 with_selected scene row h =
-    option_map_or (with_selected_part row h) (option_map (byte_range scene.rows.lines) scene.selection) h
+    option_map_or (with_selected_segment row h) (option_map (byte_range scene.rows.lines) scene.selection) h
 
 -- ---- the caller's own highlights
 
 abbrev pub with_custom : VisualRow → Highlights → CustomHighlight → Highlights
-with_custom row h highlight = with_part row (highlight.start, highlight.end) highlight.style highlight.priority h
+with_custom row h highlight = with_range_segment row (highlight.start, highlight.end) highlight.style highlight.priority h
 
 abbrev pub with_customs : SceneState → VisualRow → Highlights → Highlights
 with_customs scene row h = fold (with_custom row) h scene.highlights
@@ -153,7 +153,7 @@ with_customs scene row h = fold (with_custom row) h scene.highlights
 abbrev pub highlights_of : SceneState → VisualRow → Highlights
 highlights_of scene row =
     with_customs scene row
-    (with_selected scene row (with_matches_found scene row (with_cursor scene row (with_number_shown scene row (bare_row scene row)))))
+    (with_selected scene row (with_search_matches scene row (with_cursor scene row (with_row_number scene row (bare_row scene row)))))
 
 -- the highlights of the visual row of this number
 unfoldable pub row_highlights : SceneState → ℕ → Highlights

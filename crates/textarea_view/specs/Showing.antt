@@ -6,8 +6,8 @@ use Rattle.textarea_view.specs.Viewport.{ViewportState, saturated_usize}
 -- The first of `len` rows or columns in view, once `at` must be in view: `at` if it is before the
 -- first; the first that makes `at` the last if it is after the last; else unchanged. If `len` is 0,
 -- nothing is in view, and the result is `at` if that is before the first, else `at + 1`.
-abbrev pub first_shown : ℕ → ℕ → ℕ → ℕ
-first_shown first len at =
+abbrev pub first_visible : ℕ → ℕ → ℕ → ℕ
+first_visible first len at =
     if nat_lt at first then at
     else if nat_le (first + len) at then saturated_usize (at + 1 - len)
     else first
@@ -24,11 +24,11 @@ at_start area = record { row = 0; column = 0; width = area.width; height = area.
 
 -- the viewport after wrapped lines are drawn, with the cursor in this visual row
 abbrev pub showing_row : ViewportState → Rect → ℕ → ViewportState
-showing_row viewport area row = record (at_start area) { row = first_shown viewport.row area.height row }
+showing_row viewport area row = record (at_start area) { row = first_visible viewport.row area.height row }
 
 -- the viewport after unwrapped lines are drawn, with the cursor at this visual position
 abbrev pub showing_row_and_column : ViewportState → Rect → ℕ → ℕ → ℕ → ViewportState
 showing_row_and_column viewport area row column line_number_width =
     record (showing_row viewport area row) {
-      column = first_shown viewport.column area.width (column_to_show line_number_width column);
+      column = first_visible viewport.column area.width (column_to_show line_number_width column);
     }

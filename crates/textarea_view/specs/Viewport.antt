@@ -18,9 +18,9 @@ saturated_usize number = min number (2 ^ 64 - 1)
 
 -- the last of `len` rows or columns from the first on: one less than their sum, and at least the
 -- first; the sum is at most the greatest `usize`, and the difference stops at 0
-abbrev pub last_shown : ℕ → ℕ → ℕ
-last_shown first len = max first (saturated_usize (first + len) - 1)
+abbrev pub last_visible : ℕ → ℕ → ℕ
+last_visible first len = max first (saturated_usize (first + len) - 1)
 
 -- a row or a column that is clamped to those in view, and then to at most the greatest one
 abbrev pub clamped : ℕ → ℕ → ℕ → ℕ → ℕ
-clamped first len greatest at = min (min (max at first) (last_shown first len)) greatest
+clamped first len greatest at = min (min (max at first) (last_visible first len)) greatest

@@ -50,7 +50,7 @@ impl Frame<'_, '_> {
     fn draw_inside(
         &self,
         alloc: Global,
-        kept: &mut MatchCache,
+        cached: &mut MatchCache,
         buffer: &mut Buffer,
         viewport: Viewport,
         inner: Rect,
@@ -64,7 +64,7 @@ impl Frame<'_, '_> {
         if self.shows_placeholder() {
             draw_placeholder_of(alloc, buffer, self.surround, &self.scene, viewport, inner)
         } else {
-            draw_rows(alloc, kept, buffer, &self.scene, viewport, inner)
+            draw_rows(alloc, cached, buffer, &self.scene, viewport, inner)
         }
     }
 
@@ -108,7 +108,7 @@ fn draw_placeholder_of(
 // Draws the visual rows over the style of the text area.
 fn draw_rows(
     alloc: Global,
-    kept: &mut MatchCache,
+    cached: &mut MatchCache,
     buffer: &mut Buffer,
     scene: &Scene<'_>,
     viewport: Viewport,
@@ -123,7 +123,7 @@ fn draw_rows(
     let rows = row_area(scene.look, viewport, inner);
     let (top, _) = viewport.scroll_top();
     buffer.set_style(inner, scene.look.style);
-    scene.draw(alloc, kept, buffer, rows, top)
+    scene.draw(alloc, cached, buffer, rows, top)
 }
 
 /// Draws the frame. `viewport` is that of the last frame; the returned one follows the cursor. The
@@ -131,7 +131,7 @@ fn draw_rows(
 pub fn draw_frame(
     frame: &Frame<'_, '_>,
     alloc: Global,
-    kept: &mut MatchCache,
+    cached: &mut MatchCache,
     buffer: &mut Buffer,
     area: Rect,
     viewport: Viewport,
@@ -144,6 +144,6 @@ pub fn draw_frame(
 {
     let placement = frame.placement(alloc, viewport, inner)?;
     frame.draw_around(buffer, area)?;
-    frame.draw_inside(alloc, kept, buffer, placement.viewport, inner)?;
+    frame.draw_inside(alloc, cached, buffer, placement.viewport, inner)?;
     Ok(placement)
 }

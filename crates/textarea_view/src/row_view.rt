@@ -76,8 +76,8 @@ impl RowView {
         ensures { result ≡ hit_column self.now greatest_column position.x }
     {
         let right = position.x.saturating_sub(self.inner_area.x());
-        let shown = u128::from(right.saturating_sub(self.offset)) + self.left_column as u128;
-        let column = shown.saturating_sub(self.line_number_width as u128);
+        let displayed = u128::from(right.saturating_sub(self.offset)) + self.left_column as u128;
+        let column = displayed.saturating_sub(self.line_number_width as u128);
         column.min(greatest_column as u128) as usize
     }
 }
@@ -88,9 +88,9 @@ fn cell_of(start: u16, len: u16, first: usize, at: u128) -> Option<u16>
     requires { start + len ≤ 65535 }
     ensures { result ≡ cell_of start len first at }
 {
-    let behind = at.checked_sub(first as u128)?;
-    if behind < u128::from(len) {
-        Some(start + behind as u16)
+    let after = at.checked_sub(first as u128)?;
+    if after < u128::from(len) {
+        Some(start + after as u16)
     } else {
         None
     }

@@ -1,7 +1,7 @@
 //! The visual rows of a text, drawn below one another.
+mod highlighting;
 pub mod laws;
 mod matches;
-mod parts;
 pub mod placeholder;
 mod row_context;
 
@@ -52,12 +52,13 @@ impl<'a> Model for Scene<'a> {
 impl<'a> Scene<'a> {
     /// Draws the visual rows from `top` on into the area, while text, area and buffer have rows.
     ///
-    /// A cell without a grapheme cluster is unchanged. Matches in `kept` aren't searched for again,
-    /// and new ones are added to it. After out of memory, cells of the area may be changed already.
+    /// A cell without a grapheme cluster is unchanged. Matches in `cached` aren't searched for
+    /// again, and new ones are added to it. After out of memory, cells of the area may be changed
+    /// already.
     pub fn draw(
         &self,
         alloc: Global,
-        kept: &mut MatchCache,
+        cached: &mut MatchCache,
         buffer: &mut Buffer,
         rows: RowArea,
         top: usize,
@@ -71,7 +72,7 @@ impl<'a> Scene<'a> {
         let room = rows_above_end(rows.area, buffer.area());
         let frame = RowContext::new(self);
         let lines = self.rows.lines();
-        let mut matches = LineMatches::new(alloc, self.search, lines, kept, usize::from(room))?;
+        let mut matches = LineMatches::new(alloc, self.search, lines, cached, usize::from(room))?;
         let left = self.rows.row_count().saturating_sub(top);
         let count = left.min(usize::from(room));
         draw_rows(alloc, &frame, &mut matches, buffer, rows, top, count)
@@ -112,9 +113,9 @@ impl<'a> Scene<'a> {
         ensures { IfOk result (λ line. ShowsRow (row_highlights self.now row) (line_view line)) }
     {
         let frame = RowContext::new(self);
-        let mut kept = MatchCache::new(alloc);
+        let mut cached = MatchCache::new(alloc);
         let lines = self.rows.lines();
-        let mut matches = LineMatches::new(alloc, self.search, lines, &mut kept, 0)?;
+        let mut matches = LineMatches::new(alloc, self.search, lines, &mut cached, 0)?;
         frame.row_line(alloc, row, &mut matches)
     }
 }
@@ -130,7 +131,7 @@ fn draw_rows<'a>(
     count: usize,
 ) -> Result<(), AllocError>
     requires matches { matches.old.searched ≡ searched_lines frame.now }
-    requires shown { count ≤ row_total frame.now.rows.rows - top }
+    requires displayed { count ≤ row_total frame.now.rows.rows - top }
     requires end { top + count < 2 ^ 64 }
     requires room { count ≤ rows.area.height }
     ensures ok { OnOk result (DrawnTo frame.now top rows buffer.old buffer.new count) }

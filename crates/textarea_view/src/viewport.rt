@@ -1,6 +1,6 @@
 //! The visual rows and columns of a text in view. The viewport follows the cursor or is scrolled.
 ghost use Rattle.std.specs.Prelude.{◌≡◌};
-ghost use Rattle.textarea_view.specs.Prelude.{hit_row, scrolled, scrolled_by, scrolled_viewport, at_start, column_to_show, first_shown, showing_row, showing_row_and_column, clamped, initial_viewport, last_shown};
+ghost use Rattle.textarea_view.specs.Prelude.{hit_row, scrolled, scrolled_by, scrolled_viewport, at_start, column_to_show, first_visible, showing_row, showing_row_and_column, clamped, initial_viewport, last_visible};
 
 use std::marker::Model;
 use textarea_data::scroll::Scrolling;
@@ -83,15 +83,15 @@ impl Viewport {
         ensures { result ≡ (
           self.now.row,
           self.now.column,
-          last_shown self.now.row self.now.height,
-          last_shown self.now.column self.now.width,
+          last_visible self.now.row self.now.height,
+          last_visible self.now.column self.now.width,
         ) }
     {
         (
             self.row,
             self.column,
-            last_shown(self.row, self.height),
-            last_shown(self.column, self.width),
+            last_visible(self.row, self.height),
+            last_visible(self.column, self.width),
         )
     }
 
@@ -121,7 +121,7 @@ impl Viewport {
     pub fn showing_row(self, inner_area: Rect, row: usize) -> Viewport
         ensures { result ≡ showing_row self inner_area row }
     {
-        let top = first_shown(self.row, inner_area.height(), row);
+        let top = first_visible(self.row, inner_area.height(), row);
         Viewport::showing_from(inner_area, top, 0)
     }
 
@@ -138,9 +138,9 @@ impl Viewport {
     ) -> Viewport
         ensures { result ≡ showing_row_and_column self inner_area row column line_number_width }
     {
-        let top = first_shown(self.row, inner_area.height(), row);
+        let top = first_visible(self.row, inner_area.height(), row);
         let wanted = column_to_show(line_number_width, column);
-        let left = first_shown(self.column, inner_area.width(), wanted);
+        let left = first_visible(self.column, inner_area.width(), wanted);
         Viewport::showing_from(inner_area, top, left)
     }
 
@@ -191,8 +191,8 @@ impl Viewport {
 }
 
 // Returns the last of `len` rows or columns from the first on, or the first if `len` is 0.
-fn last_shown(first: usize, len: usize) -> usize
-    ensures { result ≡ last_shown first len }
+fn last_visible(first: usize, len: usize) -> usize
+    ensures { result ≡ last_visible first len }
 {
     first.max(first.saturating_add(len).saturating_sub(1))
 }
@@ -210,8 +210,8 @@ fn scroll_from(first: usize, by: i32) -> usize
 }
 
 // Returns the first of `len` rows or columns in view, changed no more than it must be to show `at`.
-fn first_shown(first: usize, len: u16, at: usize) -> usize
-    ensures { result ≡ first_shown first len at }
+fn first_visible(first: usize, len: u16, at: usize) -> usize
+    ensures { result ≡ first_visible first len at }
 {
     let len = usize::from(len);
     if at < first {
@@ -238,5 +238,5 @@ fn column_to_show(line_number_width: usize, column: usize) -> usize
 fn clamp(first: usize, len: usize, greatest: usize, at: usize) -> usize
     ensures { result ≡ clamped first len greatest at }
 {
-    at.max(first).min(last_shown(first, len)).min(greatest)
+    at.max(first).min(last_visible(first, len)).min(greatest)
 }

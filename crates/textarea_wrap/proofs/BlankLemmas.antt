@@ -15,7 +15,7 @@ use Rattle.unicode_segmentation.specs.Grapheme.{graphemes, is_grapheme_break, br
 use Rattle.unicode_segmentation.specs.Segments.{prepend, cut, segments}
 use Rattle.unicode_segmentation.specs.Word.{word_bounds}
 use Rattle.unicode_segmentation.proofs.Computing.{unicode_segmentation}
-use Rattle.textarea_wrap.specs.Units.{is_blank, units_of_piece, line_units}
+use Rattle.textarea_wrap.specs.Units.{is_blank, units_of_segment, line_units}
 use Rattle.textarea_wrap.specs.WrapRules.{Stretch}
 use Rattle.textarea_wrap.proofs.Alls.{all_append}
 use Rattle.textarea_wrap.proofs.FewestWordLemmas.{AreBlanksClusters, BlankIsCluster}
@@ -68,9 +68,9 @@ or_last c n x p k h = ⊎_elim k (λ e. subst IsPlain (sym (eqb-true c n e)) p) 
 
 between : (c low n : ℕ) → AreAllPlain (low + 1) n → (nat_lt low c && nat_lt c (low + 1 + n)) ≡ true → IsPlain c
 between c low n all h =
-    let parts = and_parts (nat_lt low c) (nat_lt c (low + 1 + n)) h in
-    let above : low < c = ltb-true low c parts.0 in
-    let below : c < low + 1 + n = ltb-true c (low + 1 + n) parts.1 in
+    let components = and_parts (nat_lt low c) (nat_lt c (low + 1 + n)) h in
+    let above : low < c = ltb-true low c components.0 in
+    let below : c < low + 1 + n = ltb-true c (low + 1 + n) components.1 in
     IsPlain-between n (low + 1) c all (omega arith) below
 
 IsPlain-whitespace : (c : ℕ) → is_whitespace c ≡ true → IsPlain c
@@ -98,15 +98,15 @@ inner true false false y z false false _ _ _ = refl
 inner false false false y z true false _ _ _ = refl
 inner false false false y z false false _ _ _ = refl
 
-break_alone : (c d : ℕ) (before after : List ℕ) → IsPlain c → IsPlain d
+break_only : (c d : ℕ) (before after : List ℕ) → IsPlain c → IsPlain d
     → is_grapheme_break true (c ∷ before) (d ∷ after) ≡ unwrap_or (break_by_pair true (grapheme_cluster_break c) (grapheme_cluster_break d)) true
 unfolding is_grapheme_break
-break_alone c d before after p q =
+break_only c d before after p q =
     ap (unwrap_or (break_by_pair true (grapheme_cluster_break c) (grapheme_cluster_break d))) (inner _ _ _ _ _ _ _ q.no_consonant p.no_joiner q.no_flag)
 
 pair_same : (c d : ℕ) (before after : List ℕ) → IsPlain c → IsPlain d → is_grapheme_break true (c ∷ before) (d ∷ after) ≡ pair c d
 unfolding pair
-pair_same c d before after p q = break_alone c d before after p q ∙ sym (break_alone c d [] [] p q)
+pair_same c d before after p q = break_only c d before after p q ∙ sym (break_only c d [] [] p q)
 
 -- no boundary is inside
 abbrev NoBreak : List ℕ → Type 0
@@ -120,12 +120,12 @@ record IsOneCluster (cs : List ℕ) : Type 0 where
   plain_chars : ArePlain cs
   whole : NoBreak cs
 
-cut_one : (before : List ℕ) (c : ℕ) (cs : List ℕ) → ArePlain (c ∷ cs) → NoBreak (c ∷ cs) → cut (is_grapheme_break true) before (c ∷ cs) [] ≡ (c ∷ cs) ∷ []
+one_cluster : (before : List ℕ) (c : ℕ) (cs : List ℕ) → ArePlain (c ∷ cs) → NoBreak (c ∷ cs) → cut (is_grapheme_break true) before (c ∷ cs) [] ≡ (c ∷ cs) ∷ []
 unfolding cut
-cut_one before c [] p n =
+one_cluster before c [] p n =
     cond_both (is_grapheme_break true (c ∷ before) []) ((c ∷ []) ∷ []) (prepend (c ∷ []) []) (λ t. t ≡ (c ∷ []) ∷ []) (λ _. refl) (λ _. refl)
-cut_one before c (d ∷ cs) p n =
-    ap₂ (λ b t. cond b ((c ∷ []) ∷ t) (prepend (c ∷ []) t)) (pair_same c d before (cs ++ []) p.0 p.1.0 ∙ n.0) (cut_one (c ∷ before) d cs p.1 n.1)
+one_cluster before c (d ∷ cs) p n =
+    ap₂ (λ b t. cond b ((c ∷ []) ∷ t) (prepend (c ∷ []) t)) (pair_same c d before (cs ++ []) p.0 p.1.0 ∙ n.0) (one_cluster (c ∷ before) d cs p.1 n.1)
 
 -- joins a character with segments, as a segment of its own or in front of the first one
 join : (b : Bool) (c d : ℕ) (seg : List ℕ) (segs : List (List ℕ)) → pair c d ≡ b → IsPlain c → AllByRecursion IsOneCluster ((d ∷ seg) ∷ segs)
@@ -139,18 +139,18 @@ front false c [] = ([], [], refl)
 front false c (seg ∷ segs) = (seg, segs, refl)
 
 -- the first segment begins with the first character
-cut_head : (before : List ℕ) (c : ℕ) (cs : List ℕ) → (seg : List ℕ) × (segs : List (List ℕ)) × (cut (is_grapheme_break true) before (c ∷ cs) [] ≡ (c ∷ seg) ∷ segs)
+head_cluster : (before : List ℕ) (c : ℕ) (cs : List ℕ) → (seg : List ℕ) × (segs : List (List ℕ)) × (cut (is_grapheme_break true) before (c ∷ cs) [] ≡ (c ∷ seg) ∷ segs)
 unfolding cut
-cut_head before c cs = front (is_grapheme_break true (c ∷ before) (cs ++ [])) c (cut (is_grapheme_break true) (c ∷ before) cs [])
+head_cluster before c cs = front (is_grapheme_break true (c ∷ before) (cs ++ [])) c (cut (is_grapheme_break true) (c ∷ before) cs [])
 
-cut_clusters : (before cs : List ℕ) → ArePlain cs → AllByRecursion IsOneCluster (cut (is_grapheme_break true) before cs [])
+plain_clusters : (before cs : List ℕ) → ArePlain cs → AllByRecursion IsOneCluster (cut (is_grapheme_break true) before cs [])
 unfolding cut
-cut_clusters before [] p = tt
-cut_clusters before (c ∷ []) p =
+plain_clusters before [] p = tt
+plain_clusters before (c ∷ []) p =
     let one : AllByRecursion IsOneCluster ((c ∷ []) ∷ []) = (record { some = omega arith; plain_chars = (p.0, tt); whole = tt }, tt) in
     cond_both (is_grapheme_break true (c ∷ before) []) ((c ∷ []) ∷ []) (prepend (c ∷ []) []) (AllByRecursion IsOneCluster) (λ _. one) (λ _. one)
-cut_clusters before (c ∷ (d ∷ cs)) p =
-    grind (arith, common_steps, cut_head (c ∷ before) d cs, cut_clusters (c ∷ before) (d ∷ cs) p.1, join, pair_same c d before (cs ++ []) p.0 p.1.0)
+plain_clusters before (c ∷ (d ∷ cs)) p =
+    grind (arith, common_steps, head_cluster (c ∷ before) d cs, plain_clusters (c ∷ before) (d ∷ cs) p.1, join, pair_same c d before (cs ++ []) p.0 p.1.0)
 
 -- ---- texts of such characters
 
@@ -163,7 +163,7 @@ length-graphemes-one : (cs : List ℕ) → IsOneCluster cs → length (graphemes
 unfolding segments
 length-graphemes-one [] one = let some = one.some in absurd (omega arith)
 length-graphemes-one (c ∷ cs) one =
-    grind (arith, common_steps, chars-encodes (c ∷ cs) (scalars-ArePlain (c ∷ cs) one.plain_chars), scalars-ArePlain (c ∷ cs) one.plain_chars, cut_one [] c cs one.plain_chars one.whole)
+    grind (arith, common_steps, chars-encodes (c ∷ cs) (scalars-ArePlain (c ∷ cs) one.plain_chars), scalars-ArePlain (c ∷ cs) one.plain_chars, one_cluster [] c cs one.plain_chars one.whole)
 
 blanks_from_clusters : (segs : List (List ℕ)) → AllByRecursion IsOneCluster segs → AreBlanksClusters (map encode_utf8_all segs)
 blanks_from_clusters [] all = tt
@@ -171,17 +171,17 @@ blanks_from_clusters (seg ∷ segs) all = ((λ _. length-graphemes-one seg all.0
 
 ArePlain-blank : (cs : List ℕ) → list_all is_whitespace cs ≡ true → ArePlain cs
 ArePlain-blank [] h = tt
-ArePlain-blank (c ∷ cs) h = let parts = and_parts (is_whitespace c) (list_all is_whitespace cs) h in (IsPlain-whitespace c parts.0, ArePlain-blank cs parts.1)
+ArePlain-blank (c ∷ cs) h = let components = and_parts (is_whitespace c) (list_all is_whitespace cs) h in (IsPlain-whitespace c components.0, ArePlain-blank cs components.1)
 
-blanks_of_piece : (piece : List ℕ) → AreBlanksClusters (units_of_piece piece)
+blanks_of_segment : (segment : List ℕ) → AreBlanksClusters (units_of_segment segment)
 unfolding segments
-blanks_of_piece piece = cond_both (is_blank piece) (graphemes true piece) (piece ∷ []) AreBlanksClusters
-    (λ blank. blanks_from_clusters _ (cut_clusters [] (chars piece) (ArePlain-blank (chars piece) blank)))
+blanks_of_segment segment = cond_both (is_blank segment) (graphemes true segment) (segment ∷ []) AreBlanksClusters
+    (λ blank. blanks_from_clusters _ (plain_clusters [] (chars segment) (ArePlain-blank (chars segment) blank)))
     (λ content. ((λ blank. absurd (false≢true (sym content ∙ blank))), tt))
 
-blanks_of_pieces : (pieces : Stretch) → AreBlanksClusters (flat_map units_of_piece pieces)
-blanks_of_pieces [] = tt
-blanks_of_pieces (piece ∷ pieces) = all_append BlankIsCluster (units_of_piece piece) (flat_map units_of_piece pieces) (blanks_of_piece piece) (blanks_of_pieces pieces)
+blanks_of_segments : (word_segments : Stretch) → AreBlanksClusters (flat_map units_of_segment word_segments)
+blanks_of_segments [] = tt
+blanks_of_segments (segment ∷ word_segments) = all_append BlankIsCluster (units_of_segment segment) (flat_map units_of_segment word_segments) (blanks_of_segment segment) (blanks_of_segments word_segments)
 
 pub AreBlanksClusters-line_units : (line : List ℕ) → AreBlanksClusters (line_units line)
-AreBlanksClusters-line_units line = blanks_of_pieces (word_bounds line)
+AreBlanksClusters-line_units line = blanks_of_segments (word_bounds line)

@@ -13,19 +13,19 @@ use Rattle.textarea_wrap.specs.WrapRules.{Stretch}
 use Rattle.textarea_wrap.specs.Columns.{plain_width, next_stop, column_after, end_column, stretch_width}
 
 -- the text after a character is shorter
-pub shorter_behind : (c : ℕ) (left text : List ℕ) → text ≡ encode_utf8 c ++ left → length left + 1 ≤ length text
-shorter_behind c left text is = omega (arith, ap length is, length-append (encode_utf8 c) left, length-encode c, len_utf8_bounds c)
+pub shorter_after : (c : ℕ) (left text : List ℕ) → text ≡ encode_utf8 c ++ left → length left + 1 ≤ length text
+shorter_after c left text is = omega (arith, ap length is, length-append (encode_utf8 c) left, length-encode c, len_utf8_bounds c)
 
 pub end_column-append : (tab_len column : ℕ) (cs ds : List ℕ) → end_column tab_len column (cs ++ ds) ≡ end_column tab_len (end_column tab_len column cs) ds
 end_column-append tab_len column [] ds = refl
 end_column-append tab_len column (c ∷ cs) ds = end_column-append tab_len (column_after tab_len column c) cs ds
 
-pub stretch_width-one : (tab_len : ℕ) (piece : List ℕ) → stretch_width tab_len (piece ∷ []) ≡ end_column tab_len 0 (chars piece)
-stretch_width-one tab_len piece = ap (end_column tab_len 0) (append-nil (chars piece))
+pub stretch_width-one : (tab_len : ℕ) (segment : List ℕ) → stretch_width tab_len (segment ∷ []) ≡ end_column tab_len 0 (chars segment)
+stretch_width-one tab_len segment = ap (end_column tab_len 0) (append-nil (chars segment))
 
-pub stretch_width-push : (tab_len : ℕ) (stretch : List (List ℕ)) (piece : List ℕ) → stretch_width tab_len (stretch ++ piece ∷ []) ≡ end_column tab_len (stretch_width tab_len stretch) (chars piece)
-stretch_width-push tab_len stretch piece =
-    grind (arith, common_steps, flat_map-append chars stretch (piece ∷ []), append-nil (chars piece), end_column-append tab_len 0 (flat_map chars stretch) (chars piece))
+pub stretch_width-push : (tab_len : ℕ) (stretch : List (List ℕ)) (segment : List ℕ) → stretch_width tab_len (stretch ++ segment ∷ []) ≡ end_column tab_len (stretch_width tab_len stretch) (chars segment)
+stretch_width-push tab_len stretch segment =
+    grind (arith, common_steps, flat_map-append chars stretch (segment ∷ []), append-nil (chars segment), end_column-append tab_len 0 (flat_map chars stretch) (chars segment))
 
 -- ---- columns that begin later
 

@@ -35,23 +35,23 @@ ended t w stretch left rest row front back (next ∷ over) greedy row_is back_is
 -- the greedy rows of what remains after a prefix are no more than any fitting rows of the whole
 pub greedy_ahead : (t w : ℕ) (others greedy : List Stretch) (front : Stretch) → AreGlyphRows t w greedy [] → front ++ stretches_of greedy ≡ stretches_of others
     → AreFittingRows t w others → length greedy ≤ length others
-greedy_ahead t w others [] front cut same fit = omega arith
-greedy_ahead t w [] (stretch ∷ greedy) front cut same fit =
+greedy_ahead t w others [] front wrapped same fit = omega arith
+greedy_ahead t w [] (stretch ∷ greedy) front wrapped same fit =
     grind (arith, common_steps, length-append front (stretch ++ stretches_of greedy), length-append stretch (stretches_of greedy))
-greedy_ahead t w (row ∷ others) (stretch ∷ greedy) front cut same fit =
+greedy_ahead t w (row ∷ others) (stretch ∷ greedy) front wrapped same fit =
     ⊎_elim
     (λ p.
     ⊎_elim
-    (λ q. let together = ended t w stretch (stretches_of greedy) (stretches_of others) row front p.0 q.0 cut.0 p.1 q.1 q.2 fit.0 in
-    let behind = greedy_ahead t w others greedy [] cut.1 together fit.1 in omega arith)
-    (λ q. let behind = greedy_ahead t w others greedy q.0 cut.1 (sym q.2) fit.1 in omega arith)
+    (λ q. let together = ended t w stretch (stretches_of greedy) (stretches_of others) row front p.0 q.0 wrapped.0 p.1 q.1 q.2 fit.0 in
+    let after = greedy_ahead t w others greedy [] wrapped.1 together fit.1 in omega arith)
+    (λ q. let after = greedy_ahead t w others greedy q.0 wrapped.1 (sym q.2) fit.1 in omega arith)
     (fronts stretch (stretches_of greedy) p.0 (stretches_of others) p.2))
-    (λ p. let behind = greedy_ahead t w others (stretch ∷ greedy) p.0 cut (sym p.2) fit.1 in omega arith)
+    (λ p. let after = greedy_ahead t w others (stretch ∷ greedy) p.0 wrapped (sym p.2) fit.1 in omega arith)
     (fronts front (stretch ++ stretches_of greedy) row (stretches_of others) same)
 
 -- wrapping at grapheme cluster ends has the fewest rows
-pub HasFewestGlyphRows-cutting : (t w : ℕ) (text : List ℕ) (rows : List (List ℕ)) → IsGlyphWrapping t w text rows → HasFewestGlyphRows t w text (length rows)
-HasFewestGlyphRows-cutting t w text rows cutting = λ others whole fit.
-    let count = ap length cutting.rows_are ∙ length-map cutting.stretches concat in
-    let least = greedy_ahead t w others cutting.stretches [] cutting.cut (cutting.whole ∙ sym whole) fit in
+pub HasFewestGlyphRows-wrapping : (t w : ℕ) (text : List ℕ) (rows : List (List ℕ)) → IsGlyphWrapping t w text rows → HasFewestGlyphRows t w text (length rows)
+HasFewestGlyphRows-wrapping t w text rows wrapping = λ others whole fit.
+    let count = ap length wrapping.rows_are ∙ length-map wrapping.stretches concat in
+    let least = greedy_ahead t w others wrapping.stretches [] wrapping.wrapped (wrapping.whole ∙ sym whole) fit in
     omega arith

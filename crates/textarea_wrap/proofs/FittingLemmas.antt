@@ -17,12 +17,12 @@ use Rattle.textarea_wrap.specs.Units.{is_blank}
 use Rattle.textarea_wrap.specs.WrapResult.{AreRowTexts, IsWrapping}
 use Rattle.textarea_wrap.specs.declared.wrap.WrapMode.{WrapMode}
 use Rattle.textarea_wrap.specs.declared.wrap.WrapMode.TheVariants as mode
-use Rattle.textarea_wrap.proofs.Alls.{all_parts}
+use Rattle.textarea_wrap.proofs.Alls.{all_split}
 use Rattle.textarea_wrap.proofs.BlankLemmas.{AreBlanksClusters-line_units}
 use Rattle.textarea_wrap.proofs.ColumnLemmas.{end_column-append, end_column-after, stretch_width-one, stretch_width-push}
 use Rattle.textarea_wrap.proofs.FewestWordLemmas.{BlankIsCluster}
-use Rattle.textarea_wrap.proofs.OneRowLemmas.{chars-pieces, stretch_width-whole}
-use Rattle.textarea_wrap.proofs.RowLemmas.{IsPiece, ArePieces, ArePieces-line_units, ArePieces-segments, concat-glyphs}
+use Rattle.textarea_wrap.proofs.OneRowLemmas.{chars-word_segments, stretch_width-whole}
+use Rattle.textarea_wrap.proofs.RowLemmas.{IsSegment, AreSegments, AreSegments-line_units, AreSegments-segments, concat-glyphs}
 
 -- ---- characters
 
@@ -76,26 +76,26 @@ one_fits t w [] e all = absurd (omega (arith, e))
 one_fits t w (cluster ∷ []) e all = fits_anyhow t w cluster all.0
 one_fits t w (cluster ∷ next ∷ rest) e all = absurd (omega (arith, e))
 
-glyph_rows_within : (t w : ℕ) (stretches : List Stretch) (later : Stretch) → AreGlyphRows t w stretches later → AllByRecursion (IsFittingCluster t w) (stretches_of stretches) → ArePieces (stretches_of stretches) → AllByRecursion (λ text. end_of t text ≤ w) (map concat stretches)
-glyph_rows_within t w [] later cut all p = tt
-glyph_rows_within t w (stretch ∷ stretches) later cut all p =
-    let clusters = all_parts (IsFittingCluster t w) stretch (stretches_of stretches) all in
-    let pieces = all_parts IsPiece stretch (stretches_of stretches) p in
-    let fits : stretch_width t stretch ≤ w = ⊎_elim (λ h. h) (λ one. one_fits t w stretch one clusters.0) cut.0.fits in
-    (subst (λ n. n ≤ w) (stretch_width-whole t (concat stretch) stretch pieces.0 refl) fits, glyph_rows_within t w stretches later cut.1 clusters.1 pieces.1)
+glyph_rows_within : (t w : ℕ) (stretches : List Stretch) (later : Stretch) → AreGlyphRows t w stretches later → AllByRecursion (IsFittingCluster t w) (stretches_of stretches) → AreSegments (stretches_of stretches) → AllByRecursion (λ text. end_of t text ≤ w) (map concat stretches)
+glyph_rows_within t w [] later wrapped all p = tt
+glyph_rows_within t w (stretch ∷ stretches) later wrapped all p =
+    let clusters = all_split (IsFittingCluster t w) stretch (stretches_of stretches) all in
+    let word_segments = all_split IsSegment stretch (stretches_of stretches) p in
+    let fits : stretch_width t stretch ≤ w = ⊎_elim (λ h. h) (λ one. one_fits t w stretch one clusters.0) wrapped.0.fits in
+    (subst (λ n. n ≤ w) (stretch_width-whole t (concat stretch) stretch word_segments.0 refl) fits, glyph_rows_within t w stretches later wrapped.1 clusters.1 word_segments.1)
 
 glyphs_within : (t w : ℕ) (text : List ℕ) (rows : List (List ℕ)) → IsUtf8 text → AreFittingClusters t w text → IsGlyphWrapping t w text rows → AllByRecursion (λ row. end_of t row ≤ w) rows
-glyphs_within t w text rows u all cut =
-    grind (arith, common_steps, glyph_rows_within t w cut.stretches [] cut.cut (subst (AllByRecursion (IsFittingCluster t w)) (sym cut.whole) all) (subst ArePieces (sym cut.whole) (ArePieces-segments (is_grapheme_break true) text u)), ArePieces-segments (is_grapheme_break true) text u)
+glyphs_within t w text rows u all wrapped =
+    grind (arith, common_steps, glyph_rows_within t w wrapped.stretches [] wrapped.wrapped (subst (AllByRecursion (IsFittingCluster t w)) (sym wrapped.whole) all) (subst AreSegments (sym wrapped.whole) (AreSegments-segments (is_grapheme_break true) text u)), AreSegments-segments (is_grapheme_break true) text u)
 
 -- ---- rows of units
 
-some_rows : (t w : ℕ) (blocks : List UnitBlock) (later : Stretch) → AreBlocks t w blocks later → ArePieces (flat_map units_of blocks) → begins_with_content (flat_map units_of blocks ++ []) ≡ true → 0 < length (flat_map rows_of blocks)
-some_rows t w [] later cut p e = absurd cc
-some_rows t w (shared stretch ∷ blocks) later cut p e = omega arith
-some_rows t w (split unit [] ∷ blocks) later cut p e =
-    grind (arith, common_steps, concat-glyphs t w unit [] p.0.utf8 cut.0.1, stretch_width-one t unit, chars-nil)
-some_rows t w (split unit (row ∷ rows) ∷ blocks) later cut p e = omega arith
+some_rows : (t w : ℕ) (blocks : List UnitBlock) (later : Stretch) → AreBlocks t w blocks later → AreSegments (flat_map units_of blocks) → begins_with_content (flat_map units_of blocks ++ []) ≡ true → 0 < length (flat_map rows_of blocks)
+some_rows t w [] later wrapped p e = absurd cc
+some_rows t w (shared stretch ∷ blocks) later wrapped p e = omega arith
+some_rows t w (split unit [] ∷ blocks) later wrapped p e =
+    grind (arith, common_steps, concat-glyphs t w unit [] p.0.utf8 wrapped.0.1, stretch_width-one t unit, chars-nil)
+some_rows t w (split unit (row ∷ rows) ∷ blocks) later wrapped p e = omega arith
 
 -- a whitespace unit is one cluster, so it is one character where it has a width
 lone_cluster : (clusters : List (List ℕ)) (unit : List ℕ) → length clusters ≡ 1 → concat clusters ≡ unit → clusters ≡ unit ∷ []
@@ -107,22 +107,22 @@ blank_unit : (t w : ℕ) (unit : List ℕ) → IsUtf8 unit → BlankIsCluster un
 blank_unit t w unit u one blank all =
     (subst (AllByRecursion (IsFittingCluster t w)) (lone_cluster (graphemes true unit) unit (one blank) (concat-segments (is_grapheme_break true) unit u)) all).0
 
-last_parts : (P : List ℕ → Type 0) (front : Stretch) (last : List ℕ) → AllByRecursion P (front ++ last ∷ []) → AllByRecursion P front × P last
-last_parts P front last all = let parts = all_parts P front (last ∷ []) all in (parts.0, parts.1.0)
+last_split : (P : List ℕ → Type 0) (front : Stretch) (last : List ℕ) → AllByRecursion P (front ++ last ∷ []) → AllByRecursion P front × P last
+last_split P front last all = let components = all_split P front (last ∷ []) all in (components.0, components.1.0)
 
-without_last : (t : ℕ) (front : Stretch) (last : List ℕ) → ArePieces (front ++ last ∷ []) → length (chars last) ≡ 1 → last_of t (concat (front ++ last ∷ [])) ≡ stretch_width t front
+without_last : (t : ℕ) (front : Stretch) (last : List ℕ) → AreSegments (front ++ last ∷ []) → length (chars last) ≡ 1 → last_of t (concat (front ++ last ∷ [])) ≡ stretch_width t front
 without_last t front last p one =
-    grind (arith, common_steps, chars-pieces (front ++ last ∷ []) p, flat_map-append chars front (last ∷ []), append-nil (chars last), length-append (flat_map chars front) (chars last), take_at)
+    grind (arith, common_steps, chars-word_segments (front ++ last ∷ []) p, flat_map-append chars front (last ∷ []), append-nil (chars last), length-append (flat_map chars front) (chars last), take_at)
 
-hangs_within : (t w : ℕ) (front : Stretch) (last : List ℕ) (later : Stretch) → ArePieces (front ++ last ∷ []) → stretch_width t front ≤ w → HangsOver w (stretch_width t (front ++ last ∷ [])) last later → IsFittingCluster t w last → last_of t (concat (front ++ last ∷ [])) ≤ w
+hangs_within : (t w : ℕ) (front : Stretch) (last : List ℕ) (later : Stretch) → AreSegments (front ++ last ∷ []) → stretch_width t front ≤ w → HangsOver w (stretch_width t (front ++ last ∷ [])) last later → IsFittingCluster t w last → last_of t (concat (front ++ last ∷ [])) ≤ w
 hangs_within t w front last later p fits over cluster =
     grind (arith, common_steps, stretch_width-push t front last, end_column-full t (stretch_width t front) (chars last), without_last)
 
-block_within : (t w : ℕ) (block : UnitBlock) (blocks : List UnitBlock) → IsBlock t w block (flat_map units_of blocks ++ []) → AreBlocks t w blocks [] → ArePieces (units_of block) → ArePieces (flat_map units_of blocks)
+block_within : (t w : ℕ) (block : UnitBlock) (blocks : List UnitBlock) → IsBlock t w block (flat_map units_of blocks ++ []) → AreBlocks t w blocks [] → AreSegments (units_of block) → AreSegments (flat_map units_of blocks)
     → AllByRecursion BlankIsCluster (units_of block) → AllByRecursion (AreFittingClusters t w) (units_of block) → AreWithin t w (flat_map rows_of blocks) → AreWithin t w (rows_of block ++ flat_map rows_of blocks)
-block_within t w (split unit rows) blocks is cut p later blanks all rest =
+block_within t w (split unit rows) blocks is wrapped p later blanks all rest =
     all_before t w rows (flat_map rows_of blocks) (glyphs_within t w unit rows p.0.utf8 all.0 is.1) rest
-block_within t w (shared stretch) blocks is cut p later blanks all rest =
+block_within t w (shared stretch) blocks is wrapped p later blanks all rest =
     let front = is.0.front in
     let last = is.0.last in
     let whole = is.0.stretch_is in
@@ -130,43 +130,43 @@ block_within t w (shared stretch) blocks is cut p later blanks all rest =
     (λ fits. within_before t w (concat stretch) (flat_map rows_of blocks)
     (subst (λ n. n ≤ w) (stretch_width-whole t (concat stretch) stretch p refl) (subst (λ s. stretch_width t s ≤ w) (sym whole) fits)) rest)
     (λ hangs.
-    let pieces = subst ArePieces whole p in
-    let blank = (last_parts BlankIsCluster front last (subst (AllByRecursion BlankIsCluster) whole blanks)).1 in
-    let clusters = (last_parts (AreFittingClusters t w) front last (subst (AllByRecursion (AreFittingClusters t w)) whole all)).1 in
-    let utf8 = (last_parts IsPiece front last pieces).1.utf8 in
-    over_before t w (concat stretch) (flat_map rows_of blocks) (some_rows t w blocks [] cut later hangs.2.2)
-    (subst (λ s. last_of t (concat s) ≤ w) (sym whole) (hangs_within t w front last _ pieces hangs.1 hangs.2 (blank_unit t w last utf8 blank hangs.2.1 clusters))) rest)
+    let word_segments = subst AreSegments whole p in
+    let blank = (last_split BlankIsCluster front last (subst (AllByRecursion BlankIsCluster) whole blanks)).1 in
+    let clusters = (last_split (AreFittingClusters t w) front last (subst (AllByRecursion (AreFittingClusters t w)) whole all)).1 in
+    let utf8 = (last_split IsSegment front last word_segments).1.utf8 in
+    over_before t w (concat stretch) (flat_map rows_of blocks) (some_rows t w blocks [] wrapped later hangs.2.2)
+    (subst (λ s. last_of t (concat s) ≤ w) (sym whole) (hangs_within t w front last _ word_segments hangs.1 hangs.2 (blank_unit t w last utf8 blank hangs.2.1 clusters))) rest)
     is.0.fits
 
-blocks_within : (t w : ℕ) (blocks : List UnitBlock) → AreBlocks t w blocks [] → ArePieces (flat_map units_of blocks) → AllByRecursion BlankIsCluster (flat_map units_of blocks)
+blocks_within : (t w : ℕ) (blocks : List UnitBlock) → AreBlocks t w blocks [] → AreSegments (flat_map units_of blocks) → AllByRecursion BlankIsCluster (flat_map units_of blocks)
     → AllByRecursion (AreFittingClusters t w) (flat_map units_of blocks) → AreWithin t w (flat_map rows_of blocks)
-blocks_within t w [] cut p blanks all = tt
-blocks_within t w (block ∷ blocks) cut p blanks all =
-    let pieces = all_parts IsPiece (units_of block) (flat_map units_of blocks) p in
-    let blank = all_parts BlankIsCluster (units_of block) (flat_map units_of blocks) blanks in
-    let clusters = all_parts (AreFittingClusters t w) (units_of block) (flat_map units_of blocks) all in
-    block_within t w block blocks cut.0 cut.1 pieces.0 pieces.1 blank.0 clusters.0 (blocks_within t w blocks cut.1 pieces.1 blank.1 clusters.1)
+blocks_within t w [] wrapped p blanks all = tt
+blocks_within t w (block ∷ blocks) wrapped p blanks all =
+    let word_segments = all_split IsSegment (units_of block) (flat_map units_of blocks) p in
+    let blank = all_split BlankIsCluster (units_of block) (flat_map units_of blocks) blanks in
+    let clusters = all_split (AreFittingClusters t w) (units_of block) (flat_map units_of blocks) all in
+    block_within t w block blocks wrapped.0 wrapped.1 word_segments.0 word_segments.1 blank.0 clusters.0 (blocks_within t w blocks wrapped.1 word_segments.1 blank.1 clusters.1)
 
 words_within : (t w : ℕ) (line : List ℕ) (rows : List (List ℕ)) → IsUtf8 line → HasFittingClusters t w line → IsWordWrapping t w line rows → AreWithin t w rows
-words_within t w line rows u all cut =
-    grind (arith, common_steps, blocks_within t w cut.blocks cut.cut (subst ArePieces (sym cut.whole) (ArePieces-line_units line u)) (subst (AllByRecursion BlankIsCluster) (sym cut.whole) (AreBlanksClusters-line_units line)) (subst (AllByRecursion (AreFittingClusters t w)) (sym cut.whole) all.of_units), ArePieces-line_units line u, AreBlanksClusters-line_units line)
+words_within t w line rows u all wrapped =
+    grind (arith, common_steps, blocks_within t w wrapped.blocks wrapped.wrapped (subst AreSegments (sym wrapped.whole) (AreSegments-line_units line u)) (subst (AllByRecursion BlankIsCluster) (sym wrapped.whole) (AreBlanksClusters-line_units line)) (subst (AllByRecursion (AreFittingClusters t w)) (sym wrapped.whole) all.of_units), AreSegments-line_units line u, AreBlanksClusters-line_units line)
 
 -- ---- in each mode that wraps
 
 clusters_within : (t w : ℕ) (line : List ℕ) (rows : List (List ℕ)) → IsUtf8 line → HasFittingClusters t w line → IsGlyphWrapping t w line rows → AreWithin t w rows
-clusters_within t w line rows u all cut =
-    subst (AreWithin t w) (append-nil rows) (all_before t w rows [] (glyphs_within t w line rows u all.of_line cut) tt)
+clusters_within t w line rows u all wrapped =
+    subst (AreWithin t w) (append-nil rows) (all_before t w rows [] (glyphs_within t w line rows u all.of_line wrapped) tt)
 
-cut_within : (kind : WrapMode) (t w : ℕ) (line : List ℕ) (texts : List (List ℕ)) → kind ≢ mode.None → IsUtf8 line → HasFittingClusters t w line → IsWrapping kind t w line texts → AreWithin t w texts
-cut_within mode.None t w line texts wraps u all cut = absurd (wraps refl)
-cut_within mode.Word t w line texts wraps u all cut = words_within t w line texts u all cut
-cut_within mode.Glyph t w line texts wraps u all cut = clusters_within t w line texts u all cut
-cut_within mode.WordOrGlyph t w line texts wraps u all cut = words_within t w line texts u all cut
+wraps_within : (kind : WrapMode) (t w : ℕ) (line : List ℕ) (texts : List (List ℕ)) → kind ≢ mode.None → IsUtf8 line → HasFittingClusters t w line → IsWrapping kind t w line texts → AreWithin t w texts
+wraps_within mode.None t w line texts wraps u all wrapped = absurd (wraps refl)
+wraps_within mode.Word t w line texts wraps u all wrapped = words_within t w line texts u all wrapped
+wraps_within mode.Glyph t w line texts wraps u all wrapped = clusters_within t w line texts u all wrapped
+wraps_within mode.WordOrGlyph t w line texts wraps u all wrapped = words_within t w line texts u all wrapped
 
 pub rows_within : (kind : WrapMode) (t w : ℕ) (line : List ℕ) (texts : List (List ℕ)) → kind ≢ mode.None → IsUtf8 line → HasFittingClusters t w line → AreRowTexts kind t w line texts → AreWithin t w texts
-rows_within kind t w [] texts wraps u all cut =
-    subst (AreWithin t w) (sym cut) (omega (arith, ap (end_column t 0) chars-nil))
-rows_within kind t w (byte ∷ line) texts wraps u all cut = cut_within kind t w (byte ∷ line) texts wraps u all cut
+rows_within kind t w [] texts wraps u all wrapped =
+    subst (AreWithin t w) (sym wrapped) (omega (arith, ap (end_column t 0) chars-nil))
+rows_within kind t w (byte ∷ line) texts wraps u all wrapped = wraps_within kind t w (byte ∷ line) texts wraps u all wrapped
 
 -- ---- a row by its number
 

@@ -11,16 +11,16 @@ use Rattle.textarea_wrap.specs.Columns.{end_column, stretch_width}
 use Rattle.textarea_wrap.specs.WrapRules.{Stretch, stretches_of, ranges_from, IsGlyphRow, AreGlyphRows, IsGlyphWrapping}
 use Rattle.textarea_wrap.proofs.ColumnLemmas.{stretch_width-one, stretch_width-push}
 
-pub pieces_of-append : (stretches others : List Stretch) → stretches_of (stretches ++ others) ≡ stretches_of stretches ++ stretches_of others
-pieces_of-append [] others = refl
-pieces_of-append (stretch ∷ stretches) others = ap (λ t. stretch ++ t) (pieces_of-append stretches others) ∙ sym (append_assoc stretch (stretches_of stretches) (stretches_of others))
+pub stretches_of-append : (stretches others : List Stretch) → stretches_of (stretches ++ others) ≡ stretches_of stretches ++ stretches_of others
+stretches_of-append [] others = refl
+stretches_of-append (stretch ∷ stretches) others = ap (λ t. stretch ++ t) (stretches_of-append stretches others) ∙ sym (append_assoc stretch (stretches_of stretches) (stretches_of others))
 
-pub pieces_of-push : (stretches : List Stretch) (stretch later : Stretch) → stretches_of (stretches ++ stretch ∷ []) ++ later ≡ stretches_of stretches ++ (stretch ++ later)
-pieces_of-push stretches stretch later = simp (pieces_of-append, append-nil, append_assoc)
+pub stretches_of-push : (stretches : List Stretch) (stretch later : Stretch) → stretches_of (stretches ++ stretch ∷ []) ++ later ≡ stretches_of stretches ++ (stretch ++ later)
+stretches_of-push stretches stretch later = simp (stretches_of-append, append-nil, append_assoc)
 
-pub concat-pieces_of : (stretches : List Stretch) → concat (map concat stretches) ≡ concat (stretches_of stretches)
-concat-pieces_of [] = refl
-concat-pieces_of (stretch ∷ stretches) = ap (λ t. concat stretch ++ t) (concat-pieces_of stretches) ∙ sym (concat-append stretch (stretches_of stretches))
+pub concat-stretches_of : (stretches : List Stretch) → concat (map concat stretches) ≡ concat (stretches_of stretches)
+concat-stretches_of [] = refl
+concat-stretches_of (stretch ∷ stretches) = ap (λ t. concat stretch ++ t) (concat-stretches_of stretches) ∙ sym (concat-append stretch (stretches_of stretches))
 
 pub ranges_from-append : (at : ℕ) (texts others : List (List ℕ)) → ranges_from at (texts ++ others) ≡ ranges_from at texts ++ ranges_from (at + length (concat texts)) others
 ranges_from-append at [] others = ap (λ n. ranges_from n others) (omega arith)
@@ -31,14 +31,14 @@ pub AreGlyphRows-push : (tab_len width : ℕ) (stretches : List Stretch) (stretc
     → IsGlyphRow tab_len width stretch later → AreGlyphRows tab_len width (stretches ++ stretch ∷ []) later
 AreGlyphRows-push tab_len width [] stretch later before here = (here, tt)
 AreGlyphRows-push tab_len width (first ∷ stretches) stretch later before here =
-    (subst (IsGlyphRow tab_len width first) (sym (pieces_of-push stretches stretch later)) before.0, AreGlyphRows-push tab_len width stretches stretch later before.1 here)
+    (subst (IsGlyphRow tab_len width first) (sym (stretches_of-push stretches stretch later)) before.0, AreGlyphRows-push tab_len width stretches stretch later before.1 here)
 
 -- `rows` are the rows before the walk and the full rows; `left` are the clusters that remain
 pub record IsGlyphWalk (tab_len width start : ℕ) (clusters : Stretch) (before rows : List (ℕ × ℕ)) (left : Stretch) (row_start row_end column : ℕ) : Type 0 where
   pub full : List Stretch
   pub open_stretch : Stretch
   pub joined : stretches_of full ++ (open_stretch ++ left) ≡ clusters
-  pub cut : AreGlyphRows tab_len width full (open_stretch ++ left)
+  pub wrapped : AreGlyphRows tab_len width full (open_stretch ++ left)
   pub rows_are : rows ≡ before ++ ranges_from start (map concat full)
   pub begins : row_start ≡ start + length (concat (map concat full))
   pub ends : row_end ≡ row_start + length (concat open_stretch)
@@ -49,10 +49,10 @@ pub record IsGlyphWalk (tab_len width start : ℕ) (clusters : Stretch) (before 
 
 pub nonempty_from_bytes : (stretch : Stretch) → 0 < length (concat stretch) → 0 < length stretch
 nonempty_from_bytes [] h = h
-nonempty_from_bytes (piece ∷ stretch) h = omega arith
+nonempty_from_bytes (segment ∷ stretch) h = omega arith
 
-pub length-concat-push : (stretch : Stretch) (piece : List ℕ) → length (concat (stretch ++ piece ∷ [])) ≡ length (concat stretch) + length piece
-length-concat-push stretch piece = simp (concat-append, append-nil, length-append)
+pub length-concat-push : (stretch : Stretch) (segment : List ℕ) → length (concat (stretch ++ segment ∷ [])) ≡ length (concat stretch) + length segment
+length-concat-push stretch segment = simp (concat-append, append-nil, length-append)
 
 -- one text more, after texts that end where it begins
 pub ranges_from-push : (start : ℕ) (before rows : List (ℕ × ℕ)) (full : List Stretch) (stretch : Stretch) (row_start row_end : ℕ)
@@ -73,7 +73,7 @@ module _ (tab_len width start : ℕ) (clusters : Stretch) (before : List (ℕ ×
     full = [];
     open_stretch = [];
     joined = refl;
-    cut = tt;
+    wrapped = tt;
     rows_are = sym (append-nil before);
     begins = omega arith;
     ends = omega arith;
@@ -96,7 +96,7 @@ module _ (tab_len width start : ℕ) (clusters : Stretch) (before : List (ℕ ×
           full = w.full;
           open_stretch = w.open_stretch ++ cluster ∷ [];
           joined = ap (λ t. stretches_of w.full ++ t) regroup ∙ w.joined;
-          cut = subst (AreGlyphRows tab_len width w.full) (sym regroup) w.cut;
+          wrapped = subst (AreGlyphRows tab_len width w.full) (sym regroup) w.wrapped;
           rows_are = w.rows_are;
           begins = w.begins;
           ends = omega arith;
@@ -115,8 +115,8 @@ module _ (tab_len width start : ℕ) (clusters : Stretch) (before : List (ℕ ×
         record {
           full = w.full ++ w.open_stretch ∷ [];
           open_stretch = cluster ∷ [];
-          joined = pieces_of-push w.full w.open_stretch (cluster ∷ left) ∙ w.joined;
-          cut = AreGlyphRows-push tab_len width w.full w.open_stretch (cluster ∷ left) w.cut (record {
+          joined = stretches_of-push w.full w.open_stretch (cluster ∷ left) ∙ w.joined;
+          wrapped = AreGlyphRows-push tab_len width w.full w.open_stretch (cluster ∷ left) w.wrapped (record {
             nonempty = nonempty_from_bytes w.open_stretch (omega arith);
             fits = ⊎_elim (λ fits. inl (subst (λ n. n ≤ width) w.column_is fits)) inr w.fits;
             full = subst (λ n. width < n) over_is over;
@@ -136,19 +136,19 @@ module _ (tab_len width start : ℕ) (clusters : Stretch) (before : List (ℕ ×
     pub IsGlyphWalk-end_open : row_start < row_end
         → (texts : List (List ℕ)) × IsGlyphWrapping tab_len width text texts × (concat texts ≡ text) × (rows ++ (row_start, row_end) ∷ [] ≡ before ++ ranges_from start texts)
     IsGlyphWalk-end_open started =
-        let all = sym (append-nil _) ∙ pieces_of-push w.full w.open_stretch [] ∙ w.joined ∙ whole in (
+        let all = sym (append-nil _) ∙ stretches_of-push w.full w.open_stretch [] ∙ w.joined ∙ whole in (
           map concat (w.full ++ w.open_stretch ∷ []),
           record {
             stretches = w.full ++ w.open_stretch ∷ [];
             whole = all;
-            cut = AreGlyphRows-push tab_len width w.full w.open_stretch [] w.cut (record {
+            wrapped = AreGlyphRows-push tab_len width w.full w.open_stretch [] w.wrapped (record {
               nonempty = nonempty_from_bytes w.open_stretch (omega arith);
               fits = ⊎_elim (λ fits. inl (subst (λ n. n ≤ width) w.column_is fits)) inr w.fits;
               full = tt;
             });
             rows_are = refl;
           },
-          concat-pieces_of (w.full ++ w.open_stretch ∷ []) ∙ ap concat all ∙ concat-segments (is_grapheme_break true) text utf8,
+          concat-stretches_of (w.full ++ w.open_stretch ∷ []) ∙ ap concat all ∙ concat-segments (is_grapheme_break true) text utf8,
           ranges_from-push start before rows w.full w.open_stretch row_start row_end w.rows_are w.begins w.ends,
         )
 
@@ -162,9 +162,9 @@ module _ (tab_len width start : ℕ) (clusters : Stretch) (before : List (ℕ ×
           record {
             stretches = w.full;
             whole = all;
-            cut = subst (AreGlyphRows tab_len width w.full) empty w.cut;
+            wrapped = subst (AreGlyphRows tab_len width w.full) empty w.wrapped;
             rows_are = refl;
           },
-          concat-pieces_of w.full ∙ ap concat all ∙ concat-segments (is_grapheme_break true) text utf8,
+          concat-stretches_of w.full ∙ ap concat all ∙ concat-segments (is_grapheme_break true) text utf8,
           w.rows_are,
         )

@@ -13,24 +13,24 @@ use Rattle.textarea_wrap.specs.declared.wrap.WrapMode.{WrapMode}
 use Rattle.textarea_wrap.specs.declared.wrap.WrapMode.TheVariants as mode
 use Rattle.textarea_wrap.specs.WrapResult.{IsWrapped, TakesOneRow}
 use Rattle.textarea_wrap.proofs.GlyphLemmas.{nonempty_from_bytes}
-use Rattle.textarea_wrap.proofs.RowLemmas.{ArePieces, ArePieces-segments, ArePieces-line_units, concat-line_units, IsWrapped-empty, IsWrapped-whole, IsWrapped-glyphs, IsWrapped-units}
+use Rattle.textarea_wrap.proofs.RowLemmas.{AreSegments, AreSegments-segments, AreSegments-line_units, concat-line_units, IsWrapped-empty, IsWrapped-whole, IsWrapped-glyphs, IsWrapped-units}
 
-pub chars-pieces : (xs : Stretch) → ArePieces xs → flat_map chars xs ≡ chars (concat xs)
-chars-pieces [] p = sym chars-nil
-chars-pieces (x ∷ xs) p = ap (λ t. chars x ++ t) (chars-pieces xs p.1) ∙ sym (chars-append x (concat xs) p.0.utf8)
+pub chars-word_segments : (xs : Stretch) → AreSegments xs → flat_map chars xs ≡ chars (concat xs)
+chars-word_segments [] p = sym chars-nil
+chars-word_segments (x ∷ xs) p = ap (λ t. chars x ++ t) (chars-word_segments xs p.1) ∙ sym (chars-append x (concat xs) p.0.utf8)
 
 -- segments that make up a text are together as wide as the text
-pub stretch_width-whole : (t : ℕ) (text : List ℕ) (pieces : Stretch) → ArePieces pieces → concat pieces ≡ text → stretch_width t pieces ≡ end_column t 0 (chars text)
-stretch_width-whole t text pieces p joined = ap (end_column t 0) (chars-pieces pieces p ∙ ap chars joined)
+pub stretch_width-whole : (t : ℕ) (text : List ℕ) (word_segments : Stretch) → AreSegments word_segments → concat word_segments ≡ text → stretch_width t word_segments ≡ end_column t 0 (chars text)
+stretch_width-whole t text word_segments p joined = ap (end_column t 0) (chars-word_segments word_segments p ∙ ap chars joined)
 
-last_piece : (piece : List ℕ) (stretch : Stretch) → (front : Stretch) × (last : List ℕ) × (piece ∷ stretch ≡ front ++ last ∷ [])
-last_piece piece [] = ([], piece, refl)
-last_piece piece (next ∷ stretch) = let rest = last_piece next stretch in (piece ∷ rest.0, rest.1, ap (λ t. piece ∷ t) rest.2)
+last_segment : (segment : List ℕ) (stretch : Stretch) → (front : Stretch) × (last : List ℕ) × (segment ∷ stretch ≡ front ++ last ∷ [])
+last_segment segment [] = ([], segment, refl)
+last_segment segment (next ∷ stretch) = let rest = last_segment next stretch in (segment ∷ rest.0, rest.1, ap (λ t. segment ∷ t) rest.2)
 
 one_fitting_stretch : (t w : ℕ) (stretch : Stretch) → 0 < length stretch → stretch_width t stretch ≤ w → IsFittingStretch t w stretch []
 one_fitting_stretch t w [] some within = absurd (omega arith)
-one_fitting_stretch t w (piece ∷ stretch) some within =
-    let ends = last_piece piece stretch in
+one_fitting_stretch t w (segment ∷ stretch) some within =
+    let ends = last_segment segment stretch in
     record { front = ends.0; last = ends.1; stretch_is = ends.2; fits = inl (subst (λ r. stretch_width t r ≤ w) ends.2 within) }
 
 module _ (t w : ℕ) (line : List ℕ) (ranges : List (ℕ × ℕ)) (u : IsUtf8 line) (some : 0 < length line) (within : end_column t 0 (chars line) ≤ w)
@@ -38,25 +38,25 @@ module _ (t w : ℕ) (line : List ℕ) (ranges : List (ℕ × ℕ)) (u : IsUtf8 
   one_row : ranges ≡ ranges_from 0 (line ∷ [])
   one_row = ranges_are ∙ ap (λ n. (0, n) ∷ []) (omega arith)
 
-  within_pieces : (pieces : Stretch) → ArePieces pieces → concat pieces ≡ line → (0 < length pieces) × (stretch_width t pieces ≤ w)
-  within_pieces pieces p joined =
-      (nonempty_from_bytes pieces (omega (arith, ap length joined)), subst (λ n. n ≤ w) (sym (stretch_width-whole t line pieces p joined)) within)
+  within_segments : (word_segments : Stretch) → AreSegments word_segments → concat word_segments ≡ line → (0 < length word_segments) × (stretch_width t word_segments ≤ w)
+  within_segments word_segments p joined =
+      (nonempty_from_bytes word_segments (omega (arith, ap length joined)), subst (λ n. n ≤ w) (sym (stretch_width-whole t line word_segments p joined)) within)
 
   clusters_joined : concat (graphemes true line) ≡ line
   clusters_joined = concat-segments (is_grapheme_break true) line u
 
   one_glyph_row : IsWrapped mode.Glyph t w line ranges
   one_glyph_row =
-      let fits = within_pieces (graphemes true line) (ArePieces-segments (is_grapheme_break true) line u) clusters_joined in
+      let fits = within_segments (graphemes true line) (AreSegments-segments (is_grapheme_break true) line u) clusters_joined in
       IsWrapped-glyphs t w line ranges u some (line ∷ []) record {
         stretches = graphemes true line ∷ [];
         whole = append-nil (graphemes true line);
-        cut = (record { nonempty = fits.0; fits = inl fits.1; full = tt }, tt);
+        wrapped = (record { nonempty = fits.0; fits = inl fits.1; full = tt }, tt);
         rows_are = ap (λ row. row ∷ []) (sym clusters_joined);
       } one_row
 
   units_fit : IsFittingStretch t w (line_units line) []
-  units_fit = let fits = within_pieces (line_units line) (ArePieces-line_units line u) (concat-line_units line u) in one_fitting_stretch t w (line_units line) fits.0 fits.1
+  units_fit = let fits = within_segments (line_units line) (AreSegments-line_units line u) (concat-line_units line u) in one_fitting_stretch t w (line_units line) fits.0 fits.1
 
   one_unit_row : ranges ≡ ranges_from 0 (concat (line_units line) ∷ [])
   one_unit_row = one_row ∙ ap (λ row. ranges_from 0 (row ∷ [])) (sym (concat-line_units line u))

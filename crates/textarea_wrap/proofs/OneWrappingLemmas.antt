@@ -28,7 +28,7 @@ stretches_same t w (stretch ∷ a) (row ∷ b) h k same =
 
 glyphs_same : (t w : ℕ) (text : List ℕ) (rows others : List (List ℕ)) → IsGlyphWrapping t w text rows → IsGlyphWrapping t w text others → rows ≡ others
 glyphs_same t w text rows others h k =
-    h.rows_are ∙ ap (map concat) (stretches_same t w h.stretches k.stretches h.cut k.cut (h.whole ∙ sym k.whole)) ∙ sym k.rows_are
+    h.rows_are ∙ ap (map concat) (stretches_same t w h.stretches k.stretches h.wrapped k.wrapped (h.whole ∙ sym k.whole)) ∙ sym k.rows_are
 
 -- ---- at unit ends
 
@@ -38,7 +38,7 @@ rows_fit t w (stretch ∷ stretches) later h = (h.0.fits, rows_fit t w stretches
 
 block_fits : (t w : ℕ) (block : UnitBlock) (later : Stretch) → IsBlock t w block later → IsFittingBlock t w block later
 block_fits t w (shared stretch) later h = h.0
-block_fits t w (split unit rows) later h = (h.0, (h.1.stretches, h.1.whole, rows_fit t w h.1.stretches [] h.1.cut, h.1.rows_are))
+block_fits t w (split unit rows) later h = (h.0, (h.1.stretches, h.1.whole, rows_fit t w h.1.stretches [] h.1.wrapped, h.1.rows_are))
 
 block_ends : (t w : ℕ) (block other : UnitBlock) (left rest over : Stretch) → IsBlock t w block (left ++ []) → IsBlock t w other (rest ++ []) → units_of other ≡ units_of block ++ over → left ≡ over ++ rest → (units_of other ≡ units_of block) × (left ≡ rest)
 block_ends t w block other left rest [] h k other_is left_is = (other_is ∙ append-nil (units_of block), left_is)
@@ -72,20 +72,20 @@ blocks_same t w (block ∷ a) (other ∷ b) h k same =
 
 words_same : (t w : ℕ) (line : List ℕ) (rows others : List (List ℕ)) → IsWordWrapping t w line rows → IsWordWrapping t w line others → rows ≡ others
 words_same t w line rows others h k =
-    h.rows_are ∙ blocks_same t w h.blocks k.blocks h.cut k.cut (h.whole ∙ sym k.whole) ∙ sym k.rows_are
+    h.rows_are ∙ blocks_same t w h.blocks k.blocks h.wrapped k.wrapped (h.whole ∙ sym k.whole) ∙ sym k.rows_are
 
 -- ---- in each mode
 
-cutting_same : (kind : WrapMode) (t w : ℕ) (line : List ℕ) (texts others : List (List ℕ)) → IsWrapping kind t w line texts → IsWrapping kind t w line others → texts ≡ others
-cutting_same mode.None t w line texts others h k = h ∙ sym k
-cutting_same mode.Word t w line texts others h k = words_same t w line texts others h k
-cutting_same mode.Glyph t w line texts others h k = glyphs_same t w line texts others h k
-cutting_same mode.WordOrGlyph t w line texts others h k = words_same t w line texts others h k
+wrapping_same : (kind : WrapMode) (t w : ℕ) (line : List ℕ) (texts others : List (List ℕ)) → IsWrapping kind t w line texts → IsWrapping kind t w line others → texts ≡ others
+wrapping_same mode.None t w line texts others h k = h ∙ sym k
+wrapping_same mode.Word t w line texts others h k = words_same t w line texts others h k
+wrapping_same mode.Glyph t w line texts others h k = glyphs_same t w line texts others h k
+wrapping_same mode.WordOrGlyph t w line texts others h k = words_same t w line texts others h k
 
 texts_same : (kind : WrapMode) (t w : ℕ) (line : List ℕ) (texts others : List (List ℕ)) → AreRowTexts kind t w line texts → AreRowTexts kind t w line others → texts ≡ others
 texts_same kind t w [] texts others h k = h ∙ sym k
-texts_same kind t w (byte ∷ line) texts others h k = cutting_same kind t w (byte ∷ line) texts others h k
+texts_same kind t w (byte ∷ line) texts others h k = wrapping_same kind t w (byte ∷ line) texts others h k
 
 pub one_wrapping : (kind : WrapMode) (t w : ℕ) (line : List ℕ) (ranges others : List (ℕ × ℕ)) → IsWrapped kind t w line ranges → IsWrapped kind t w line others → ranges ≡ others
 one_wrapping kind t w line ranges others h k =
-    h.ranges_are ∙ ap (ranges_from 0) (texts_same kind t w line h.texts k.texts h.cut k.cut) ∙ sym k.ranges_are
+    h.ranges_are ∙ ap (ranges_from 0) (texts_same kind t w line h.texts k.texts h.wrapped k.wrapped) ∙ sym k.ranges_are

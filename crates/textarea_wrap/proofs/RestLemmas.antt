@@ -5,7 +5,7 @@ use Rattle.std.proofs.lemmas.Bool.{cases_lt}
 use Rattle.textarea_wrap.specs.Columns.{stretch_width}
 use Rattle.textarea_wrap.specs.WrapRules.{Stretch, IsBlankCluster, IsFittingRow, IsFittingStretch}
 use Rattle.textarea_wrap.specs.Units.{line_units}
-use Rattle.textarea_wrap.proofs.Alls.{all_parts}
+use Rattle.textarea_wrap.proofs.Alls.{all_split}
 use Rattle.textarea_wrap.proofs.BlankLemmas.{AreBlanksClusters-line_units}
 use Rattle.textarea_wrap.proofs.ColumnLemmas.{stretch_width-back}
 use Rattle.textarea_wrap.proofs.FewestWordLemmas.{BlankIsCluster, AreBlanksClusters, later_fits, wide_ends}
@@ -24,16 +24,16 @@ one_left t w front later unit blanks fit =
     (cases_lt w (stretch_width t (unit ∷ [])))
 
 -- several units remain, of which the last is that of the run
-several_left : (t w : ℕ) (front part later : Stretch) (last : List ℕ) → 0 < length part → IsFittingStretch t w (front ++ (part ++ last ∷ [])) later → IsFittingStretch t w (part ++ last ∷ []) later
-several_left t w front part later last some fit =
-    record { front = part; last = last; stretch_is = refl; fits = later_fits t w (front ++ (part ++ last ∷ [])) later fit front part last [] refl some }
+several_left : (t w : ℕ) (front segment later : Stretch) (last : List ℕ) → 0 < length segment → IsFittingStretch t w (front ++ (segment ++ last ∷ [])) later → IsFittingStretch t w (segment ++ last ∷ []) later
+several_left t w front segment later last some fit =
+    record { front = segment; last = last; stretch_is = refl; fits = later_fits t w (front ++ (segment ++ last ∷ [])) later fit front segment last [] refl some }
 
-left : (t w : ℕ) (front part later : Stretch) (last : List ℕ) → AreBlanksClusters (part ++ last ∷ []) → IsFittingStretch t w (front ++ (part ++ last ∷ [])) later → IsFittingStretch t w (part ++ last ∷ []) later ⊎ IsBlankCluster (part ++ last ∷ [])
+left : (t w : ℕ) (front segment later : Stretch) (last : List ℕ) → AreBlanksClusters (segment ++ last ∷ []) → IsFittingStretch t w (front ++ (segment ++ last ∷ [])) later → IsFittingStretch t w (segment ++ last ∷ []) later ⊎ IsBlankCluster (segment ++ last ∷ [])
 left t w front [] later last blanks fit = one_left t w front later last blanks fit
-left t w front (unit ∷ part) later last blanks fit = inl (several_left t w front (unit ∷ part) later last (omega arith) fit)
+left t w front (unit ∷ segment) later last blanks fit = inl (several_left t w front (unit ∷ segment) later last (omega arith) fit)
 
 -- the last one of some units
-last_of : (units : Stretch) → 0 < length units → (part : Stretch) × (last : List ℕ) × (units ≡ part ++ last ∷ [])
+last_of : (units : Stretch) → 0 < length units → (segment : Stretch) × (last : List ℕ) × (units ≡ segment ++ last ∷ [])
 last_of [] some = absurd (omega arith)
 last_of (unit ∷ []) some = ([], unit, refl)
 last_of (unit ∷ next ∷ units) some =
@@ -48,5 +48,5 @@ rest_left t w front back later some blanks fit =
 pub units_fit : (t w : ℕ) (line : List ℕ) (above front back later : Stretch) → above ++ ((front ++ back) ++ later) ≡ line_units line → 0 < length back → IsFittingStretch t w (front ++ back) later → IsFittingStretch t w back later ⊎ IsBlankCluster back
 units_fit t w line above front back later is some fit =
     let all : AreBlanksClusters (above ++ ((front ++ back) ++ later)) = subst AreBlanksClusters (sym is) (AreBlanksClusters-line_units line) in
-    let row = (all_parts BlankIsCluster (front ++ back) later (all_parts BlankIsCluster above ((front ++ back) ++ later) all).1).0 in
-    rest_left t w front back later some (all_parts BlankIsCluster front back row).1 fit
+    let row = (all_split BlankIsCluster (front ++ back) later (all_split BlankIsCluster above ((front ++ back) ++ later) all).1).0 in
+    rest_left t w front back later some (all_split BlankIsCluster front back row).1 fit

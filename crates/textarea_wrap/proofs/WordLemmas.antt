@@ -41,7 +41,7 @@ module _ (tab_len width : ℕ) (units : Stretch) (before : List (ℕ × ℕ)) wh
     blocks = [];
     open_stretch = [];
     joined = refl;
-    cut = tt;
+    wrapped = tt;
     rows_are = sym (append-nil before);
     begins = refl;
     ends = refl;
@@ -72,7 +72,7 @@ module _ (tab_len width : ℕ) (units : Stretch) (before : List (ℕ × ℕ)) wh
           blocks = w.blocks;
           open_stretch = w.open_stretch ++ unit ∷ [];
           joined = ap (λ t. flat_map units_of w.blocks ++ t) regroup ∙ w.joined;
-          cut = subst (AreBlocks tab_len width w.blocks) (sym regroup) w.cut;
+          wrapped = subst (AreBlocks tab_len width w.blocks) (sym regroup) w.wrapped;
           rows_are = w.rows_are;
           begins = w.begins;
           ends = omega arith;
@@ -91,17 +91,17 @@ module _ (tab_len width : ℕ) (units : Stretch) (before : List (ℕ × ℕ)) wh
     -- the unit does not fit, and the open row ends before it
     pub IsWordWalk-close : row_start < row_end → width < end → (HangsOver width end unit left → ⊥)
         → IsWordWalk tab_len width units before (rows ++ (row_start, row_end) ∷ []) (unit ∷ left) row_end row_end 0
-    IsWordWalk-close started over stands =
+    IsWordWalk-close started over occurs =
         let block = shared w.open_stretch in
         let range : (row_start, row_end) ∷ [] ≡ ranges_from row_start (rows_of block) = ap (λ n. (row_start, n) ∷ []) w.ends in
         record {
           blocks = w.blocks ++ block ∷ [];
           open_stretch = [];
           joined = units_of-push w.blocks block (unit ∷ left) ∙ w.joined;
-          cut = AreBlocks-push tab_len width w.blocks block (unit ∷ left) w.cut (
+          wrapped = AreBlocks-push tab_len width w.blocks block (unit ∷ left) w.wrapped (
             w.opened started,
             λ fits. ⊎_elim (λ within. let over' = subst (λ n. width < n) pushed_width over in omega arith)
-                (λ hang. stands (subst (λ n. HangsOver width n unit left) (sym pushed_width) hang.2)) fits,
+                (λ hang. occurs (subst (λ n. HangsOver width n unit left) (sym pushed_width) hang.2)) fits,
           );
           rows_are = ap (λ t. rows ++ t) range ∙ ranges-push before rows w.blocks block row_start w.rows_are w.begins;
           begins = w.ends ∙ ap (λ n. n + length (concat w.open_stretch)) w.begins ∙ omega (arith, length-rows-push w.blocks block, length-append (concat w.open_stretch) []);
@@ -123,7 +123,7 @@ module _ (tab_len width : ℕ) (units : Stretch) (before : List (ℕ × ℕ)) wh
           blocks = w.blocks;
           open_stretch = [];
           joined = ap (λ stretch. flat_map units_of w.blocks ++ (stretch ++ unit ∷ left)) (sym nothing) ∙ w.joined;
-          cut = subst (λ stretch. AreBlocks tab_len width w.blocks (stretch ++ unit ∷ left)) nothing w.cut;
+          wrapped = subst (λ stretch. AreBlocks tab_len width w.blocks (stretch ++ unit ∷ left)) nothing w.wrapped;
           rows_are = w.rows_are;
           begins = sym same ∙ w.begins;
           ends = omega arith;
@@ -137,7 +137,7 @@ module _ (tab_len width : ℕ) (units : Stretch) (before : List (ℕ × ℕ)) wh
     pub IsWordWalk-split : (texts : List (List ℕ)) → row_end ≤ row_start → width < end_column tab_len 0 (chars unit)
         → IsGlyphWrapping tab_len width unit texts → concat texts ≡ unit
         → IsWordWalk tab_len width units before (rows ++ ranges_from row_end texts) left (row_end + length unit) (row_end + length unit) 0
-    IsWordWalk-split texts none over cutting whole =
+    IsWordWalk-split texts none over wrapping whole =
         let same : row_start ≡ row_end = omega arith in
         let nothing = w.closed none in
         let begins = sym same ∙ w.begins in
@@ -146,8 +146,8 @@ module _ (tab_len width : ℕ) (units : Stretch) (before : List (ℕ × ℕ)) wh
           blocks = w.blocks ++ block ∷ [];
           open_stretch = [];
           joined = units_of-push w.blocks block left ∙ ap (λ stretch. flat_map units_of w.blocks ++ (stretch ++ unit ∷ left)) (sym nothing) ∙ w.joined;
-          cut = AreBlocks-push tab_len width w.blocks block left (subst (λ stretch. AreBlocks tab_len width w.blocks (stretch ++ unit ∷ left)) nothing w.cut)
-              (subst (λ n. width < n) (sym (stretch_width-one tab_len unit)) over, cutting);
+          wrapped = AreBlocks-push tab_len width w.blocks block left (subst (λ stretch. AreBlocks tab_len width w.blocks (stretch ++ unit ∷ left)) nothing w.wrapped)
+              (subst (λ n. width < n) (sym (stretch_width-one tab_len unit)) over, wrapping);
           rows_are = ranges-push before rows w.blocks block row_end w.rows_are begins;
           begins = ap (λ n. n + length unit) begins ∙ omega (arith, length-rows-push w.blocks block, ap length whole);
           ends = omega arith;
@@ -168,7 +168,7 @@ module _ (tab_len width : ℕ) (units : Stretch) (before : List (ℕ × ℕ)) wh
         let range : (row_start, row_end) ∷ [] ≡ ranges_from row_start (rows_of block) = ap (λ n. (row_start, n) ∷ []) w.ends in (
           w.blocks ++ block ∷ [],
           sym (append-nil _) ∙ units_of-push w.blocks block [] ∙ w.joined,
-          AreBlocks-push tab_len width w.blocks block [] w.cut (w.opened started, tt),
+          AreBlocks-push tab_len width w.blocks block [] w.wrapped (w.opened started, tt),
           ap (λ t. rows ++ t) range ∙ ranges-push before rows w.blocks block row_start w.rows_are w.begins,
         )
 
@@ -180,7 +180,7 @@ module _ (tab_len width : ℕ) (units : Stretch) (before : List (ℕ × ℕ)) wh
         let empty = ap (λ t. t ++ []) (w.closed none) in (
           w.blocks,
           sym (append-nil _) ∙ ap (λ t. flat_map units_of w.blocks ++ t) (sym empty) ∙ w.joined,
-          subst (AreBlocks tab_len width w.blocks) empty w.cut,
+          subst (AreBlocks tab_len width w.blocks) empty w.wrapped,
           w.rows_are,
         )
 

@@ -22,7 +22,7 @@ end_column tab_len column (c ∷ cs) = end_column tab_len (column_after tab_len 
 
 -- the width of segments of a text, each given by its bytes, that are together at the start of a row
 abbrev pub stretch_width : ℕ → List (List ℕ) → ℕ
-stretch_width tab_len pieces = end_column tab_len 0 (flat_map chars pieces)
+stretch_width tab_len word_segments = end_column tab_len 0 (flat_map chars word_segments)
 
 -- ---- display columns
 

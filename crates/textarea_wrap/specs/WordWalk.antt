@@ -11,7 +11,7 @@ pub record IsWordWalk (tab_len width : ℕ) (units : Stretch) (before rows : Lis
   pub blocks : List UnitBlock
   pub open_stretch : Stretch
   pub joined : flat_map units_of blocks ++ (open_stretch ++ left) ≡ units
-  pub cut : AreBlocks tab_len width blocks (open_stretch ++ left)
+  pub wrapped : AreBlocks tab_len width blocks (open_stretch ++ left)
   pub rows_are : rows ≡ before ++ ranges_from 0 (flat_map rows_of blocks)
   pub begins : row_start ≡ length (concat (flat_map rows_of blocks))
   pub ends : row_end ≡ row_start + length (concat open_stretch)

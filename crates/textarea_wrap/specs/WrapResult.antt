@@ -29,7 +29,7 @@ pub record IsRowRange (line : List ℕ) (range : ℕ × ℕ) : Type 0 where
 -- the byte ranges are those of the line's rows
 pub record IsWrapped (mode : WrapMode) (tab_len width : ℕ) (line : List ℕ) (ranges : List (ℕ × ℕ)) : Type 0 where
   pub texts : List (List ℕ)
-  pub cut : AreRowTexts mode tab_len width line texts
+  pub wrapped : AreRowTexts mode tab_len width line texts
   pub joined : concat texts ≡ line
   pub ranges_are : ranges ≡ ranges_from 0 texts
   pub placed : AllByRecursion (IsRowRange line) ranges

@@ -41,7 +41,7 @@ AreGlyphRows tab_len width (stretch ∷ stretches) later = IsGlyphRow tab_len wi
 pub record IsGlyphWrapping (tab_len width : ℕ) (text : List ℕ) (rows : List (List ℕ)) : Type 0 where
   pub stretches : List Stretch
   pub whole : stretches_of stretches ≡ graphemes true text
-  pub cut : AreGlyphRows tab_len width stretches []
+  pub wrapped : AreGlyphRows tab_len width stretches []
   pub rows_are : rows ≡ map concat stretches
 
 -- ---- at unit ends
@@ -99,7 +99,7 @@ AreBlocks tab_len width (block ∷ blocks) later = IsBlock tab_len width block (
 pub record IsWordWrapping (tab_len width : ℕ) (line : List ℕ) (rows : List (List ℕ)) : Type 0 where
   pub blocks : List UnitBlock
   pub whole : flat_map units_of blocks ≡ line_units line
-  pub cut : AreBlocks tab_len width blocks []
+  pub wrapped : AreBlocks tab_len width blocks []
   pub rows_are : rows ≡ flat_map rows_of blocks
 
 -- ---- fewest rows

@@ -30,18 +30,18 @@ impl Rows {
     // out of memory is counted too, and its error is returned. Allocates nothing. Only
     // `line_ranges` calls this, and nothing else counts.
     pub(crate) fn counted(
-        cut: Result<Ranges, AllocError>,
+        wrapped: Result<Ranges, AllocError>,
         count: &mut WrapCount,
     ) -> Result<Rows, AllocError>
         ensures counted { count.new ≡ count.old + 1 }
         ensures tick { IfOk result (λ rows. rows.tick ≡ count.new) }
-        ensures ranges { IfOk cut (λ ranges.
+        ensures ranges { IfOk wrapped (λ ranges.
             IfOk result (λ rows. rows.ranges ≡ ranges.items)) }
-        ensures refused { IsOk result ↔ IsOk cut }
+        ensures out_of_memory { IsOk result ↔ IsOk wrapped }
     {
         count.tick();
         Ok(Rows {
-            ranges: cut?,
+            ranges: wrapped?,
             tick: count.clone()?,
         })
     }

@@ -63,8 +63,8 @@ pub fn line_ranges(
     ensures one_row { length line.now < size_limit → TakesOneRow mode tab_len (max width 1) line.now
         → IsOk result }
 {
-    let cut = wrap_line(alloc, line, mode, width.max(1), tab_len);
-    Rows::counted(cut, count)
+    let wrapped = wrap_line(alloc, line, mode, width.max(1), tab_len);
+    Rows::counted(wrapped, count)
 }
 
 fn wrap_line(

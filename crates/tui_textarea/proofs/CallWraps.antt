@@ -27,7 +27,7 @@ use Rattle.textarea_calls.specs.declared.call.Call.TheVariants as call
 use Rattle.textarea_document.specs.DocumentRows.{with_inner_width, with_layout_settings}
 use Rattle.textarea_view.specs.Measure.{width_inside}
 use Rattle.tui_textarea.proofs.Acting.{by_any_act, calls_by, calls_left}
-use Rattle.tui_textarea.proofs.WrappedLines.{RedosWrap, StepsWrap, UndosWrap, past_cut, reckoned}
+use Rattle.tui_textarea.proofs.WrappedLines.{RedosWrap, StepsWrap, UndosWrap, past_wraps, reckoned}
 use Rattle.tui_textarea.proofs.Frames.{drawn_document}
 
 -- ---- the laws of the text area
@@ -46,37 +46,37 @@ pub record TheLaws : Type 0 where
 abbrev LeftBy : State → State → Type 0
 LeftBy old new = OfSplicesOutOfMemory old (λ splices. SplicedBy old.document splices new.document)
 
-ranges_kept : (rejected : List RejectedAtomicRange) (state : State) (ranges : List AtomicRange) → text_and_layout (with_ranges_if rejected state ranges).document ≡ text_and_layout state.document
-ranges_kept [] state ranges = refl
-ranges_kept (range ∷ rejected) state ranges = refl
+ranges_unchanged : (rejected : List RejectedAtomicRange) (state : State) (ranges : List AtomicRange) → text_and_layout (with_ranges_if rejected state ranges).document ≡ text_and_layout state.document
+ranges_unchanged [] state ranges = refl
+ranges_unchanged (range ∷ rejected) state ranges = refl
 
 module _ (laws : TheLaws) where
   set : (old new outcome : State) (settings : LayoutSettings) → new.document ≡ outcome.document → outcome ≡ with_layout old settings → WrapsBySettings old.document settings new.document
   set old new outcome settings same is =
       subst (WrapsBySettings old.document settings) (sym (same ∙ ap (λ (s : State). s.document) is)) (laws.settings old.document settings)
 
-  pub call_cuts : (old new : State) (made : Call) (answer : CallResult) → IsSound old.document → IsAfterCall old made answer new → WrapsByCall old made new
-  call_cuts old new (call.SetLines lines cursor) answer h k =
+  pub call_wraps : (old new : State) (made : Call) (returned : CallResult) → IsSound old.document → IsAfterCall old made returned new → WrapsByCall old made new
+  call_wraps old new (call.SetLines lines cursor) returned h k =
       subst (λ (s : State). WrapsAll old.document s.document) (sym k)
       (laws.lines old.document (text_of lines.now) (clip (lines_of lines.now) cursor) old.document.log.maximum)
-  call_cuts old new (call.SetTabLength columns) answer h k = set old new (with_layout old (tab_length_set old columns)) (tab_length_set old columns) (ap (λ (s : State). s.document) k) refl
-  call_cuts old new (call.SetWrapMode mode) answer h k = set old new (with_layout old (mode_set old mode)) (mode_set old mode) (ap (λ (s : State). s.document) k) refl
-  call_cuts old new (call.SetLineNumberStyle style) answer h k = set old new (with_layout old (line_numbers_set old true)) (line_numbers_set old true) (ap (λ (s : State). s.document) k) refl
-  call_cuts old new call.RemoveLineNumber answer h k = set old new (with_layout old (line_numbers_set old false)) (line_numbers_set old false) (ap (λ (s : State). s.document) k) refl
-  call_cuts old new (call.SetAlignment alignment) answer h k = set old new (with_layout old (alignment_set old alignment)) (alignment_set old alignment) (ap (λ (s : State). s.document) k) refl
-  call_cuts old new (call.Render area) answer h k =
+  call_wraps old new (call.SetTabLength columns) returned h k = set old new (with_layout old (tab_length_set old columns)) (tab_length_set old columns) (ap (λ (s : State). s.document) k) refl
+  call_wraps old new (call.SetWrapMode mode) returned h k = set old new (with_layout old (mode_set old mode)) (mode_set old mode) (ap (λ (s : State). s.document) k) refl
+  call_wraps old new (call.SetLineNumberStyle style) returned h k = set old new (with_layout old (line_numbers_set old true)) (line_numbers_set old true) (ap (λ (s : State). s.document) k) refl
+  call_wraps old new call.RemoveLineNumber returned h k = set old new (with_layout old (line_numbers_set old false)) (line_numbers_set old false) (ap (λ (s : State). s.document) k) refl
+  call_wraps old new (call.SetAlignment alignment) returned h k = set old new (with_layout old (alignment_set old alignment)) (alignment_set old alignment) (ap (λ (s : State). s.document) k) refl
+  call_wraps old new (call.Render area) returned h k =
       subst (WrapsByWidth old.document) (sym (drawn_document old new area k)) (laws.width old.document (width_inside old.surround.block area.width))
-  call_cuts old new (call.TrySetAtomicRanges ranges) answer h k =
-      ap (λ (s : State). text_and_layout s.document) k ∙ ranges_kept (rejected_ranges old ranges.now) old ranges.now
-  call_cuts old new call.ClearAtomicRanges answer h k = ap (λ (s : State). text_and_layout s.document) k
-  call_cuts old new (call.Input input) answer h k =
-      by_any_act SplicedBy (asked_by input.now) old.document new.document _ (calls_by SplicedBy SplicedBy (reckoned laws.stepped) (past_cut laws.undone laws.redone) old new (call.Input input) answer h k)
-  call_cuts old new (call.InputWithoutShortcuts input) answer h k =
-      by_any_act SplicedBy (asked_without_shortcuts input.now) old.document new.document _ (calls_by SplicedBy SplicedBy (reckoned laws.stepped) (past_cut laws.undone laws.redone) old new (call.InputWithoutShortcuts input) answer h k)
-  call_cuts old new made answer h k = calls_by SplicedBy SplicedBy (reckoned laws.stepped) (past_cut laws.undone laws.redone) old new made answer h k
+  call_wraps old new (call.TrySetAtomicRanges ranges) returned h k =
+      ap (λ (s : State). text_and_layout s.document) k ∙ ranges_unchanged (rejected_ranges old ranges.now) old ranges.now
+  call_wraps old new call.ClearAtomicRanges returned h k = ap (λ (s : State). text_and_layout s.document) k
+  call_wraps old new (call.Input input) returned h k =
+      by_any_act SplicedBy (asked_by input.now) old.document new.document _ (calls_by SplicedBy SplicedBy (reckoned laws.stepped) (past_wraps laws.undone laws.redone) old new (call.Input input) returned h k)
+  call_wraps old new (call.InputWithoutShortcuts input) returned h k =
+      by_any_act SplicedBy (asked_without_shortcuts input.now) old.document new.document _ (calls_by SplicedBy SplicedBy (reckoned laws.stepped) (past_wraps laws.undone laws.redone) old new (call.InputWithoutShortcuts input) returned h k)
+  call_wraps old new made returned h k = calls_by SplicedBy SplicedBy (reckoned laws.stepped) (past_wraps laws.undone laws.redone) old new made returned h k
 
-  pub refused_cuts : (old new : State) (made : Call) → IsSound old.document → IsAfterOutOfMemory old made new → LeftBy old new
-  refused_cuts old new made h k = calls_left SplicedBy SplicedBy (reckoned laws.stepped) (past_cut laws.undone laws.redone) old new made h k
+  pub out_of_memory_wraps : (old new : State) (made : Call) → IsSound old.document → IsAfterOutOfMemory old made new → LeftBy old new
+  out_of_memory_wraps old new made h k = calls_left SplicedBy SplicedBy (reckoned laws.stepped) (past_wraps laws.undone laws.redone) old new made h k
 
 -- ---- the wrap counter
 

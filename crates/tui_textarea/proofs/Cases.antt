@@ -5,7 +5,7 @@ use Rattle.textarea_text.specs.Place.{Place, end, index_of, place_of, inserted, 
 use Rattle.textarea_text.specs.Splice.{Splice}
 use Rattle.textarea_history.specs.Log.{empty_log, recorded}
 use Rattle.tui_textarea.specs.State.{State, new_state, with_document}
-use Rattle.textarea_document.specs.Edits.{removed_before, part_removed}
+use Rattle.textarea_document.specs.Edits.{removed_before, between_removed}
 use Rattle.textarea_document.specs.Outcomes.{after_redo, after_undo}
 use Rattle.textarea_ranges.specs.Moved.{moved_ranges}
 use Rattle.tui_textarea.specs.Edits.{char_inserted, newline_inserted}
@@ -90,14 +90,14 @@ carriage_return_case = refl
 
 -- an insertion over a selection is two edits: the removal and the insertion
 pub over_selection_case : (char_inserted (selected_first (new_state (Character 97 ∷ Character 98 ∷ []))) 120).document.log.done ≡ (record { place = (0, 0); symbols = Character 97 ∷ []; inserts = false }) ∷ (record { place = (0, 0); symbols = Character 120 ∷ []; inserts = true }) ∷ []
-unfolding part_removed moved_ranges
+unfolding between_removed moved_ranges
 over_selection_case = refl
 
 -- a selection's removal yanks nothing, and a cut yanks
 pub selection_out_case : (deleted_char (selected_first (new_state (Character 97 ∷ Character 98 ∷ [])))).yank ≡ []
-unfolding part_removed
+unfolding between_removed
 selection_out_case = refl
 
 pub cut_case : (selection_cut (selected_first (new_state (Character 97 ∷ Character 98 ∷ [])))).yank ≡ Character 97 ∷ []
-unfolding part_removed
+unfolding between_removed
 cut_case = refl

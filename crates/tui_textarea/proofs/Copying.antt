@@ -9,7 +9,7 @@ use Rattle.textarea_text.proofs.TextPlaces.{index_within}
 use Rattle.textarea_text.specs.Between.{symbols_between}
 use Rattle.textarea_document.specs.DocumentState.{DocumentState}
 use Rattle.textarea_document.specs.Outcomes.{unanchored}
-use Rattle.textarea_document.specs.Edits.{insertion_place, has_symbols, part_removed}
+use Rattle.textarea_document.specs.Edits.{insertion_place, has_symbols, between_removed}
 use Rattle.textarea_document.specs.Selection.{is_selected, selected, selection_end, selection_start}
 use Rattle.tui_textarea.specs.State.{State, with_document}
 use Rattle.tui_textarea.specs.Edits.{symbols_or_none_inserted, str_inserted}
@@ -56,7 +56,7 @@ pastes_copy state e place ordered =
     record {
       text = ap (λ (s : State). s.document.text) reached ∙ text_of (selected state.document) some;
       cursor = ap (λ (s : State). s.document.cursor) reached ∙ cursor_of (selected state.document) some;
-      answer = ap (λ (s : State). has_symbols s.yank) copied_is ∙ filled (selected state.document) some;
+      returned = ap (λ (s : State). has_symbols s.yank) copied_is ∙ filled (selected state.document) some;
     }
   where
     after : State
@@ -68,7 +68,7 @@ pastes_copy state e place ordered =
     reached : copied_and_pasted state ≡ symbols_or_none_inserted after (selected state.document)
     reached =
         ap (λ (s : State). str_inserted s s.yank) copied_is
-        ∙ ap (λ b. symbols_or_none_inserted (with_document after (cond b (part_removed after.document (selection_start after.document) (selection_end after.document) after.time) after.document)) after.yank) (none_selected state.document)
+        ∙ ap (λ b. symbols_or_none_inserted (with_document after (cond b (between_removed after.document (selection_start after.document) (selection_end after.document) after.time) after.document)) after.yank) (none_selected state.document)
 
     some : 0 < length (selected state.document)
     some = some_between state.document.text (selection_start state.document) (selection_end state.document) place ordered

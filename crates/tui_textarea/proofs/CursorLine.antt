@@ -41,24 +41,24 @@ inside_read {state = state} is rows place stop rows_are at stop_is apart =
     ∙ ne_eqb place.1 (length (cursor_line state.document)) (λ e. apart (e ∙ sym (end_read is rows place stop rows_are at stop_is)))
 
 -- elsewhere its line's end is after it
-pub end_behind : (text : List Symbol) (rows : List (List ℕ)) (place stop : Place) → rows ≡ lines text → IsPlace text place → stop ≡ line_end rows place.0 → place.1 ≢ stop.1
+pub end_after : (text : List Symbol) (rows : List (List ℕ)) (place stop : Place) → rows ≡ lines text → IsPlace text place → stop ≡ line_end rows place.0 → place.1 ≢ stop.1
     → index_of text place < index_of text stop
-end_behind text rows place stop rows_are is_place stop_is apart =
+end_after text rows place stop rows_are is_place stop_is apart =
     let row : stop.0 ≡ place.0 = ap (λ (p : Place). p.0) stop_is in
     let column : stop.1 ≡ length (line_of (lines text) place.0) = ap (λ (p : Place). p.1) stop_is ∙ ap (λ (r : List (List ℕ)). length (line_of r place.0)) rows_are in
     omega (arith, ap (row_start text) row, column, is_place.1, apart)
 
 -- so there is something to remove
-line_goes : (state : State) → is_at_line_end state.document ≡ false → true ≡ removes_or state (has_line_after state)
-line_goes state inside =
+line_removes : (state : State) → is_at_line_end state.document ≡ false → true ≡ removes_or state (has_line_after state)
+line_removes state inside =
     sym (or_right (is_selected state.document) _ (or_left (not (is_at_line_end state.document)) (has_after state) (ap not inside)))
 
 -- the same after the removal of the selected text, if none is selected
-pub line_goes_unselected : {view state : State} → view ≡ state → (removed : DocumentState) → removed ≡ selected_removed view.document view.time → is_selected view.document ≡ false
+pub line_removes_unselected : {view state : State} → view ≡ state → (removed : DocumentState) → removed ≡ selected_removed view.document view.time → is_selected view.document ≡ false
     → (rows : List (List ℕ)) (place stop : Place) → rows ≡ lines removed.text → place ≡ removed.cursor → stop ≡ line_end rows place.0 → place.1 ≢ stop.1
     → true ≡ removes_or state (has_line_after state)
-line_goes_unselected {state = state} is removed gone none rows place stop rows_are at stop_is apart =
-    line_goes state (inside_read (none_gone is removed gone none) rows place stop rows_are at stop_is apart)
+line_removes_unselected {state = state} is removed gone none rows place stop rows_are at stop_is apart =
+    line_removes state (inside_read (none_gone is removed gone none) rows place stop rows_are at stop_is apart)
 
 -- at the line's end the symbol after the cursor is removed, if there is one
 pub answered_at_end : {E : Type 0} (r : Result Bool E) {view state : State} → view ≡ state → (removed : DocumentState) → removed ≡ selected_removed view.document view.time

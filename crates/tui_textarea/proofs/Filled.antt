@@ -9,6 +9,6 @@ filled_unless false [] both denied = cc (both.1 refl)
 filled_unless false (symbol ∷ symbols) both denied = refl
 
 pub none_unless : (some : Bool) (text : List Symbol) → some ≡ has_symbols text → some ≡ false → text ≡ []
-none_unless some [] told denied = refl
-none_unless true (symbol ∷ symbols) told denied = cc denied
-none_unless false (symbol ∷ symbols) told denied = cc told
+none_unless some [] reported denied = refl
+none_unless true (symbol ∷ symbols) reported denied = cc denied
+none_unless false (symbol ∷ symbols) reported denied = cc reported

@@ -11,28 +11,28 @@ use Rattle.textarea_document.specs.Edits.{has_symbols}
 use Rattle.textarea_history.proofs.Joins.{right_of}
 
 -- a character means a symbol, or one after it does
-given_some : (c : ℕ) (cs : List ℕ) → has_symbols (fragment_symbols (c ∷ cs)) ≡ true
-given_some c cs = by (c == 10) (c == 13 && begins_with_line_feed cs) cs refl refl
+fragment_some : (c : ℕ) (cs : List ℕ) → has_symbols (fragment_symbols (c ∷ cs)) ≡ true
+fragment_some c cs = by (c == 10) (c == 13 && begins_with_line_feed cs) cs refl refl
   where
-    by : (feed selection_cancelled : Bool) (behind : List ℕ) → (c == 10) ≡ feed → (c == 13 && begins_with_line_feed behind) ≡ selection_cancelled → has_symbols (cond feed (Break ∷ []) (cond selection_cancelled [] (Character c ∷ [])) ++ fragment_symbols behind) ≡ true
-    by true selection_cancelled behind e e' = refl
+    by : (feed selection_cancelled : Bool) (after : List ℕ) → (c == 10) ≡ feed → (c == 13 && begins_with_line_feed after) ≡ selection_cancelled → has_symbols (cond feed (Break ∷ []) (cond selection_cancelled [] (Character c ∷ [])) ++ fragment_symbols after) ≡ true
+    by true selection_cancelled after e e' = refl
     by false true [] e e' = let no : false ≡ true = right_of (c == 13) false e' in absurd cc
-    by false true (d ∷ behind) e e' = ap (λ (b : Bool). has_symbols (cond b (Break ∷ []) (cond (d == 13 && begins_with_line_feed behind) [] (Character d ∷ [])) ++ fragment_symbols behind)) (right_of (c == 13) (d == 10) e')
-    by false false behind e e' = refl
+    by false true (d ∷ after) e e' = ap (λ (b : Bool). has_symbols (cond b (Break ∷ []) (cond (d == 13 && begins_with_line_feed after) [] (Character d ∷ [])) ++ fragment_symbols after)) (right_of (c == 13) (d == 10) e')
+    by false false after e e' = refl
 
-pub given_filled : (text : List ℕ) → IsUtf8 text → (length text == 0) ≡ false → has_symbols (fragment_symbols (chars text)) ≡ true
-given_filled text utf8 e = by (chars text) (encodes-chars text utf8)
+pub fragment_filled : (text : List ℕ) → IsUtf8 text → (length text == 0) ≡ false → has_symbols (fragment_symbols (chars text)) ≡ true
+fragment_filled text utf8 e = by (chars text) (encodes-chars text utf8)
   where
     by : (cs : List ℕ) → encode_utf8_all cs ≡ text → has_symbols (fragment_symbols cs) ≡ true
     by [] e' = let empty : true ≡ (length text == 0) = ap (λ (t : List ℕ). length t == 0) e' in cc
-    by (c ∷ cs) e' = given_some c cs
+    by (c ∷ cs) e' = fragment_some c cs
 
-pub given_none : (text : List ℕ) → (length text == 0) ≡ true → has_symbols (fragment_symbols (chars text)) ≡ false
-given_none text e = ap (λ t. has_symbols (fragment_symbols (chars t))) (nil_from_length text (eqb-true (length text) 0 e)) ∙ ap (λ t. has_symbols (fragment_symbols t)) chars-nil
+pub fragment_none : (text : List ℕ) → (length text == 0) ≡ true → has_symbols (fragment_symbols (chars text)) ≡ false
+fragment_none text e = ap (λ t. has_symbols (fragment_symbols (chars t))) (nil_from_length text (eqb-true (length text) 0 e)) ∙ ap (λ t. has_symbols (fragment_symbols t)) chars-nil
 
 pub has_text_is : (text : List ℕ) (empty : Bool) → IsUtf8 text → empty ≡ (length text == 0) → not empty ≡ has_symbols (fragment_symbols (chars text))
-has_text_is text true utf8 e = sym (given_none text (sym e))
-has_text_is text false utf8 e = sym (given_filled text utf8 (sym e))
+has_text_is text true utf8 e = sym (fragment_none text (sym e))
+has_text_is text false utf8 e = sym (fragment_filled text utf8 (sym e))
 
 -- spaces as a fragment of one line
 replicate_bytes : (n : ℕ) → replicate n 32 ≡ encode_utf8_all (replicate n 32)
@@ -44,9 +44,9 @@ replicate_characters : (n c : ℕ) → characters (replicate n c) ≡ replicate 
 replicate_characters zero c = refl
 replicate_characters (suc n) c = ap (λ (t : List Symbol). Character c ∷ t) (replicate_characters n c)
 
-pub spaces_text : {Z : Type 0} (items old : List (String Z)) (piece : String Z) (count : ℕ) → items ≡ old ++ piece ∷ [] → length old ≡ 0 → string_bytes piece ≡ replicate count 32 → text_of items ≡ replicate count (Character 32)
-spaces_text items old piece count is none e =
-    ap text_of (is ∙ ap (λ t. t ++ piece ∷ []) (nil_from_length old none))
-    ∙ append-nil (characters (characters_of piece))
-    ∙ ap characters (chars_from_bytes (string_bytes piece) (replicate count 32) (IsUtf8-string_bytes piece) (e ∙ replicate_bytes count))
+pub spaces_text : {Z : Type 0} (items old : List (String Z)) (fragment_line : String Z) (count : ℕ) → items ≡ old ++ fragment_line ∷ [] → length old ≡ 0 → string_bytes fragment_line ≡ replicate count 32 → text_of items ≡ replicate count (Character 32)
+spaces_text items old fragment_line count is none e =
+    ap text_of (is ∙ ap (λ t. t ++ fragment_line ∷ []) (nil_from_length old none))
+    ∙ append-nil (characters (characters_of fragment_line))
+    ∙ ap characters (chars_from_bytes (string_bytes fragment_line) (replicate count 32) (IsUtf8-string_bytes fragment_line) (e ∙ replicate_bytes count))
     ∙ replicate_characters count 32

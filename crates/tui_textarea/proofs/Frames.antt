@@ -6,7 +6,7 @@ use Rattle.textarea_data.specs.declared.cursor.CursorMove.{CursorMove}
 use Rattle.textarea_document.specs.Edits.{has_symbols}
 use Rattle.textarea_document.specs.DocumentRows.{HasRowsAt, text_and_layout, with_inner_width}
 use Rattle.textarea_document.specs.DocumentState.{DocumentState}
-use Rattle.tui_textarea.specs.DrawnFrame.{Parts, frame_of}
+use Rattle.tui_textarea.specs.DrawnFrame.{WidgetState, frame_of}
 use Rattle.textarea_view.specs.Frame.{has_lines, shows_placeholder}
 use Rattle.textarea_lines.specs.TextLayout.{TextAndLayout, Layout, at_width, with_settings, wrapping_at, wrapping_of}
 use Rattle.textarea_screen_map.specs.BorrowedLines.{BorrowedRows}
@@ -22,7 +22,7 @@ use Rattle.textarea_screen.specs.declared.screen.rect.Rect.{Rect}
 use Rattle.textarea_view.specs.Measure.{measure_of, visible_row_count, saturated_u16, width_inside}
 use Rattle.textarea_view.specs.SurroundState.{SurroundState}
 use Rattle.textarea_view.specs.declared.surround.measure.TextAreaMeasure.{TextAreaMeasure}
-use Rattle.tui_textarea.specs.Drawing.{IsRendered, drawing_parts}
+use Rattle.tui_textarea.specs.Drawing.{IsRendered, widget_of}
 use Rattle.tui_textarea.specs.Frames.{HasLayoutFor}
 use Rattle.tui_textarea.specs.Measure.{IsMeasured, IsMeasuredAround}
 use Rattle.tui_textarea.specs.Moves.{IsMovedWith, after_move_by, pushed}
@@ -48,7 +48,7 @@ HasOneRowCount = (document : DocumentState) (inner_width count other : ℕ) → 
 -- ---- after a drawing
 
 pub drawn_document : (old new : State) (area : Rect) → IsRendered old area new → new.document ≡ with_inner_width old.document (width_inside old.surround.block area.width)
-drawn_document old new area h = ap (λ (p : Parts). p.document) h.parts.new_is ∙ ap (with_inner_width old.document) h.parts.inner_is.width
+drawn_document old new area h = ap (λ (p : WidgetState). p.document) h.widget.new_is ∙ ap (with_inner_width old.document) h.widget.inner_is.width
 
 drawn_surround : (old new : State) (area : Rect) → IsRendered old area new → new.surround ≡ old.surround
 drawn_surround old new area h = ap (λ (s : State). s.surround) h.rest
@@ -97,20 +97,20 @@ as_wide state area other wide put = put ∙ ap (width_inside state.surround.bloc
 
 -- ---- measures
 
-rows_without : (shown : List LineView) (rows : ℕ) (is_empty : Bool) → (is_empty && has_lines shown) ≡ false → visible_row_count shown rows is_empty ≡ rows
+rows_without : (displayed : List LineView) (rows : ℕ) (is_empty : Bool) → (is_empty && has_lines displayed) ≡ false → visible_row_count displayed rows is_empty ≡ rows
 rows_without [] rows is_empty e = refl
-rows_without (line ∷ shown) rows true e = absurd cc
-rows_without (line ∷ shown) rows false e = refl
+rows_without (line ∷ displayed) rows true e = absurd cc
+rows_without (line ∷ displayed) rows false e = refl
 
-rows_with : (shown : List LineView) (rows : ℕ) (is_empty : Bool) → (is_empty && has_lines shown) ≡ true → visible_row_count shown rows is_empty ≡ length shown
+rows_with : (displayed : List LineView) (rows : ℕ) (is_empty : Bool) → (is_empty && has_lines displayed) ≡ true → visible_row_count displayed rows is_empty ≡ length displayed
 rows_with [] rows true e = absurd cc
 rows_with [] rows false e = absurd cc
-rows_with (line ∷ shown) rows true e = refl
-rows_with (line ∷ shown) rows false e = absurd cc
+rows_with (line ∷ displayed) rows true e = refl
+rows_with (line ∷ displayed) rows false e = absurd cc
 
 -- the placeholder is shown before a drawing if it is shown after it
-shown_before : (old new : State) (area : Rect) (rows : BorrowedRows) (b : Bool) → IsRendered old area new → shows_placeholder (frame_of (drawing_parts new) rows) ≡ b → (not (has_symbols old.document.text) && has_lines old.surround.placeholder.lines) ≡ b
-shown_before old new area rows b h e =
+shows_before : (old new : State) (area : Rect) (rows : BorrowedRows) (b : Bool) → IsRendered old area new → shows_placeholder (frame_of (widget_of new) rows) ≡ b → (not (has_symbols old.document.text) && has_lines old.surround.placeholder.lines) ≡ b
+shows_before old new area rows b h e =
     ap (λ (t : List Symbol). not (has_symbols t) && has_lines old.surround.placeholder.lines) (ap (λ (d : DocumentState). d.text) (sym (drawn_document old new area h)))
     ∙ ap (λ (s : SurroundState). not (has_symbols new.document.text) && has_lines s.placeholder.lines) (sym (drawn_surround old new area h))
     ∙ e
@@ -118,28 +118,28 @@ shown_before old new area rows b h e =
 content : (state : State) (width : ℕ) (measure : TextAreaMeasure) → (h : IsMeasured state width measure) → measure.content_rows ≡ saturated_u16 (visible_row_count state.surround.placeholder.lines h.rows (not (has_symbols state.document.text)))
 content state width measure h = ap (λ (m : TextAreaMeasure). m.content_rows) h.measure_is
 
-rows_drawn : (texts : KeepsText) (cuts : WrapsAsMeasured) (document : DocumentState) (inner_width : ℕ) (rows : BorrowedRows) → 0 < inner_width → IsViewOf (text_and_layout (with_inner_width document inner_width)) rows → HasRowsAt document inner_width (row_total rows.rows)
+rows_drawn : (texts : KeepsText) (wraps : WrapsAsMeasured) (document : DocumentState) (inner_width : ℕ) (rows : BorrowedRows) → 0 < inner_width → IsViewOf (text_and_layout (with_inner_width document inner_width)) rows → HasRowsAt document inner_width (row_total rows.rows)
 unfolding HasRowsAt
-rows_drawn texts cuts document inner_width rows some k =
+rows_drawn texts wraps document inner_width rows some k =
     let text_layout = text_and_layout document in
     let settings = at_width text_layout inner_width in
     let new : TextAndLayout = with_settings text_layout settings in
     let cut : wrapping_of (text_and_layout (with_inner_width document inner_width)) ≡ wrapping_at text_layout inner_width =
-    ap (λ (t : List Symbol). wrapping_of (record { text = t; layout = new.layout })) (sym (texts text_layout settings)) ∙ cuts text_layout inner_width some in
+    ap (λ (t : List Symbol). wrapping_of (record { text = t; layout = new.layout })) (sym (texts text_layout settings)) ∙ wraps text_layout inner_width some in
     (rows.rows, subst (λ (w : Wrapping). AreRowsOf w (lines document.text) rows.rows) cut k.rows.text_layout, refl)
 
-pub measured_rows : (texts : KeepsText) (cuts : WrapsAsMeasured) (counts : HasOneRowCount) (old new : State) (area : Rect) (measure : TextAreaMeasure) (rows : BorrowedRows) → IsMeasured old area.width measure → IsRendered old area new → 0 < width_inside old.surround.block area.width → IsViewOf (text_and_layout new.document) rows → shows_placeholder (frame_of (drawing_parts new) rows) ≡ false → measure.content_rows ≡ saturated_u16 (row_total rows.rows)
-measured_rows texts cuts counts old new area measure rows m h some k e =
+pub measured_rows : (texts : KeepsText) (wraps : WrapsAsMeasured) (counts : HasOneRowCount) (old new : State) (area : Rect) (measure : TextAreaMeasure) (rows : BorrowedRows) → IsMeasured old area.width measure → IsRendered old area new → 0 < width_inside old.surround.block area.width → IsViewOf (text_and_layout new.document) rows → shows_placeholder (frame_of (widget_of new) rows) ≡ false → measure.content_rows ≡ saturated_u16 (row_total rows.rows)
+measured_rows texts wraps counts old new area measure rows m h some k e =
     let width = width_inside old.surround.block area.width in
     let drawn : IsViewOf (text_and_layout (with_inner_width old.document width)) rows = subst (λ (d : DocumentState). IsViewOf (text_and_layout d) rows) (drawn_document old new area h) k in
     content old area.width measure m
-    ∙ ap saturated_u16 (rows_without old.surround.placeholder.lines m.rows (not (has_symbols old.document.text)) (shown_before old new area rows false h e))
-    ∙ ap saturated_u16 (counts old.document width m.rows (row_total rows.rows) m.rows_are (rows_drawn texts cuts old.document width rows some drawn))
+    ∙ ap saturated_u16 (rows_without old.surround.placeholder.lines m.rows (not (has_symbols old.document.text)) (shows_before old new area rows false h e))
+    ∙ ap saturated_u16 (counts old.document width m.rows (row_total rows.rows) m.rows_are (rows_drawn texts wraps old.document width rows some drawn))
 
-pub measured_placeholder : (old new : State) (area : Rect) (measure : TextAreaMeasure) (rows : BorrowedRows) → IsMeasured old area.width measure → IsRendered old area new → shows_placeholder (frame_of (drawing_parts new) rows) ≡ true → measure.content_rows ≡ saturated_u16 (length new.surround.placeholder.lines)
+pub measured_placeholder : (old new : State) (area : Rect) (measure : TextAreaMeasure) (rows : BorrowedRows) → IsMeasured old area.width measure → IsRendered old area new → shows_placeholder (frame_of (widget_of new) rows) ≡ true → measure.content_rows ≡ saturated_u16 (length new.surround.placeholder.lines)
 measured_placeholder old new area measure rows m h e =
     content old area.width measure m
-    ∙ ap saturated_u16 (rows_with old.surround.placeholder.lines m.rows (not (has_symbols old.document.text)) (shown_before old new area rows true h e))
+    ∙ ap saturated_u16 (rows_with old.surround.placeholder.lines m.rows (not (has_symbols old.document.text)) (shows_before old new area rows true h e))
     ∙ ap (λ (s : SurroundState). saturated_u16 (length s.placeholder.lines)) (sym (drawn_surround old new area h))
 
 -- ---- a measure after a drawing

@@ -1,5 +1,5 @@
-mod CaretBack
-mod CaretShown
+mod CaretHit
+mod CaretVisible
 mod DrawnRows
 mod OneDrawing
 mod OneHit

@@ -1,6 +1,6 @@
 -- A drawing determines each cell.
 use Rattle.std.proofs.Common.{◌≡◌, ℕ, Bool, true, false, List, sym, subst, ap, ◌∙◌}
-use Rattle.tui_textarea.specs.DrawingPrelude.{option_map, text_and_layout, AreLinesOf, AreLinesWith, frame_change, Parts, frame_of, FrameState, shows_placeholder, IsDrawn, BorrowedRows, FillsArea, SceneState, Changes, area_of, cell_at, LineView, Buffer, Rect, ViewportState}
+use Rattle.tui_textarea.specs.DrawingPrelude.{option_map, text_and_layout, AreLinesOf, AreLinesWith, frame_change, WidgetState, frame_of, FrameState, shows_placeholder, IsDrawn, BorrowedRows, FillsArea, SceneState, Changes, area_of, cell_at, LineView, Buffer, Rect, ViewportState}
 use Rattle.tui_textarea.proofs.DrawnRows.{IsViewedOnce}
 use Rattle.tui_textarea.proofs.Rects.{inner_once}
 
@@ -13,23 +13,23 @@ lines_once fills_once true frame viewport inner buffer lines others h k = h ∙ 
 lines_once fills_once false frame viewport inner buffer lines others h k = fills_once frame.scene viewport.row inner buffer lines others h k
 
 -- the cells after these lines are drawn into an inner area
-abbrev HasEffect : Parts → Rect → Buffer → Buffer → Rect → BorrowedRows → Type 0
-HasEffect parts area old new inner rows = (lines : List LineView)
-    × AreLinesOf (frame_of parts rows) parts.drawing.viewport inner (area_of old) lines
-    × Changes old new (frame_change (frame_of parts rows) parts.drawing.viewport area inner lines)
+abbrev HasEffect : WidgetState → Rect → Buffer → Buffer → Rect → BorrowedRows → Type 0
+HasEffect widget area old new inner rows = (lines : List LineView)
+    × AreLinesOf (frame_of widget rows) widget.drawing.viewport inner (area_of old) lines
+    × Changes old new (frame_change (frame_of widget rows) widget.drawing.viewport area inner lines)
 
-made_once : (fills_once : FillsOnce) (parts : Parts) (area inner : Rect) (rows : BorrowedRows) (old first second : Buffer) → HasEffect parts area old first inner rows → HasEffect parts area old second inner rows → (x y : ℕ) → cell_at first x y ≡ cell_at second x y
-made_once fills_once parts area inner rows old first second h k x y =
-    let frame = frame_of parts rows in
+made_once : (fills_once : FillsOnce) (widget : WidgetState) (area inner : Rect) (rows : BorrowedRows) (old first second : Buffer) → HasEffect widget area old first inner rows → HasEffect widget area old second inner rows → (x y : ℕ) → cell_at first x y ≡ cell_at second x y
+made_once fills_once widget area inner rows old first second h k x y =
+    let frame = frame_of widget rows in
     h.2.cells x y
-    ∙ ap (λ (lines : List LineView). option_map (frame_change frame parts.drawing.viewport area inner lines x y) (cell_at old x y))
-    (lines_once fills_once (shows_placeholder frame) frame parts.drawing.viewport inner (area_of old) h.0 k.0 h.1 k.1)
+    ∙ ap (λ (lines : List LineView). option_map (frame_change frame widget.drawing.viewport area inner lines x y) (cell_at old x y))
+    (lines_once fills_once (shows_placeholder frame) frame widget.drawing.viewport inner (area_of old) h.0 k.0 h.1 k.1)
     ∙ sym (k.2.cells x y)
 
-pub drawn_once : (viewed_once : IsViewedOnce) (fills_once : FillsOnce) (parts : Parts) (area : Rect) (old first second : Buffer) → IsDrawn parts area old first → IsDrawn parts area old second → (x y : ℕ) → cell_at first x y ≡ cell_at second x y
-drawn_once viewed_once fills_once parts area old first second h k =
-    let inner : k.inner ≡ h.inner = inner_once parts.surround.block area k.inner h.inner k.inner_is h.inner_is in
-    let rows : k.rows ≡ h.rows = viewed_once (text_and_layout parts.document) k.rows h.rows k.rows_are h.rows_are in
-    made_once fills_once parts area h.inner h.rows old first second (h.lines, h.lines_are, h.cells)
-    (subst (λ (r : BorrowedRows). HasEffect parts area old second h.inner r) rows
-    (subst (λ (a : Rect). HasEffect parts area old second a k.rows) inner (k.lines, k.lines_are, k.cells)))
+pub drawn_once : (viewed_once : IsViewedOnce) (fills_once : FillsOnce) (widget : WidgetState) (area : Rect) (old first second : Buffer) → IsDrawn widget area old first → IsDrawn widget area old second → (x y : ℕ) → cell_at first x y ≡ cell_at second x y
+drawn_once viewed_once fills_once widget area old first second h k =
+    let inner : k.inner ≡ h.inner = inner_once widget.surround.block area k.inner h.inner k.inner_is h.inner_is in
+    let rows : k.rows ≡ h.rows = viewed_once (text_and_layout widget.document) k.rows h.rows k.rows_are h.rows_are in
+    made_once fills_once widget area h.inner h.rows old first second (h.lines, h.lines_are, h.cells)
+    (subst (λ (r : BorrowedRows). HasEffect widget area old second h.inner r) rows
+    (subst (λ (a : Rect). HasEffect widget area old second a k.rows) inner (k.lines, k.lines_are, k.cells)))

@@ -1,6 +1,6 @@
 -- A cell shows at most one position.
 use Rattle.std.proofs.Common.{◌≡◌, ℕ, Bool, true, false, Option, Some, sym, subst, ap, ap₂, ◌∙◌}
-use Rattle.tui_textarea.specs.DrawingPrelude.{is_some, text_and_layout, Parts, frame_of, FrameState, number_width, shows_placeholder, IsHitTest, IsLastArea, IsHitBy, IsHitInRows, IsHitOf, IsHitWith, IsNear, VisualPosition, greatest_at, IsStart, HasRowView, row_area, row_view, BorrowedRows, RowArea, IsRowStart, SceneState, contains, Alignment, Left, Center, Right, Rect, Place, hit_column, ViewportState, RowView}
+use Rattle.tui_textarea.specs.DrawingPrelude.{is_some, text_and_layout, WidgetState, frame_of, FrameState, number_width, shows_placeholder, IsHitTest, IsLastArea, IsHitBy, IsHitInRows, IsHitOf, IsHitWith, IsNear, VisualPosition, greatest_at, IsStart, HasRowView, row_area, row_view, BorrowedRows, RowArea, IsRowStart, SceneState, contains, Alignment, Left, Center, Right, Rect, Place, hit_column, ViewportState, RowView}
 use Rattle.tui_textarea.proofs.DrawnRows.{IsPlacedOnce, IsViewedOnce, near_once}
 use Rattle.tui_textarea.proofs.Rects.{last_area_once}
 
@@ -45,13 +45,13 @@ hit_by_once placed_once begins_once false frame viewport inner x y found other h
 hit_by_once placed_once begins_once true frame viewport inner x y found other h k =
     h.1 ∙ ap Some (hit_with_once placed_once begins_once (shows_placeholder frame) frame viewport inner x y h.0 k.0 h.2 k.2) ∙ sym k.1
 
-pub hit_once : (viewed_once : IsViewedOnce) (placed_once : IsPlacedOnce) (begins_once : BeginsOnce) (parts : Parts) (x y : ℕ) (found other : Option Place) → IsHitTest parts x y found → IsHitTest parts x y other → found ≡ other
-hit_once viewed_once placed_once begins_once parts x y found other h k =
-    let inner : k.inner ≡ h.inner = last_area_once parts.document parts.drawing k.inner h.inner k.inner_is h.inner_is in
-    let rows : k.rows ≡ h.rows = viewed_once (text_and_layout parts.document) k.rows h.rows k.rows_are h.rows_are in
-    hit_by_once placed_once begins_once (contains h.inner x y) (frame_of parts h.rows) parts.drawing.viewport h.inner x y found other h.found_is
-    (subst (λ (r : BorrowedRows). IsHitOf (frame_of parts r) parts.drawing.viewport h.inner x y other) rows
-    (subst (λ (a : Rect). IsHitOf (frame_of parts k.rows) parts.drawing.viewport a x y other) inner k.found_is))
+pub hit_once : (viewed_once : IsViewedOnce) (placed_once : IsPlacedOnce) (begins_once : BeginsOnce) (widget : WidgetState) (x y : ℕ) (found other : Option Place) → IsHitTest widget x y found → IsHitTest widget x y other → found ≡ other
+hit_once viewed_once placed_once begins_once widget x y found other h k =
+    let inner : k.inner ≡ h.inner = last_area_once widget.document widget.drawing k.inner h.inner k.inner_is h.inner_is in
+    let rows : k.rows ≡ h.rows = viewed_once (text_and_layout widget.document) k.rows h.rows k.rows_are h.rows_are in
+    hit_by_once placed_once begins_once (contains h.inner x y) (frame_of widget h.rows) widget.drawing.viewport h.inner x y found other h.found_is
+    (subst (λ (r : BorrowedRows). IsHitOf (frame_of widget r) widget.drawing.viewport h.inner x y other) rows
+    (subst (λ (a : Rect). IsHitOf (frame_of widget k.rows) widget.drawing.viewport a x y other) inner k.found_is))
 
 -- ---- when there is a position
 
@@ -59,7 +59,7 @@ some_by : (b : Bool) (frame : FrameState) (viewport : ViewportState) (inner : Re
 some_by false frame viewport inner x y found h = ap is_some h
 some_by true frame viewport inner x y found h = ap is_some h.1
 
-pub some_where_shown : (parts : Parts) (x y : ℕ) (found : Option Place) → IsHitTest parts x y found → (inner : Rect) → IsLastArea parts.document parts.drawing inner → is_some found ≡ contains inner x y
-some_where_shown parts x y found h inner last =
-    some_by (contains h.inner x y) (frame_of parts h.rows) parts.drawing.viewport h.inner x y found h.found_is
-    ∙ ap (λ (a : Rect). contains a x y) (last_area_once parts.document parts.drawing h.inner inner h.inner_is last)
+pub some_where_visible : (widget : WidgetState) (x y : ℕ) (found : Option Place) → IsHitTest widget x y found → (inner : Rect) → IsLastArea widget.document widget.drawing inner → is_some found ≡ contains inner x y
+some_where_visible widget x y found h inner last =
+    some_by (contains h.inner x y) (frame_of widget h.rows) widget.drawing.viewport h.inner x y found h.found_is
+    ∙ ap (λ (a : Rect). contains a x y) (last_area_once widget.document widget.drawing h.inner inner h.inner_is last)

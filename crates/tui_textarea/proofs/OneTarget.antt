@@ -7,7 +7,7 @@ use Rattle.textarea_data.specs.declared.cursor.CursorMove.TheVariants as move
 use Rattle.textarea_document.specs.DocumentRows.{IsAboveCursor, IsBelowCursor}
 use Rattle.textarea_document.specs.DocumentState.{DocumentState}
 use Rattle.textarea_document.specs.Target.{VisualTargets, is_visual, target}
-use Rattle.tui_textarea.specs.Hit.{IsNearestShown}
+use Rattle.tui_textarea.specs.Hit.{IsNearestVisible}
 use Rattle.textarea_view.specs.Viewport.{ViewportState}
 use Rattle.tui_textarea.specs.Moves.{IsTarget}
 use Rattle.tui_textarea.specs.State.{State}
@@ -18,7 +18,7 @@ IsFoundOnce Finds = (document : DocumentState) (found other : Option Place) → 
 
 -- the nearest visible position is unique
 abbrev pub IsInsideOnce : Type 0
-IsInsideOnce = (document : DocumentState) (viewport : ViewportState) (place other : Place) → IsNearestShown document viewport place → IsNearestShown document viewport other → place ≡ other
+IsInsideOnce = (document : DocumentState) (viewport : ViewportState) (place other : Place) → IsNearestVisible document viewport place → IsNearestVisible document viewport other → place ≡ other
 
 pub one_target : (state : State) (cursor_move : CursorMove) (found other : Option Place) → IsFoundOnce IsAboveCursor → IsFoundOnce IsBelowCursor → IsInsideOnce → IsTarget state cursor_move found → IsTarget state cursor_move other → found ≡ other
 one_target state move.Up found other above below inside h k = h.found_is ∙ above state.document h.visual.above k.visual.above (h.above_is refl) (k.above_is refl) ∙ sym k.found_is
@@ -81,7 +81,7 @@ down_target state cursor_move found is below = subst (λ (m : CursorMove). IsTar
   found_is = refl;
 })
 
-pub inside_target : (state : State) (cursor_move : CursorMove) (place : Place) → cursor_move ≡ move.InViewport → IsNearestShown state.document state.drawing.viewport place → IsTarget state cursor_move (Some place)
+pub inside_target : (state : State) (cursor_move : CursorMove) (place : Place) → cursor_move ≡ move.InViewport → IsNearestVisible state.document state.drawing.viewport place → IsTarget state cursor_move (Some place)
 inside_target state cursor_move place is inside = subst (λ (m : CursorMove). IsTarget state m (Some place)) (sym is) (record {
   visual = record { above = None; below = None; inside = place };
   above_is = λ e. cc e;

@@ -9,12 +9,12 @@ use Rattle.textarea_document.specs.Outcomes.{after_redo, after_redo_by, after_un
 use Rattle.textarea_document.specs.Sound.{IsSound}
 use Rattle.textarea_document.specs.Splices.{redo_splices_by, undo_splices_by}
 use Rattle.textarea_document.specs.DocumentState.{DocumentState}
-use Rattle.textarea_document.proofs.RangesOverSplices.{goes_uncut_on, stays}
+use Rattle.textarea_document.proofs.RangesOverSplices.{ranges_stay_on, stays}
 use Rattle.tui_textarea.specs.Drawing.{IsRendered}
 use Rattle.tui_textarea.specs.State.{State}
 use Rattle.tui_textarea.proofs.Frames.{drawn_document}
 use Rattle.tui_textarea.proofs.Acting.{Past}
-use Rattle.tui_textarea.proofs.Stepping.{Reckoning, Seen, seen}
+use Rattle.tui_textarea.proofs.Stepping.{Reckoning, LayoutAndRanges, layout_and_ranges}
 
 -- the law of documents for a step, an undo and a redo
 abbrev pub StepsGo : Type 0
@@ -26,47 +26,47 @@ UndosGo = (document : DocumentState) (splice : Splice) → IsSound document → 
 abbrev pub RedosGo : Type 0
 RedosGo = (document : DocumentState) (splice : Splice) → IsSound document → next document.log ≡ Some splice → RangesFollowSplices document (splice ∷ []) (after_redo document)
 
-still : (old new : DocumentState) → seen new ≡ seen old → RangesStayWhole old [] new
-still old new same = stays old new (ap (λ (s : Seen). s.0.text) same) (ap (λ (s : Seen). s.1) same)
+still : (old new : DocumentState) → layout_and_ranges new ≡ layout_and_ranges old → RangesStayWhole old [] new
+still old new same = stays old new (ap (λ (s : LayoutAndRanges). s.0.text) same) (ap (λ (s : LayoutAndRanges). s.1) same)
 
 -- a document with the text and ranges of another is reached by the same splices
-goes_as : (old new other : DocumentState) (splices : List Splice) → seen other ≡ seen new → RangesStayWhole old splices new → RangesStayWhole old splices other
-goes_as old new other splices same h = (
+follows_as : (old new other : DocumentState) (splices : List Splice) → layout_and_ranges other ≡ layout_and_ranges new → RangesStayWhole old splices new → RangesStayWhole old splices other
+follows_as old new other splices same h = (
   record {
-    text = subst (λ t. IsTextBefore old.text t splices) (sym (ap (λ (s : Seen). s.0.text) same)) h.0.text;
-    ranges = ap (λ (s : Seen). s.1) same ∙ h.0.ranges;
+    text = subst (λ t. IsTextBefore old.text t splices) (sym (ap (λ (s : LayoutAndRanges). s.0.text) same)) h.0.text;
+    ranges = ap (λ (s : LayoutAndRanges). s.1) same ∙ h.0.ranges;
   },
   h.1,
 )
 
-pub going : StepsGo → Reckoning RangesStayWhole
-going steps = record { none = still; same = goes_as; two = goes_uncut_on; one = steps }
+pub reckoning_of : StepsGo → Reckoning RangesStayWhole
+reckoning_of steps = record { none = still; same = follows_as; two = ranges_stay_on; one = steps }
 
 -- ---- undo and redo
 
-undone_goes : UndosGo → (document : DocumentState) (found : Option Splice) → IsSound document → newest document.log ≡ found → RangesFollowSplices document (undo_splices_by found) (after_undo document)
-undone_goes law document None h is =
+ranges_follow_undo : UndosGo → (document : DocumentState) (found : Option Splice) → IsSound document → newest document.log ≡ found → RangesFollowSplices document (undo_splices_by found) (after_undo document)
+ranges_follow_undo law document None h is =
     let same : after_undo document ≡ document = ap (λ (f : Option Splice). after_undo_by f document) is in
-    (still document (after_undo document) (ap seen same)).0
-undone_goes law document (Some splice) h is = law document splice h is
+    (still document (after_undo document) (ap layout_and_ranges same)).0
+ranges_follow_undo law document (Some splice) h is = law document splice h is
 
-redone_goes : RedosGo → (document : DocumentState) (found : Option Splice) → IsSound document → next document.log ≡ found → RangesFollowSplices document (redo_splices_by found) (after_redo document)
-redone_goes law document None h is =
+ranges_follow_redo : RedosGo → (document : DocumentState) (found : Option Splice) → IsSound document → next document.log ≡ found → RangesFollowSplices document (redo_splices_by found) (after_redo document)
+ranges_follow_redo law document None h is =
     let same : after_redo document ≡ document = ap (λ (f : Option Splice). after_redo_by f document) is in
-    (still document (after_redo document) (ap seen same)).0
-redone_goes law document (Some splice) h is = law document splice h is
+    (still document (after_redo document) (ap layout_and_ranges same)).0
+ranges_follow_redo law document (Some splice) h is = law document splice h is
 
 -- ---- what leaves text and ranges unchanged
 
-pub drawing_goes : (old new : State) (area : Rect) → IsRendered old area new → RangesStayWhole old.document [] new.document
-drawing_goes old new area h =
+pub ranges_stay_in_drawing : (old new : State) (area : Rect) → IsRendered old area new → RangesStayWhole old.document [] new.document
+ranges_stay_in_drawing old new area h =
     let is = drawn_document old new area h in
     stays old.document new.document (ap (λ (d : DocumentState). d.text) is) (ap (λ (d : DocumentState). d.ranges) is)
 
 -- ---- calls
 
-pub past_goes : UndosGo → RedosGo → Past RangesFollowSplices
-past_goes undos redos = record {
-  undos = λ document sound. undone_goes undos document (newest document.log) sound refl;
-  redos = λ document sound. redone_goes redos document (next document.log) sound refl;
+pub past_follows : UndosGo → RedosGo → Past RangesFollowSplices
+past_follows undos redos = record {
+  undos = λ document sound. ranges_follow_undo undos document (newest document.log) sound refl;
+  redos = λ document sound. ranges_follow_redo redos document (next document.log) sound refl;
 }

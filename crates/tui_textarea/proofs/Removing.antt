@@ -17,7 +17,7 @@ use Rattle.textarea_document.specs.Selection.{is_selected, origin, selection_end
 use Rattle.textarea_document.specs.Sound.{IsSound}
 use Rattle.textarea_document.specs.DocumentState.{DocumentState}
 use Rattle.textarea_document.proofs.Orders.{index_before}
-use Rattle.textarea_document.proofs.Ranges.{IsHeld, hit_is_held}
+use Rattle.textarea_document.proofs.Ranges.{IsStoredRange, range_is_stored}
 use Rattle.textarea_document.proofs.Sounds.{start_is_place}
 use Rattle.textarea_document.specs.Target.{word_end_after, word_start_before}
 use Rattle.tui_textarea.specs.Removals.{cursor_line, in_line, index_ahead, is_at_line_end}
@@ -43,10 +43,10 @@ selected_made document h selected =
 
 -- ---- the range at the cursor
 
-pub hit_made : (document : DocumentState) (direction : AtomicDeleteDirection) (range : AtomicRange) → IsSound document → range_at_cursor document direction ≡ Some range → HasEffect document (Remove (range_start range) (range_end range))
-hit_made document direction range h is =
-    let held : IsHeld document.text range = subst (λ (found : Option AtomicRange). IfSome found (IsHeld document.text)) is (hit_is_held document.text document.ranges document.cursor direction h.ranges) in
-    (held.start_is, held.end_is, held.ordered)
+pub range_removal_made : (document : DocumentState) (direction : AtomicDeleteDirection) (range : AtomicRange) → IsSound document → range_at_cursor document direction ≡ Some range → HasEffect document (Remove (range_start range) (range_end range))
+range_removal_made document direction range h is =
+    let stored : IsStoredRange document.text range = subst (λ (found : Option AtomicRange). IfSome found (IsStoredRange document.text)) is (range_is_stored document.text document.ranges document.cursor direction h.ranges) in
+    (stored.start_is, stored.end_is, stored.ordered)
 
 -- ---- by index
 
@@ -124,9 +124,9 @@ word_start_made document h inside =
 end_after : (line : List ℕ) (column : ℕ) (found : Option ℕ) → column < length line → next_past_word line column ≡ found → (column < unwrap_or found (length line)) × (unwrap_or found (length line) ≤ length line)
 end_after line column None inside is = (inside, omega arith)
 end_after line column (Some stop) inside is =
-    let parts = and_parts (nat_lt column stop) (is_past_word line stop) (least_passes (is_later_past_word line column) (length line) stop is) in
-    let within : stop < length line = below stop (length line) (and_parts (nat_lt stop (length line)) _ parts.1).0 in
-    (below column stop parts.0, omega arith)
+    let widget = and_parts (nat_lt column stop) (is_past_word line stop) (least_passes (is_later_past_word line column) (length line) stop is) in
+    let within : stop < length line = below stop (length line) (and_parts (nat_lt stop (length line)) _ widget.1).0 in
+    (below column stop widget.0, omega arith)
 
 pub word_end_made : (document : DocumentState) → IsSound document → is_at_line_end document ≡ false → HasEffect document (Remove document.cursor (in_line document (word_end_after (cursor_line document) document.cursor.1)))
 word_end_made document h inside =

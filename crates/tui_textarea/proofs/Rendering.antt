@@ -1,23 +1,23 @@
 -- The state after a drawing, from its steps.
 use Rattle.std.proofs.Common.{◌≡◌, ℕ, ap, sym, subst, ◌∙◌}
-use Rattle.tui_textarea.specs.DrawingPrelude.{parts_of, text_and_layout, with_inner_width, DocumentState, Parts, frame_of, FrameState, Placement, IsDrawn, ArePartsRendered, at_inner_width, drawn_into, DrawingState, IsDrawnAt, IsFrameDrawn, IsViewOf, Buffer, Rect, IsInner}
+use Rattle.tui_textarea.specs.DrawingPrelude.{widget_state, text_and_layout, with_inner_width, DocumentState, WidgetState, frame_of, FrameState, Placement, IsDrawn, IsWidgetRendered, at_inner_width, drawn_into, DrawingState, IsDrawnAt, IsFrameDrawn, IsViewOf, Buffer, Rect, IsInner}
 use Rattle.tui_textarea.proofs.Widths.{frame_at_width}
 
 -- the parts, with another document and another state of drawing
-abbrev pub with_both : Parts → DocumentState → DrawingState → Parts
-with_both parts document drawing = parts_of document parts.pattern parts.surround drawing
+abbrev pub with_both : WidgetState → DocumentState → DrawingState → WidgetState
+with_both widget document drawing = widget_state document widget.pattern widget.surround drawing
 
 -- the steps of a drawing: the inner area, the drawing with the rows at its width, and the new state
-pub record IsStepped (old : Parts) (area inner : Rect) (width : ℕ) (a b : Buffer) (placement : Placement) (document : DocumentState) (drawing : DrawingState) : Type 0 where
+pub record IsStepped (old : WidgetState) (area inner : Rect) (width : ℕ) (a b : Buffer) (placement : Placement) (document : DocumentState) (drawing : DrawingState) : Type 0 where
   pub inner_is : IsInner old.surround.block area inner
   pub width_is : width ≡ inner.width
   pub drawn : IsDrawnAt old width area inner a b placement
   pub document_is : document ≡ with_inner_width old.document width
   pub drawing_is : drawing ≡ drawn_into old.drawing inner placement
 
-module _ (old : Parts) (area inner : Rect) (width : ℕ) (a b : Buffer) (placement : Placement) (document : DocumentState) (drawing : DrawingState) (h : IsStepped old area inner width a b placement document drawing) where
-  new_parts : with_both old document drawing ≡ record (at_inner_width old inner.width) { drawing = drawn_into old.drawing inner placement }
-  new_parts =
+module _ (old : WidgetState) (area inner : Rect) (width : ℕ) (a b : Buffer) (placement : Placement) (document : DocumentState) (drawing : DrawingState) (h : IsStepped old area inner width a b placement document drawing) where
+  new_widget : with_both old document drawing ≡ record (at_inner_width old inner.width) { drawing = drawn_into old.drawing inner placement }
+  new_widget =
       ap (λ (d : DocumentState). with_both old d drawing) (h.document_is ∙ ap (with_inner_width old.document) h.width_is)
       ∙ ap (with_both old (with_inner_width old.document inner.width)) h.drawing_is
 
@@ -27,7 +27,7 @@ module _ (old : Parts) (area inner : Rect) (width : ℕ) (a b : Buffer) (placeme
   drawn_there : IsFrameDrawn (frame_of (at_inner_width old inner.width) h.drawn.rows) old.drawing.viewport area inner a b placement
   drawn_there = subst (λ (f : FrameState). IsFrameDrawn f old.drawing.viewport area inner a b placement) (sym (frame_at_width old inner.width h.drawn.rows)) h.drawn.drawn
 
-  pub rendered : ArePartsRendered old area (with_both old document drawing)
+  pub rendered : IsWidgetRendered old area (with_both old document drawing)
   rendered = record {
     inner = inner;
     inner_is = h.inner_is;
@@ -35,13 +35,13 @@ module _ (old : Parts) (area inner : Rect) (width : ℕ) (a b : Buffer) (placeme
     rows_are = rows_there;
     placement = placement;
     placing_is = drawn_there.placing_is;
-    new_is = new_parts;
+    new_is = new_widget;
   }
 
   pub drawn : IsDrawn (with_both old document drawing) area a b
   drawn =
       let there = drawn_there in
-      subst (λ (p : Parts). IsDrawn p area a b) (sym new_parts) (record {
+      subst (λ (p : WidgetState). IsDrawn p area a b) (sym new_widget) (record {
         inner = inner;
         inner_is = h.inner_is;
         rows = h.drawn.rows;

@@ -37,7 +37,7 @@ in_text (Some place) strings text e within =
     subst (λ (rows : List (List ℕ)). IsPlaceOf rows place) e (row, within.1)
 
 -- the same for a position that a search of the lines found
-pub found_in_text : (result : Result (Option Place) AllocError) (leads : Option Place) (strings : List (String Global)) (text : List Symbol) → lines_of strings ≡ lines text → IfOk result (λ found. found ≡ leads) → IfOk result (λ found. IfSome found (IsPlaceIn strings)) → OnOk result (IfSome leads (IsPlace text))
-found_in_text (Ok found) leads strings text e is within =
+pub target_in_text : (result : Result (Option Place) AllocError) (leads : Option Place) (strings : List (String Global)) (text : List Symbol) → lines_of strings ≡ lines text → IfOk result (λ found. found ≡ leads) → IfOk result (λ found. IfSome found (IsPlaceIn strings)) → OnOk result (IfSome leads (IsPlace text))
+target_in_text (Ok found) leads strings text e is within =
     subst (λ (f : Option Place). IfSome f (IsPlace text)) is (in_text found strings text e within)
-found_in_text (Err error) leads strings text e is within = tt
+target_in_text (Err error) leads strings text e is within = tt

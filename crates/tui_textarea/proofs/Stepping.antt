@@ -10,7 +10,7 @@ use Rattle.textarea_text.specs.Place.{Place}
 use Rattle.textarea_document.specs.Target.{word_end_after, word_start_before}
 use Rattle.textarea_text.specs.Splice.{Splice}
 use Rattle.textarea_text.specs.Text.{Symbol, Break, Character}
-use Rattle.textarea_document.specs.Edits.{Insert, HasEffect, Remove, RemoveBefore, RemoveBehind, RemoveBreak, EditStep, break_removed, cursor_index, range_at_cursor, range_before, range_after, is_at_end, is_at_start, has_symbols, nothing_inserted, part_removed, removed_range_or, removed_before, removed_after, splice_of_step, stepped, symbol_removed_before, symbol_removed_after, symbols_inserted}
+use Rattle.textarea_document.specs.Edits.{Insert, HasEffect, Remove, RemoveBefore, RemoveAfter, RemoveBreak, EditStep, break_removed, cursor_index, range_at_cursor, range_before, range_after, is_at_end, is_at_start, has_symbols, nothing_inserted, between_removed, removed_range_or, removed_before, removed_after, splice_of_step, stepped, symbol_removed_before, symbol_removed_after, symbols_inserted}
 use Rattle.textarea_document.specs.Outcomes.{unanchored}
 use Rattle.textarea_document.specs.Ranges.{range_removed}
 use Rattle.textarea_document.specs.DocumentRows.{text_and_layout}
@@ -19,7 +19,7 @@ use Rattle.textarea_document.specs.Sound.{IsSound}
 use Rattle.textarea_document.specs.Splices.{after_splices, before_splices, break_splices, cursor_range_splices, insertion_splices, range_splices_or, removal_splices, selected_splices}
 use Rattle.textarea_document.specs.DocumentState.{DocumentState}
 use Rattle.textarea_document.proofs.Sounds.{sound_edited}
-use Rattle.textarea_document.proofs.StepLaw.{step_kept}
+use Rattle.textarea_document.proofs.StepLaw.{step_keeps}
 use Rattle.tui_textarea.specs.Edits.{breaks_line, char_inserted, newline_inserted, spaces_to_stop, str_inserted, tab_inserted, typed_character_inserted}
 use Rattle.tui_textarea.specs.LayoutCalls.{tab_length}
 use Rattle.tui_textarea.specs.Moves.{IsMovedWith, after_move_by, pushed}
@@ -28,14 +28,14 @@ use Rattle.tui_textarea.specs.Removals.{back_to_word_removed, cursor_line, curso
 use Rattle.tui_textarea.specs.Selection.{selection_cancelled, selection_copied, selection_cut, unselected}
 use Rattle.tui_textarea.specs.Splices.{ahead_splices, char_splices, clear_splices, line_end_splices, line_head_splices, selected_splices_or, str_splices, tab_splices, word_after_splices, word_before_splices}
 use Rattle.tui_textarea.specs.State.{State}
-use Rattle.tui_textarea.proofs.Removing.{ahead_made, hit_made, line_end_made, line_head_made, selected_made, whole_made, word_end_made, word_start_made}
+use Rattle.tui_textarea.proofs.Removing.{ahead_made, range_removal_made, line_end_made, line_head_made, selected_made, whole_made, word_end_made, word_start_made}
 
 -- the visible side of a document's text: its layout and ranges
-abbrev pub Seen : Type 0
-Seen = TextAndLayout × List AtomicRange
+abbrev pub LayoutAndRanges : Type 0
+LayoutAndRanges = TextAndLayout × List AtomicRange
 
-abbrev pub seen : DocumentState → Seen
-seen document = (text_and_layout document, document.ranges)
+abbrev pub layout_and_ranges : DocumentState → LayoutAndRanges
+layout_and_ranges document = (text_and_layout document, document.ranges)
 
 -- a property that both cases of a test have
 pub by_test : {X : Type 0} (P : X → Type 0) (b : Bool) (x y : X) → (b ≡ true → P x) → (b ≡ false → P y) → P (cond b x y)
@@ -49,16 +49,16 @@ by_both P false u v x y h k = k refl
 
 -- ---- what leaves text, layout and ranges unchanged
 
-moved_seen : (state : State) (shift : Bool) (found : Option Place) → seen (after_move_by state shift found).document ≡ seen state.document
-moved_seen state shift None = refl
-moved_seen state shift (Some place) = refl
+move_unchanged : (state : State) (shift : Bool) (found : Option Place) → layout_and_ranges (after_move_by state shift found).document ≡ layout_and_ranges state.document
+move_unchanged state shift None = refl
+move_unchanged state shift (Some place) = refl
 
-pub moves_seen : (old new : State) (shift : Bool) (cursor_move : CursorMove) → IsMovedWith old shift cursor_move new → seen new.document ≡ seen old.document
-moves_seen old new shift cursor_move h =
-    ap (λ (s : State). seen s.document) h.new_is ∙ moved_seen old shift (pushed old.document.ranges cursor_move h.found)
+pub moves_unchanged : (old new : State) (shift : Bool) (cursor_move : CursorMove) → IsMovedWith old shift cursor_move new → layout_and_ranges new.document ≡ layout_and_ranges old.document
+moves_unchanged old new shift cursor_move h =
+    ap (λ (s : State). layout_and_ranges s.document) h.new_is ∙ move_unchanged old shift (pushed old.document.ranges cursor_move h.found)
 
-pub copied_seen : (state : State) → seen (selection_copied state).document ≡ seen state.document
-copied_seen state = by_test (λ (s : State). seen s.document ≡ seen state.document) (is_selected state.document) _ _ (λ selected. refl) (λ none. refl)
+pub copy_unchanged : (state : State) → layout_and_ranges (selection_copied state).document ≡ layout_and_ranges state.document
+copy_unchanged state = by_test (λ (s : State). layout_and_ranges s.document ≡ layout_and_ranges state.document) (is_selected state.document) _ _ (λ selected. refl) (λ none. refl)
 
 -- ---- steps
 
@@ -71,23 +71,23 @@ some_symbols [] e = absurd cc
 some_symbols (symbol ∷ symbols) e = omega arith
 
 -- the document without the selected text is sound too
-sound_part : (document : DocumentState) (from to : Place) (now : ℕ) → IsSound document → HasEffect document (Remove from to) → IsSound (part_removed document from to now)
-unfolding part_removed
-sound_part document from to now h made =
-    sound_edited document (splice_of_step document (Remove from to)) false now h (step_kept document (Remove from to) h made).0
+sound_between : (document : DocumentState) (from to : Place) (now : ℕ) → IsSound document → HasEffect document (Remove from to) → IsSound (between_removed document from to now)
+unfolding between_removed
+sound_between document from to now h made =
+    sound_edited document (splice_of_step document (Remove from to)) false now h (step_keeps document (Remove from to) h made).0
 
 sound_unselected : (state : State) → IsSound state.document → IsSound (unselected state).document
 sound_unselected state h =
     by_test IsSound (is_selected state.document) _ _
-    (λ selected. sound_part state.document (selection_start state.document) (selection_end state.document) state.time h (selected_made state.document h selected))
+    (λ selected. sound_between state.document (selection_start state.document) (selection_end state.document) state.time h (selected_made state.document h selected))
     (λ none. h)
 
 -- A relation of two documents and the splices between them. No splices relate documents of the same
 -- text, layout and ranges; the splice of a step relates a document to the one after the step,
 -- whatever its cursor and anchor; and splices compose.
 pub record Reckoning (By : DocumentState → List Splice → DocumentState → Type 0) : Type 0 where
-  pub none : (old new : DocumentState) → seen new ≡ seen old → By old [] new
-  pub same : (old new other : DocumentState) (splices : List Splice) → seen other ≡ seen new → By old splices new → By old splices other
+  pub none : (old new : DocumentState) → layout_and_ranges new ≡ layout_and_ranges old → By old [] new
+  pub same : (old new other : DocumentState) (splices : List Splice) → layout_and_ranges other ≡ layout_and_ranges new → By old splices new → By old splices other
   pub two : (old between new : DocumentState) (first second : List Splice) → By old first between → By between second new → By old (first ++ second) new
   pub one : (document : DocumentState) (step : EditStep) (typed : Bool) (now : ℕ) → IsSound document → HasEffect document step → By document (splice_of_step document step ∷ []) (stepped document step typed now)
 
@@ -96,21 +96,21 @@ module _ (By : DocumentState → List Splice → DocumentState → Type 0) (by :
   abbrev From : State → List Splice → State → Type 0
   From old splices new = By old.document splices new.document
 
-  pub part_by : (document : DocumentState) (from to : Place) (now : ℕ) → IsSound document → HasEffect document (Remove from to) → By document (removal_splices document from to) (part_removed document from to now)
-  unfolding part_removed
-  part_by document from to now h made = by.one document (Remove from to) false now h made
+  pub between_by : (document : DocumentState) (from to : Place) (now : ℕ) → IsSound document → HasEffect document (Remove from to) → By document (removal_splices document from to) (between_removed document from to now)
+  unfolding between_removed
+  between_by document from to now h made = by.one document (Remove from to) false now h made
 
   -- ---- removals
 
-  pub hit_or_by : (document other : DocumentState) (splices : List Splice) (direction : AtomicDeleteDirection) (found : Option AtomicRange) (now : ℕ) → IsSound document → range_at_cursor document direction ≡ found → (found ≡ None → By document splices other) → By document (range_splices_or found document splices) (removed_range_or found document now other)
-  hit_or_by document other splices direction None now h is k = k refl
-  hit_or_by document other splices direction (Some range) now h is k =
-      part_by document (range_start range) (range_end range) now h (hit_made document direction range h is)
+  pub range_or_by : (document other : DocumentState) (splices : List Splice) (direction : AtomicDeleteDirection) (found : Option AtomicRange) (now : ℕ) → IsSound document → range_at_cursor document direction ≡ found → (found ≡ None → By document splices other) → By document (range_splices_or found document splices) (removed_range_or found document now other)
+  range_or_by document other splices direction None now h is k = k refl
+  range_or_by document other splices direction (Some range) now h is k =
+      between_by document (range_start range) (range_end range) now h (range_removal_made document direction range h is)
 
   pub before_by : (document : DocumentState) (typed : Bool) (now : ℕ) → IsSound document → By document (before_splices document) (removed_before document typed now)
   unfolding removed_before
   before_by document typed now h =
-      hit_or_by document (symbol_removed_before document typed now) (if is_at_start document then [] else splice_of_step document RemoveBefore ∷ []) Backward (range_before document) now h refl
+      range_or_by document (symbol_removed_before document typed now) (if is_at_start document then [] else splice_of_step document RemoveBefore ∷ []) Backward (range_before document) now h refl
       (λ none. by_both (By document) (is_at_start document) _ _ _ _
       (λ at. by.none document (unanchored document) refl)
       (λ inside. by.one document RemoveBefore typed now h (none, apart (cursor_index document) 0 inside)))
@@ -118,10 +118,10 @@ module _ (By : DocumentState → List Splice → DocumentState → Type 0) (by :
   pub after_by : (document : DocumentState) (typed : Bool) (now : ℕ) → IsSound document → By document (after_splices document) (removed_after document typed now)
   unfolding removed_after
   after_by document typed now h =
-      hit_or_by document (symbol_removed_after document typed now) (if is_at_end document then [] else splice_of_step document RemoveBehind ∷ []) Forward (range_after document) now h refl
+      range_or_by document (symbol_removed_after document typed now) (if is_at_end document then [] else splice_of_step document RemoveAfter ∷ []) Forward (range_after document) now h refl
       (λ none. by_both (By document) (is_at_end document) _ _ _ _
       (λ at. by.none document (unanchored document) refl)
-      (λ inside. by.one document RemoveBehind typed now h (none, apart (cursor_index document) (length document.text) inside)))
+      (λ inside. by.one document RemoveAfter typed now h (none, apart (cursor_index document) (length document.text) inside)))
 
   pub break_by : (document : DocumentState) (now : ℕ) → IsSound document → By document (break_splices document) (break_removed document now)
   break_by document now h =
@@ -131,7 +131,7 @@ module _ (By : DocumentState → List Splice → DocumentState → Type 0) (by :
 
   pub yanked_by : (state : State) (from to : Place) → IsSound state.document → HasEffect state.document (Remove from to) → From state (removal_splices state.document from to) (yanked state from to)
   unfolding yanked
-  yanked_by state from to h made = part_by state.document from to state.time h made
+  yanked_by state from to h made = between_by state.document from to state.time h made
 
   pub ahead_by : (state : State) (count : ℕ) → IsSound state.document → From state (ahead_splices state.document count) (symbols_ahead_removed state count)
   ahead_by state count h =
@@ -165,18 +165,18 @@ module _ (By : DocumentState → List Splice → DocumentState → Type 0) (by :
       (λ at. after_by state.document state.settings.undo_coalescing state.time h)
       (λ inside. yanked_by state _ _ h (word_end_made state.document h inside))
 
-  hit_removed_by : (state other : State) (splices : List Splice) (direction : AtomicDeleteDirection) (found : Option AtomicRange) → IsSound state.document → range_at_cursor state.document direction ≡ found → From state splices other → From state (range_splices_or found state.document splices) (cursor_range_removed_or found state other)
-  hit_removed_by state other splices direction None h is k = k
-  hit_removed_by state other splices direction (Some range) h is k =
-      part_by state.document (range_start range) (range_end range) state.time h (hit_made state.document direction range h is)
+  range_removed_by : (state other : State) (splices : List Splice) (direction : AtomicDeleteDirection) (found : Option AtomicRange) → IsSound state.document → range_at_cursor state.document direction ≡ found → From state splices other → From state (range_splices_or found state.document splices) (cursor_range_removed_or found state other)
+  range_removed_by state other splices direction None h is k = k
+  range_removed_by state other splices direction (Some range) h is k =
+      between_by state.document (range_start range) (range_end range) state.time h (range_removal_made state.document direction range h is)
 
   pub word_before_by : (state : State) → IsSound state.document → From state (word_before_splices state.document) (word_before_removed state)
   word_before_by state h =
-      hit_removed_by state (back_to_word_removed state) _ Backward (range_before state.document) h refl (back_to_word_by state h)
+      range_removed_by state (back_to_word_removed state) _ Backward (range_before state.document) h refl (back_to_word_by state h)
 
   pub word_after_by : (state : State) → IsSound state.document → From state (word_after_splices state.document) (word_after_removed state)
   word_after_by state h =
-      hit_removed_by state (on_to_word_end_removed state) _ Forward (range_after state.document) h refl (on_to_word_end_by state h)
+      range_removed_by state (on_to_word_end_removed state) _ Forward (range_after state.document) h refl (on_to_word_end_by state h)
 
   pub cleared_by : (state : State) → IsSound state.document → From state (clear_splices state.document) (text_cleared state)
   cleared_by state h =
@@ -187,11 +187,11 @@ module _ (By : DocumentState → List Splice → DocumentState → Type 0) (by :
   range_by : (document : DocumentState) (direction : AtomicDeleteDirection) (found : Option AtomicRange) (now : ℕ) → IsSound document → range_at_cursor document direction ≡ found → By document (range_splices_or found document []) (range_removed found document now)
   range_by document direction None now h is = by.none document document refl
   range_by document direction (Some range) now h is =
-      by.same document (part_removed document (range_start range) (range_end range) now) (range_removed (Some range) document now) (removal_splices document (range_start range) (range_end range)) refl
-      (part_by document (range_start range) (range_end range) now h (hit_made document direction range h is))
+      by.same document (between_removed document (range_start range) (range_end range) now) (range_removed (Some range) document now) (removal_splices document (range_start range) (range_end range)) refl
+      (between_by document (range_start range) (range_end range) now h (range_removal_made document direction range h is))
 
-  pub hit_range_by : (state : State) (direction : AtomicDeleteDirection) → IsSound state.document → From state (cursor_range_splices state.document direction) (atomic_range_removed state direction)
-  hit_range_by state direction h =
+  pub cursor_range_by : (state : State) (direction : AtomicDeleteDirection) → IsSound state.document → From state (cursor_range_splices state.document direction) (atomic_range_removed state direction)
+  cursor_range_by state direction h =
       range_by state.document direction (range_at_cursor state.document direction) state.time h refl
 
   -- ---- over a selection
@@ -199,7 +199,7 @@ module _ (By : DocumentState → List Splice → DocumentState → Type 0) (by :
   pub selected_by : (document : DocumentState) (now : ℕ) → IsSound document → By document (selected_splices document) (selected_removed document now)
   selected_by document now h =
       by_both (By document) (is_selected document) _ _ _ _
-      (λ selected. part_by document (selection_start document) (selection_end document) now h (selected_made document h selected))
+      (λ selected. between_by document (selection_start document) (selection_end document) now h (selected_made document h selected))
       (λ none. by.none document document refl)
 
   pub unselected_by : (state other : State) (splices : List Splice) → IsSound state.document → From state splices other → From state (selected_splices_or state.document splices) (unselected_or state other)
@@ -211,7 +211,7 @@ module _ (By : DocumentState → List Splice → DocumentState → Type 0) (by :
       by_test (From state (selected_splices state.document)) (is_selected state.document) _ _
       (λ selected. selected_by state.document state.time h)
       (λ none. by.same state.document (unselected state).document (unanchored state.document) (selected_splices state.document)
-      (by_test (λ (d : DocumentState). seen (unanchored state.document) ≡ seen d) (is_selected state.document) _ _ (λ selected. absurd (cc (selected, none))) (λ free. refl))
+      (by_test (λ (d : DocumentState). layout_and_ranges (unanchored state.document) ≡ layout_and_ranges d) (is_selected state.document) _ _ (λ selected. absurd (cc (selected, none))) (λ free. refl))
       (selected_by state.document state.time h))
 
   -- ---- insertions

@@ -52,36 +52,36 @@ none_is (Some x) e = absurd (cc e)
 
 -- its result if there is no range at the cursor either
 pub answered_unhit : {E : Type 0} (r : Result Bool E) (has : State → Bool) (direction : AtomicDeleteDirection) {view state : State} → view ≡ state
-    → (removed behind : DocumentState) (found : Option AtomicRange) → removed ≡ selected_removed view.document view.time → is_selected view.document ≡ false
-    → found ≡ range_at_cursor removed direction → is_some found ≡ false → behind ≡ cursor_range_removed removed direction view.time
-    → IfOk r (λ b. b ≡ has (with_document view behind))
+    → (removed after : DocumentState) (found : Option AtomicRange) → removed ≡ selected_removed view.document view.time → is_selected view.document ≡ false
+    → found ≡ range_at_cursor removed direction → is_some found ≡ false → after ≡ cursor_range_removed removed direction view.time
+    → IfOk r (λ b. b ≡ has (with_document view after))
     → IfOk r (λ b. b ≡ removes_or state (is_some (range_at_cursor state.document direction) || has state))
-answered_unhit r has direction {view} is removed behind found gone none found_is unhit behind_is h =
+answered_unhit r has direction {view} is removed after found gone none found_is unhit symbol_after_is h =
     answered_unselected r (λ (s : State). is_some (range_at_cursor s.document direction) || has s) is removed gone none
-    (IfOk-weaker r (λ b. b ≡ has (with_document view behind)) (λ b. b ≡ (is_some (range_at_cursor removed direction) || has (with_document view removed)))
+    (IfOk-weaker r (λ b. b ≡ has (with_document view after)) (λ b. b ≡ (is_some (range_at_cursor removed direction) || has (with_document view removed)))
     (λ b e. e ∙ ap (λ (d : DocumentState). has (with_document view d)) stays
     ∙ sym (ap (λ (t : Bool). t || has (with_document view removed)) (ap is_some (sym found_is) ∙ unhit))) h)
   where
-    stays : behind ≡ removed
-    stays = behind_is ∙ ap (λ (o : Option AtomicRange). removed_range_or o removed view.time removed) (sym found_is ∙ none_is found unhit)
+    stays : after ≡ removed
+    stays = symbol_after_is ∙ ap (λ (o : Option AtomicRange). removed_range_or o removed view.time removed) (sym found_is ∙ none_is found unhit)
 
 -- a range that was found at the cursor then is one of the state
-pub hit_found : {view state : State} → view ≡ state → (removed : DocumentState) → removed ≡ selected_removed view.document view.time → is_selected view.document ≡ false
+pub range_found : {view state : State} → view ≡ state → (removed : DocumentState) → removed ≡ selected_removed view.document view.time → is_selected view.document ≡ false
     → (direction : AtomicDeleteDirection) → range_at_cursor removed direction ≡ range_at_cursor state.document direction
-hit_found is removed gone none direction = ap (λ (s : State). range_at_cursor s.document direction) (none_gone is removed gone none)
+range_found is removed gone none direction = ap (λ (s : State). range_at_cursor s.document direction) (none_gone is removed gone none)
 
 -- so something is removed if there is a range at the cursor
-pub hit_goes : {view state : State} → view ≡ state → (removed : DocumentState) → removed ≡ selected_removed view.document view.time → is_selected view.document ≡ false
+pub range_removes : {view state : State} → view ≡ state → (removed : DocumentState) → removed ≡ selected_removed view.document view.time → is_selected view.document ≡ false
     → (direction : AtomicDeleteDirection) (found : Option AtomicRange) (other : Bool) → found ≡ range_at_cursor removed direction → is_some found ≡ true
     → true ≡ removes_or state (is_some (range_at_cursor state.document direction) || other)
-hit_goes {state = state} is removed gone none direction found other found_is some =
+range_removes {state = state} is removed gone none direction found other found_is some =
     sym (or_right (is_selected state.document) _ (or_left (is_some (range_at_cursor state.document direction)) other
-    (ap is_some (sym (found_is ∙ hit_found is removed gone none direction)) ∙ some)))
+    (ap is_some (sym (found_is ∙ range_found is removed gone none direction)) ∙ some)))
 
 -- there is no range at the cursor if nothing is removed
-pub none_hit : {view state : State} → view ≡ state → (removed : DocumentState) → removed ≡ selected_removed view.document view.time → is_selected view.document ≡ false
+pub none_at_place : {view state : State} → view ≡ state → (removed : DocumentState) → removed ≡ selected_removed view.document view.time → is_selected view.document ≡ false
     → (direction : AtomicDeleteDirection) (other : Bool) → removes_or state (is_some (range_at_cursor state.document direction) || other) ≡ false
     → range_at_cursor removed direction ≡ None
-none_hit {state = state} is removed gone none direction other stays =
+none_at_place {state = state} is removed gone none direction other stays =
     let hit = range_at_cursor state.document direction in
-    hit_found is removed gone none direction ∙ none_is hit (or_parts (is_some hit) other (or_parts (is_selected state.document) (is_some hit || other) stays).1).0
+    range_found is removed gone none direction ∙ none_is hit (or_parts (is_some hit) other (or_parts (is_selected state.document) (is_some hit || other) stays).1).0

@@ -1,6 +1,6 @@
 -- A frame at another inner width has the same settings.
 use Rattle.std.proofs.Common.{◌≡◌, ℕ, Bool, true, false, cond, not, Option, None, Some, ap, refl, ◌∙◌}
-use Rattle.tui_textarea.specs.DrawingPrelude.{has_symbols, text_and_layout, selection, selection_by, DocumentState, Parts, frame_of, scene_of, FrameState, at_inner_width, TextAndLayout, Layout, at_width, layout_from_scratch, keeps_wrapping, BorrowedRows, LayoutSettings, Place}
+use Rattle.tui_textarea.specs.DrawingPrelude.{has_symbols, text_and_layout, selection, selection_by, DocumentState, WidgetState, frame_of, scene_of, FrameState, at_inner_width, TextAndLayout, Layout, at_width, layout_from_scratch, keeps_wrapping, BorrowedRows, LayoutSettings, Place}
 
 abbrev put_if : Bool → TextAndLayout → LayoutSettings → TextAndLayout
 put_if b text_layout settings = cond b (record { text = text_layout.text; layout = record { settings = settings; count = text_layout.layout.count; ticks = text_layout.layout.ticks } }) (layout_from_scratch settings text_layout.layout.count text_layout.text)
@@ -16,18 +16,18 @@ selection_put document layout = by document.anchor
     by None = refl
     by (Some anchor) = refl
 
-abbrev frame_with : Parts → BorrowedRows → Option (Place × Place) → LayoutSettings → FrameState
-frame_with parts rows selected settings = record {
-  scene = record (scene_of parts rows) { selection = selected; line_numbers = settings.line_numbers };
-  surround = parts.surround;
+abbrev frame_with : WidgetState → BorrowedRows → Option (Place × Place) → LayoutSettings → FrameState
+frame_with widget rows selected settings = record {
+  scene = record (scene_of widget rows) { selection = selected; line_numbers = settings.line_numbers };
+  surround = widget.surround;
   mode = settings.mode;
-  is_empty = not (has_symbols parts.document.text);
+  is_empty = not (has_symbols widget.document.text);
 }
 
 -- only the rows of a frame depend on the width
-pub frame_at_width : (parts : Parts) (width : ℕ) (rows : BorrowedRows) → frame_of (at_inner_width parts width) rows ≡ frame_of parts rows
-frame_at_width parts width rows =
-    let text_layout = text_and_layout parts.document in
+pub frame_at_width : (widget : WidgetState) (width : ℕ) (rows : BorrowedRows) → frame_of (at_inner_width widget width) rows ≡ frame_of widget rows
+frame_at_width widget width rows =
+    let text_layout = text_and_layout widget.document in
     let new : TextAndLayout = put_if (keeps_wrapping text_layout (at_width text_layout width)) text_layout (at_width text_layout width) in
-    ap (λ (s : Option (Place × Place)). frame_with parts rows s new.layout.settings) (selection_put parts.document new.layout)
-    ∙ ap (frame_with parts rows (selection parts.document)) (settings_put (keeps_wrapping text_layout (at_width text_layout width)) text_layout (at_width text_layout width))
+    ap (λ (s : Option (Place × Place)). frame_with widget rows s new.layout.settings) (selection_put widget.document new.layout)
+    ∙ ap (frame_with widget rows (selection widget.document)) (settings_put (keeps_wrapping text_layout (at_width text_layout width)) text_layout (at_width text_layout width))

@@ -63,8 +63,8 @@ module _ (drawn : State) (area : Rect) (wide : area.width ≡ 6) (h : IsRendered
   pub three_among_hundred : wrapped_so_far (with_x_y_z (with_a drawn)) ≡ wrapped_so_far (with_a drawn) + 3
   three_among_hundred = subst (λ (s : State). wrapped_so_far (with_x_y_z (with_a s)) ≡ wrapped_so_far (with_a s) + 3) (sym is_hundred) (three_inserted drawn.drawing)
 
-  pub three_taken_back : wrapped_so_far (with_undone (with_x_y_z (with_a drawn))) ≡ wrapped_so_far (with_x_y_z (with_a drawn)) + 1
-  three_taken_back = subst (λ (s : State). wrapped_so_far (with_undone (with_x_y_z (with_a s))) ≡ wrapped_so_far (with_x_y_z (with_a s)) + 1) (sym is_hundred) (three_undone drawn.drawing)
+  pub three_undone_case : wrapped_so_far (with_undone (with_x_y_z (with_a drawn))) ≡ wrapped_so_far (with_x_y_z (with_a drawn)) + 1
+  three_undone_case = subst (λ (s : State). wrapped_so_far (with_undone (with_x_y_z (with_a s))) ≡ wrapped_so_far (with_x_y_z (with_a s)) + 1) (sym is_hundred) (three_undone drawn.drawing)
 
   pub three_made_again : wrapped_so_far (with_redone (with_undone (with_x_y_z (with_a drawn)))) ≡ wrapped_so_far (with_undone (with_x_y_z (with_a drawn))) + 3
   three_made_again = subst (λ (s : State). wrapped_so_far (with_redone (with_undone (with_x_y_z (with_a s)))) ≡ wrapped_so_far (with_undone (with_x_y_z (with_a s))) + 3) (sym is_hundred) (three_redone drawn.drawing)
@@ -113,13 +113,13 @@ IsAsWide columns state = map_width (text_and_layout state.document) ≡ Some col
 abbrev IsAsWideAtNewline : ℕ → State → Type 0
 IsAsWideAtNewline columns state = map_width (text_and_layout (newline_inserted state).document) ≡ Some columns
 
-ten_cut : (style : Style) (drawing : DrawingState) → AddsAtNewline 10 (nine mode.Glyph style 11 drawing)
+ten_wrapped : (style : Style) (drawing : DrawingState) → AddsAtNewline 10 (nine mode.Glyph style 11 drawing)
 unfolding digits
-ten_cut style drawing = refl
+ten_wrapped style drawing = refl
 
-nine_cut : (style : Style) (drawing : DrawingState) → AddsUndone 9 (nine mode.Glyph style 11 drawing)
+nine_wrapped : (style : Style) (drawing : DrawingState) → AddsUndone 9 (nine mode.Glyph style 11 drawing)
 unfolding digits
-nine_cut style drawing = refl
+nine_wrapped style drawing = refl
 
 seven_wide : (style : Style) (drawing : DrawingState) → IsAsWide 7 (nine mode.Glyph style 11 drawing)
 unfolding digits
@@ -136,17 +136,17 @@ two_narrow style drawing = refl
 two_whole : (style : Style) (drawing : DrawingState) → AddsAtNewline 2 (nine mode.None style 11 drawing)
 two_whole style drawing = refl
 
-pub tenth_cuts_all : Holds mode.Glyph 11 (AddsAtNewline 10)
-tenth_cuts_all = holds mode.Glyph 11 (AddsAtNewline 10) ten_cut
+pub tenth_wraps_all : Holds mode.Glyph 11 (AddsAtNewline 10)
+tenth_wraps_all = holds mode.Glyph 11 (AddsAtNewline 10) ten_wrapped
 
-pub ninth_cuts_all : Holds mode.Glyph 11 (AddsUndone 9)
-ninth_cuts_all = holds mode.Glyph 11 (AddsUndone 9) nine_cut
+pub ninth_wraps_all : Holds mode.Glyph 11 (AddsUndone 9)
+ninth_wraps_all = holds mode.Glyph 11 (AddsUndone 9) nine_wrapped
 
 pub wide_before : Holds mode.Glyph 11 (IsAsWide 7)
 wide_before = holds mode.Glyph 11 (IsAsWide 7) seven_wide
 
-pub narrow_behind : Holds mode.Glyph 11 (IsAsWideAtNewline 6)
-narrow_behind = holds mode.Glyph 11 (IsAsWideAtNewline 6) six_wide
+pub narrow_after : Holds mode.Glyph 11 (IsAsWideAtNewline 6)
+narrow_after = holds mode.Glyph 11 (IsAsWideAtNewline 6) six_wide
 
 pub tenth_is_narrow : Holds mode.Glyph 3 (AddsAtNewline 2)
 tenth_is_narrow = holds mode.Glyph 3 (AddsAtNewline 2) two_narrow
@@ -170,8 +170,8 @@ width_searched state found width put =
     ∙ put
     ∙ ap (λ (s : SurroundState). width_inside s.block width) (sym (searched_surround state found))
 
-pub still_cut : (drawn down scrolled again : State) (found : Option Place) → down.document.layout ≡ drawn.document.layout → scrolled.document.layout ≡ down.document.layout → again.document ≡ (after_search scrolled found).document → WrapsNothing drawn.document again.document
-still_cut drawn down scrolled again found moved shown same =
+pub still_wrapped : (drawn down scrolled again : State) (found : Option Place) → down.document.layout ≡ drawn.document.layout → scrolled.document.layout ≡ down.document.layout → again.document ≡ (after_search scrolled found).document → WrapsNothing drawn.document again.document
+still_wrapped drawn down scrolled again found moved displayed same =
     let layout : again.document.layout ≡ drawn.document.layout =
-    ap (λ (d : DocumentState). d.layout) same ∙ searched_document scrolled found ∙ shown ∙ moved in
+    ap (λ (d : DocumentState). d.layout) same ∙ searched_document scrolled found ∙ displayed ∙ moved in
     record { count = ap (λ (l : Layout). l.count) layout; ticks = ap (λ (l : Layout). l.ticks) layout }

@@ -12,7 +12,7 @@ use Rattle.textarea_document.specs.Sound.{IsSound}
 use Rattle.textarea_document.specs.Splices.{redo_splices_by, undo_splices_by}
 use Rattle.textarea_document.specs.DocumentState.{DocumentState}
 use Rattle.tui_textarea.proofs.Acting.{Past}
-use Rattle.tui_textarea.proofs.Stepping.{Reckoning, Seen}
+use Rattle.tui_textarea.proofs.Stepping.{Reckoning, LayoutAndRanges}
 
 -- the law of documents for a step, an undo and a redo
 abbrev pub StepsWrap : Type 0
@@ -33,8 +33,8 @@ spliced_on old between new (splice ∷ first) second h k = (h.0, h.1, spliced_on
 -- the lines that are wrapped by a step's splice, by none, and by several
 pub reckoned : StepsWrap → Reckoning SplicedBy
 reckoned cut = record {
-  none = λ old new same. ap (λ (s : Seen). s.0) same;
-  same = λ old new other splices is h. subst (WrapsForSplices (text_and_layout old) splices) (sym (ap (λ (s : Seen). s.0) is)) h;
+  none = λ old new same. ap (λ (s : LayoutAndRanges). s.0) same;
+  same = λ old new other splices is h. subst (WrapsForSplices (text_and_layout old) splices) (sym (ap (λ (s : LayoutAndRanges). s.0) is)) h;
   two = λ old between new first second h k. spliced_on (text_and_layout old) (text_and_layout between) (text_and_layout new) first second h k;
   one = λ document step typed now h made. (text_and_layout (stepped document step typed now), cut document step typed now h made, refl);
 }
@@ -51,8 +51,8 @@ redone_by_splices cut document (Some splice) h is = (text_and_layout (after_redo
 
 -- ---- calls
 
-pub past_cut : UndosWrap → RedosWrap → Past SplicedBy
-past_cut undos redos = record {
+pub past_wraps : UndosWrap → RedosWrap → Past SplicedBy
+past_wraps undos redos = record {
   undos = λ document sound. undone_by_splices undos document (newest document.log) sound refl;
   redos = λ document sound. redone_by_splices redos document (next document.log) sound refl;
 }

@@ -13,7 +13,7 @@ use Rattle.textarea_view.specs.declared.surround.measure.TextAreaMeasure.{TextAr
 use Rattle.textarea_text.specs.Place as places
 use Rattle.textarea_wrap.specs.declared.wrap.WrapMode as modes_of_wrapping
 use Rattle.textarea_calls.specs.declared.answer.Answer.{Answer}
-use Rattle.textarea_calls.specs.declared.answer.Answer.TheVariants as answer
+use Rattle.textarea_calls.specs.declared.answer.Answer.TheVariants as returned
 
 -- done and nothing else; whether there was something to do; a text; the range that was found, if
 -- any; the rejected ranges; the measured heights; that the pattern is rejected; the position that a
@@ -27,7 +27,7 @@ pub data CallResult : Type 0 where
   Range : Option AtomicRange → CallResult
   Rejected : List RejectedAtomicRange → CallResult
   Measured : TextAreaMeasure → CallResult
-  PatternRefused : CallResult
+  PatternRejected : CallResult
   Place : Option (ℕ × ℕ) → CallResult
   Position : Option (ℕ × ℕ) → CallResult
   Style : styles.Style → CallResult
@@ -37,25 +37,25 @@ pub data CallResult : Type 0 where
   Number : ℕ → CallResult
   Cursor : places.Place → CallResult
   Selection : Option (places.Place × places.Place) → CallResult
-  StyleIfShown : Option styles.Style → CallResult
+  StyleIfVisible : Option styles.Style → CallResult
   WrapMode : modes_of_wrapping.WrapMode → CallResult
 
 abbrev pub call_result : Answer → CallResult
-call_result answer.Done = Done
-call_result (answer.Flag flag) = Flag flag
-call_result (answer.Text text) = Text (chars (string_bytes text))
-call_result (answer.Range range) = Range range
-call_result (answer.Rejected rejected) = Rejected rejected.items
-call_result (answer.Measured measure) = Measured measure
-call_result answer.PatternRefused = PatternRefused
-call_result (answer.Place place) = Place place
-call_result (answer.Position position) = Position (option_map cell_of_position position)
-call_result (answer.Style style) = Style style
-call_result (answer.Character character) = Character character
-call_result (answer.CursorRenderMode mode) = CursorRenderMode mode
-call_result (answer.Alignment alignment) = Alignment alignment
-call_result (answer.Number number) = Number number
-call_result (answer.Cursor cursor) = Cursor cursor
-call_result (answer.Selection selection) = Selection selection
-call_result (answer.StyleIfShown style) = StyleIfShown style
-call_result (answer.WrapMode mode) = WrapMode mode
+call_result returned.Done = Done
+call_result (returned.Flag flag) = Flag flag
+call_result (returned.Text text) = Text (chars (string_bytes text))
+call_result (returned.Range range) = Range range
+call_result (returned.Rejected rejected) = Rejected rejected.items
+call_result (returned.Measured measure) = Measured measure
+call_result returned.PatternRejected = PatternRejected
+call_result (returned.Place place) = Place place
+call_result (returned.Position position) = Position (option_map cell_of_position position)
+call_result (returned.Style style) = Style style
+call_result (returned.Character character) = Character character
+call_result (returned.CursorRenderMode mode) = CursorRenderMode mode
+call_result (returned.Alignment alignment) = Alignment alignment
+call_result (returned.Number number) = Number number
+call_result (returned.Cursor cursor) = Cursor cursor
+call_result (returned.Selection selection) = Selection selection
+call_result (returned.StyleIfVisible style) = StyleIfVisible style
+call_result (returned.WrapMode mode) = WrapMode mode

@@ -62,8 +62,8 @@ OfSplicesOutOfMemory state Fact = Fact [] ⊎ Fact (selected_splices state.docum
 -- the calls lead with these results from the old state and buffer to the new ones, and these are
 -- their splices: those of each call in the state that it is made in, one call's after another's
 abbrev pub LeadsBy : State → Buffer → List Call → List CallResult → List Splice → State → Buffer → Type 0
-LeadsBy old buffer [] [] splices new shown = (splices ≡ []) × (new ≡ old) × (shown ≡ buffer)
-LeadsBy old buffer (call ∷ calls) (answer ∷ answers) splices new shown =
+LeadsBy old buffer [] [] splices new displayed = (splices ≡ []) × (new ≡ old) × (displayed ≡ buffer)
+LeadsBy old buffer (call ∷ calls) (returned ∷ results) splices new displayed =
     (between : State) × (screen : Buffer) × (later : List Splice) × (splices ≡ splices_of old call ++ later)
-    × CallLeads old buffer call answer between screen × LeadsBy between screen calls answers later new shown
-LeadsBy old buffer calls answers splices new shown = ⊥
+    × CallLeads old buffer call returned between screen × LeadsBy between screen calls results later new displayed
+LeadsBy old buffer calls results splices new displayed = ⊥

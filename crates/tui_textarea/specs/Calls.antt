@@ -34,7 +34,7 @@ use Rattle.tui_textarea.specs.Measure.{reads_rows, with_surround}
 use Rattle.tui_textarea.specs.Search.{next_match, previous_match, after_search, with_pattern}
 use Rattle.tui_textarea.specs.Patterns.{IsNewPattern}
 use Rattle.tui_textarea.specs.Ranges.{cursor_normalized, atomic_range_removed, ranges_accepted, ranges_cleared}
-use Rattle.tui_textarea.specs.CallResults as told
+use Rattle.tui_textarea.specs.CallResults as reported
 use Rattle.tui_textarea.specs.CallResults.{CallResult, Done, Flag, Range, Rejected, Text}
 use Rattle.textarea_calls.specs.declared.call.Call.{Call}
 use Rattle.textarea_calls.specs.declared.call.Call.TheVariants.{InsertChar, InsertStr, InsertTab, InsertNewline, DeleteStr, DeleteNewline, DeleteChar, DeleteNextChar, DeleteLineByEnd, DeleteLineByHead, DeleteWord, DeleteNextWord, Clear, Cut, Copy, Paste, Undo, Redo, StartSelection, CancelSelection, SelectAll, SetYankText, YankText, SetTabLength, SetHardTabIndent, SetMaxHistories, SetUndoCoalescing, SetNow, SetLines, TrySetAtomicRanges, ClearAtomicRanges, NormalizeCursorAroundAtomicRanges, AtomicRangeAtCursor, DeleteAtomicRangeAtCursor, SetSearchPattern, SearchForward, SearchBack, SetWrapMode, SetLineNumberStyle, RemoveLineNumber, Measure, SetBlock, RemoveBlock, SetPlaceholderText, SetStyledPlaceholder, SetPlaceholderStyle, SetMinRows, SetMaxRows, SetStyle, Style, SetCursorStyle, CursorStyle, SetCursorLineStyle, CursorLineStyle, SetSelectionStyle, SelectionStyle, SetSearchStyle, SearchStyle, SetMaskChar, ClearMaskChar, MaskChar, SetCursorRenderMode, CursorRenderMode, SetAlignment, Alignment, CustomHighlight, ClearCustomHighlight, Render, RenderedCursorPosition, CursorAtPosition, Cursor, IsEmpty, IsSelecting, SelectionRange, TabLength, HardTabIndent, MaxHistories, UndoCoalescing, WrapMode, LineNumberStyle, PlaceholderStyle, MinRows, MaxRows}
@@ -44,9 +44,9 @@ abbrev pub rejected_ranges : State → List AtomicRange → List RejectedAtomicR
 rejected_ranges state ranges = rejected_of (lines state.document.text) (in_order ranges)
 
 -- the result of setting ranges: the rejected ranges, or done if there are none
-abbrev pub ranges_answer : List RejectedAtomicRange → CallResult
-ranges_answer [] = Done
-ranges_answer (range ∷ rejected) = Rejected (range ∷ rejected)
+abbrev pub ranges_result : List RejectedAtomicRange → CallResult
+ranges_result [] = Done
+ranges_result (range ∷ rejected) = Rejected (range ∷ rejected)
 
 -- the ranges are set if none is rejected, and otherwise nothing changes
 abbrev pub with_ranges_if : List RejectedAtomicRange → State → List AtomicRange → State
@@ -55,52 +55,52 @@ with_ranges_if (range ∷ rejected) state ranges = state
 
 -- the result of the call; of one that sets a pattern, if the pattern is accepted. The results of a
 -- measure, a hit test and an input are defined elsewhere
-abbrev pub call_answer : State → Call → CallResult
-call_answer state (InsertStr text) = Flag (inserts_text state (fragment_symbols (chars text.now)))
-call_answer state InsertTab = Flag (inserts_tab state)
-call_answer state (DeleteStr count) = Flag (removes_or state (has_ahead state count))
-call_answer state DeleteNewline = Flag (removes_or state (has_break_before state))
-call_answer state DeleteChar = Flag (removes_or state (has_before state))
-call_answer state DeleteNextChar = Flag (removes_or state (has_after state))
-call_answer state DeleteLineByEnd = Flag (removes_or state (has_line_after state))
-call_answer state DeleteLineByHead = Flag (removes_or state (has_line_before state))
-call_answer state DeleteWord = Flag (removes_or state (has_word_before state))
-call_answer state DeleteNextWord = Flag (removes_or state (has_word_after state))
-call_answer state Clear = Flag (has_symbols state.document.text)
-call_answer state Cut = Flag (is_selected state.document)
-call_answer state Paste = Flag (has_symbols state.yank)
-call_answer state Undo = Flag (is_some (newest state.document.log))
-call_answer state Redo = Flag (is_some (next state.document.log))
-call_answer state YankText = Text (fragment_text state.yank)
-call_answer state (TrySetAtomicRanges ranges) = ranges_answer (rejected_ranges state ranges.now)
-call_answer state (NormalizeCursorAroundAtomicRanges bias) = Flag (is_some (range_around state.document.ranges state.document.cursor))
-call_answer state (AtomicRangeAtCursor direction) = Range (range_at_cursor state.document direction)
-call_answer state (DeleteAtomicRangeAtCursor direction) = Range (range_at_cursor state.document direction)
-call_answer state (SearchForward at_cursor) = Flag (is_some (next_match state at_cursor))
-call_answer state (SearchBack at_cursor) = Flag (is_some (previous_match state at_cursor))
-call_answer state Style = told.Style state.drawing.look.style
-call_answer state CursorStyle = told.Style state.drawing.look.cursor_style
-call_answer state CursorLineStyle = told.Style state.drawing.look.cursor_line_style
-call_answer state SelectionStyle = told.Style state.drawing.look.selection_style
-call_answer state SearchStyle = told.Style state.drawing.look.search_style
-call_answer state MaskChar = told.Character state.drawing.look.mask
-call_answer state CursorRenderMode = told.CursorRenderMode state.drawing.look.cursor_render_mode
-call_answer state Alignment = told.Alignment state.drawing.look.alignment
-call_answer state RenderedCursorPosition = told.Position state.drawing.caret
-call_answer state Cursor = told.Cursor state.document.cursor
-call_answer state IsEmpty = Flag (not (has_symbols state.document.text))
-call_answer state IsSelecting = Flag (is_some state.document.anchor)
-call_answer state SelectionRange = told.Selection (document_selection.selection state.document)
-call_answer state TabLength = told.Number (tab_length state.document)
-call_answer state HardTabIndent = Flag state.settings.hard_tab_indent
-call_answer state MaxHistories = told.Number state.document.log.maximum
-call_answer state UndoCoalescing = Flag state.settings.undo_coalescing
-call_answer state WrapMode = told.WrapMode state.document.layout.settings.mode
-call_answer state LineNumberStyle = told.StyleIfShown (number_style state)
-call_answer state PlaceholderStyle = told.StyleIfShown (style_with_lines state.surround.placeholder.lines state.surround.placeholder.style)
-call_answer state MinRows = told.Number state.surround.min_rows
-call_answer state MaxRows = told.Number state.surround.max_rows
-call_answer state call = Done
+abbrev pub result_of_call : State → Call → CallResult
+result_of_call state (InsertStr text) = Flag (inserts_text state (fragment_symbols (chars text.now)))
+result_of_call state InsertTab = Flag (inserts_tab state)
+result_of_call state (DeleteStr count) = Flag (removes_or state (has_ahead state count))
+result_of_call state DeleteNewline = Flag (removes_or state (has_break_before state))
+result_of_call state DeleteChar = Flag (removes_or state (has_before state))
+result_of_call state DeleteNextChar = Flag (removes_or state (has_after state))
+result_of_call state DeleteLineByEnd = Flag (removes_or state (has_line_after state))
+result_of_call state DeleteLineByHead = Flag (removes_or state (has_line_before state))
+result_of_call state DeleteWord = Flag (removes_or state (has_word_before state))
+result_of_call state DeleteNextWord = Flag (removes_or state (has_word_after state))
+result_of_call state Clear = Flag (has_symbols state.document.text)
+result_of_call state Cut = Flag (is_selected state.document)
+result_of_call state Paste = Flag (has_symbols state.yank)
+result_of_call state Undo = Flag (is_some (newest state.document.log))
+result_of_call state Redo = Flag (is_some (next state.document.log))
+result_of_call state YankText = Text (fragment_text state.yank)
+result_of_call state (TrySetAtomicRanges ranges) = ranges_result (rejected_ranges state ranges.now)
+result_of_call state (NormalizeCursorAroundAtomicRanges bias) = Flag (is_some (range_around state.document.ranges state.document.cursor))
+result_of_call state (AtomicRangeAtCursor direction) = Range (range_at_cursor state.document direction)
+result_of_call state (DeleteAtomicRangeAtCursor direction) = Range (range_at_cursor state.document direction)
+result_of_call state (SearchForward at_cursor) = Flag (is_some (next_match state at_cursor))
+result_of_call state (SearchBack at_cursor) = Flag (is_some (previous_match state at_cursor))
+result_of_call state Style = reported.Style state.drawing.look.style
+result_of_call state CursorStyle = reported.Style state.drawing.look.cursor_style
+result_of_call state CursorLineStyle = reported.Style state.drawing.look.cursor_line_style
+result_of_call state SelectionStyle = reported.Style state.drawing.look.selection_style
+result_of_call state SearchStyle = reported.Style state.drawing.look.search_style
+result_of_call state MaskChar = reported.Character state.drawing.look.mask
+result_of_call state CursorRenderMode = reported.CursorRenderMode state.drawing.look.cursor_render_mode
+result_of_call state Alignment = reported.Alignment state.drawing.look.alignment
+result_of_call state RenderedCursorPosition = reported.Position state.drawing.caret
+result_of_call state Cursor = reported.Cursor state.document.cursor
+result_of_call state IsEmpty = Flag (not (has_symbols state.document.text))
+result_of_call state IsSelecting = Flag (is_some state.document.anchor)
+result_of_call state SelectionRange = reported.Selection (document_selection.selection state.document)
+result_of_call state TabLength = reported.Number (tab_length state.document)
+result_of_call state HardTabIndent = Flag state.settings.hard_tab_indent
+result_of_call state MaxHistories = reported.Number state.document.log.maximum
+result_of_call state UndoCoalescing = Flag state.settings.undo_coalescing
+result_of_call state WrapMode = reported.WrapMode state.document.layout.settings.mode
+result_of_call state LineNumberStyle = reported.StyleIfVisible (number_style state)
+result_of_call state PlaceholderStyle = reported.StyleIfVisible (style_with_lines state.surround.placeholder.lines state.surround.placeholder.style)
+result_of_call state MinRows = reported.Number state.surround.min_rows
+result_of_call state MaxRows = reported.Number state.surround.max_rows
+result_of_call state call = Done
 
 -- the lines replace the old ones, and all edits and custom highlights are forgotten: the cursor
 -- moves to the nearest position in them, nothing is selected, and nothing is scrolled

@@ -1,7 +1,7 @@
 -- The drawn parts of a text area, and the state after drawing and scrolling.
 use Rattle.std.specs.Prelude.{◌≡◌, ℕ, [], ◌∷◌, ◌++◌}
 use Rattle.textarea_data.specs.declared.scroll.Scrolling.{Scrolling}
-use Rattle.tui_textarea.specs.DrawnFrame.{Parts}
+use Rattle.tui_textarea.specs.DrawnFrame.{WidgetState}
 use Rattle.tui_textarea.specs.Rendered as drawing
 use Rattle.tui_textarea.specs.DrawingState.{DrawingState, with_viewport}
 use Rattle.textarea_view.specs.declared.look.Look.{Look}
@@ -12,8 +12,8 @@ use Rattle.textarea_view.specs.Scrolled.{scrolled_by}
 use Rattle.tui_textarea.specs.State.{State}
 
 -- the parts of a text area that are drawn
-abbrev pub drawing_parts : State → Parts
-drawing_parts state = record { document = state.document; pattern = state.pattern; surround = state.surround; drawing = state.drawing }
+abbrev pub widget_of : State → WidgetState
+widget_of state = record { document = state.document; pattern = state.pattern; surround = state.surround; drawing = state.drawing }
 
 abbrev pub with_drawing : State → DrawingState → State
 with_drawing state drawing = record state { drawing = drawing }
@@ -38,5 +38,5 @@ viewport_scrolled state scrolling =
 -- The state after a drawing into the area: the layout has the width inside the block, and the
 -- viewport, the inner area and the caret are those of this drawing. All else is as before.
 pub record IsRendered (old : State) (area : Rect) (new : State) : Type 0 where
-  pub parts : drawing.ArePartsRendered (drawing_parts old) area (drawing_parts new)
+  pub widget : drawing.IsWidgetRendered (widget_of old) area (widget_of new)
   pub rest : new ≡ record old { document = new.document; drawing = new.drawing }

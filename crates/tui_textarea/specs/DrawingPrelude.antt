@@ -49,10 +49,10 @@ pub use Rattle.textarea_view.specs.Showing.{at_start, showing_row, showing_row_a
 pub use Rattle.textarea_view.specs.Viewport.{ViewportState, clamped}
 pub use Rattle.textarea_view.specs.declared.look.CustomHighlight.{CustomHighlight}
 pub use Rattle.textarea_view.specs.declared.row_view.RowView.{RowView}
-pub use Rattle.tui_textarea.specs.CaretBack.{IsCursorAtCaret, IsCaretHit}
-pub use Rattle.tui_textarea.specs.DrawnFrame.{Parts, frame_of, parts_of, scene_of}
-pub use Rattle.tui_textarea.specs.Hit.{IsHitTest, IsNearestShown, IsLastArea, IsReached}
-pub use Rattle.tui_textarea.specs.Rendered.{IsDrawn, ArePartsRendered, at_inner_width, drawn_into}
-pub use Rattle.tui_textarea.specs.CaretShown.{HasRoomForCaret, HasWidthForCaret, HasWidthForRows, IsCaretShown, number_columns}
+pub use Rattle.tui_textarea.specs.CaretHit.{IsCursorAtCaret, IsCaretHit}
+pub use Rattle.tui_textarea.specs.DrawnFrame.{WidgetState, frame_of, widget_state, scene_of}
+pub use Rattle.tui_textarea.specs.Hit.{IsHitTest, IsNearestVisible, IsLastArea, IsReached}
+pub use Rattle.tui_textarea.specs.Rendered.{IsDrawn, IsWidgetRendered, at_inner_width, drawn_into}
+pub use Rattle.tui_textarea.specs.CaretVisible.{HasRoomForCaret, HasWidthForCaret, HasWidthForRows, IsCaretVisible, number_columns}
 pub use Rattle.tui_textarea.specs.DrawingState.{DrawingState, for_other_lines, new_drawing, with_look, with_viewport}
 pub use Rattle.tui_textarea.specs.DrawingSteps.{IsDrawnAt}

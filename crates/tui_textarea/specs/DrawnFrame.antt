@@ -11,30 +11,30 @@ use Rattle.textarea_view.specs.SurroundState.{SurroundState}
 
 -- the parts of a text area that are drawn: the document, the search pattern, if there is one, the
 -- surround, and the state of drawing
-pub record Parts : Type 0 where
+pub record WidgetState : Type 0 where
   pub document : DocumentState
   pub pattern : Option (List ℕ)
   pub surround : SurroundState
   pub drawing : DrawingState
 
-abbrev pub parts_of : DocumentState → Option (List ℕ) → SurroundState → DrawingState → Parts
-parts_of document pattern surround drawing = record { document = document; pattern = pattern; surround = surround; drawing = drawing }
+abbrev pub widget_state : DocumentState → Option (List ℕ) → SurroundState → DrawingState → WidgetState
+widget_state document pattern surround drawing = record { document = document; pattern = pattern; surround = surround; drawing = drawing }
 
-abbrev pub scene_of : Parts → BorrowedRows → SceneState
-scene_of parts rows = record {
+abbrev pub scene_of : WidgetState → BorrowedRows → SceneState
+scene_of widget rows = record {
   rows = rows;
-  cursor = parts.document.cursor;
-  selection = selection parts.document;
-  pattern = parts.pattern;
-  look = parts.drawing.look;
-  highlights = parts.drawing.highlights;
-  line_numbers = parts.document.layout.settings.line_numbers;
+  cursor = widget.document.cursor;
+  selection = selection widget.document;
+  pattern = widget.pattern;
+  look = widget.drawing.look;
+  highlights = widget.drawing.highlights;
+  line_numbers = widget.document.layout.settings.line_numbers;
 }
 
-abbrev pub frame_of : Parts → BorrowedRows → FrameState
-frame_of parts rows = record {
-  scene = scene_of parts rows;
-  surround = parts.surround;
-  mode = parts.document.layout.settings.mode;
-  is_empty = not (has_symbols parts.document.text);
+abbrev pub frame_of : WidgetState → BorrowedRows → FrameState
+frame_of widget rows = record {
+  scene = scene_of widget rows;
+  surround = widget.surround;
+  mode = widget.document.layout.settings.mode;
+  is_empty = not (has_symbols widget.document.text);
 }

@@ -2,7 +2,7 @@
 use Rattle.std.specs.Prelude.{◌≡◌, ℕ, ◌-◌, min, Bool, true, false, Option}
 use Rattle.textarea_document.specs.DocumentRows.{text_and_layout}
 use Rattle.textarea_document.specs.DocumentState.{DocumentState}
-use Rattle.tui_textarea.specs.DrawnFrame.{Parts, frame_of}
+use Rattle.tui_textarea.specs.DrawnFrame.{WidgetState, frame_of}
 use Rattle.tui_textarea.specs.DrawingState.{DrawingState}
 use Rattle.textarea_view.specs.Hit.{IsHitOf, IsNear, greatest_at}
 use Rattle.textarea_screen_map.specs.BorrowedLines.{BorrowedRows}
@@ -25,12 +25,12 @@ pub record IsLastArea (document : DocumentState) (drawing : DrawingState) (inner
   pub height : inner.height ≡ min drawing.height (65535 - inner.y)
 
 -- the position that a cell shows, with the present text, in the inner area of the last drawing
-pub record IsHitTest (parts : Parts) (x y : ℕ) (found : Option Place) : Type 0 where
+pub record IsHitTest (widget : WidgetState) (x y : ℕ) (found : Option Place) : Type 0 where
   pub inner : Rect
-  pub inner_is : IsLastArea parts.document parts.drawing inner
+  pub inner_is : IsLastArea widget.document widget.drawing inner
   pub rows : BorrowedRows
-  pub rows_are : IsViewOf (text_and_layout parts.document) rows
-  pub found_is : IsHitOf (frame_of parts rows) parts.drawing.viewport inner x y found
+  pub rows_are : IsViewOf (text_and_layout widget.document) rows
+  pub found_is : IsHitOf (frame_of widget rows) widget.drawing.viewport inner x y found
 
 -- ---- the nearest visible position
 
@@ -41,7 +41,7 @@ IsReached false rows wanted cursor place = IsNear rows wanted place
 
 -- the cursor moves from its visual position to the nearest visible visual row, and in that row to
 -- the nearest visible display column
-pub record IsNearestShown (document : DocumentState) (viewport : ViewportState) (place : Place) : Type 0 where
+pub record IsNearestVisible (document : DocumentState) (viewport : ViewportState) (place : Place) : Type 0 where
   pub rows : BorrowedRows
   pub rows_are : IsViewOf (text_and_layout document) rows
   pub visual : VisualPosition

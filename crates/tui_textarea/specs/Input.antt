@@ -2,14 +2,14 @@
 -- result, the state after it, and where it may run out of memory, are those of its call.
 use Rattle.std.specs.Prelude.{◌≡◌, Bool, false}
 use Rattle.textarea_data.specs.declared.input.Input.{Input}
-use Rattle.textarea_calls.specs.Answer as answer
-use Rattle.textarea_calls.specs.Answer.{result_flag}
+use Rattle.textarea_calls.specs.FlagRule as flag_rules
+use Rattle.textarea_calls.specs.FlagRule.{result_flag}
 use Rattle.textarea_calls.specs.Keys.{keys_with_shortcuts, keys_without_shortcuts}
 use Rattle.textarea_calls.specs.CallGroups.{call_of_edit, call_of_write}
 use Rattle.textarea_calls.specs.Table.{action_by}
 use Rattle.textarea_calls.specs.declared.action.Action.{Action}
 use Rattle.textarea_calls.specs.declared.action.Action.TheVariants.{Nothing, Edit, Write, MoveWithShift, ScrollWithShift, Scroll}
-use Rattle.tui_textarea.specs.Calls.{StateOutOfMemory, NeedsMemory, call_answer, state_after}
+use Rattle.tui_textarea.specs.Calls.{StateOutOfMemory, NeedsMemory, result_of_call, state_after}
 use Rattle.tui_textarea.specs.Moves.{IsMovedWith, IsScrolled, IsScrolledWith}
 use Rattle.tui_textarea.specs.CallResults.{CallResult, Flag}
 use Rattle.tui_textarea.specs.State.{State}
@@ -28,13 +28,13 @@ flag_of other = false
 
 -- the result of the call, if it returns itself whether it changed the text
 abbrev pub call_flag : State → Action → Bool
-call_flag state (Edit edit) = flag_of (call_answer state (call_of_edit edit))
+call_flag state (Edit edit) = flag_of (result_of_call state (call_of_edit edit))
 call_flag state action = false
 
 -- the result of an input with this action: true for a character or a line break; false for a copy,
 -- a move, a scroll or no action; otherwise the result of the call
 abbrev pub action_flag : State → Action → Bool
-action_flag state action = result_flag (answer.answer_of action) (call_flag state action)
+action_flag state action = result_flag (flag_rules.flag_rule_of action) (call_flag state action)
 
 -- the state after an input with this action
 abbrev pub IsAfterAction : State → Action → State → Type 0

@@ -31,7 +31,7 @@ abbrev pub tab_length_set : State → ℕ → LayoutSettings
 tab_length_set state columns = record state.document.layout.settings { tab_len = columns }
 
 abbrev pub line_numbers_set : State → Bool → LayoutSettings
-line_numbers_set state shown = record state.document.layout.settings { line_numbers = shown }
+line_numbers_set state displayed = record state.document.layout.settings { line_numbers = displayed }
 
 abbrev pub with_wrap_mode : State → WrapMode → State
 with_wrap_mode state mode = with_layout state (mode_set state mode)

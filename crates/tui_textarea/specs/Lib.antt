@@ -3,8 +3,8 @@ pub mod DrawnFrame
 pub mod Hit
 pub mod Rendered
 pub mod DrawingSteps
-pub mod CaretBack
-pub mod CaretShown
+pub mod CaretHit
+pub mod CaretVisible
 pub mod DrawingPrelude
 pub mod State
 pub mod Drawing

@@ -11,7 +11,7 @@ use Rattle.textarea_ranges.specs.Lookup.{moved_out}
 use Rattle.textarea_document.specs.Outcomes.{after_move}
 use Rattle.textarea_document.specs.DocumentState.{DocumentState}
 use Rattle.textarea_document.specs.DocumentRows.{IsAboveCursor, IsBelowCursor}
-use Rattle.tui_textarea.specs.Hit.{IsNearestShown}
+use Rattle.tui_textarea.specs.Hit.{IsNearestVisible}
 use Rattle.textarea_document.specs.Target.{VisualTargets, target}
 use Rattle.tui_textarea.specs.Drawing.{viewport_scrolled}
 use Rattle.tui_textarea.specs.State.{State, with_document}
@@ -48,7 +48,7 @@ pub record IsTarget (state : State) (cursor_move : CursorMove) (found : Option P
   pub visual : VisualTargets
   pub above_is : cursor_move ≡ move.Up → IsAboveCursor state.document visual.above
   pub below_is : cursor_move ≡ move.Down → IsBelowCursor state.document visual.below
-  pub inside_is : cursor_move ≡ move.InViewport → IsNearestShown state.document state.drawing.viewport visual.inside
+  pub inside_is : cursor_move ≡ move.InViewport → IsNearestVisible state.document state.drawing.viewport visual.inside
   pub found_is : found ≡ target visual state.document.text state.document.cursor cursor_move
 
 -- the state after the move, with or without Shift: the cursor is at the target, if there is one

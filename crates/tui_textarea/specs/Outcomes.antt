@@ -8,56 +8,56 @@ use Rattle.textarea_screen.specs.Buffer.{KeepsOutside}
 use Rattle.textarea_screen.specs.Rect.{contains}
 use Rattle.textarea_screen.specs.declared.screen.buffer.Buffer.{Buffer}
 use Rattle.textarea_screen.specs.declared.screen.rect.Position.{Position}
-use Rattle.tui_textarea.specs.Drawing.{IsRendered, drawing_parts}
+use Rattle.tui_textarea.specs.Drawing.{IsRendered, widget_of}
 use Rattle.tui_textarea.specs.Input.{IsAfterAction, IsInputOutOfMemory, ActMayRunOutOfMemory, action_flag, asked_by, asked_without_shortcuts}
 use Rattle.tui_textarea.specs.Measure.{IsMeasured}
 use Rattle.tui_textarea.specs.Moves.{IsMoved, IsScrolled}
 use Rattle.tui_textarea.specs.State.{State}
 use Rattle.tui_textarea.specs.Search.{with_pattern}
-use Rattle.tui_textarea.specs.Calls.{StateOutOfMemory, NeedsMemory, call_answer, state_after}
+use Rattle.tui_textarea.specs.Calls.{StateOutOfMemory, NeedsMemory, result_of_call, state_after}
 use Rattle.tui_textarea.specs.Patterns.{MayRejectPattern}
-use Rattle.tui_textarea.specs.CallResults.{CallResult, Done, Flag, Measured, PatternRefused, Place}
+use Rattle.tui_textarea.specs.CallResults.{CallResult, Done, Flag, Measured, PatternRejected, Place}
 use Rattle.textarea_calls.specs.declared.call.Call.{Call}
 use Rattle.textarea_calls.specs.declared.call.Call.TheVariants.{CursorAtPosition, Input, InputWithoutShortcuts, Measure, Move, Render, Scroll, SetSearchPattern}
 
 -- a possible result of setting this pattern
-abbrev pub IsPatternAnswer : State → List ℕ → CallResult → Type 0
-IsPatternAnswer state text PatternRefused = MayRejectPattern state text
-IsPatternAnswer state text answer = answer ≡ Done
+abbrev pub IsPatternCallResult : State → List ℕ → CallResult → Type 0
+IsPatternCallResult state text PatternRejected = MayRejectPattern state text
+IsPatternCallResult state text returned = returned ≡ Done
 
 -- the state after setting this pattern with this result
 abbrev pub after_pattern : State → List ℕ → CallResult → State
-after_pattern state text PatternRefused = state
-after_pattern state text answer = with_pattern state text
+after_pattern state text PatternRejected = state
+after_pattern state text returned = with_pattern state text
 
 -- a possible result of measuring at this width
-abbrev pub IsMeasureAnswer : State → ℕ → CallResult → Type 0
-IsMeasureAnswer state width (Measured measure) = IsMeasured state width measure
-IsMeasureAnswer state width answer = ⊥
+abbrev pub IsMeasureResult : State → ℕ → CallResult → Type 0
+IsMeasureResult state width (Measured measure) = IsMeasured state width measure
+IsMeasureResult state width returned = ⊥
 
 -- a possible result of the hit test for this cell
-abbrev pub IsHitAnswer : State → Position → CallResult → Type 0
-IsHitAnswer state cell (Place place) = IsHitTest (drawing_parts state) cell.x cell.y place
-IsHitAnswer state cell answer = ⊥
+abbrev pub IsHitTestResult : State → Position → CallResult → Type 0
+IsHitTestResult state cell (Place place) = IsHitTest (widget_of state) cell.x cell.y place
+IsHitTestResult state cell returned = ⊥
 
 -- a possible result of the call
-abbrev pub IsAnswer : State → Call → CallResult → Type 0
-IsAnswer state (SetSearchPattern text) answer = IsPatternAnswer state text.now answer
-IsAnswer state (Measure width) answer = IsMeasureAnswer state width answer
-IsAnswer state (CursorAtPosition cell) answer = IsHitAnswer state cell answer
-IsAnswer state (Input input) answer = answer ≡ Flag (action_flag state (asked_by input.now))
-IsAnswer state (InputWithoutShortcuts input) answer = answer ≡ Flag (action_flag state (asked_without_shortcuts input.now))
-IsAnswer state call answer = answer ≡ call_answer state call
+abbrev pub IsResultOf : State → Call → CallResult → Type 0
+IsResultOf state (SetSearchPattern text) returned = IsPatternCallResult state text.now returned
+IsResultOf state (Measure width) returned = IsMeasureResult state width returned
+IsResultOf state (CursorAtPosition cell) returned = IsHitTestResult state cell returned
+IsResultOf state (Input input) returned = returned ≡ Flag (action_flag state (asked_by input.now))
+IsResultOf state (InputWithoutShortcuts input) returned = returned ≡ Flag (action_flag state (asked_without_shortcuts input.now))
+IsResultOf state call returned = returned ≡ result_of_call state call
 
 -- the state after the call, with this result
 abbrev pub IsAfterCall : State → Call → CallResult → State → Type 0
-IsAfterCall old (SetSearchPattern text) answer new = new ≡ after_pattern old text.now answer
-IsAfterCall old (Move cursor_move) answer new = IsMoved old cursor_move new
-IsAfterCall old (Scroll scrolling) answer new = IsScrolled old scrolling new
-IsAfterCall old (Render area) answer new = IsRendered old area new
-IsAfterCall old (Input input) answer new = IsAfterAction old (asked_by input.now) new
-IsAfterCall old (InputWithoutShortcuts input) answer new = IsAfterAction old (asked_without_shortcuts input.now) new
-IsAfterCall old call answer new = new ≡ state_after old call
+IsAfterCall old (SetSearchPattern text) returned new = new ≡ after_pattern old text.now returned
+IsAfterCall old (Move cursor_move) returned new = IsMoved old cursor_move new
+IsAfterCall old (Scroll scrolling) returned new = IsScrolled old scrolling new
+IsAfterCall old (Render area) returned new = IsRendered old area new
+IsAfterCall old (Input input) returned new = IsAfterAction old (asked_by input.now) new
+IsAfterCall old (InputWithoutShortcuts input) returned new = IsAfterAction old (asked_without_shortcuts input.now) new
+IsAfterCall old call returned new = new ≡ state_after old call
 
 -- the call may run out of memory, because it, or the call of its input, may need memory
 abbrev pub MayRunOutOfMemory : State → Call → Type 0
@@ -79,7 +79,7 @@ pub record RanOutOfMemory (old : State) (call : Call) (new : State) : Type 0 whe
 -- the buffer after the call, if it leaves this state: after a drawing that state drawn into the
 -- area, after any other call the old buffer
 abbrev pub IsBufferAfter : Call → State → Buffer → Buffer → Type 0
-IsBufferAfter (Render area) state old new = IsDrawn (drawing_parts state) area old new
+IsBufferAfter (Render area) state old new = IsDrawn (widget_of state) area old new
 IsBufferAfter call state old new = new ≡ old
 
 -- the buffer after a call that ran out of memory: after a drawing the old one outside the area

@@ -4,7 +4,7 @@ use Rattle.regex.specs.declared.error.Error.{Error}
 use Rattle.textarea_search.specs.PatternErrors.{IsErrorFor, IsPatternFailure}
 use Rattle.textarea_search.specs.declared.error.SearchError.{SearchError}
 use Rattle.textarea_search.specs.declared.error.SearchError.TheVariants.{Memory, Pattern}
-use Rattle.tui_textarea.specs.CallResults.{call_result, Done, PatternRefused}
+use Rattle.tui_textarea.specs.CallResults.{call_result, Done, PatternRejected}
 use Rattle.textarea_calls.specs.declared.answer.Answer.{Answer}
 use Rattle.tui_textarea.specs.State.{State}
 
@@ -24,6 +24,6 @@ pub record MayRejectPattern (state : State) (text : List ℕ) : Type 0 where
 -- how the result of setting a pattern is converted: done if it was set; rejected if `regex`
 -- returned an error; and out of memory if that was the reason
 abbrev pub IsPatternResult : {T E : Type 0} → Result T SearchError → Result Answer E → Type 0
-IsPatternResult (Ok set) told = IsOk told × IfOk told (λ answer. call_result answer ≡ Done)
-IsPatternResult (Err (Pattern error)) told = IsOk told × IfOk told (λ answer. call_result answer ≡ PatternRefused)
-IsPatternResult (Err (Memory error)) told = IsErr told
+IsPatternResult (Ok set) reported = IsOk reported × IfOk reported (λ returned. call_result returned ≡ Done)
+IsPatternResult (Err (Pattern error)) reported = IsOk reported × IfOk reported (λ returned. call_result returned ≡ PatternRejected)
+IsPatternResult (Err (Memory error)) reported = IsErr reported

@@ -27,89 +27,89 @@ abbrev pub HoldsNoRange : State → Type 0
 HoldsNoRange state = state.document.ranges ≡ []
 
 -- the ranges are replaced by these, sorted, and the text stays
-pub record HoldsRanges (old : State) (given : List AtomicRange) (new : State) : Type 0 where
+pub record HoldsRanges (old : State) (ranges_set : List AtomicRange) (new : State) : Type 0 where
   pub text : new.document.text ≡ old.document.text
-  pub ranges : new.document.ranges ≡ in_order given
+  pub ranges : new.document.ranges ≡ in_order ranges_set
 
 -- The call's splices lead from the old text to the new one, none if nothing is edited, and the
 -- ranges move with the text; only the splices of undo and redo may split a range. New lines and the
 -- call that clears leave no range, and ranges that are set replace the old ones.
 abbrev pub RangesFollowCall : State → Call → CallResult → State → Type 0
-RangesFollowCall old Undo answer new = RangesFollowSplices old.document (splices_of old Undo) new.document
-RangesFollowCall old Redo answer new = RangesFollowSplices old.document (splices_of old Redo) new.document
-RangesFollowCall old (Input input) answer new = RangesFollowAction (asked_by input.now) old.document (splices_of old (Input input)) new.document
-RangesFollowCall old (InputWithoutShortcuts input) answer new = RangesFollowAction (asked_without_shortcuts input.now) old.document (splices_of old (InputWithoutShortcuts input)) new.document
-RangesFollowCall old (SetLines lines cursor) answer new = HoldsNoRange new
-RangesFollowCall old ClearAtomicRanges answer new = HoldsNoRange new
+RangesFollowCall old Undo returned new = RangesFollowSplices old.document (splices_of old Undo) new.document
+RangesFollowCall old Redo returned new = RangesFollowSplices old.document (splices_of old Redo) new.document
+RangesFollowCall old (Input input) returned new = RangesFollowAction (asked_by input.now) old.document (splices_of old (Input input)) new.document
+RangesFollowCall old (InputWithoutShortcuts input) returned new = RangesFollowAction (asked_without_shortcuts input.now) old.document (splices_of old (InputWithoutShortcuts input)) new.document
+RangesFollowCall old (SetLines lines cursor) returned new = HoldsNoRange new
+RangesFollowCall old ClearAtomicRanges returned new = HoldsNoRange new
 RangesFollowCall old (TrySetAtomicRanges ranges) Done new = HoldsRanges old ranges.now new
-RangesFollowCall old call answer new = RangesStayWhole old.document (splices_of old call) new.document
+RangesFollowCall old call returned new = RangesStayWhole old.document (splices_of old call) new.document
 
 -- ---- a run
 
 -- the call replaces the ranges: it sets some that are accepted, or clears them, or sets lines
 abbrev pub SetsRanges : Call → CallResult → Type 0
 SetsRanges (TrySetAtomicRanges ranges) Done = Unit {0}
-SetsRanges ClearAtomicRanges answer = Unit {0}
-SetsRanges (SetLines lines cursor) answer = Unit {0}
-SetsRanges call answer = ⊥
+SetsRanges ClearAtomicRanges returned = Unit {0}
+SetsRanges (SetLines lines cursor) returned = Unit {0}
+SetsRanges call returned = ⊥
 
 -- none of the calls, with these results, replaces the ranges
 abbrev pub NoneSetsRanges : List Call → List CallResult → Type 0
 NoneSetsRanges [] [] = Unit {0}
-NoneSetsRanges (call ∷ calls) (answer ∷ answers) = (¬ SetsRanges call answer) × NoneSetsRanges calls answers
-NoneSetsRanges calls answers = ⊥
+NoneSetsRanges (call ∷ calls) (returned ∷ results) = (¬ SetsRanges call returned) × NoneSetsRanges calls results
+NoneSetsRanges calls results = ⊥
 
 -- the last of the calls, with these results, replaces the ranges
-pub record LastSetsRanges (calls : List Call) (answers : List CallResult) : Type 0 where
+pub record LastSetsRanges (calls : List Call) (results : List CallResult) : Type 0 where
   pub front : List Call
   pub last : Call
   pub calls_are : calls ≡ front ++ last ∷ []
   pub before : List CallResult
-  pub answer : CallResult
-  pub answers_are : answers ≡ before ++ answer ∷ []
-  pub gives : SetsRanges last answer
+  pub returned : CallResult
+  pub results_are : results ≡ before ++ returned ∷ []
+  pub gives : SetsRanges last returned
 
 -- The calls, with these results, lead to the newest state by way of the state after the last call
 -- that replaced the ranges, or of the initial state if there is no such call. From there the later
 -- calls lead on by these splices.
-pub record SinceRangesSet (old : State) (buffer : Buffer) (calls : List Call) (answers : List CallResult) (newest : State) (shown : Buffer) : Type 0 where
+pub record SinceRangesSet (old : State) (buffer : Buffer) (calls : List Call) (results : List CallResult) (newest : State) (displayed : Buffer) : Type 0 where
   pub until : List Call
   pub later : List Call
   pub calls_are : calls ≡ until ++ later
-  pub answers_until : List CallResult
-  pub answers_later : List CallResult
-  pub answers_are : answers ≡ answers_until ++ answers_later
+  pub results_until : List CallResult
+  pub results_later : List CallResult
+  pub results_are : results ≡ results_until ++ results_later
   pub then : State
   pub screen : Buffer
-  pub led : Leads old buffer until answers_until then screen
-  pub given : (until ≡ []) ⊎ LastSetsRanges until answers_until
-  pub none_later : NoneSetsRanges later answers_later
+  pub led : Leads old buffer until results_until then screen
+  pub ranges_set : (until ≡ []) ⊎ LastSetsRanges until results_until
+  pub none_later : NoneSetsRanges later results_later
   pub splices : List Splice
-  pub led_on : LeadsBy then screen later answers_later splices newest shown
+  pub led_on : LeadsBy then screen later results_later splices newest displayed
 
 -- What happens to the ranges of the first document over these splices. They move with the text.
 -- Each range of the last document comes from one of them, and covers the same characters, all in
 -- one line. Each of them is in the last document, as the splices move it, or one of the splices
 -- disturbs it.
 pub record RangesAfterSplices (first : DocumentState) (splices : List Splice) (last : DocumentState) : Type 0 where
-  pub goes : RangesFollowSplices first splices last
+  pub ranges_follow : RangesFollowSplices first splices last
   pub stem : AllStemFrom first splices last
   pub dropped : AllStayOrAreDropped first splices last
 
 -- What happens to the ranges over calls that lead with these results to the newest state, and then
 -- over the splices left by a call that ran out of memory, if there is one: the ranges set last move
 -- with the text over the splices of the later calls.
-pub record RangesInRun (old : State) (buffer : Buffer) (calls : List Call) (answers : List CallResult) (left : List Splice) (new : State) : Type 0 where
+pub record RangesInRun (old : State) (buffer : Buffer) (calls : List Call) (results : List CallResult) (left : List Splice) (new : State) : Type 0 where
   pub newest : State
-  pub shown : Buffer
-  pub since : SinceRangesSet old buffer calls answers newest shown
+  pub displayed : Buffer
+  pub since : SinceRangesSet old buffer calls results newest displayed
   pub left_are : (left ≡ []) ⊎ (left ≡ selected_splices newest.document)
   pub go : RangesAfterSplices since.then.document (since.splices ++ left) new.document
 
 -- the same over a run, for the calls that have results
 abbrev pub RangesOfRun : State → Buffer → List Call → List Answer → State → Type 0
-RangesOfRun old buffer calls answers new =
-    (left : List Splice) × RangesInRun old buffer (take (length answers) calls) (map call_result answers) left new
+RangesOfRun old buffer calls results new =
+    (left : List Splice) × RangesInRun old buffer (take (length results) calls) (map call_result results) left new
 
 -- ---- no call splits a range
 

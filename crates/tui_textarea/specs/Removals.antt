@@ -3,7 +3,7 @@ use Rattle.std.specs.Prelude.{ℕ, ◌+◌, ◌==◌, ◌||◌, nat_lt, Bool, no
 use Rattle.textarea_text.specs.Text.{lines}
 use Rattle.textarea_text.specs.Place.{Place, place_of}
 use Rattle.textarea_document.specs.DocumentState.{DocumentState}
-use Rattle.textarea_document.specs.Edits.{cursor_index, range_before, range_after, is_at_end, is_at_start, has_symbols, taken_symbols, removed_before, removed_after, break_removed, part_removed}
+use Rattle.textarea_document.specs.Edits.{cursor_index, range_before, range_after, is_at_end, is_at_start, has_symbols, removed_symbols, removed_before, removed_after, break_removed, between_removed}
 use Rattle.textarea_document.specs.Selection.{is_selected}
 use Rattle.textarea_data.specs.declared.range.AtomicRange.{AtomicRange}
 use Rattle.textarea_ranges.specs.Lookup.{range_start, range_end}
@@ -15,7 +15,7 @@ use Rattle.tui_textarea.specs.Selection.{selection_cancelled, unselected}
 
 -- the text between the two positions is removed and yanked, with the atomic ranges that it overlaps
 unfoldable pub yanked : State → Place → Place → State
-yanked state from to = record state { document = part_removed state.document from to state.time; yank = taken_symbols state.document from to }
+yanked state from to = record state { document = between_removed state.document from to state.time; yank = removed_symbols state.document from to }
 
 -- the atomic range at the cursor, backward, is removed, or else the symbol before the cursor, if
 -- there is one, as a typed edit; and the same forward
@@ -63,7 +63,7 @@ line_head_removed state =
 -- the range is removed and not yanked, if there is one; otherwise it is the other state
 abbrev pub cursor_range_removed_or : Option AtomicRange → State → State → State
 cursor_range_removed_or None state other = other
-cursor_range_removed_or (Some range) state other = with_document state (part_removed state.document (range_start range) (range_end range) state.time)
+cursor_range_removed_or (Some range) state other = with_document state (between_removed state.document (range_start range) (range_end range) state.time)
 
 -- the text from the start of the word before the cursor, or from the line's start, to the cursor;
 -- at the line's start the break before it

@@ -2,7 +2,7 @@
 use Rattle.std.specs.Prelude.{◌≡◌, ℕ, List}
 use Rattle.textarea_document.specs.DocumentRows.{text_and_layout, with_inner_width}
 use Rattle.textarea_view.specs.Cells.{AreLinesOf, frame_change}
-use Rattle.tui_textarea.specs.DrawnFrame.{Parts, frame_of}
+use Rattle.tui_textarea.specs.DrawnFrame.{WidgetState, frame_of}
 use Rattle.textarea_view.specs.Placements.{IsPlacement, Placement}
 use Rattle.tui_textarea.specs.DrawingState.{DrawingState}
 use Rattle.textarea_screen_map.specs.BorrowedLines.{BorrowedRows}
@@ -14,8 +14,8 @@ use Rattle.textarea_screen.specs.declared.screen.rect.Rect.{Rect}
 use Rattle.textarea_view.specs.Inner.{IsInner}
 
 -- the same parts, with a layout for an inner area of this number of columns
-abbrev pub at_inner_width : Parts → ℕ → Parts
-at_inner_width parts width = record parts { document = with_inner_width parts.document width }
+abbrev pub at_inner_width : WidgetState → ℕ → WidgetState
+at_inner_width widget width = record widget { document = with_inner_width widget.document width }
 
 -- the viewport, the caret, and the inner area that was drawn into, are stored
 abbrev pub drawn_into : DrawingState → Rect → Placement → DrawingState
@@ -29,7 +29,7 @@ drawn_into drawing inner placement = record drawing {
 -- The parts after a drawing into the area: the layout has the width inside the block, and lines are
 -- wrapped again only if that changes how they wrap; the viewport follows the cursor; and the inner
 -- area and the caret are stored. All else is as before.
-pub record ArePartsRendered (old : Parts) (area : Rect) (new : Parts) : Type 0 where
+pub record IsWidgetRendered (old : WidgetState) (area : Rect) (new : WidgetState) : Type 0 where
   pub inner : Rect
   pub inner_is : IsInner old.surround.block area inner
   pub rows : BorrowedRows
@@ -40,11 +40,11 @@ pub record ArePartsRendered (old : Parts) (area : Rect) (new : Parts) : Type 0 w
 
 -- Each cell of a buffer after these parts are drawn into it comes from their frame and the old
 -- cell: the rows are those of the text's layout, from the first visible one on.
-pub record IsDrawn (parts : Parts) (area : Rect) (old new : Buffer) : Type 0 where
+pub record IsDrawn (widget : WidgetState) (area : Rect) (old new : Buffer) : Type 0 where
   pub inner : Rect
-  pub inner_is : IsInner parts.surround.block area inner
+  pub inner_is : IsInner widget.surround.block area inner
   pub rows : BorrowedRows
-  pub rows_are : IsViewOf (text_and_layout parts.document) rows
+  pub rows_are : IsViewOf (text_and_layout widget.document) rows
   pub lines : List LineView
-  pub lines_are : AreLinesOf (frame_of parts rows) parts.drawing.viewport inner (area_of old) lines
-  pub cells : Changes old new (frame_change (frame_of parts rows) parts.drawing.viewport area inner lines)
+  pub lines_are : AreLinesOf (frame_of widget rows) widget.drawing.viewport inner (area_of old) lines
+  pub cells : Changes old new (frame_change (frame_of widget rows) widget.drawing.viewport area inner lines)

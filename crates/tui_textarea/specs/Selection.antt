@@ -1,7 +1,7 @@
 -- The states after the calls for the selection.
 use Rattle.std.specs.Prelude.{◌≡◌, ◌⊎◌, Some, length, if◌then◌else◌}
 use Rattle.textarea_text.specs.Place.{place_of}
-use Rattle.textarea_document.specs.Edits.{taken_symbols}
+use Rattle.textarea_document.specs.Edits.{removed_symbols}
 use Rattle.textarea_document.specs.Outcomes.{after_move, unanchored}
 use Rattle.textarea_document.specs.Selection.{is_selected, selected, selection_end, selection_start, selected_removed}
 use Rattle.tui_textarea.specs.State.{State, with_document}
@@ -28,7 +28,7 @@ selection_copied state = if is_selected state.document then record (selection_ca
 -- overlaps; nothing is selected any more
 abbrev pub selection_cut : State → State
 selection_cut state =
-    if is_selected state.document then record (unselected state) { yank = taken_symbols state.document (selection_start state.document) (selection_end state.document) }
+    if is_selected state.document then record (unselected state) { yank = removed_symbols state.document (selection_start state.document) (selection_end state.document) }
     else selection_cancelled state
 
 -- the state after an insertion that ran out of memory: the old one, or it without the selected text

@@ -26,7 +26,7 @@ pub record PastesCopy (state : State) : Type 0 where
       ≡ inserted state.document.text (insertion_place state.document) (selected state.document)
   pub cursor : (copied_and_pasted state).document.cursor
       ≡ end (insertion_place state.document) (selected state.document)
-  pub answer : has_symbols (selection_copied state).yank ≡ true
+  pub returned : has_symbols (selection_copied state).yank ≡ true
 
 -- The ranges are those that `line_ranges` returns for the characters of this line, with that mode,
 -- width and tab length: the only correct ones.

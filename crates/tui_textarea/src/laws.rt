@@ -5,10 +5,10 @@ ghost use Rattle.textarea_data.specs.declared.cursor.CursorMove.{CursorMove};
 ghost use Rattle.textarea_data.specs.declared.scroll.Scrolling.{Scrolling};
 ghost use Rattle.textarea_document.specs.DocumentRows.{text_and_layout};
 ghost use Rattle.textarea_document.specs.Sound.{IsSound};
-ghost use Rattle.tui_textarea.specs.CaretBack.{IsCaretHit};
+ghost use Rattle.tui_textarea.specs.CaretHit.{IsCaretHit};
 ghost use Rattle.tui_textarea.specs.DrawnFrame.{frame_of};
 ghost use Rattle.textarea_view.specs.Frame.{shows_placeholder};
-ghost use Rattle.tui_textarea.specs.CaretShown.{IsCaretShown};
+ghost use Rattle.tui_textarea.specs.CaretVisible.{IsCaretVisible};
 ghost use Rattle.textarea_calls.specs.declared.action.Action.{Action};
 ghost use Rattle.textarea_screen_map.specs.BorrowedLines.{BorrowedRows};
 ghost use Rattle.textarea_lines.specs.View.{IsViewOf};
@@ -17,14 +17,14 @@ ghost use Rattle.textarea_screen.specs.declared.screen.rect.Rect.{Rect};
 ghost use Rattle.textarea_view.specs.Measure.{saturated_u16, width_inside};
 ghost use Rattle.textarea_view.specs.declared.surround.measure.TextAreaMeasure.{TextAreaMeasure};
 ghost use Rattle.textarea_text.specs.Size.{weight};
-ghost use Rattle.tui_textarea.specs.Drawing.{IsRendered, drawing_parts};
+ghost use Rattle.tui_textarea.specs.Drawing.{IsRendered, widget_of};
 ghost use Rattle.tui_textarea.specs.Frames.{HasLayoutFor};
 ghost use Rattle.tui_textarea.specs.Measure.{IsMeasured, IsMeasuredAround};
 ghost use Rattle.tui_textarea.specs.Input.{IsAfterAction};
 ghost use Rattle.tui_textarea.specs.Moves.{IsMovedWith, IsScrolledWith};
 ghost use Rattle.tui_textarea.specs.State.{State};
 
-use crate::drawing::laws::{caret_hit_is_cursor, caret_is_shown, one_nearest_place};
+use crate::drawing::laws::{caret_hit_is_cursor, caret_is_visible, one_nearest_place};
 pub use crate::textarea::laws::{
     copy_then_paste, cursor_and_anchor_are_places, edits_fit, is_sound, redo_restores_all,
     rows_are_those_from_scratch, undos_restore,
@@ -67,12 +67,12 @@ pub fn measured_as_drawn()
         IsMeasuredAround old new area.width measure → IsRendered old area new →
         0 < width_inside old.surround.block area.width →
         IsViewOf (text_and_layout new.document) view →
-        shows_placeholder (frame_of (drawing_parts new) view) ≡ false →
+        shows_placeholder (frame_of (widget_of new) view) ≡ false →
         measure.content_rows ≡ saturated_u16 (row_total view.rows) }
     ensures placeholder { (old new : State) (area : Rect) (measure : TextAreaMeasure)
         (view : BorrowedRows) →
         IsMeasuredAround old new area.width measure → IsRendered old area new →
-        shows_placeholder (frame_of (drawing_parts new) view) ≡ true →
+        shows_placeholder (frame_of (widget_of new) view) ≡ true →
         measure.content_rows ≡ saturated_u16 (length new.surround.placeholder.lines) }
 {
     one_row_count();
@@ -111,11 +111,11 @@ pub fn frame_wraps_once()
     ensures again { (old first second : State) (area other : Rect) → other.width ≡ area.width →
         IsRendered old area first → IsRendered first other second →
         second.document ≡ first.document }
-    ensures behind_move { (old first moved second : State) (area other : Rect) (shift : Bool)
+    ensures wraps_after_move { (old first moved second : State) (area other : Rect) (shift : Bool)
         (cursor_move : CursorMove) → other.width ≡ area.width →
         IsRendered old area first → IsMovedWith first shift cursor_move moved →
         IsRendered moved other second → second.document ≡ moved.document }
-    ensures behind_scroll { (old first scrolled second : State) (area other : Rect) (shift : Bool)
+    ensures wraps_after_scroll { (old first scrolled second : State) (area other : Rect) (shift : Bool)
         (scrolling : Scrolling) → other.width ≡ area.width →
         IsRendered old area first → IsScrolledWith first shift scrolling scrolled →
         IsRendered scrolled other second → second.document ≡ scrolled.document }
@@ -129,11 +129,11 @@ pub fn frame_wraps_once()
 /// shown if the inner area has room for it. Every text area satisfies the assumed limits of size.
 pub fn caret_hits_are_cursors()
     ensures back { (old new : State) (area : Rect) → IsSound new.document →
-        IsRendered old area new → IsCaretHit (drawing_parts new) }
-    ensures shown { (old new : State) (area : Rect) → weight new.document.text < size_limit →
+        IsRendered old area new → IsCaretHit (widget_of new) }
+    ensures displayed { (old new : State) (area : Rect) → weight new.document.text < size_limit →
         new.document.layout.settings.tab_len < 2 ^ 8 →
-        IsRendered old area new → IsCaretShown (drawing_parts new) }
+        IsRendered old area new → IsCaretVisible (widget_of new) }
 {
     caret_hit_is_cursor();
-    caret_is_shown();
+    caret_is_visible();
 }

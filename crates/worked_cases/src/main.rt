@@ -25,12 +25,12 @@ use textarea_cases::stop::Stop;
 const STREAM_FAILED: u8 = 1;
 
 fn main(rt: HostRuntime) -> ExitCode {
-    let mut given = String::new(rt.alloc());
-    if rt.stdin().read_to_string(&mut given).is_err() {
+    let mut input = String::new(rt.alloc());
+    if rt.stdin().read_to_string(&mut input).is_err() {
         return ExitCode::from(STREAM_FAILED);
     }
     let mut status = 0;
-    for section in given.split("\n== ") {
+    for section in input.split("\n== ") {
         let section = section.strip_prefix("== ").unwrap_or(section);
         status = status.max(tell_section(&rt, section));
     }

@@ -51,7 +51,7 @@ fn end_in(
         area.render(Rect::new(0, 0, 20, 4), buffer)?;
         end = run(alloc, &mut modal, area, keys)?;
     }
-    Ok(told(alloc, &modal, end, area)?)
+    Ok(end_text(alloc, &modal, end, area)?)
 }
 
 fn run(
@@ -64,7 +64,7 @@ fn run(
     Ok(modal.run(area, inputs.as_slice()))
 }
 
-fn told(
+fn end_text(
     alloc: Global,
     modal: &Modal,
     end: ModalEnd,

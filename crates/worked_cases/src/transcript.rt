@@ -1,8 +1,8 @@
 //! Transcripts: calls with their results, and states of the text area between them.
 //!
 //! A line `CALL => ANSWER` has a script command, a test command (`textarea_cases::words`) or a
-//! question (`textarea_cases::report`), and its result, or `*` for any. `input_without_shortcuts` has
-//! the arguments of `input`. The inputs of a line `input HELD KEY | HELD KEY .. => ANSWER` are
+//! question (`textarea_cases::report`), and its result, or `*` for any. `input_without_shortcuts`
+//! has the arguments of `input`. The inputs of a line `input HELD KEY | HELD KEY .. => ANSWER` are
 //! tried each in its own text area.
 //!
 //! Any other line is from the text area's state at that point, as `tascript` prints it: lines,
@@ -16,11 +16,11 @@ use std::alloc::{AllocError, Global};
 use std::mem::replace;
 use textarea_calls::Call;
 use textarea_calls::commands::{Command, read};
+use textarea_cases::differences::result_text;
 use textarea_cases::lines::unescaped;
-use textarea_cases::parts::answer_text;
 use textarea_cases::report::report_text;
-use textarea_cases::shown::{Script, Shown};
 use textarea_cases::stop::{Stop, compare};
+use textarea_cases::transcript::{PrintedState, Script};
 use textarea_cases::words::{Borrows, call_of, character, lines_in, titled};
 use textarea_run::perform::perform;
 use textarea_run::printing::{Report, Screen};
@@ -36,15 +36,15 @@ struct TriedScript {
 
 /// Makes the calls of a transcript, once for each of its inputs.
 pub fn check(alloc: Global, case: &str) -> Result<(), Stop> {
-    let lent = lent(alloc)?;
+    let borrows = borrows(alloc)?;
     for choice in 0..choices(case) {
-        check_input(alloc, case, choice, &lent)?;
+        check_input(alloc, case, choice, &borrows)?;
     }
     Ok(())
 }
 
 // The values that calls borrow: a block in green on yellow, a placeholder of two lines, a letter.
-fn lent(alloc: Global) -> Result<Borrows, AllocError> {
+fn borrows(alloc: Global) -> Result<Borrows, AllocError> {
     let block = titled(alloc, Borders::ALL, "hi")?
         .style(Style::new().bg(Color::Yellow))
         .border_style(Style::new().fg(Color::Green));
@@ -67,8 +67,8 @@ fn choices(case: &str) -> usize {
 }
 
 // Makes the calls with the input of this number. For a script, `tascript` must print the same.
-fn check_input(alloc: Global, case: &str, choice: usize, lent: &Borrows) -> Result<(), Stop> {
-    match check_choice(alloc, case, choice, lent)? {
+fn check_input(alloc: Global, case: &str, choice: usize, borrows: &Borrows) -> Result<(), Stop> {
+    match check_choice(alloc, case, choice, borrows)? {
         Some(tried) => check_script(alloc, tried.lines.as_str(), tried.wanted.as_str()),
         None => Ok(()),
     }
@@ -80,10 +80,10 @@ fn check_choice(
     alloc: Global,
     case: &str,
     choice: usize,
-    lent: &Borrows,
+    borrows: &Borrows,
 ) -> Result<Option<TriedScript>, Stop> {
     let mut trial = Trial::new(alloc, choice)?;
-    let checked = check_new(alloc, case, lent, &mut trial);
+    let checked = check_new(alloc, case, borrows, &mut trial);
     drop(trial);
     checked
 }
@@ -91,11 +91,11 @@ fn check_choice(
 fn check_new(
     alloc: Global,
     case: &str,
-    lent: &Borrows,
+    borrows: &Borrows,
     trial: &mut Trial,
 ) -> Result<Option<TriedScript>, Stop> {
     let mut area = TextArea::try_default(alloc)?;
-    let checked = check_area(alloc, case, lent, &mut area, trial);
+    let checked = check_area(alloc, case, borrows, &mut area, trial);
     drop(area);
     checked
 }
@@ -103,15 +103,15 @@ fn check_new(
 fn check_area(
     alloc: Global,
     case: &str,
-    lent: &Borrows,
+    borrows: &Borrows,
     area: &mut TextArea<'_>,
     trial: &mut Trial,
 ) -> Result<Option<TriedScript>, Stop> {
     for line in case.lines() {
-        trial.try_line(alloc, area, lent, line)?;
+        trial.try_line(alloc, area, borrows, line)?;
     }
-    trial.shown.is_new = trial.shown.is_known;
-    trial.compare_shown(alloc, area)?;
+    trial.printed_state.is_new = trial.printed_state.is_known;
+    trial.compare_display(alloc, area)?;
     Ok(trial.tried(alloc, area)?)
 }
 
@@ -132,7 +132,7 @@ struct Trial {
     // The number of the input that is tried, if a line has several.
     choice: usize,
     cells: Cells,
-    shown: Shown,
+    printed_state: PrintedState,
     script: Script,
 }
 
@@ -144,7 +144,7 @@ impl Trial {
                 buffer: Buffer::empty(alloc, Rect::new(0, 0, COLUMNS, ROWS))?,
                 drawn: None,
             },
-            shown: Shown::new(alloc)?,
+            printed_state: PrintedState::new(alloc)?,
             script: Script::new(alloc),
         })
     }
@@ -154,15 +154,15 @@ impl Trial {
         &mut self,
         alloc: Global,
         area: &mut TextArea<'_>,
-        lent: &Borrows,
+        borrows: &Borrows,
         line: &str,
     ) -> Result<(), Stop> {
         match line.split_once(" => ") {
             Some((call, answer)) => {
-                self.compare_shown(alloc, area)?;
-                self.try_call(alloc, area, lent, (call, answer))
+                self.compare_display(alloc, area)?;
+                self.try_call(alloc, area, borrows, (call, answer))
             }
-            None => self.shown.show(alloc, line),
+            None => self.printed_state.show(alloc, line),
         }
     }
 
@@ -171,11 +171,11 @@ impl Trial {
         &mut self,
         alloc: Global,
         area: &mut TextArea<'_>,
-        lent: &Borrows,
+        borrows: &Borrows,
         (call, answer): (&str, &str),
     ) -> Result<(), Stop> {
         let chosen = chosen(alloc, call, self.choice)?;
-        let found = self.answer_to(alloc, area, lent, chosen.as_str())?;
+        let found = self.result_of_call_in(alloc, area, borrows, chosen.as_str())?;
         match answer {
             "*" => Ok(()),
             _ => compare(found, answer),
@@ -183,32 +183,32 @@ impl Trial {
     }
 
     // The printed result of a line: of a call, or of a question that no call answers.
-    fn answer_to(
+    fn result_of_call_in(
         &mut self,
         alloc: Global,
         area: &mut TextArea<'_>,
-        lent: &Borrows,
+        borrows: &Borrows,
         line: &str,
     ) -> Result<String, Stop> {
-        if let Some(told) = report_text(alloc, area, &self.cells.buffer, line)? {
-            return Ok(told);
+        if let Some(end_text) = report_text(alloc, area, &self.cells.buffer, line)? {
+            return Ok(end_text);
         }
-        if let Some(told) = self.cells.words_result(alloc, area, lent, line)? {
+        if let Some(end_text) = self.cells.words_result(alloc, area, borrows, line)? {
             self.script.has_words = true;
-            return Ok(told);
+            return Ok(end_text);
         }
-        let told = self.cells.line_result(alloc, area, line)?;
-        self.script.push(line, told.as_str())?;
-        Ok(told)
+        let end_text = self.cells.line_result(alloc, area, line)?;
+        self.script.push(line, end_text.as_str())?;
+        Ok(end_text)
     }
 
     // Compares the text area with the state that was read since the last call, if there is any.
-    fn compare_shown(&mut self, alloc: Global, area: &TextArea<'_>) -> Result<(), Stop> {
-        if !self.shown.is_new {
+    fn compare_display(&mut self, alloc: Global, area: &TextArea<'_>) -> Result<(), Stop> {
+        if !self.printed_state.is_new {
             return Ok(());
         }
-        self.shown.is_new = false;
-        let wanted = self.shown.printed(alloc)?;
+        self.printed_state.is_new = false;
+        let wanted = self.printed_state.printed(alloc)?;
         compare(self.cells.printed(alloc, area)?, wanted.as_str())
     }
 
@@ -241,14 +241,14 @@ impl Cells {
         &mut self,
         alloc: Global,
         area: &mut TextArea<'_>,
-        lent: &Borrows,
+        borrows: &Borrows,
         line: &str,
     ) -> Result<Option<String>, Stop> {
         if let Some(input) = line.strip_prefix("input_without_shortcuts ") {
             return Ok(Some(self.input_result(alloc, area, input)?));
         }
         let words = unescaped(alloc, line)?;
-        match call_of(words.as_str(), lent) {
+        match call_of(words.as_str(), borrows) {
             Some(call) => Ok(Some(self.call_result_text(alloc, area, call)?)),
             None => Ok(None),
         }
@@ -297,7 +297,7 @@ impl Cells {
             self.drawn = Some(place);
         }
         let answer = perform(area, call, &mut self.buffer)?;
-        Ok(answer_text(alloc, &answer)?)
+        Ok(result_text(alloc, &answer)?)
     }
 
     // The printed text area, and the cells that were drawn last.

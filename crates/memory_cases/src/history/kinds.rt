@@ -8,33 +8,33 @@ use textarea_history::edit::EditKind;
 
 /// Returns the fragment of a text, which is split into lines at each `|`.
 pub fn line_count_in(alloc: Global, text: &str) -> Result<Vec<String>, AllocError>
-    ensures { IfOk result (λ pieces. 0 < vec_len pieces) }
+    ensures { IfOk result (λ fragment_lines. 0 < vec_len fragment_lines) }
 {
-    let mut pieces = Vec::new(alloc);
-    for piece in text.split('|') {
-        pieces.push(String::from_str(alloc, piece)?)?;
+    let mut fragment_lines = Vec::new(alloc);
+    for segment in text.split('|') {
+        fragment_lines.push(String::from_str(alloc, segment)?)?;
     }
-    if pieces.is_empty() {
-        pieces.push(String::new(alloc))?;
+    if fragment_lines.is_empty() {
+        fragment_lines.push(String::new(alloc))?;
     }
-    Ok(pieces)
+    Ok(fragment_lines)
 }
 
 /// Returns the kind that inserts or removes the fragment.
-pub fn kind_of(mut pieces: Vec<String>, inserts: bool) -> EditKind
-    requires { 0 < vec_len pieces }
-    ensures symbols { symbols_of result ≡ text_of pieces.items }
+pub fn kind_of(mut fragment_lines: Vec<String>, inserts: bool) -> EditKind
+    requires { 0 < vec_len fragment_lines }
+    ensures symbols { symbols_of result ≡ text_of fragment_lines.items }
     ensures inserts { inserts_of result ≡ inserts }
-    ensures pieces { IfSome (line_count_of result) (λ n. 2 ≤ n) }
+    ensures fragment_lines { IfSome (line_count_of result) (λ n. 2 ≤ n) }
 {
-    if 1 < pieces.len() {
+    if 1 < fragment_lines.len() {
         return if inserts {
-            EditKind::InsertChunk(pieces)
+            EditKind::InsertChunk(fragment_lines)
         } else {
-            EditKind::DeleteChunk(pieces)
+            EditKind::DeleteChunk(fragment_lines)
         };
     }
-    let text = pieces.pop().unwrap();
+    let text = fragment_lines.pop().unwrap();
     if inserts {
         EditKind::InsertStr(text)
     } else {

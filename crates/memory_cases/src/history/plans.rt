@@ -77,28 +77,28 @@ pub fn insertion(
     ensures { IfOk result (λ found. IfSome found
         (λ plan. IsEditReady (text_of lines.now) plan.kind plan.before plan.after)) }
 {
-    let pieces = line_count_in(alloc, text)?;
-    size_within_limit(pieces.as_slice())?;
+    let fragment_lines = line_count_in(alloc, text)?;
+    size_within_limit(fragment_lines.as_slice())?;
     let Some(before) = nearest(lines, place) else {
         return Ok(None);
     };
-    Ok(insertion_of(lines, before, pieces))
+    Ok(insertion_of(lines, before, fragment_lines))
 }
 
-fn insertion_of(lines: &[String], before: Place, pieces: Vec<String>) -> Option<Plan>
-    requires some { 0 < vec_len pieces }
-    requires size { size_of pieces.items ≤ size_limit }
+fn insertion_of(lines: &[String], before: Place, fragment_lines: Vec<String>) -> Option<Plan>
+    requires some { 0 < vec_len fragment_lines }
+    requires size { size_of fragment_lines.items ≤ size_limit }
     requires place { IsPlace (text_of lines.now) before }
     requires small { (before.0 ≤ 2 ^ 32) × (before.1 ≤ 2 ^ 32) }
     ensures { IfSome result
         (λ plan. IsEditReady (text_of lines.now) plan.kind plan.before plan.after) }
 {
-    let after = end_of(before, pieces.as_slice());
+    let after = end_of(before, fragment_lines.as_slice());
     if is_same(after, before) {
         return None;
     }
     Some(Plan {
-        kind: kind_of(pieces, true),
+        kind: kind_of(fragment_lines, true),
         before,
         after,
     })
@@ -137,12 +137,12 @@ fn removal(
     if is_same(before, after) {
         return Ok(None);
     }
-    let pieces = between(alloc, lines, after, before)?;
-    if pieces.is_empty() {
+    let fragment_lines = between(alloc, lines, after, before)?;
+    if fragment_lines.is_empty() {
         return Ok(None);
     }
     Ok(Some(Plan {
-        kind: kind_of(pieces, false),
+        kind: kind_of(fragment_lines, false),
         before,
         after,
     }))

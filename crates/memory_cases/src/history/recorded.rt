@@ -115,7 +115,7 @@ impl Recorded {
 // The edit with a copy of the plan's kind.
 fn edit_of(plan: &Plan) -> Result<Edit, AllocError>
     requires some { 0 < length (symbols_of plan.now.kind) }
-    requires pieces { IfSome (line_count_of plan.now.kind) (λ n. 2 ≤ n) }
+    requires fragment_lines { IfSome (line_count_of plan.now.kind) (λ n. 2 ≤ n) }
     requires ends { end_of_kind plan.now.kind plan.now.before plan.now.after
         ≡ end (splice_of plan.now.kind plan.now.before plan.now.after).place
         (symbols_of plan.now.kind) }

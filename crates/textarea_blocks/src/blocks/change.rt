@@ -29,8 +29,8 @@ impl RowBlocks {
             (replaced (get_or self.old.blocks block []) start count rows.items) }
     {
         let come = rows.len();
-        let going = &self.blocks[block].as_slice()[start..start + count];
-        let (rows_gone, rows_come) = (count_rows(going), count_rows(rows.as_slice()));
+        let removed_rows = &self.blocks[block].as_slice()[start..start + count];
+        let (rows_gone, rows_come) = (count_rows(removed_rows), count_rows(rows.as_slice()));
         replace_items(&mut self.blocks[block], start, count, rows);
         self.lines.shift_from(block + 1, count, come);
         self.rows.shift_from(block + 1, rows_gone, rows_come);
@@ -125,9 +125,9 @@ impl RowBlocks {
             ≡ replaced (all_rows self.old.blocks) row count (all_rows rows.blocks) }
     {
         let block = self.edge_of(row);
-        let behind = self.block_count() - block;
+        let after = self.block_count() - block;
         self.exchange_blocks(block, block, rows);
-        self.remove_first(self.block_count() - behind, count);
+        self.remove_first(self.block_count() - after, count);
     }
 
     /// Reserves room for `replace_few` to replace the `count` lines from `row` on by `come` lines.
@@ -180,12 +180,12 @@ impl RowBlocks {
         ensures edge { OnOk result (IsEdge self.new.blocks
             (lines_before self.old.blocks block + at)) }
     {
-        let mut behind = RowBlocks::new(*self.blocks.allocator());
-        behind.reserve(1)?;
+        let mut after = RowBlocks::new(*self.blocks.allocator());
+        after.reserve(1)?;
         self.reserve(1)?;
         let rows = self.split_block_off(block, at)?;
-        behind.put_first(rows);
-        self.exchange_blocks(block + 1, block + 1, behind);
+        after.put_first(rows);
+        self.exchange_blocks(block + 1, block + 1, after);
         Ok(())
     }
 
@@ -194,9 +194,9 @@ impl RowBlocks {
         requires block { block < length self.old.blocks }
         requires at { at ≤ length (get_or self.old.blocks block []) }
         ensures err { OnErr result (self.new.blocks ≡ self.old.blocks) }
-        ensures kept { OnOk result (self.new.blocks
+        ensures retained { OnOk result (self.new.blocks
             ≡ set self.old.blocks block (take at (get_or self.old.blocks block []))) }
-        ensures taken { IfOk result (λ rows.
+        ensures portion { IfOk result (λ rows.
             rows.items ≡ drop at (get_or self.old.blocks block [])) }
         ensures room { self.new.more ≡ self.old.more }
     {

@@ -100,11 +100,11 @@ impl RowBlocks {
         let mut left = count;
         'walking: while 0 < left {
             let here = self.blocks[block].as_slice();
-            let taken = left.min(here.len() - index);
-            let part = &here[index..index + taken];
-            rows += count_rows(part);
-            size = size.saturating_add(size_of_rows(part));
-            left -= taken;
+            let portion = left.min(here.len() - index);
+            let segment = &here[index..index + portion];
+            rows += count_rows(segment);
+            size = size.saturating_add(size_of_rows(segment));
+            left -= portion;
             block += 1;
             index = 0;
         }

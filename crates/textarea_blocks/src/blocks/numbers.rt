@@ -23,16 +23,17 @@ impl Model for Numbers {
 
     ghost Value = { NumbersView };
 
-    ghost view = { λ kept. record {
-      numbers = shifted_numbers kept.from kept.less kept.more kept.items.items;
-      spare = vec_capacity kept.items - vec_len kept.items;
+    ghost view = { λ retained. record {
+      numbers = shifted_numbers retained.from retained.less retained.more retained.items.items;
+      spare = vec_capacity retained.items - vec_len retained.items;
     } };
 
-    ghost invariant = { λ kept. CanShift kept.items.items kept.from kept.less kept.more };
+    ghost invariant = { λ retained. CanShift retained.items.items retained.from retained.less
+        retained.more };
 }
 
 impl Clone for Numbers {
-    ghost is_clone = { λ kept copy. copy.numbers ≡ kept.numbers };
+    ghost is_clone = { λ retained copy. copy.numbers ≡ retained.numbers };
 
     /// Returns the same numbers, or an error if memory runs out.
     fn clone(&self) -> Result<Numbers, AllocError> {

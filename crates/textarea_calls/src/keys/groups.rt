@@ -27,7 +27,7 @@ pub(super) fn plain(key: Key, shift: bool) -> Action
         Key::Up => Action::MoveWithShift(CursorMove::Up, shift),
         Key::Right => Action::MoveWithShift(CursorMove::Forward, shift),
         Key::Left => Action::MoveWithShift(CursorMove::Back, shift),
-        _ => any_modifiers_held(key, shift),
+        _ => action_with_modifiers(key, shift),
     }
 }
 
@@ -41,7 +41,7 @@ pub(super) fn with_ctrl(key: Key, shift: bool) -> Action
         Key::Left => Action::MoveWithShift(CursorMove::WordBack, shift),
         Key::Down => Action::MoveWithShift(CursorMove::ParagraphForward, shift),
         Key::Up => Action::MoveWithShift(CursorMove::ParagraphBack, shift),
-        _ => any_modifiers_held(key, shift),
+        _ => action_with_modifiers(key, shift),
     }
 }
 
@@ -80,7 +80,7 @@ pub(super) fn with_alt(key: Key, shift: bool) -> Action
         Key::Char(character) => character_with_alt(character, shift),
         Key::Backspace => Action::Edit(Edit::DeleteWord),
         Key::Delete => Action::Edit(Edit::DeleteNextWord),
-        _ => any_modifiers_held(key, shift),
+        _ => action_with_modifiers(key, shift),
     }
 }
 
@@ -111,12 +111,12 @@ pub(super) fn with_ctrl_and_alt(key: Key, shift: bool) -> Action
         Key::Right | Key::Char('f') => Action::MoveWithShift(CursorMove::End, shift),
         Key::Up | Key::Char('p') => Action::MoveWithShift(CursorMove::Top, shift),
         Key::Down | Key::Char('n') => Action::MoveWithShift(CursorMove::Bottom, shift),
-        _ => any_modifiers_held(key, shift),
+        _ => action_with_modifiers(key, shift),
     }
 }
 
 /// Returns what a key asks for by the cases of the table that ignore Ctrl and Alt.
-fn any_modifiers_held(key: Key, shift: bool) -> Action
+fn action_with_modifiers(key: Key, shift: bool) -> Action
     ensures { result ≡ action_by (any_modifiers keys_with_shortcuts)
         (pressed key false false shift) }
 {

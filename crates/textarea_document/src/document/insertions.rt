@@ -72,33 +72,34 @@ impl Document {
     /// Inserts the fragment at the insertion position, with a line break between each two of its
     /// strings, and returns whether it has a symbol. Without one the cursor moves there and the
     /// selection is dropped. A fragment larger than any text is an out-of-memory error.
-    pub fn insert(&mut self, pieces: Vec<String>, now: Duration) -> Result<bool, AllocError>
-        ensures inserted { IfOk result (λ inserted. inserted ≡ has_symbols (text_of pieces.items)) }
+    pub fn insert(&mut self, fragment_lines: Vec<String>, now: Duration) -> Result<bool, AllocError>
+        ensures inserted { IfOk result
+            (λ inserted. inserted ≡ has_symbols (text_of fragment_lines.items)) }
         ensures ok { OnOk result
-            (self.new ≡ symbols_inserted self.old (text_of pieces.items) (as_nanos now)) }
+            (self.new ≡ symbols_inserted self.old (text_of fragment_lines.items) (as_nanos now)) }
         ensures err { OnErr result (self.new ≡ self.old) }
-        ensures nothing { text_of pieces.items ≡ [] → IsOk result }
+        ensures nothing { text_of fragment_lines.items ≡ [] → IsOk result }
         ensures limit { IfOk result
-            (λ inserted. inserted ≡ true → size_of pieces.items ≤ size_limit) }
+            (λ inserted. inserted ≡ true → size_of fragment_lines.items ≤ size_limit) }
     {
-        if !has_symbol(pieces.as_slice()) {
+        if !has_symbol(fragment_lines.as_slice()) {
             self.insert_nothing();
             return Ok(false);
         }
-        rows::size_within_limit(pieces.as_slice())?;
+        rows::size_within_limit(fragment_lines.as_slice())?;
         let start = self.insertion_place();
-        let end = end_of(start, pieces.as_slice());
-        self.edit(edit_of(pieces, true, start, end), false, now)?;
+        let end = end_of(start, fragment_lines.as_slice());
+        self.edit(edit_of(fragment_lines, true, start, end), false, now)?;
         Ok(true)
     }
 }
 
 /// Returns whether the fragment has a symbol: a break between two of its strings, or a character.
-pub fn has_symbol(pieces: &[String]) -> bool
-    ensures { result ≡ has_symbols (text_of pieces.now) }
+pub fn has_symbol(fragment_lines: &[String]) -> bool
+    ensures { result ≡ has_symbols (text_of fragment_lines.now) }
 {
-    if pieces.is_empty() {
+    if fragment_lines.is_empty() {
         return false;
     }
-    1 < pieces.len() || !pieces[0].is_empty()
+    1 < fragment_lines.len() || !fragment_lines[0].is_empty()
 }

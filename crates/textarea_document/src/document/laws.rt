@@ -47,7 +47,7 @@ impl Document {
     pub fn steps_split_no_range(&self)
         ensures fits { (step : EditStep) → HasEffect self.now step →
             Fits self.now.text (splice_of_step self.now step) }
-        ensures cuts_none { (step : EditStep) → HasEffect self.now step →
+        ensures splits_none { (step : EditStep) → HasEffect self.now step →
             SplitsNoRange self.now.ranges (splice_of_step self.now step) }
     {
         let _ = &self.ranges; // by the invariant they are valid for the text

@@ -35,12 +35,12 @@ impl Document {
             (λ error. AreRejected (lines self.old.text) ranges.items error.rejected.items)) }
         ensures set { IfOk result (λ outcome.
             OnOk outcome (self.new ≡ accepted self.old ranges.items)) }
-        ensures refused { IfOk result (λ outcome. OnErr outcome (self.new ≡ self.old)) }
+        ensures unchanged_if_rejected { IfOk result (λ outcome. OnErr outcome (self.new ≡ self.old)) }
         ensures err { OnErr result (self.new ≡ self.old) }
     {
         match validate(self.allocator(), ranges, self.lines())? {
-            Ok(held) => {
-                self.store_ranges(held);
+            Ok(stored) => {
+                self.store_ranges(stored);
                 Ok(Ok(()))
             }
             Err(error) => Ok(Err(error)),
@@ -87,7 +87,7 @@ impl Document {
         ensures ordered { IfSome result (λ range.
             index_of self.now.text (range_start range) < index_of self.now.text (range_end range)) }
         ensures before { direction ≡ Backward → IfSome result (λ _. is_at_start self.now ≡ false) }
-        ensures behind { direction ≡ Forward → IfSome result (λ _. is_at_end self.now ≡ false) }
+        ensures after { direction ≡ Forward → IfSome result (λ _. is_at_end self.now ≡ false) }
     {
         lookup::range_at_place(self.ranges.as_slice(), self.cursor, direction)
     }

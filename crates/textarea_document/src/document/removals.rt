@@ -1,6 +1,6 @@
 //! Removals from a document.
 ghost use Rattle.std.specs.Prelude.{◌≡◌, ◌<◌, ◌≤◌, OnOk, OnErr, IsOk, IfOk, IfSome, MatchOption, not, true, false, ◌==◌, ◌++◌, ◌∷◌, ◌+◌, None, [], drop, take, encode_utf8_all, length};
-ghost use Rattle.textarea_document.specs.Prelude.{chars, as_nanos, offset_at, lines_of, symbol_in, text_of, IsPlace, IsPlaceOf, index_of, symbols_between, Backward, Forward, TakesWhole, widened, IsSymbolAfter, range_at_cursor, range_before, range_after, cursor_range_removed, is_at_end, is_at_start, removal, taken_symbols, removed_before, removed_after, break_removed, part_removed, symbol_removed_before, symbol_removed_after, after_edit};
+ghost use Rattle.textarea_document.specs.Prelude.{chars, as_nanos, offset_at, lines_of, symbol_in, text_of, IsPlace, IsPlaceOf, index_of, symbols_between, Backward, Forward, TakesWhole, widened, IsSymbolAfter, range_at_cursor, range_before, range_after, cursor_range_removed, is_at_end, is_at_start, removal, removed_symbols, removed_before, removed_after, break_removed, between_removed, symbol_removed_before, symbol_removed_after, after_edit};
 
 use crate::document::Document;
 use crate::document::edits::edit_of;
@@ -16,7 +16,7 @@ use textarea_text::text_slice::between;
 
 impl Document {
     /// Removes the text between two positions, and each range that it overlaps.
-    #[tactic(auto, unfolding(crate::specs::Edits::part_removed))]
+    #[tactic(auto, unfolding(crate::specs::Edits::between_removed))]
     pub fn remove(
         &mut self,
         from: (usize, usize),
@@ -26,17 +26,17 @@ impl Document {
         requires from { IsPlace self.old.text from }
         requires to { IsPlace self.old.text to }
         requires ordered { index_of self.old.text from < index_of self.old.text to }
-        ensures ok { OnOk result (self.new ≡ part_removed self.old from to (as_nanos now)) }
+        ensures ok { OnOk result (self.new ≡ between_removed self.old from to (as_nanos now)) }
         ensures err { OnErr result (self.new ≡ self.old) }
     {
         let (start, end) = self.widen(from, to);
-        let pieces = between(self.allocator(), self.lines(), start, end)?;
-        self.remove_whole(pieces, start, end, now)
+        let fragment_lines = between(self.allocator(), self.lines(), start, end)?;
+        self.remove_whole(fragment_lines, start, end, now)
     }
 
     /// Removes the text between two positions, and each range that it overlaps, and returns it as a
     /// fragment, with a line break between each two of its strings.
-    #[tactic(auto, unfolding(crate::specs::Edits::part_removed))]
+    #[tactic(auto, unfolding(crate::specs::Edits::between_removed))]
     pub fn take(
         &mut self,
         from: (usize, usize),
@@ -46,23 +46,23 @@ impl Document {
         requires from { IsPlace self.old.text from }
         requires to { IsPlace self.old.text to }
         requires ordered { index_of self.old.text from < index_of self.old.text to }
-        ensures taken_symbols { IfOk result (λ pieces.
-            text_of pieces.items ≡ taken_symbols self.old from to) }
-        ensures ok { OnOk result (self.new ≡ part_removed self.old from to (as_nanos now)) }
+        ensures removed_symbols { IfOk result (λ fragment_lines.
+            text_of fragment_lines.items ≡ removed_symbols self.old from to) }
+        ensures ok { OnOk result (self.new ≡ between_removed self.old from to (as_nanos now)) }
         ensures err { OnErr result (self.new ≡ self.old) }
     {
         let (start, end) = self.widen(from, to);
-        let pieces = between(self.allocator(), self.lines(), start, end)?;
-        let taken = copy_fragment(self.allocator(), pieces.as_slice())?;
-        self.remove_whole(pieces, start, end, now)?;
-        Ok(taken)
+        let fragment_lines = between(self.allocator(), self.lines(), start, end)?;
+        let removed = copy_fragment(self.allocator(), fragment_lines.as_slice())?;
+        self.remove_whole(fragment_lines, start, end, now)?;
+        Ok(removed)
     }
 
     // Removes this fragment, which is between two positions of the text. It covers each range
     // completely or not at all.
     fn remove_whole(
         &mut self,
-        pieces: Vec<String>,
+        fragment_lines: Vec<String>,
         from: (usize, usize),
         to: (usize, usize),
         now: Duration,
@@ -70,13 +70,13 @@ impl Document {
         requires from { IsPlace self.old.text from }
         requires to { IsPlace self.old.text to }
         requires ordered { index_of self.old.text from < index_of self.old.text to }
-        requires pieces { text_of pieces.items ≡ symbols_between self.old.text from to }
+        requires fragment_lines { text_of fragment_lines.items ≡ symbols_between self.old.text from to }
         requires whole { TakesWhole self.old.ranges from to }
         ensures ok { OnOk result (self.new
             ≡ after_edit self.old (removal self.old.text from to) false (as_nanos now)) }
         ensures err { OnErr result (self.new ≡ self.old) }
     {
-        self.edit(edit_of(pieces, false, from, to), false, now)
+        self.edit(edit_of(fragment_lines, false, from, to), false, now)
     }
 
     // Returns the two ends of a removal, widened over each range that it overlaps.
@@ -107,7 +107,7 @@ impl Document {
         ensures nothing { range_at_cursor self.old direction ≡ None → IsOk result }
         ensures before { direction ≡ Backward →
             IfOk result (λ range. IfSome range (λ _. is_at_start self.old ≡ false)) }
-        ensures behind { direction ≡ Forward →
+        ensures after { direction ≡ Forward →
             IfOk result (λ range. IfSome range (λ _. is_at_end self.old ≡ false)) }
         ensures start { direction ≡ Backward → is_at_start self.old ≡ true → IsOk result }
         ensures end { direction ≡ Forward → is_at_end self.old ≡ true → IsOk result }
@@ -153,7 +153,7 @@ impl Document {
     // Removes the character before the cursor, or at column 0 the line break there, as typed or
     // not. Returns whether there was one.
     fn remove_symbol_before(&mut self, typed: bool, now: Duration) -> Result<bool, AllocError>
-        requires none_hit { range_before self.old ≡ None }
+        requires none_at_place { range_before self.old ≡ None }
         ensures removed { IfOk result (λ removed. removed ≡ not (is_at_start self.old)) }
         ensures ok { OnOk result (self.new ≡ symbol_removed_before self.old typed (as_nanos now)) }
         ensures err { OnErr result (self.new ≡ self.old) }
@@ -173,7 +173,7 @@ impl Document {
     // Removes the character after the cursor, or at a line's end the line break there, as typed or
     // not. Returns whether there was one.
     fn remove_symbol_after(&mut self, typed: bool, now: Duration) -> Result<bool, AllocError>
-        requires none_hit { range_after self.old ≡ None }
+        requires none_at_place { range_after self.old ≡ None }
         ensures removed { IfOk result (λ removed. removed ≡ not (is_at_end self.old)) }
         ensures ok { OnOk result (self.new ≡ symbol_removed_after self.old typed (as_nanos now)) }
         ensures err { OnErr result (self.new ≡ self.old) }
@@ -181,12 +181,12 @@ impl Document {
     {
         let cursor = self.cursor();
         let offset = self.text_layout.offset_of(cursor);
-        let Some(behind) = symbol_after(self.lines(), cursor, offset) else {
+        let Some(after) = symbol_after(self.lines(), cursor, offset) else {
             self.set_anchor(None);
             return Ok(false);
         };
-        let kind = deletion_of(behind.character);
-        self.edit(Edit::between(kind, behind.end, cursor), typed, now)?;
+        let kind = deletion_of(after.character);
+        self.edit(Edit::between(kind, after.end, cursor), typed, now)?;
         Ok(true)
     }
 
@@ -224,8 +224,8 @@ fn symbol_after(lines: &[String], place: (usize, usize), offset: usize) -> Optio
     requires place { IsPlaceOf (lines_of lines.now) place }
     requires offset { offset ≡ offset_at (lines_of lines.now) place }
     ensures { MatchOption result (index_of (text_of lines.now) place ≡ length (text_of lines.now))
-        (λ behind.
-        IsSymbolAfter (text_of lines.now) place behind.end (symbol_in behind.character)) }
+        (λ after.
+        IsSymbolAfter (text_of lines.now) place after.end (symbol_in after.character)) }
 {
     let (row, column) = place;
     if let Some(c) = character_after(lines[row].as_str(), column, offset) {

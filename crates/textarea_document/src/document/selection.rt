@@ -1,6 +1,6 @@
 //! The selection of a document.
 ghost use Rattle.std.specs.Prelude.{◌≡◌, ◌<◌, ◌≤◌, OnOk, OnErr, IsOk, IfOk, IfSome, MatchOption, is_some, true, false};
-ghost use Rattle.textarea_document.specs.Prelude.{as_nanos, text_of, IsPlace, IsUpTo, index_of, is_before, is_selected, selected_removed, selected_taken, selection, selection_end, selection_start};
+ghost use Rattle.textarea_document.specs.Prelude.{as_nanos, text_of, IsPlace, IsUpTo, index_of, is_before, is_selected, selected_removed, selected_symbols, selection, selection_end, selection_start};
 
 use crate::document::Document;
 use std::alloc::AllocError;
@@ -59,9 +59,10 @@ impl Document {
     /// Removes the selected text, and returns what was removed as a fragment, with a line break
     /// between each two of its strings. `None` if no symbol is selected; an empty selection stays.
     pub fn take_selection(&mut self, now: Duration) -> Result<Option<Vec<String>>, AllocError>
-        ensures found { IfOk result (λ taken. is_some taken ≡ is_selected self.old) }
-        ensures taken { IfOk result (λ taken.
-            IfSome taken (λ pieces. text_of pieces.items ≡ selected_taken self.old)) }
+        ensures found { IfOk result (λ removed. is_some removed ≡ is_selected self.old) }
+        ensures removed { IfOk result (λ removed.
+            IfSome removed (λ fragment_lines. text_of fragment_lines.items ≡ selected_symbols
+            self.old)) }
         ensures ok { OnOk result (self.new ≡ selected_removed self.old (as_nanos now)) }
         ensures err { OnErr result (self.new ≡ self.old) }
         ensures nothing { is_selected self.old ≡ false → IsOk result }
@@ -69,8 +70,8 @@ impl Document {
         let Some((start, end)) = self.filled_selection() else {
             return Ok(None);
         };
-        let pieces = self.take(start, end, now)?;
-        Ok(Some(pieces))
+        let fragment_lines = self.take(start, end, now)?;
+        Ok(Some(fragment_lines))
     }
 }
 

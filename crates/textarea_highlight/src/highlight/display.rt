@@ -4,7 +4,7 @@ ghost use Rattle.std.specs.List.{list_any};
 ghost use Rattle.textarea_screen.specs.Text.{content_view};
 ghost use Rattle.textarea_highlight.specs.Texts.{text_bytes_of, IsUncopied};
 ghost use Rattle.textarea_wrap.specs.Columns.{column_after, end_column};
-ghost use Rattle.textarea_highlight.specs.Display.{is_tab, display_char, with_spaces, without_tabs, display_text, display_bytes, IsShownAsItIs};
+ghost use Rattle.textarea_highlight.specs.Display.{is_tab, display_char, with_spaces, without_tabs, display_text, display_bytes, IsDisplayedAsItIs};
 
 use std::alloc::{AllocError, Global};
 use textarea_screen::screen::SpanText;
@@ -24,89 +24,95 @@ pub struct Display {
 impl Display {
     /// Returns the text on the screen for the next segment: the segment itself if there is no mask
     /// and it is shown unchanged, otherwise a new text.
-    pub fn show<'a>(&mut self, piece: &'a str) -> Result<SpanText<'a>, AllocError>
-        requires { self.old.column + 255 * length piece.now < 2 ^ 63 }
+    pub fn show<'a>(&mut self, segment: &'a str) -> Result<SpanText<'a>, AllocError>
+        requires { self.old.column + 255 * length segment.now < 2 ^ 63 }
         ensures text { IfOk result (λ content. text_bytes_of (content_view content)
-            ≡ display_bytes self.old.mask self.old.tab_len self.old.column piece.now) }
+            ≡ display_bytes self.old.mask self.old.tab_len self.old.column segment.now) }
         ensures borrowed { IfOk result (λ content. IsUncopied (content_view content)
-            ↔ IsShownAsItIs self.old.mask self.old.tab_len self.old.column piece.now) }
+            ↔ IsDisplayedAsItIs self.old.mask self.old.tab_len self.old.column segment.now) }
         ensures column { OnOk result (self.new ≡ record self.old {
-          column = end_column self.old.tab_len self.old.column (chars piece.now);
+          column = end_column self.old.tab_len self.old.column (chars segment.now);
         }) }
-        ensures bound { OnOk result (self.new.column ≤ self.old.column + 255 * length piece.now) }
+        ensures bound { OnOk result (self.new.column ≤ self.old.column + 255 * length segment.now) }
     {
         let content = match self.mask {
-            Some(mask) => SpanText::Owned(mask_text(self.alloc, piece, mask)?),
-            None => show_tabs(self.alloc, piece, self.tab_len, self.column)?,
+            Some(mask) => SpanText::Owned(mask_text(self.alloc, segment, mask)?),
+            None => show_tabs(self.alloc, segment, self.tab_len, self.column)?,
         };
-        self.column = column_after_text(piece, self.column, self.tab_len);
+        self.column = column_after_text(segment, self.column, self.tab_len);
         Ok(content)
     }
 }
 
 fn show_tabs<'a>(
     alloc: Global,
-    piece: &'a str,
+    segment: &'a str,
     tab_len: u8,
     column: usize,
 ) -> Result<SpanText<'a>, AllocError>
-    requires { column + 255 * length piece.now < 2 ^ 63 }
+    requires { column + 255 * length segment.now < 2 ^ 63 }
     ensures text { IfOk result (λ content. text_bytes_of (content_view content)
-        ≡ display_bytes None tab_len column piece.now) }
+        ≡ display_bytes None tab_len column segment.now) }
     ensures borrowed { IfOk result (λ content. IsUncopied (content_view content)
-        ↔ (display_text None tab_len column (chars piece.now) ≡ chars piece.now)) }
+        ↔ (display_text None tab_len column (chars segment.now) ≡ chars segment.now)) }
 {
     if tab_len == 0 {
-        if has_tab_after_start(piece) {
-            Ok(SpanText::Owned(drop_tabs(alloc, piece)?))
+        if has_tab_after_start(segment) {
+            Ok(SpanText::Owned(drop_tabs(alloc, segment)?))
         } else {
-            Ok(SpanText::Borrowed(piece))
+            Ok(SpanText::Borrowed(segment))
         }
-    } else if has_tab(piece) {
-        Ok(SpanText::Owned(expand_tabs(alloc, piece, tab_len, column)?))
+    } else if has_tab(segment) {
+        Ok(SpanText::Owned(expand_tabs(alloc, segment, tab_len, column)?))
     } else {
-        Ok(SpanText::Borrowed(piece))
+        Ok(SpanText::Borrowed(segment))
     }
 }
 
-fn has_tab(piece: &str) -> bool
-    ensures { result ≡ list_any is_tab (chars piece.now) }
+fn has_tab(segment: &str) -> bool
+    ensures { result ≡ list_any is_tab (chars segment.now) }
 {
-    piece.chars().any(|c| c == '\t')
+    segment.chars().any(|c| c == '\t')
 }
 
-fn has_tab_after_start(piece: &str) -> bool
-    ensures { result ≡ list_any is_tab (drop 1 (chars piece.now)) }
+fn has_tab_after_start(segment: &str) -> bool
+    ensures { result ≡ list_any is_tab (drop 1 (chars segment.now)) }
 {
-    piece.chars().skip(1).any(|c| c == '\t')
+    segment.chars().skip(1).any(|c| c == '\t')
 }
 
 /// Returns the mask character for each character.
-fn mask_text(alloc: Global, piece: &str, mask: char) -> Result<String, AllocError>
+fn mask_text(alloc: Global, segment: &str, mask: char) -> Result<String, AllocError>
     ensures { IfOk result (λ s. string_bytes s
-        ≡ encode_utf8_all (map (λ _. mask) (chars piece.now))) }
+        ≡ encode_utf8_all (map (λ _. mask) (chars segment.now))) }
 {
-    piece.chars().map(|_| mask).collect(alloc)
+    segment.chars().map(|_| mask).collect(alloc)
 }
 
 /// Returns the text without its tabs, except one at its very start.
-fn drop_tabs(alloc: Global, piece: &str) -> Result<String, AllocError>
-    ensures { IfOk result (λ s. string_bytes s ≡ encode_utf8_all (without_tabs (chars piece.now))) }
+fn drop_tabs(alloc: Global, segment: &str) -> Result<String, AllocError>
+    ensures { IfOk result
+        (λ s. string_bytes s ≡ encode_utf8_all (without_tabs (chars segment.now))) }
 {
-    let first = piece.chars().take(1);
-    let others = piece.chars().skip(1).filter(|c| *c != '\t');
+    let first = segment.chars().take(1);
+    let others = segment.chars().skip(1).filter(|c| *c != '\t');
     first.chain(others).collect(alloc)
 }
 
 /// Returns the text with each tab replaced by spaces up to the next tab stop.
-fn expand_tabs(alloc: Global, piece: &str, tab_len: u8, column: usize) -> Result<String, AllocError>
-    requires { column + 255 * length piece.now < 2 ^ 63 }
+fn expand_tabs(
+    alloc: Global,
+    segment: &str,
+    tab_len: u8,
+    column: usize,
+) -> Result<String, AllocError>
+    requires { column + 255 * length segment.now < 2 ^ 63 }
     ensures { IfOk result (λ s. string_bytes s
-        ≡ encode_utf8_all (with_spaces tab_len column (chars piece.now))) }
+        ≡ encode_utf8_all (with_spaces tab_len column (chars segment.now))) }
 {
     let mut expanded = String::new(alloc);
     let mut at = column;
-    for c in piece.chars() {
+    for c in segment.chars() {
         let next = column_after(c, at, tab_len);
         push_display(&mut expanded, c, at, next, tab_len)?;
         at = next;

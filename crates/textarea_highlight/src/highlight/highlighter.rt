@@ -301,7 +301,7 @@ impl<'a> LineHighlighter<'a> {
     /// after it if that is drawn. A segment borrows from the row if it is shown unchanged. A row of
     /// 2^48 bytes or more is out of memory, as a line in `line_ranges`.
     pub fn into_spans(self) -> Result<Line<'a>, AllocError>
-        ensures shown { IfOk result (λ line. ShowsRow self.entry (line_view line)) }
+        ensures displayed { IfOk result (λ line. ShowsRow self.entry (line_view line)) }
         ensures too_long { size_limit ≤ length self.entry.row → IsErr result }
         ensures nothing { ShowsNothing self.entry → IsOk result }
     {
@@ -317,7 +317,7 @@ impl<'a> LineHighlighter<'a> {
     /// Replaces the spans of a line by those that `into_spans` returns, and reuses its memory. What
     /// the highlighter contains then is not specified; `restart` must come next.
     pub fn show_in(&mut self, line: &mut Line<'a>) -> Result<(), AllocError>
-        ensures shown { OnOk result (ShowsRow self.old (line_view line.new)) }
+        ensures displayed { OnOk result (ShowsRow self.old (line_view line.new)) }
         ensures too_long { size_limit ≤ length self.old.row → IsErr result }
         ensures nothing { ShowsNothing self.old → IsOk result }
     {

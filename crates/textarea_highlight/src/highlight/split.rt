@@ -4,7 +4,7 @@ ghost use Rattle.textarea_screen.specs.Text.{span_view};
 ghost use Rattle.textarea_wrap.specs.Columns.{end_column};
 ghost use Rattle.textarea_highlight.specs.Borders.{ArePlaced};
 ghost use Rattle.textarea_highlight.specs.Highlights.{end_cell};
-ghost use Rattle.textarea_highlight.specs.Split.{IsAscending, AddsPieces, AddsPiece, piece_of};
+ghost use Rattle.textarea_highlight.specs.Split.{IsAscending, AddsSegments, AddsSegment, segment_of};
 
 use super::borders::Border;
 use super::brackets::OpenStyles;
@@ -33,7 +33,7 @@ pub fn split<'a>(
     requires room { 255 * length row.now < 2 ^ 63 }
     requires placed { ArePlaced row.now borders.now }
     requires ordered { IsAscending borders.now }
-    ensures added { OnOk result (AddsPieces row.now borders.now
+    ensures added { OnOk result (AddsSegments row.now borders.now
         row_style.base row_style.tab_len row_style.mask
         (map span_view spans.old.items) (map span_view spans.new.items)) }
     ensures nothing { row.now ≡ [] → borders.now ≡ [] → IsOk result }
@@ -68,10 +68,10 @@ fn split_to<'a>(
     requires from_boundary { IsCharBoundary row.now from }
     requires to_boundary { IsCharBoundary row.now to }
     requires room { display.old.column + 255 * (to - from) < 2 ^ 63 }
-    ensures added { OnOk result (AddsPiece row.now display.old styles.now from to
+    ensures added { OnOk result (AddsSegment row.now display.old styles.now from to
         (map span_view spans.old.items) (map span_view spans.new.items)) }
-    ensures shown { OnOk result (display.new ≡ record display.old {
-      column = end_column display.old.tab_len display.old.column (piece_of row.now from to);
+    ensures displayed { OnOk result (display.new ≡ record display.old {
+      column = end_column display.old.tab_len display.old.column (segment_of row.now from to);
     }) }
     ensures bound { OnOk result (display.new.column ≤ display.old.column + 255 * (to - from)) }
     ensures nothing { from ≡ to → IsOk result }

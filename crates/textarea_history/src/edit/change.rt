@@ -91,7 +91,7 @@ impl<'a> Change<'a> {
             Content::Text(text) => text.len(),
             Content::Typed(text) => text.len(),
             Content::Break => 1,
-            Content::Chunk(pieces) => weight_of_fragment(pieces.as_slice()),
+            Content::Chunk(fragment_lines) => weight_of_fragment(fragment_lines.as_slice()),
         }
     }
 
@@ -199,8 +199,13 @@ impl<'a> Change<'a> {
                 }
             }
             Content::Break => self.prepare_insertion(alloc, lines, "", &[String::new(alloc)]),
-            Content::Chunk(pieces) => {
-                self.prepare_insertion(alloc, lines, pieces[0].as_str(), &pieces[1..])
+            Content::Chunk(fragment_lines) => {
+                self.prepare_insertion(
+                    alloc,
+                    lines,
+                    fragment_lines[0].as_str(),
+                    &fragment_lines[1..],
+                )
             }
         }
     }
@@ -226,10 +231,10 @@ impl<'a> Change<'a> {
 }
 
 // The bytes of a fragment: those of its lines, and one for each break.
-fn weight_of_fragment(pieces: &[String]) -> usize
-    ensures { result ≡ min (weight (text_of pieces.now)) usize.MAX }
+fn weight_of_fragment(fragment_lines: &[String]) -> usize
+    ensures { result ≡ min (weight (text_of fragment_lines.now)) usize.MAX }
 {
-    match pieces {
+    match fragment_lines {
         [] => 0,
         [first, rest @ ..] => size_of(rest).saturating_add(first.len()),
     }

@@ -16,7 +16,7 @@ use textarea_screen_map::view::TextLayoutView;
 #[derive(Drop)]
 pub struct PreparedWidth {
     inner_width: u16,
-    cut: Option<WrappedRows>,
+    wraps: Option<WrappedRows>,
 }
 
 impl Model for PreparedWidth {
@@ -26,7 +26,7 @@ impl Model for PreparedWidth {
 
     ghost view = { λ prepared. record {
       inner_width = prepared.inner_width;
-      cut = prepared.cut;
+      wraps = prepared.wraps;
     } };
 }
 
@@ -45,7 +45,7 @@ impl TextLayout {
         settings: LayoutSettings,
     ) -> Result<Option<WrappedRows>, AllocError>
         ensures same { self.new ≡ self.old }
-        ensures cut { IfOk result (IsRewrappedIfOther self.old settings) }
+        ensures wraps { IfOk result (IsRewrappedIfOther self.old settings) }
         ensures no_memory { keeps_wrapping self.old settings ≡ true → IsOk result }
     {
         let before = self.map.wrapping();
@@ -53,8 +53,8 @@ impl TextLayout {
         if is_same(after, before) {
             return Ok(None);
         }
-        if let Some(kept) = self.take_measured(after) {
-            return Ok(Some(kept));
+        if let Some(cached) = self.take_measured(after) {
+            return Ok(Some(cached));
         }
         Ok(Some(self.wrap_all(after)?))
     }
@@ -62,13 +62,13 @@ impl TextLayout {
     // Empties the cache, and returns its rows of all lines if they have this wrapping.
     pub(super) fn take_measured(&mut self, wrapping: Wrapping) -> Option<WrappedRows>
         ensures same { self.new ≡ self.old }
-        ensures kept { IfSome result (IsWholeWrap self.old wrapping) }
+        ensures cached { IfSome result (IsWholeWrap self.old wrapping) }
     {
-        let cut = self.kept.take()?;
-        if cut.map.wrapping() != wrapping {
+        let wraps = self.cached.take()?;
+        if wraps.map.wrapping() != wrapping {
             return None;
         }
-        Some(cut)
+        Some(wraps)
     }
 
     // Wraps all lines, each once.
@@ -82,15 +82,15 @@ impl TextLayout {
     }
 
     // Sets the settings, with the rows that were wrapped for them. Allocates nothing.
-    pub(super) fn put(&mut self, settings: LayoutSettings, cut: Option<WrappedRows>)
-        requires { IsRewrappedIfOther self.old settings cut }
+    pub(super) fn put(&mut self, settings: LayoutSettings, wraps: Option<WrappedRows>)
+        requires { IsRewrappedIfOther self.old settings wraps }
         ensures { self.new ≡ with_settings self.old settings }
     {
-        match cut {
-            Some(cut) => {
-                self.map = cut.map;
-                self.count = cut.count;
-                drop_measured(&mut self.kept);
+        match wraps {
+            Some(wraps) => {
+                self.map = wraps.map;
+                self.count = wraps.count;
+                drop_measured(&mut self.cached);
             }
             None => {
                 if !is_wrapped(settings) {
@@ -112,11 +112,11 @@ impl TextLayout {
             → IsOk result }
     {
         let settings = self.layout_settings();
-        let cut = self.wrap_for(LayoutSettings {
+        let wraps = self.wrap_for(LayoutSettings {
             inner_width,
             ..settings
         })?;
-        Ok(PreparedWidth { inner_width, cut })
+        Ok(PreparedWidth { inner_width, wraps })
     }
 
     /// Returns the lines with the rows that they will have after `put_width`.
@@ -125,8 +125,8 @@ impl TextLayout {
         ensures { IsViewOf
             (with_settings self.now (at_width self.now prepared.now.inner_width)) result }
     {
-        let map = match &prepared.cut {
-            Some(cut) => &cut.map,
+        let map = match &prepared.wraps {
+            Some(wraps) => &wraps.map,
             None => &self.map,
         };
         TextLayoutView::new(self.lines.as_slice(), map)
@@ -138,13 +138,13 @@ impl TextLayout {
         ensures { self.new
             ≡ with_settings self.old (at_width self.old prepared.inner_width) }
     {
-        let PreparedWidth { inner_width, cut } = prepared;
+        let PreparedWidth { inner_width, wraps } = prepared;
         self.put(
             LayoutSettings {
                 inner_width,
                 ..self.settings
             },
-            cut,
+            wraps,
         );
     }
 }

@@ -4,7 +4,7 @@ ghost use Rattle.textarea_calls.specs.declared.call.Call.TheVariants.{Move};
 ghost use Rattle.textarea_modal.specs.Calls.{key_call, step_calls};
 ghost use Rattle.textarea_modal.specs.Runs.{AllMade, OneRunsOut};
 ghost use Rattle.textarea_modal.specs.Table.{passed_on};
-ghost use Rattle.tui_textarea.specs.Outcomes.{IsAnswer, IsAfterCall, RanOutOfMemory};
+ghost use Rattle.tui_textarea.specs.Outcomes.{IsResultOf, IsAfterCall, RanOutOfMemory};
 ghost use Rattle.tui_textarea.specs.CallResults.{call_result};
 
 use crate::step::{KeyCall, Step};
@@ -56,7 +56,7 @@ fn make_all(area: &mut TextArea<'_>, calls: &[KeyCall]) -> Result<(), AllocError
 // Makes one call and returns its result.
 fn make(area: &mut TextArea<'_>, call: KeyCall) -> Result<Answer, AllocError>
     ensures answer { IfOk result
-        (λ answer. IsAnswer area.old (key_call call) (call_result answer)) }
+        (λ answer. IsResultOf area.old (key_call call) (call_result answer)) }
     ensures ok { IfOk result
         (λ answer. IsAfterCall area.old (key_call call) (call_result answer) area.new) }
     ensures err { OnErr result (RanOutOfMemory area.old (key_call call) area.new) }

@@ -49,9 +49,9 @@ pub(crate) fn draw_cluster(
     let columns = cluster_columns(cluster.text);
     let hidden = columns.min(pen.hidden);
     let room = usize::from(cells.x + cells.width - pen.x);
-    let shown = (columns - hidden).min(room);
-    let end = pen.x + shown as u16;
-    draw_columns(buffer, cells.y, pen.x, end, cluster, shown == columns)?;
+    let displayed = (columns - hidden).min(room);
+    let end = pen.x + displayed as u16;
+    draw_columns(buffer, cells.y, pen.x, end, cluster, displayed == columns)?;
     Ok(Pen {
         hidden: pen.hidden - hidden,
         x: end,

@@ -24,7 +24,7 @@ pub(crate) struct LineClusters<'a, 'b> {
     style: Style,
     texts: Graphemes<'a>,
     /// The rest of the span's text, after `texts`.
-    behind: &'a str,
+    after: &'a str,
     spans: slice::Iter<'a, Span<'b>>,
 }
 
@@ -40,7 +40,7 @@ impl<'a, 'b> LineClusters<'a, 'b> {
             base,
             style: base,
             texts: "".graphemes(true),
-            behind: "",
+            after: "",
             spans: line.spans.iter(),
         }
     }
@@ -63,20 +63,20 @@ impl<'a, 'b> Iterator for LineClusters<'a, 'b> {
                     style: self.style,
                 });
             }
-            if let Some((text, behind)) = split_plain(self.behind) {
-                self.behind = behind;
+            if let Some((text, after)) = split_plain(self.after) {
+                self.after = after;
                 return Some(StyledCluster {
                     text,
                     style: self.style,
                 });
             }
-            if self.behind.is_empty() {
+            if self.after.is_empty() {
                 let span = self.spans.next()?;
                 self.style = self.base.patch(span.style);
-                self.behind = span.content.as_str();
+                self.after = span.content.as_str();
             } else {
-                self.texts = self.behind.graphemes(true);
-                self.behind = "";
+                self.texts = self.after.graphemes(true);
+                self.after = "";
             }
         }
     }
@@ -85,9 +85,9 @@ impl<'a, 'b> Iterator for LineClusters<'a, 'b> {
 /// Splits the first character off a text that begins with printable ASCII. The character is a
 /// cluster by itself and is found without a table.
 fn split_plain<'a>(text: &'a str) -> Option<(&'a str, &'a str)>
-    ensures first { IfSome result (λ parts.
-        graphemes true text.now ≡ parts.0.now ∷ graphemes true parts.1.now) }
-    ensures shorter { IfSome result (λ parts. length parts.1.now < length text.now) }
+    ensures first { IfSome result (λ components.
+        graphemes true text.now ≡ components.0.now ∷ graphemes true components.1.now) }
+    ensures shorter { IfSome result (λ components. length components.1.now < length text.now) }
 {
     if begins_plain(text.as_bytes()) {
         text.split_at_checked(1)

@@ -36,8 +36,8 @@ pub fn draw_row(buffer: &mut Buffer, rows: RowArea, y: u16, line: &Line) -> Resu
     ensures err { OnErr result (KeepsOutside (is_in_row rows.area y) buffer.old buffer.new) }
 {
     let area = rows.area;
-    let seen = area.intersection(buffer.area());
-    if !seen.contains(Position { x: seen.x, y }) {
+    let visible = area.intersection(buffer.area());
+    if !visible.contains(Position { x: visible.x, y }) {
         return Ok(());
     }
     let cells = RowCells {

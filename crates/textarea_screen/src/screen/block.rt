@@ -192,8 +192,8 @@ impl<'a> Default for Block<'a> {
 }
 
 /// Returns the number of rows or columns that a block takes at one side, at most 65535.
-fn inset(is_taken: bool, padding: u16) -> u16
-    ensures { result ≡ min (inset_of is_taken padding) 65535 }
+fn inset(has_border: bool, padding: u16) -> u16
+    ensures { result ≡ min (inset_of has_border padding) 65535 }
 {
-    u16::from(is_taken).saturating_add(padding)
+    u16::from(has_border).saturating_add(padding)
 }

@@ -21,7 +21,7 @@ impl CellText {
 
     /// Returns a cell's text. Takes memory if it is longer than `INLINE_BYTES`.
     fn new(alloc: Global, text: &str) -> Result<CellText, AllocError>
-        ensures value { IfOk result (λ kept. cell_text kept ≡ text.now) }
+        ensures value { IfOk result (λ retained. cell_text retained ≡ text.now) }
         ensures inline { length text.now ≤ INLINE_BYTES → IsOk result }
     {
         match ArrayString::from(text) {
@@ -37,9 +37,9 @@ impl CellText {
         ensures err { OnErr result (self.new ≡ self.old) }
     {
         match self {
-            CellText::Inline(kept) if text.len() <= INLINE_BYTES => {
-                kept.clear();
-                kept.push_str(text);
+            CellText::Inline(retained) if text.len() <= INLINE_BYTES => {
+                retained.clear();
+                retained.push_str(text);
             }
             _ => *self = CellText::new(alloc, text)?,
         }

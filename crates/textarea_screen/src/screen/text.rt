@@ -26,7 +26,7 @@ impl<'a> SpanText<'a> {
     /// Returns a copy of the text. It allocates only if the text is owned.
     pub fn clone(&self) -> Result<SpanText<'a>, AllocError>
         ensures value { IfOk result (λ text. content_view text ≡ content_view self.now) }
-        ensures lent { IsBorrowed self.now → IsOk result }
+        ensures borrowed { IsBorrowed self.now → IsOk result }
     {
         match self {
             SpanText::Borrowed(text) => Ok(SpanText::Borrowed(text)),
@@ -67,7 +67,7 @@ impl<'a> Span<'a> {
     /// Returns a copy of the span. It allocates only if the text is owned.
     pub fn clone(&self) -> Result<Span<'a>, AllocError>
         ensures value { IfOk result (λ span. span_view span ≡ span_view self.now) }
-        ensures lent { IsBorrowed self.now.content → IsOk result }
+        ensures borrowed { IsBorrowed self.now.content → IsOk result }
     {
         Ok(Span {
             content: self.content.clone()?,

@@ -55,7 +55,7 @@ impl ScreenMap {
     pub fn row_at<'a>(&self, lines: &'a [String], row: usize) -> RowText<'a>
         requires rows { AreRowsOf self.now.wrapping (lines_of lines.now) self.now.rows }
         requires row { row < row_total self.now.rows }
-        ensures shown { row_of_texts result ≡ row_at (lines_of lines.now) self.now.rows row }
+        ensures displayed { row_of_texts result ≡ row_at (lines_of lines.now) self.now.rows row }
         ensures number { row_total (take result.line self.now.rows) + result.number ≡ row }
         ensures line { result.line < length self.now.rows }
         ensures front { HasFrontOfLine (lines_of lines.now) result }
@@ -82,8 +82,8 @@ impl ScreenMap {
         ensures { result
             ≡ row_width self.now.wrapping.tab_len (row_at (lines_of lines.now) self.now.rows row) }
     {
-        let shown = self.row_at(lines, row);
-        display_column_after_text(shown.text, 0, self.wrapping.tab_len)
+        let displayed = self.row_at(lines, row);
+        display_column_after_text(displayed.text, 0, self.wrapping.tab_len)
     }
 
     /// Returns the greatest display column of a visual row at which a cursor can be: the row's
@@ -94,8 +94,8 @@ impl ScreenMap {
         ensures { result ≡ greatest_column self.now.wrapping.tab_len
             (row_at (lines_of lines.now) self.now.rows row) }
     {
-        let shown = self.row_at(lines, row);
-        greatest_cursor_column(shown.text, shown.is_last, self.wrapping.tab_len)
+        let displayed = self.row_at(lines, row);
+        greatest_cursor_column(displayed.text, displayed.is_last, self.wrapping.tab_len)
     }
 
     /// Returns the visual row and the display column of a position in the map's lines.
@@ -129,9 +129,9 @@ impl ScreenMap {
         ensures found { IsPlaceAt self.now.wrapping.tab_len (lines_of lines.now)
             self.now.rows visual result }
     {
-        let shown = self.row_at(lines, visual.row);
-        let index = character_at_column(shown.text, visual.column, self.wrapping.tab_len);
-        (shown.line, column_count(shown.before) + index)
+        let displayed = self.row_at(lines, visual.row);
+        let index = character_at_column(displayed.text, visual.column, self.wrapping.tab_len);
+        (displayed.line, column_count(displayed.before) + index)
     }
 
     /// Returns the position for a cursor in a visual row at a display column, or at the row's

@@ -14,7 +14,7 @@ use std::marker::Model;
 pub struct CachingMatcher<'a, 'k> {
     search: &'a Search,
     matcher: Option<LineMatcher<'a>>,
-    kept: &'k mut MatchCache,
+    cached: &'k mut MatchCache,
 }
 
 impl<'a, 'k> Model for CachingMatcher<'a, 'k> {
@@ -28,13 +28,13 @@ impl<'a, 'k> Model for CachingMatcher<'a, 'k> {
 }
 
 impl<'a, 'k> CachingMatcher<'a, 'k> {
-    pub(crate) fn new(search: &'a Search, kept: &'k mut MatchCache) -> CachingMatcher<'a, 'k>
+    pub(crate) fn new(search: &'a Search, cached: &'k mut MatchCache) -> CachingMatcher<'a, 'k>
         ensures { result ≡ search.now }
     {
         CachingMatcher {
             search,
             matcher: None,
-            kept,
+            cached,
         }
     }
 
@@ -57,12 +57,12 @@ impl<'a, 'k> CachingMatcher<'a, 'k> {
         let Some(pattern) = search.pattern() else {
             return Ok(());
         };
-        if let Some(found) = self.kept.get(number, pattern, line) {
+        if let Some(found) = self.cached.get(number, pattern, line) {
             spans.extend_from_slice(found)?;
             return Ok(());
         }
         self.find(line, spans)?;
-        self.kept.put(number, pattern, line, spans.as_slice())
+        self.cached.put(number, pattern, line, spans.as_slice())
     }
 
     // Finds the matches of a line without the cache.

@@ -19,7 +19,7 @@ impl Model for MatchCache {
 
     ghost Value = { ⊤ };
 
-    ghost view = { λ kept. tt };
+    ghost view = { λ cached. tt };
 }
 
 impl MatchCache {
@@ -47,7 +47,7 @@ impl MatchCache {
             return None;
         }
         match &self.lines[number % self.lines.len()] {
-            Some(kept) => kept.spans_of(pattern, line),
+            Some(cached) => cached.spans_of(pattern, line),
             None => None,
         }
     }
@@ -104,18 +104,18 @@ fn cached_line(
 ) -> Result<CachedLine, AllocError>
     requires { spans.now ≡ match_spans pattern.now line.now }
 {
-    let (mut kept_pattern, mut text, mut list) = match before {
-        Some(kept) => (kept.pattern, kept.text, kept.spans),
+    let (mut cached_pattern, mut text, mut list) = match before {
+        Some(cached) => (cached.pattern, cached.text, cached.spans),
         None => (String::new(alloc), String::new(alloc), Vec::new(alloc)),
     };
-    kept_pattern.clear();
-    kept_pattern.push_str(pattern)?;
+    cached_pattern.clear();
+    cached_pattern.push_str(pattern)?;
     text.clear();
     text.push_str(line)?;
     list.clear();
     list.extend_from_slice(spans)?;
     Ok(CachedLine {
-        pattern: kept_pattern,
+        pattern: cached_pattern,
         text,
         spans: list,
     })

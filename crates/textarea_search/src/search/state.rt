@@ -36,7 +36,7 @@ impl Search {
         ensures empty { pattern.now ≡ [] → IsOk result × IsNone self.new }
         ensures set { pattern.now ≢ [] → OnOk result (self.new ≡ Some pattern.now) }
         ensures present { self.old ≡ Some pattern.now → IsOk result }
-        ensures refused { IfErr result (IsPatternFailure pattern.now) }
+        ensures pattern_failure { IfErr result (IsPatternFailure pattern.now) }
         ensures carried { IfErr result (IsErrorFor pattern.now) }
         ensures own { IfErr result (IsOwnFailure pattern.now) }
         ensures err { OnErr result (self.new ≡ self.old) }
@@ -88,19 +88,19 @@ impl Search {
     }
 
     /// Returns a matcher that lists the matches of many lines, as `matches` does, and stores them
-    /// in `kept`, for up to `count` successive lines, so that none is searched for twice.
+    /// in `cached`, for up to `count` successive lines, so that none is searched for twice.
     pub fn caching_matcher<'a, 'k>(
         &'a self,
-        kept: &'k mut MatchCache,
+        cached: &'k mut MatchCache,
         count: usize,
     ) -> Result<CachingMatcher<'a, 'k>, AllocError>
         ensures pattern { IfOk result (λ matcher. matcher ≡ self.now) }
         ensures no_pattern { IsNone self.now → IsOk result }
     {
         if self.pattern.is_some() {
-            kept.reserve(count)?;
+            cached.reserve(count)?;
         }
-        Ok(CachingMatcher::new(self, kept))
+        Ok(CachingMatcher::new(self, cached))
     }
 
     /// Returns the position (row, column in characters) of the next match start after the cursor

@@ -113,7 +113,7 @@ fn read_begun(
 }
 
 // The same, whether bytes are pending or not.
-fn read_pieces(
+fn read_segments(
     pending: &mut Vec<u8>,
     bytes: &[u8],
     events: &mut Vec<Event>,
@@ -151,7 +151,7 @@ fn feed_pending(
 {
     let begun = pending.len();
     let events_before = events.len();
-    match read_pieces(pending, bytes, events) {
+    match read_segments(pending, bytes, events) {
         Ok(()) => Ok(()),
         Err(error) => {
             events.truncate(events_before);

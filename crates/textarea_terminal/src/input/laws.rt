@@ -10,8 +10,8 @@ ghost use Rattle.textarea_terminal.specs.InputStream.{EndsIn, Takes, decoding, b
 ghost use Rattle.textarea_terminal.specs.InputRow.{AreInner, IsGeneral, IsSentFor, bracket, bytes_of_rows, feeding};
 
 /// However bytes are split, their events and the pending bytes are those of all bytes at once.
-pub fn any_pieces()
-    ensures { (pieces : List (List ℕ)) → feeding [] pieces ≡ decoding (concat pieces) }
+pub fn any_segments()
+    ensures { (segments : List (List ℕ)) → feeding [] segments ≡ decoding (concat segments) }
 {}
 
 /// The bytes that terminals send for keys, characters, pasted texts, the mouse, sizes, cursor

@@ -148,7 +148,7 @@ fn write_change(
     brush: &mut Brush,
     columns: usize,
     spot: Spot,
-    is_shown: bool,
+    is_printed: bool,
     cell: &Cell,
 ) -> Result<(), AllocError>
     requires columns { (0 < columns) × (columns < 2 ^ 16) }
@@ -156,11 +156,11 @@ fn write_change(
     requires spot { IsSpot columns spot }
     requires begins { is_half (cell_view cell.now) ≡ false
         → IsTrue (can_begin columns spot.place (cell_view cell.now)) }
-    ensures { OnOk result ((old : CellView) → IsTrue is_shown ↔ (old ≡ cell_view cell.now)
+    ensures { OnOk result ((old : CellView) → IsTrue is_printed ↔ (old ≡ cell_view cell.now)
         → Wrote bytes.old.items bytes.new.items
         (IsStep brush.old brush.new columns spot.place old (cell_view cell.now))) }
 {
-    if is_shown {
+    if is_printed {
         return Ok(());
     }
     if cell.symbol().is_empty() {
@@ -191,8 +191,8 @@ pub(super) fn write_cells(
     let mut spot = Spot::first(columns);
     for place in 0..new.len() {
         let cell = &new[place];
-        let is_shown = is_alike(&old[place], cell);
-        write_change(bytes, &mut brush, columns, spot, is_shown, cell)?;
+        let is_printed = is_alike(&old[place], cell);
+        write_change(bytes, &mut brush, columns, spot, is_printed, cell)?;
         spot = spot.next(columns);
     }
     Ok(brush)
@@ -216,8 +216,8 @@ pub(super) fn write_all_cells(
     let mut spot = Spot::first(columns);
     for place in 0..new.len() {
         let cell = &new[place];
-        let is_shown = is_fresh(cell);
-        write_change(bytes, &mut brush, columns, spot, is_shown, cell)?;
+        let is_printed = is_fresh(cell);
+        write_change(bytes, &mut brush, columns, spot, is_printed, cell)?;
         spot = spot.next(columns);
     }
     Ok(brush)

@@ -15,16 +15,16 @@ use textarea_screen::screen::{Buffer, Cell, Position, Rect};
 pub struct Painter {
     area: Rect,
     /// The cells that the terminal shows, if `is_known`.
-    shown: Vec<Cell>,
+    visible: Vec<Cell>,
     /// Memory for the cells of the next frame.
     next: Vec<Cell>,
     /// Memory for the bytes of a frame.
     bytes: Vec<u8>,
     caret: Option<usize>,
     is_known: bool,
-    ghost shown_full: { vec_len shown ≡ area.height * area.width },
+    ghost visible_full: { vec_len visible ≡ area.height * area.width },
     ghost next_full: { vec_len next ≡ area.height * area.width },
-    ghost whole: { IsTrue (are_whole area.width 0 0 (map cell_view shown.items)) },
+    ghost whole: { IsTrue (are_whole area.width 0 0 (map cell_view visible.items)) },
 }
 
 impl Painter {
@@ -40,11 +40,11 @@ impl Painter {
         ensures painted { IfOk result (λ painter. painted painter ≡ None) }
     {
         let count = usize::from(area.height) * usize::from(area.width);
-        let shown = fresh_cells(alloc, count)?;
+        let visible = fresh_cells(alloc, count)?;
         let next = fresh_cells(alloc, count)?;
         Ok(Painter {
             area,
-            shown,
+            visible,
             next,
             bytes: Vec::new(alloc),
             caret: None,
@@ -132,8 +132,8 @@ impl Painter {
         let columns = usize::from(self.area.width);
         let next = self.next.as_slice();
         if self.is_known {
-            let shown = self.shown.as_slice();
-            write_frame(&mut self.bytes, columns, shown, self.caret, next, caret)
+            let visible = self.visible.as_slice();
+            write_frame(&mut self.bytes, columns, visible, self.caret, next, caret)
         } else {
             write_first_frame(&mut self.bytes, columns, next, caret)
         }
@@ -147,7 +147,7 @@ impl Painter {
         ensures painted { painted self.new
             ≡ Some (record { cells = map cell_view self.old.next.items; caret = caret }) }
     {
-        mem::swap(&mut self.shown, &mut self.next);
+        mem::swap(&mut self.visible, &mut self.next);
         self.caret = caret;
         self.is_known = true;
     }

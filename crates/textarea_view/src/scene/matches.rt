@@ -31,19 +31,19 @@ impl<'a, 'k> Model for LineMatches<'a, 'k> {
 }
 
 impl<'a, 'k> LineMatches<'a, 'k> {
-    /// Stores the matches of up to `count` successive lines in `kept`.
+    /// Stores the matches of up to `count` successive lines in `cached`.
     pub(super) fn new(
         alloc: Global,
         search: &'a Search,
         lines: &'a [String],
-        kept: &'k mut MatchCache,
+        cached: &'k mut MatchCache,
         count: usize,
     ) -> Result<LineMatches<'a, 'k>, AllocError>
         ensures { IfOk result (λ m. m.searched
             ≡ record { pattern = search.now; lines = lines_of lines.now }) }
     {
         Ok(LineMatches {
-            matcher: search.caching_matcher(kept, count)?,
+            matcher: search.caching_matcher(cached, count)?,
             lines,
             line: None,
             found: Vec::new(alloc),

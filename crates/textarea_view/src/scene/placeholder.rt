@@ -79,8 +79,8 @@ fn draw_line(
 {
     match cursor_cell {
         CursorCellRender::Draw(style) => {
-            let shown = after_blank(alloc, line, style)?;
-            draw_row(buffer, rows, y, &shown)
+            let displayed = after_blank(alloc, line, style)?;
+            draw_row(buffer, rows, y, &displayed)
         }
         CursorCellRender::Hidden => draw_row(buffer, rows, y, line),
     }
@@ -88,7 +88,7 @@ fn draw_line(
 
 // Returns a line of one blank in a style and then the line's spans, their texts borrowed.
 fn after_blank<'t>(alloc: Global, line: &'t Line<'_>, style: Style) -> Result<Line<'t>, AllocError>
-    ensures { IfOk result (λ shown. line_view shown
+    ensures { IfOk result (λ displayed. line_view displayed
         ≡ after_cursor (CursorCellRender.Draw style) (borrowed_line (line_view line.now))) }
 {
     let mut spans = Vec::new(alloc);

@@ -3,8 +3,8 @@ ghost use Rattle.std.specs.Prelude.{◌≡◌, ◌<◌, chars, encode_utf8_all, 
 ghost use Rattle.textarea_view.specs.Prelude.{plain_row, ShowsRow, row_total, row_at, row_of_texts, line_view, cursor_cell, matches_in, row_highlights, searched_lines, HasPlaces};
 
 use super::Scene;
+use super::highlighting::{Range, byte_place};
 use super::matches::LineMatches;
-use super::parts::{Range, byte_place};
 use std::alloc::{AllocError, Global};
 use std::marker::Model;
 use textarea_highlight::highlight::LineHighlighter;
@@ -72,7 +72,8 @@ impl<'f, 'a> RowContext<'f, 'a> {
     ) -> Result<(), AllocError>
         requires row { row < row_total self.now.rows.rows }
         requires matches { matches.old.searched ≡ searched_lines self.now }
-        ensures shown { OnOk result (ShowsRow (row_highlights self.now row) (line_view line.new)) }
+        ensures displayed { OnOk result
+            (ShowsRow (row_highlights self.now row) (line_view line.new)) }
         ensures same { matches.new.searched ≡ matches.old.searched }
     {
         self.set_row_at(highlighter, row, matches)?;
@@ -105,13 +106,13 @@ impl<'f, 'a> RowContext<'f, 'a> {
     ) -> Result<(), AllocError>
         requires row { row < row_total self.now.rows.rows }
         requires matches { matches.old.searched ≡ searched_lines self.now }
-        ensures told { OnOk result (highlighter.new ≡ row_highlights self.now row) }
+        ensures highlights_are { OnOk result (highlighter.new ≡ row_highlights self.now row) }
         ensures same { matches.new.searched ≡ matches.old.searched }
     {
         let scene = self.scene;
-        let shown = scene.rows.row_at(row);
-        matches.search_line(shown.line)?;
-        self.set_row(highlighter, row, shown, matches.as_slice())
+        let displayed = scene.rows.row_at(row);
+        matches.search_line(displayed.line)?;
+        self.set_row(highlighter, row, displayed, matches.as_slice())
     }
 
     // Restarts the highlighter with this visual row, and adds all highlights of the row.
@@ -119,21 +120,22 @@ impl<'f, 'a> RowContext<'f, 'a> {
         &self,
         highlighter: &mut LineHighlighter<'t>,
         row: usize,
-        shown: RowText<'t>,
+        displayed: RowText<'t>,
         matches: &[(usize, usize)],
     ) -> Result<(), AllocError>
         requires row { row < row_total self.now.rows.rows }
-        requires shown { row_of_texts shown ≡ row_at self.now.rows.lines self.now.rows.rows row }
-        requires line { shown.line < length self.now.rows.lines }
-        requires matches { matches.now ≡ matches_in (searched_lines self.now) shown.line }
+        requires displayed { row_of_texts displayed ≡ row_at self.now.rows.lines self.now.rows.rows
+            row }
+        requires line { displayed.line < length self.now.rows.lines }
+        requires matches { matches.now ≡ matches_in (searched_lines self.now) displayed.line }
         ensures { OnOk result (highlighter.new ≡ row_highlights self.now row) }
     {
-        self.begin(highlighter, shown.text);
-        self.add_number(highlighter, shown)?;
-        self.add_cursor(highlighter, row, shown)?;
-        self.add_matches(highlighter, shown, matches)?;
-        self.add_selection(highlighter, shown)?; // over the matches
-        self.add_customs(highlighter, shown)
+        self.begin(highlighter, displayed.text);
+        self.add_number(highlighter, displayed)?;
+        self.add_cursor(highlighter, row, displayed)?;
+        self.add_matches(highlighter, displayed, matches)?;
+        self.add_selection(highlighter, displayed)?; // over the matches
+        self.add_customs(highlighter, displayed)
     }
 
     // Restarts the highlighter with a row of this text, without highlights.

@@ -59,8 +59,8 @@ impl<'a> Surround<'a> {
             × (result.preferred_rows ≤ result.max_rows) }
     {
         let chrome = self.chrome(width);
-        let shown = self.visible_rows(rows, is_empty);
-        let content_rows = shown.min(usize::from(u16::MAX)) as u16;
+        let displayed = self.visible_rows(rows, is_empty);
+        let content_rows = displayed.min(usize::from(u16::MAX)) as u16;
         let min_rows = self.min_rows.max(chrome.saturating_add(1));
         let max_rows = self.max_rows.max(min_rows);
         TextAreaMeasure {

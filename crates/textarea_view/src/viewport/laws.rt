@@ -16,21 +16,21 @@ pub fn caret_hit_is_row()
 
 /// With unwrapped lines at the left, the caret is in view in an area wider than two line numbers
 /// that has a row.
-pub fn caret_is_shown()
+pub fn caret_is_visible()
     ensures { (viewport : ViewportState) (area : Rect) (row column line_number_width : ℕ) →
         0 < area.height → 2 * line_number_width < area.width →
         row < 2 ^ 64 → column + line_number_width < 2 ^ 64 →
-        let shown = showing_row_and_column viewport area row column line_number_width in
-        IsSome (caret_at (left_view shown area line_number_width) row column) }
+        let displayed = showing_row_and_column viewport area row column line_number_width in
+        IsSome (caret_at (left_view displayed area line_number_width) row column) }
 {}
 
 /// With wrapped lines and left alignment, the caret is in view if the area has a row and is wider
 /// than the line number and the cursor's column together.
-pub fn wrapped_caret_is_shown()
+pub fn wrapped_caret_is_visible()
     ensures { (viewport : ViewportState) (area : Rect) (row column line_number_width : ℕ) →
         0 < area.height → column + line_number_width < area.width → row < 2 ^ 64 →
-        let shown = showing_row viewport area row in
-        IsSome (caret_at (left_view shown area line_number_width) row column) }
+        let displayed = showing_row viewport area row in
+        IsSome (caret_at (left_view displayed area line_number_width) row column) }
 {}
 
 /// With a placeholder, the caret of row 0 and column 0 is in the area's corner. In an area without

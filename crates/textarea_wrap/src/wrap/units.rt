@@ -17,13 +17,13 @@ pub fn collect_units<'a>(alloc: Global, line: &'a str) -> Result<Vec<&'a str>, A
     ensures { IfOk result (λ units. map (λ unit. unit.now) units.items ≡ line_units line.now) }
 {
     let mut units = Vec::new(alloc);
-    for piece in line.split_word_bounds() {
-        if is_all_whitespace(piece) {
-            for cluster in piece.graphemes(true) {
+    for segment in line.split_word_bounds() {
+        if is_all_whitespace(segment) {
+            for cluster in segment.graphemes(true) {
                 units.push(cluster)?;
             }
         } else {
-            units.push(piece)?;
+            units.push(segment)?;
         }
     }
     Ok(units)

@@ -68,12 +68,12 @@ fn place_unit(
     if is_open {
         rows.push((row.start, row.end))?;
     }
-    let alone = column_after_text(unit, 0, tab_len);
-    if alone <= width {
+    let single = column_after_text(unit, 0, tab_len);
+    if single <= width {
         return Ok(OpenRow {
             start: row.end,
             end,
-            column: alone,
+            column: single,
         });
     }
     push_glyph_rows(rows, unit, row.end, width, tab_len)?;

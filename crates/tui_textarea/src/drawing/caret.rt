@@ -1,14 +1,14 @@
 //! The laws of the caret, for a drawing that left this document.
 ghost use Rattle.std.specs.Prelude.{◌≡◌};
-ghost use Rattle.tui_textarea.specs.DrawingPrelude.{IsCaretHit, Parts, ArePartsRendered, IsCaretShown, Rect};
+ghost use Rattle.tui_textarea.specs.DrawingPrelude.{IsCaretHit, WidgetState, IsWidgetRendered, IsCaretVisible, Rect};
 
-use crate::drawing::laws::{caret_hit_is_cursor, caret_is_shown};
+use crate::drawing::laws::{caret_hit_is_cursor, caret_is_visible};
 use textarea_document::Document;
 
 // The hit test of a caret that is shown returns the document's cursor.
 pub(super) fn caret_leads_back(document: &Document)
-    ensures { (old new : Parts) (area : Rect) → new.document ≡ document.now →
-        ArePartsRendered old area new → IsCaretHit new }
+    ensures { (old new : WidgetState) (area : Rect) → new.document ≡ document.now →
+        IsWidgetRendered old area new → IsCaretHit new }
 {
     caret_hit_is_cursor();
     let _ = document.cursor();
@@ -16,10 +16,10 @@ pub(super) fn caret_leads_back(document: &Document)
 
 // The caret is shown if there is room for it.
 pub(super) fn caret_has_room(document: &Document)
-    ensures { (old new : Parts) (area : Rect) → new.document ≡ document.now →
-        ArePartsRendered old area new → IsCaretShown new }
+    ensures { (old new : WidgetState) (area : Rect) → new.document ≡ document.now →
+        IsWidgetRendered old area new → IsCaretVisible new }
 {
-    caret_is_shown();
+    caret_is_visible();
     let _ = document.lines();
     let _ = document.layout_settings();
 }

@@ -1,6 +1,6 @@
 //! The frame of a document.
 ghost use Rattle.std.specs.Prelude.{◌≡◌};
-ghost use Rattle.tui_textarea.specs.DrawingPrelude.{parts_of, frame_of, HasPlaces, lines};
+ghost use Rattle.tui_textarea.specs.DrawingPrelude.{widget_state, frame_of, HasPlaces, lines};
 
 use super::Drawing;
 use textarea_document::Document;
@@ -21,7 +21,7 @@ impl Drawing {
     ) -> Frame<'f, 's>
         requires { rows.lines ≡ lines document.now.text }
         ensures frame { result
-            ≡ frame_of (parts_of document.now search.now surround.now self.now) rows.entry }
+            ≡ frame_of (widget_state document.now search.now surround.now self.now) rows.entry }
         ensures places { HasPlaces result.scene }
     {
         let settings = document.layout_settings();

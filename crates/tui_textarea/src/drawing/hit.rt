@@ -1,6 +1,6 @@
 //! The position that a cell of the screen shows, and the visible position nearest to the cursor.
 ghost use Rattle.std.specs.Prelude.{◌≡◌, IfOk, IfSome, IsOk};
-ghost use Rattle.tui_textarea.specs.DrawingPrelude.{parts_of, IsCursorAtCaret, IsHitTest, IsNearestShown, IsLastArea, Left, IsPlace};
+ghost use Rattle.tui_textarea.specs.DrawingPrelude.{widget_state, IsCursorAtCaret, IsHitTest, IsNearestVisible, IsLastArea, Left, IsPlace};
 
 use super::Drawing;
 use super::caret::caret_leads_back;
@@ -26,11 +26,11 @@ impl Drawing {
         position: Position,
     ) -> Result<Option<(usize, usize)>, AllocError>
         ensures hit { IfOk result
-            (IsHitTest (parts_of document.now search.now surround.now self.now)
+            (IsHitTest (widget_state document.now search.now surround.now self.now)
             position.x position.y) }
         ensures place { IfOk result (λ found. IfSome found (IsPlace document.now.text)) }
         ensures back { IfOk result (IsCursorAtCaret
-            (parts_of document.now search.now surround.now self.now) position.x position.y) }
+            (widget_state document.now search.now surround.now self.now) position.x position.y) }
         ensures left { self.now.look.alignment ≡ Left → IsOk result }
     {
         caret_leads_back(document);
@@ -48,9 +48,9 @@ impl Drawing {
 
     /// Returns the visible position nearest to the cursor: in the nearest visible visual row, at
     /// the nearest visible display column; the cursor itself if it is visible.
-    pub fn nearest_shown_place(&self, document: &Document) -> (usize, usize)
+    pub fn nearest_visible_place(&self, document: &Document) -> (usize, usize)
         ensures place { IsPlace document.now.text result }
-        ensures inside { IsNearestShown document.now self.now.viewport result }
+        ensures inside { IsNearestVisible document.now self.now.viewport result }
     {
         let rows = document.view();
         let cursor = document.cursor();

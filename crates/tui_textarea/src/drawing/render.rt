@@ -1,6 +1,6 @@
 //! Drawing into a buffer.
 ghost use Rattle.std.specs.Prelude.{◌≡◌, ℕ, IfOk, IsTrue, OnErr, OnOk};
-ghost use Rattle.tui_textarea.specs.DrawingPrelude.{parts_of, text_and_layout, IsCaretHit, IsDrawn, ArePartsRendered, drawn_into, IsCaretShown, IsDrawnAt, IsPrepared, KeepsOutside, contains};
+ghost use Rattle.tui_textarea.specs.DrawingPrelude.{widget_state, text_and_layout, IsCaretHit, IsDrawn, IsWidgetRendered, drawn_into, IsCaretVisible, IsDrawnAt, IsPrepared, KeepsOutside, contains};
 
 use super::Drawing;
 use super::caret::{caret_has_room, caret_leads_back};
@@ -32,24 +32,33 @@ impl Drawing {
         buffer: &mut Buffer,
     ) -> Result<(), AllocError>
         ensures ok { OnOk result
-            (ArePartsRendered (parts_of document.old search.now surround.now self.old) area
-            (parts_of document.new search.now surround.now self.new)) }
+            (IsWidgetRendered (widget_state document.old search.now surround.now self.old) area
+            (widget_state document.new search.now surround.now self.new)) }
         ensures cells { OnOk result (IsDrawn
-            (parts_of document.new search.now surround.now self.new) area buffer.old buffer.new) }
+            (widget_state document.new search.now surround.now self.new) area buffer.old
+            buffer.new) }
         ensures back { OnOk result
-            (IsCaretHit (parts_of document.new search.now surround.now self.new)) }
-        ensures shown { OnOk result
-            (IsCaretShown (parts_of document.new search.now surround.now self.new)) }
+            (IsCaretHit (widget_state document.new search.now surround.now self.new)) }
+        ensures displayed { OnOk result
+            (IsCaretVisible (widget_state document.new search.now surround.now self.new)) }
         ensures outside { KeepsOutside (contains area) buffer.old buffer.new }
         ensures err { OnErr result ((document.new ≡ document.old) × (self.new ≡ self.old)) }
     {
         let inner = surround.inner_area(area);
         let prepared = document.prepare_width(inner.width())?;
-        let mut kept = self.take_matches(document.allocator());
+        let mut cached = self.take_matches(document.allocator());
         let drawn = draw_at_width(
-            self, document, &prepared, surround, search, &mut kept, buffer, area, inner,
+            self,
+            document,
+            &prepared,
+            surround,
+            search,
+            &mut cached,
+            buffer,
+            area,
+            inner,
         );
-        self.put_matches(kept);
+        self.put_matches(cached);
         let placement = drawn?;
         document.put_width(prepared);
         self.put(inner, placement);
@@ -78,10 +87,10 @@ impl Drawing {
         replace(&mut self.match_cache, MatchCache::new(alloc))
     }
 
-    fn put_matches(&mut self, kept: MatchCache)
+    fn put_matches(&mut self, cached: MatchCache)
         ensures { self.new ≡ self.old }
     {
-        self.match_cache = kept;
+        self.match_cache = cached;
     }
 }
 
@@ -92,7 +101,7 @@ fn draw_at_width(
     prepared: &PreparedWidth,
     surround: &Surround<'_>,
     search: &Search,
-    kept: &mut MatchCache,
+    cached: &mut MatchCache,
     buffer: &mut Buffer,
     area: Rect,
     inner: Rect,
@@ -100,7 +109,7 @@ fn draw_at_width(
     requires prepared { IsPrepared (text_and_layout document.now) prepared.now }
     requires within { (x y : ℕ) → IsTrue (contains inner x y) → IsTrue (contains area x y) }
     ensures ok { IfOk result
-        (IsDrawnAt (parts_of document.now search.now surround.now drawing.now)
+        (IsDrawnAt (widget_state document.now search.now surround.now drawing.now)
         prepared.now.inner_width area inner buffer.old buffer.new) }
     ensures outside { KeepsOutside (contains area) buffer.old buffer.new }
 {
@@ -108,7 +117,7 @@ fn draw_at_width(
     draw_frame(
         &frame,
         document.allocator(),
-        kept,
+        cached,
         buffer,
         area,
         drawing.viewport,

@@ -9,7 +9,7 @@ ghost use Rattle.tui_textarea.specs.State.{State};
 ghost use Rattle.tui_textarea.specs.CallWraps.{WrapsByCall};
 ghost use Rattle.textarea_calls.specs.declared.call.Call.{Call};
 ghost use Rattle.tui_textarea.specs.RangesOverCalls.{RangesFollowCall, IsUndoOrRedo};
-ghost use Rattle.tui_textarea.specs.Outcomes.{IsAnswer, IsAfterCall, IsAfterOutOfMemory};
+ghost use Rattle.tui_textarea.specs.Outcomes.{IsResultOf, IsAfterCall, IsAfterOutOfMemory};
 ghost use Rattle.tui_textarea.specs.Run.{Leads, ShowsSame};
 ghost use Rattle.tui_textarea.specs.CallResults.{CallResult};
 ghost use Rattle.tui_textarea.specs.CallSplices.{OfSplicesOutOfMemory, splices_of};
@@ -20,9 +20,10 @@ use textarea_document::laws::{edits_wrap, layout_changes_wrap, ranges_follow_spl
 
 /// Calls with these results lead to one state of the text area, whatever the buffers.
 pub fn one_end()
-    ensures { (calls : List Call) (answers : List CallResult) (old first second : State)
-        (buffer other shown drawn : Buffer) →
-        Leads old buffer calls answers first shown → Leads old other calls answers second drawn →
+    ensures { (calls : List Call) (results : List CallResult) (old first second : State)
+        (buffer other displayed drawn : Buffer) →
+        Leads old buffer calls results first displayed → Leads old other calls results second drawn
+        →
         first ≡ second }
 {
     one_move();
@@ -32,10 +33,11 @@ pub fn one_end()
 
 /// From buffers with the same cells they lead to buffers with the same cells.
 pub fn one_screen()
-    ensures { (calls : List Call) (answers : List CallResult) (old first second : State)
-        (buffer other shown drawn : Buffer) →
-        Leads old buffer calls answers first shown → Leads old other calls answers second drawn →
-        ShowsSame buffer other → ShowsSame shown drawn }
+    ensures { (calls : List Call) (results : List CallResult) (old first second : State)
+        (buffer other displayed drawn : Buffer) →
+        Leads old buffer calls results first displayed → Leads old other calls results second drawn
+        →
+        ShowsSame buffer other → ShowsSame displayed drawn }
 {
     one_move();
     one_input();
@@ -49,9 +51,9 @@ pub fn one_screen()
 /// lines. Every other call wraps none, and leaves the text, its rows and the wrap counter. A call
 /// that runs out of memory has made no splice, or only the one that removes the selected text.
 pub fn each_call_wraps()
-    ensures made { (old new : State) (call : Call) (answer : CallResult) → IsSound old.document →
-        IsAfterCall old call answer new → WrapsByCall old call new }
-    ensures refused { (old new : State) (call : Call) → IsSound old.document →
+    ensures made { (old new : State) (call : Call) (returned : CallResult) → IsSound old.document →
+        IsAfterCall old call returned new → WrapsByCall old call new }
+    ensures out_of_memory { (old new : State) (call : Call) → IsSound old.document →
         IsAfterOutOfMemory old call new →
         OfSplicesOutOfMemory old (λ splices. SplicedBy old.document splices new.document) }
 {
@@ -61,10 +63,10 @@ pub fn each_call_wraps()
 
 /// No call decreases the wrap counter, even if it runs out of memory.
 pub fn count_never_falls()
-    ensures made { (old new : State) (call : Call) (answer : CallResult) → IsSound old.document →
-        IsAfterCall old call answer new →
+    ensures made { (old new : State) (call : Call) (returned : CallResult) → IsSound old.document →
+        IsAfterCall old call returned new →
         old.document.layout.count ≤ new.document.layout.count }
-    ensures refused { (old new : State) (call : Call) → IsSound old.document →
+    ensures out_of_memory { (old new : State) (call : Call) → IsSound old.document →
         IsAfterOutOfMemory old call new → old.document.layout.count ≤ new.document.layout.count }
 {
     each_call_wraps();
@@ -77,10 +79,10 @@ pub fn count_never_falls()
 /// ranges replace the old ones. A call that runs out of memory has made no splice, or only the one
 /// that removes the selected text.
 pub fn ranges_follow_each_call()
-    ensures made { (old new : State) (call : Call) (answer : CallResult) → IsSound old.document →
-        IsAnswer old call answer → IsAfterCall old call answer new →
-        RangesFollowCall old call answer new }
-    ensures refused { (old new : State) (call : Call) → IsSound old.document →
+    ensures made { (old new : State) (call : Call) (returned : CallResult) → IsSound old.document →
+        IsResultOf old call returned → IsAfterCall old call returned new →
+        RangesFollowCall old call returned new }
+    ensures out_of_memory { (old new : State) (call : Call) → IsSound old.document →
         IsAfterOutOfMemory old call new →
         OfSplicesOutOfMemory old (λ splices. RangesStayWhole old.document splices new.document) }
 {
@@ -93,7 +95,7 @@ pub fn ranges_follow_each_call()
 pub fn splices_split_no_range()
     ensures fit { (state : State) (call : Call) → IsSound state.document →
         CanApply state.document.text (splices_of state call) }
-    ensures cut_none { (state : State) (call : Call) → IsSound state.document →
+    ensures split_none { (state : State) (call : Call) → IsSound state.document →
         ¬ IsUndoOrRedo call → SplitNoRange state.document.ranges (splices_of state call) }
 {
     ranges_follow_splices();

@@ -63,8 +63,8 @@ impl TextArea<'_> {
         if !has_text(text) {
             return self.insert_nothing();
         }
-        let pieces = fragment_of(self.allocator(), text)?;
-        self.insert_over_selection(pieces)?;
+        let fragment_lines = fragment_of(self.allocator(), text)?;
+        self.insert_over_selection(fragment_lines)?;
         Ok(true)
     }
 
@@ -79,18 +79,19 @@ impl TextArea<'_> {
             self.insert_nothing()?;
             return Ok(false);
         }
-        let pieces = copy_fragment(self.allocator(), self.yank.as_slice())?;
-        self.insert_over_selection(pieces)
+        let fragment_lines = copy_fragment(self.allocator(), self.yank.as_slice())?;
+        self.insert_over_selection(fragment_lines)
     }
 
     // Replaces the selected text by a fragment, and returns whether the fragment has a symbol.
-    fn insert_over_selection(&mut self, pieces: Vec<String>) -> Result<bool, AllocError>
-        ensures inserted { IfOk result (λ inserted. inserted ≡ has_symbols (text_of pieces.items)) }
-        ensures ok { OnOk result (self.new ≡ str_inserted self.old (text_of pieces.items)) }
+    fn insert_over_selection(&mut self, fragment_lines: Vec<String>) -> Result<bool, AllocError>
+        ensures inserted { IfOk result
+            (λ inserted. inserted ≡ has_symbols (text_of fragment_lines.items)) }
+        ensures ok { OnOk result (self.new ≡ str_inserted self.old (text_of fragment_lines.items)) }
         ensures err { OnErr result (IsInsertOutOfMemory self.old self.new) }
     {
         self.document.remove_selection(self.time)?;
-        self.document.insert(pieces, self.time)
+        self.document.insert(fragment_lines, self.time)
     }
 
     /// Inserts a tab at the cursor, or at the end of the atomic range that strictly contains it,
@@ -136,8 +137,8 @@ impl TextArea<'_> {
         let (row, column) = self.document.insertion_place();
         let line = self.document.lines()[row].as_str();
         let count = spaces_to_stop(line, column, tab_length);
-        let pieces = spaces_as_fragment(self.allocator(), count)?;
-        self.document.insert(pieces, self.time)?;
+        let fragment_lines = spaces_as_fragment(self.allocator(), count)?;
+        self.document.insert(fragment_lines, self.time)?;
         Ok(())
     }
 
@@ -175,10 +176,11 @@ fn has_text(text: &str) -> bool
 
 // Returns a fragment of one line, of `count` spaces.
 fn spaces_as_fragment(alloc: Global, count: u8) -> Result<Vec<String>, AllocError>
-    ensures some { IfOk result (λ pieces. 0 < vec_len pieces) }
-    ensures text { IfOk result (λ pieces. text_of pieces.items ≡ replicate count (Character 32)) }
+    ensures some { IfOk result (λ fragment_lines. 0 < vec_len fragment_lines) }
+    ensures text { IfOk result
+        (λ fragment_lines. text_of fragment_lines.items ≡ replicate count (Character 32)) }
 {
-    let mut pieces = Vec::new(alloc);
-    pieces.push(String::from_str(alloc, spaces(count))?)?;
-    Ok(pieces)
+    let mut fragment_lines = Vec::new(alloc);
+    fragment_lines.push(String::from_str(alloc, spaces(count))?)?;
+    Ok(fragment_lines)
 }

@@ -3,7 +3,7 @@ ghost use Rattle.std.specs.Prelude.{◌≡◌, IfOk, OnErr, OnOk};
 ghost use Rattle.textarea_calls.specs.CallGroups.{call_of_edit};
 ghost use Rattle.textarea_calls.specs.declared.action.Action.TheVariants as act;
 ghost use Rattle.tui_textarea.specs.Input.{IsAfterAction, IsInputOutOfMemory, ActMayRunOutOfMemory, action_flag, asked_by, asked_without_shortcuts};
-ghost use Rattle.tui_textarea.specs.Outcomes.{IsAnswer, IsAfterCall, RanOutOfMemory};
+ghost use Rattle.tui_textarea.specs.Outcomes.{IsResultOf, IsAfterCall, RanOutOfMemory};
 ghost use Rattle.tui_textarea.specs.CallResults.{Flag};
 
 use crate::textarea::TextArea;
@@ -20,7 +20,8 @@ impl TextArea<'_> {
     /// table, which changes nothing. With Shift, a move or scroll extends the selection, or begins
     /// one; without Shift it drops the selection. A move without a target changes nothing.
     pub fn input(&mut self, input: Input) -> Result<bool, AllocError>
-        ensures answer { IfOk result (λ changed. changed ≡ action_flag self.old (asked_by input)) }
+        ensures returned { IfOk result
+            (λ changed. changed ≡ action_flag self.old (asked_by input)) }
         ensures ok { OnOk result (IsAfterAction self.old (asked_by input) self.new) }
         ensures err { OnErr result (IsInputOutOfMemory self.old (asked_by input) self.new) }
         ensures may { OnErr result (ActMayRunOutOfMemory self.old (asked_by input)) }
@@ -32,7 +33,7 @@ impl TextArea<'_> {
     /// characters, Tab, Backspace, Delete, Enter and the mouse wheel. The wheel scrolls as `scroll`
     /// does: an open selection stays open, and the input's Shift is ignored.
     pub fn input_without_shortcuts(&mut self, input: Input) -> Result<bool, AllocError>
-        ensures answer { IfOk result
+        ensures returned { IfOk result
             (λ changed. changed ≡ action_flag self.old (asked_without_shortcuts input)) }
         ensures ok { OnOk result (IsAfterAction self.old (asked_without_shortcuts input) self.new) }
         ensures err { OnErr result
@@ -44,7 +45,7 @@ impl TextArea<'_> {
 
     // Makes the action's call, and returns whether the text changed.
     fn act(&mut self, action: Action) -> Result<bool, AllocError>
-        ensures answer { IfOk result (λ changed. changed ≡ action_flag self.old action) }
+        ensures returned { IfOk result (λ changed. changed ≡ action_flag self.old action) }
         ensures ok { OnOk result (IsAfterAction self.old action self.new) }
         ensures err { OnErr result (IsInputOutOfMemory self.old action self.new) }
         ensures may { OnErr result (ActMayRunOutOfMemory self.old action) }
@@ -73,10 +74,11 @@ impl TextArea<'_> {
     /// Calls the method that the edit, the undo or the redo is named after, and returns whether
     /// there was something to do. After an error the state is as after an error of that method.
     pub fn edit(&mut self, edit: Edit) -> Result<bool, AllocError>
-        ensures answer { IfOk result (λ done. IsAnswer self.old (call_of_edit edit) (Flag done)) }
-        ensures behind { IfOk result
+        ensures returned { IfOk result
+            (λ done. IsResultOf self.old (call_of_edit edit) (Flag done)) }
+        ensures after { IfOk result
             (λ done. IsAfterCall self.old (call_of_edit edit) (Flag done) self.new) }
-        ensures refused { OnErr result (RanOutOfMemory self.old (call_of_edit edit) self.new) }
+        ensures out_of_memory { OnErr result (RanOutOfMemory self.old (call_of_edit edit) self.new) }
         ensures changed { IfOk result (λ done. done ≡ action_flag self.old (act.Edit edit)) }
         ensures ok { OnOk result (IsAfterAction self.old (act.Edit edit) self.new) }
         ensures err { OnErr result (IsInputOutOfMemory self.old (act.Edit edit) self.new) }

@@ -57,7 +57,7 @@ impl TextArea<'_> {
         match cursor_move {
             CursorMove::Up => self.document.above(),
             CursorMove::Down => self.document.below(),
-            CursorMove::InViewport => Some(self.drawing.nearest_shown_place(&self.document)),
+            CursorMove::InViewport => Some(self.drawing.nearest_visible_place(&self.document)),
             _ => target(self.document.lines(), self.document.cursor(), cursor_move),
         }
     }

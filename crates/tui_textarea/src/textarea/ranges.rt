@@ -46,7 +46,7 @@ impl TextArea<'_> {
             error.rejected.items)) }
         ensures set { IfOk result
             (λ outcome. OnOk outcome (self.new ≡ ranges_accepted self.old ranges.items)) }
-        ensures refused { IfOk result (λ outcome. OnErr outcome (self.new ≡ self.old)) }
+        ensures unchanged_if_rejected { IfOk result (λ outcome. OnErr outcome (self.new ≡ self.old)) }
         ensures err { OnErr result (self.new ≡ self.old) }
     {
         self.document.try_set_ranges(ranges)

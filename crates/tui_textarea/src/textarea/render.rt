@@ -1,16 +1,16 @@
 //! Drawing into a buffer, the caret, the position that a cell shows, and scrolling.
 ghost use Rattle.std.specs.Prelude.{◌≡◌, IfOk, IfSome, IsOk, OnErr, OnOk};
 ghost use Rattle.std.specs.Option.{option_map};
-ghost use Rattle.tui_textarea.specs.CaretBack.{IsCursorAtCaret, IsCaretHit};
+ghost use Rattle.tui_textarea.specs.CaretHit.{IsCursorAtCaret, IsCaretHit};
 ghost use Rattle.tui_textarea.specs.Hit.{IsHitTest};
 ghost use Rattle.tui_textarea.specs.Rendered.{IsDrawn};
-ghost use Rattle.tui_textarea.specs.CaretShown.{IsCaretShown};
+ghost use Rattle.tui_textarea.specs.CaretVisible.{IsCaretVisible};
 ghost use Rattle.textarea_view.specs.Placements.{cell_of_position};
 ghost use Rattle.textarea_screen.specs.Buffer.{KeepsOutside};
 ghost use Rattle.textarea_screen.specs.Rect.{contains};
 ghost use Rattle.textarea_screen.specs.declared.screen.alignment.Alignment.TheVariants.{Left};
 ghost use Rattle.textarea_text.specs.Place.{IsPlace};
-ghost use Rattle.tui_textarea.specs.Drawing.{IsRendered, drawing_parts};
+ghost use Rattle.tui_textarea.specs.Drawing.{IsRendered, widget_of};
 ghost use Rattle.tui_textarea.specs.Moves.{IsScrolled, IsScrolledWith};
 
 use crate::textarea::TextArea;
@@ -32,10 +32,10 @@ impl TextArea<'_> {
     /// drawn, but the text area is unchanged.
     pub fn render(&mut self, area: Rect, buffer: &mut Buffer) -> Result<(), AllocError>
         ensures ok { OnOk result (IsRendered self.old area self.new) }
-        ensures cells { OnOk result (IsDrawn (drawing_parts self.new) area buffer.old buffer.new) }
+        ensures cells { OnOk result (IsDrawn (widget_of self.new) area buffer.old buffer.new) }
         ensures outside { KeepsOutside (contains area) buffer.old buffer.new }
-        ensures back { OnOk result (IsCaretHit (drawing_parts self.new)) }
-        ensures shown { OnOk result (IsCaretShown (drawing_parts self.new)) }
+        ensures back { OnOk result (IsCaretHit (widget_of self.new)) }
+        ensures displayed { OnOk result (IsCaretVisible (widget_of self.new)) }
         ensures err { OnErr result (self.new ≡ self.old) }
     {
         self.drawing.render(
@@ -65,10 +65,10 @@ impl TextArea<'_> {
         &self,
         position: Position,
     ) -> Result<Option<(usize, usize)>, AllocError>
-        ensures hit { IfOk result (IsHitTest (drawing_parts self.now) position.x position.y) }
+        ensures hit { IfOk result (IsHitTest (widget_of self.now) position.x position.y) }
         ensures place { IfOk result (λ found. IfSome found (IsPlace self.now.document.text)) }
         ensures back { IfOk result
-            (IsCursorAtCaret (drawing_parts self.now) position.x position.y) }
+            (IsCursorAtCaret (widget_of self.now) position.x position.y) }
         ensures left { self.now.drawing.look.alignment ≡ Left → IsOk result }
     {
         self.drawing

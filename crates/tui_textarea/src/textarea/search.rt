@@ -17,7 +17,7 @@ impl TextArea<'_> {
         ensures err { OnErr result (self.new ≡ self.old) }
         ensures empty { pattern.now ≡ [] → IsOk result }
         ensures present { self.old.pattern ≡ Some pattern.now → IsOk result }
-        ensures refused { IfErr result (IsPatternFailure pattern.now) }
+        ensures pattern_failure { IfErr result (IsPatternFailure pattern.now) }
         ensures carried { IfErr result (IsErrorFor pattern.now) }
         ensures own { IfErr result (IsOwnFailure pattern.now) }
     {

@@ -72,11 +72,11 @@ impl TextArea<'_> {
         ensures err { OnErr result (self.new ≡ self.old) }
         ensures nothing { is_selected self.old.document ≡ false → IsOk result }
     {
-        let Some(pieces) = self.document.take_selection(self.time)? else {
+        let Some(fragment_lines) = self.document.take_selection(self.time)? else {
             self.document.set_anchor(None);
             return Ok(false);
         };
-        self.yank = pieces;
+        self.yank = fragment_lines;
         Ok(true)
     }
 

@@ -12,22 +12,22 @@ returns-in-Some-strip_prefix-clause-value c =
     let before : List (List ℕ) → List (List ℕ) = λ lines. in_front line lines in
     let rest = c.loop-front.rest.now in
     let front = c.in-Some.front.now in
-    let behind = c.in-Some-strip_prefix.behind.now in
-    let cut = split_parts 92 rest (Some (c.in-Some.front, c.in-Some.escaped)) c.in-Some.ensures.cases (lit< tt) in
-    let broken = strip_prefix_char 110 c.in-Some.escaped.now (Some c.in-Some-strip_prefix.behind) c.in-Some-strip_prefix.ensures.cases (lit< tt) in
+    let after = c.in-Some-strip_prefix.after.now in
+    let split_is = split_parts 92 rest (Some (c.in-Some.front, c.in-Some.escaped)) c.in-Some.ensures.cases (lit< tt) in
+    let broken = strip_prefix_char 110 c.in-Some.escaped.now (Some c.in-Some-strip_prefix.after) c.in-Some-strip_prefix.ensures.cases (lit< tt) in
     c.loop-front.invariant.2
-    ∙ ap (option_map before) (line_broken rest front c.in-Some.escaped.now behind c.loop-front.invariant.0 cut.0 (without front cut.1) broken)
-    ∙ line_joined line front (unescaped_lines behind)
-    ∙ ap (λ (text : List ℕ). option_map (λ lines. text ∷ lines) (unescaped_lines behind)) (sym c.in_ok-push_str.ensures.bytes)
+    ∙ ap (option_map before) (line_broken rest front c.in-Some.escaped.now after c.loop-front.invariant.0 split_is.0 (without front split_is.1) broken)
+    ∙ line_joined line front (unescaped_lines after)
+    ∙ ap (λ (text : List ℕ). option_map (λ lines. text ∷ lines) (unescaped_lines after)) (sym c.in_ok-push_str.ensures.bytes)
 
 pub returns-in_default-escaped_character-clause-value : goal.returns-in_default-escaped_character-clause-value
 returns-in_default-escaped_character-clause-value c =
     let before : List (List ℕ) → List (List ℕ) = λ lines. in_front (string_bytes c.loop-front.line) lines in
     let rest = c.loop-front.rest.now in
     let front = c.in-Some.front.now in
-    let cut = split_parts 92 rest (Some (c.in-Some.front, c.in-Some.escaped)) c.in-Some.ensures.cases (lit< tt) in
+    let split_is = split_parts 92 rest (Some (c.in-Some.front, c.in-Some.escaped)) c.in-Some.ensures.cases (lit< tt) in
     c.loop-front.invariant.2
-    ∙ ap (option_map before) (line_unread rest front c.in-Some.escaped.now c.loop-front.invariant.0 cut.0 (without front cut.1) c.in_default-escaped_character.ensures.value)
+    ∙ ap (option_map before) (line_unread rest front c.in-Some.escaped.now c.loop-front.invariant.0 split_is.0 (without front split_is.1) c.in_default-escaped_character.ensures.value)
 
 pub loop-front-preserved : goal.loop-front-preserved
 loop-front-preserved c =
@@ -36,15 +36,15 @@ loop-front-preserved c =
     let rest = c.loop-front.rest.now in
     let front = c.in-Some.front.now in
     let character = encode_utf8 c.in-Some-escaped_character.c in
-    let behind = c.in-Some-escaped_character.behind.now in
-    let cut = split_parts 92 rest (Some (c.in-Some.front, c.in-Some.escaped)) c.in-Some.ensures.cases (lit< tt) in
+    let after = c.in-Some-escaped_character.after.now in
+    let split_is = split_parts 92 rest (Some (c.in-Some.front, c.in-Some.escaped)) c.in-Some.ensures.cases (lit< tt) in
     let other = strip_prefix_char 110 c.in-Some.escaped.now None c.in_default-strip_prefix.ensures.cases (lit< tt) in
     let grown = sym (append_assoc line front character) ∙ ap (λ (text : List ℕ). text ++ character) (sym c.in_ok-push_str.ensures.bytes) ∙ sym c.in_ok-push.ensures.bytes in
-    let left : length behind ≤ length c.args.text.now = omega (arith, c.loop-front.invariant.1, c.in-Some-escaped_character.ensures.shorter, ap length cut.0, length-append front (92 ∷ c.in-Some.escaped.now)) in
+    let left : length after ≤ length c.args.text.now = omega (arith, c.loop-front.invariant.1, c.in-Some-escaped_character.ensures.shorter, ap length split_is.0, length-append front (92 ∷ c.in-Some.escaped.now)) in
     let more = c.loop-front.invariant.2
-    ∙ ap (option_map before) (line_escaped rest front c.in-Some.escaped.now behind c.in-Some-escaped_character.c c.loop-front.invariant.0 cut.0 (without front cut.1) other c.in-Some-escaped_character.ensures.value)
-    ∙ line_grown line (front ++ character) (unescaped_lines behind)
-    ∙ ap (λ (text : List ℕ). option_map (λ lines. in_front text lines) (unescaped_lines behind)) grown in
+    ∙ ap (option_map before) (line_escaped rest front c.in-Some.escaped.now after c.in-Some-escaped_character.c c.loop-front.invariant.0 split_is.0 (without front split_is.1) other c.in-Some-escaped_character.ensures.value)
+    ∙ line_grown line (front ++ character) (unescaped_lines after)
+    ∙ ap (λ (text : List ℕ). option_map (λ lines. in_front text lines) (unescaped_lines after)) grown in
     (search rules, left, more)
 
 pub returns-clause-value : goal.returns-clause-value

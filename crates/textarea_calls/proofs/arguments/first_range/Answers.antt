@@ -16,8 +16,8 @@ returns-in_err-start-clause-value c =
 
 pub returns-in_err-range-in-Some-clause-value : goal.returns-in_err-range-in-Some-clause-value
 returns-in_err-range-in-Some-clause-value c =
-    let none = ranges_more c.args.text.now c.in_ok-row.row.now c.in_ok-row.rest.now c.in_ok-start.start.now c.in_ok-start.rest.now c.in-Some.end.now c.in-Some.behind.now c.in_ok-row.ensures.value c.in_ok-start.ensures.value c.in-Some.ensures.value
-    ∙ ap (λ (one : Option AtomicRange). first_and one (ranges c.in-Some.behind.now)) (sym c.in_err-range-in-Some.ensures) in
+    let none = ranges_more c.args.text.now c.in_ok-row.row.now c.in_ok-row.rest.now c.in_ok-start.start.now c.in_ok-start.rest.now c.in-Some.end.now c.in-Some.after.now c.in_ok-row.ensures.value c.in_ok-start.ensures.value c.in-Some.ensures.value
+    ∙ ap (λ (one : Option AtomicRange). first_and one (ranges c.in-Some.after.now)) (sym c.in_err-range-in-Some.ensures) in
     rw c.from_residual-in_err-range-in-Some.ensures none
 
 pub returns-in_err-range-in-None-clause-value : goal.returns-in_err-range-in-None-clause-value
@@ -28,8 +28,8 @@ returns-in_err-range-in-None-clause-value c =
 
 pub returns-in_ok-range-in-Some-clause-value : goal.returns-in_ok-range-in-Some-clause-value
 returns-in_ok-range-in-Some-clause-value c =
-    ranges_more c.args.text.now c.in_ok-row.row.now c.in_ok-row.rest.now c.in_ok-start.start.now c.in_ok-start.rest.now c.in-Some.end.now c.in-Some.behind.now c.in_ok-row.ensures.value c.in_ok-start.ensures.value c.in-Some.ensures.value
-    ∙ ap (λ (one : Option AtomicRange). first_and one (ranges c.in-Some.behind.now)) (sym c.in_ok-range-in-Some.ensures)
+    ranges_more c.args.text.now c.in_ok-row.row.now c.in_ok-row.rest.now c.in_ok-start.start.now c.in_ok-start.rest.now c.in-Some.end.now c.in-Some.after.now c.in_ok-row.ensures.value c.in_ok-start.ensures.value c.in-Some.ensures.value
+    ∙ ap (λ (one : Option AtomicRange). first_and one (ranges c.in-Some.after.now)) (sym c.in_ok-range-in-Some.ensures)
 
 pub returns-in_ok-range-in-None-clause-value : goal.returns-in_ok-range-in-None-clause-value
 returns-in_ok-range-in-None-clause-value c =

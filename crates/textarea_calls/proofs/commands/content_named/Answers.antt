@@ -9,31 +9,31 @@ use Rattle.textarea_calls.specs.Commands as meaning
 use Rattle.textarea_calls.specs.declared.commands.CommandContent.TheVariants as content
 use Rattle.textarea_data.specs.declared.range.AtomicRange.{AtomicRange}
 use Rattle.textarea_calls.specs.Script.{meaning_of}
-use Rattle.textarea_calls.proofs.Tables.{given-made, given-then, meant-plain, read-made, ready-given, ready-read}
+use Rattle.textarea_calls.proofs.Tables.{with_arguments-made, with_arguments-then, command_meaning-plain, read-made, ready-with_arguments, ready-read}
 use Rattle.textarea_calls.proofs.commands.content_named.Goals as goal
 
 pub returns-in_default-clause-means : goal.returns-in_default-clause-means
 returns-in_default-clause-means c =
-    let behind : command_meaning c.args.name.now (option_copied c.args.arguments) ≡ plain_meaning c.args.name.now (option_copied c.args.arguments) =
-    meant-plain c.args.name.now (option_copied c.args.arguments)
+    let after : command_meaning c.args.name.now (option_copied c.args.arguments) ≡ plain_meaning c.args.name.now (option_copied c.args.arguments) =
+    command_meaning-plain c.args.name.now (option_copied c.args.arguments)
     (c.in_default.not-insert_str, (c.in_default.not-set_yank_text, (c.in_default.not-set_search_pattern, (c.in_default.not-ranges, (c.in_default.not-set_lines, (c.in_default.not-input, tt)))))) in
-    subst (λ (means : Option Meaning). IsReadAs meaning_of means c.ok_or-in_default.result) (c.plain.ensures.means ∙ sym behind)
-    (given-made content.Plain (λ (call : Call). meaning_of (content.Plain call)) c.plain.result c.plain.result c.map-in_default.result c.ok_or-in_default.result (λ x. refl) refl c.map-in_default.ensures.cases c.ok_or-in_default.ensures.value)
+    subst (λ (means : Option Meaning). IsReadAs meaning_of means c.ok_or-in_default.result) (c.plain.ensures.means ∙ sym after)
+    (with_arguments-made content.Plain (λ (call : Call). meaning_of (content.Plain call)) c.plain.result c.plain.result c.map-in_default.result c.ok_or-in_default.result (λ x. refl) refl c.map-in_default.ensures.cases c.ok_or-in_default.ensures.value)
 
 pub returns-in_default-clause-ready : goal.returns-in_default-clause-ready
 returns-in_default-clause-ready c =
-    ready-given content.Plain c.plain.result c.map-in_default.result c.ok_or-in_default.result
+    ready-with_arguments content.Plain c.plain.result c.map-in_default.result c.ok_or-in_default.result
     (λ x same. subst (λ (made : Option Call). IfSome made CanBeMade) same c.plain.ensures.ready) c.map-in_default.ensures.cases c.ok_or-in_default.ensures.value
 
 pub returns-in-input-clause-ready : goal.returns-in-input-clause-ready
-returns-in-input-clause-ready c = ready-given content.Input c.input.result c.map-in-input.result c.ok_or.result (λ x same. tt) c.map-in-input.ensures.cases c.ok_or.ensures.value
+returns-in-input-clause-ready c = ready-with_arguments content.Input c.input.result c.map-in-input.result c.ok_or.result (λ x same. tt) c.map-in-input.ensures.cases c.ok_or.ensures.value
 
 pub returns-in-input-clause-means : goal.returns-in-input-clause-means
 unfolding command_meaning
 returns-in-input-clause-means c =
     let by_row = ap (λ (name : List ℕ). command_meaning name (option_copied c.args.arguments)) c.in-input.is in
-    subst (λ (means : Option Meaning). IsReadAs meaning_of means c.ok_or.result) (sym (by_row ∙ given-then input_named meaning.Press (option_copied c.args.arguments)))
-    (given-made content.Input meaning.Press _ c.input.result c.map-in-input.result c.ok_or.result (λ x. refl) c.input.ensures c.map-in-input.ensures.cases c.ok_or.ensures.value)
+    subst (λ (means : Option Meaning). IsReadAs meaning_of means c.ok_or.result) (sym (by_row ∙ with_arguments-then input_named meaning.Press (option_copied c.args.arguments)))
+    (with_arguments-made content.Input meaning.Press _ c.input.result c.map-in-input.result c.ok_or.result (λ x. refl) c.input.ensures c.map-in-input.ensures.cases c.ok_or.ensures.value)
 
 pub returns-in-set_lines-clause-ready : goal.returns-in-set_lines-clause-ready
 returns-in-set_lines-clause-ready c = c.set_lines.ensures.ready

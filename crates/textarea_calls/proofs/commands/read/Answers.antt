@@ -8,7 +8,7 @@ use Rattle.std.proofs.lemmas.Iterator.Consumers.{YieldsList-from_enumerate, Yiel
 use Rattle.textarea_calls.specs.Commands.{Meaning}
 use Rattle.textarea_calls.specs.Script.{lines_of_script, filled_lines, meaning_of, meaning_of_line, meanings_of_lines, IsFilledLine, IsUnparsedLine, NamesLine}
 use Rattle.textarea_calls.specs.declared.commands.Command.{Command}
-use Rattle.textarea_calls.proofs.Lines.{all_meant, meanings_of_lines-empty, meanings_of_lines-filled}
+use Rattle.textarea_calls.proofs.Lines.{all_meanings, meanings_of_lines-empty, meanings_of_lines-filled}
 use Rattle.textarea_calls.proofs.Scripts.{names_line, turn_at, filled_lines-empty, filled_lines-filled}
 use Rattle.textarea_calls.proofs.commands.read.Goals as goal
 
@@ -39,15 +39,15 @@ loop-index-preserved c =
     let turn = turn_at lines count c.in-Some.index line t.0 t.1 in
     let some : 0 < length line = grind (arith, nat_tests) in
     let more = sym (length_push c.loop-index.yielded (c.in-Some.index, c.in-Some.line)) in
-    let seen : List Command → List (Option Meaning) = λ commands. map (λ (command : Command). Some (meaning_of command.content)) commands in
+    let viewed : List Command → List (Option Meaning) = λ commands. map (λ (command : Command). Some (meaning_of command.content)) commands in
     record {
       count = c.in_ok-push.ensures.len
           ∙ ap (λ k. k + 1) c.loop-index.invariant.count
           ∙ sym (filled_lines-filled lines count c.in-Some.index line turn some)
           ∙ ap (λ k. filled_lines (take k lines)) more;
-      means = ap seen c.in_ok-push.ensures.items
+      means = ap viewed c.in_ok-push.ensures.items
           ∙ map-append (λ (command : Command). Some (meaning_of command.content)) c.loop-index.commands.items (c.in_ok-read_line.field-0 ∷ [])
-          ∙ ap (λ (meant : List (Option Meaning)). meant ++ Some (meaning_of c.in_ok-read_line.field-0.content) ∷ []) c.loop-index.invariant.means
+          ∙ ap (λ (meaning : List (Option Meaning)). meaning ++ Some (meaning_of c.in_ok-read_line.field-0.content) ∷ []) c.loop-index.invariant.means
           ∙ ap (λ (one : Option Meaning). meanings_of_lines (take count lines) ++ one ∷ []) (sym c.in_ok-read_line.ensures.means)
           ∙ sym (meanings_of_lines-filled lines count c.in-Some.index line turn some)
           ∙ ap (λ k. meanings_of_lines (take k lines)) more;
@@ -69,9 +69,9 @@ returns-in_err-read_line-clause-err c =
       within = omega (arith, turn.index_is, turn.within);
       filled = subst (λ (l : List ℕ). 0 < length l) (sym found) some;
     } in
-    let first : list_all (λ meant. is_some meant) (meanings_of_lines (take (c.in-Some.index + 1 - 1) lines)) ≡ true =
-    ap (λ (k : ℕ). list_all (λ meant. is_some meant) (meanings_of_lines (take k lines))) here
-    ∙ all_meant (λ (command : Command). meaning_of command.content) c.loop-index.commands.items _ c.loop-index.invariant.means in
+    let first : list_all (λ meaning. is_some meaning) (meanings_of_lines (take (c.in-Some.index + 1 - 1) lines)) ≡ true =
+    ap (λ (k : ℕ). list_all (λ meaning. is_some meaning) (meanings_of_lines (take k lines))) here
+    ∙ all_meanings (λ (command : Command). meaning_of command.content) c.loop-index.commands.items _ c.loop-index.invariant.means in
     let unread : IsUnparsedLine (meaning_of_line (get_or lines (c.in-Some.index + 1 - 1) [])) c.in_err-read_line.field-0.0 =
     subst (λ (l : List ℕ). IsUnparsedLine (meaning_of_line l) c.in_err-read_line.field-0.0) (sym found) c.in_err-read_line.ensures.means in
     let named : NamesLine c.args.script.now c.in_err-read_line.field-0.0 =

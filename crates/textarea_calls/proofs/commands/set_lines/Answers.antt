@@ -4,8 +4,8 @@ use Rattle.textarea_calls.specs.Commands.{SetLines, set_lines_meaning}
 use Rattle.textarea_calls.proofs.commands.set_lines.Goals as goal
 
 -- the lines that are read, and the row before the column
-meant : (c : goal.In_ok-unescaped_lines) → set_lines_meaning (option_copied c.args.arguments) ≡ Some (SetLines (map string_bytes c.in_ok-unescaped_lines.field-0.items) (c.in_ok-row-2.row, c.in_ok-column.column))
-meant c = grind (arith, common_steps)
+meaning : (c : goal.In_ok-unescaped_lines) → set_lines_meaning (option_copied c.args.arguments) ≡ Some (SetLines (map string_bytes c.in_ok-unescaped_lines.field-0.items) (c.in_ok-row-2.row, c.in_ok-column.column))
+meaning c = grind (arith, common_steps)
 
 pub returns-clause-means : goal.returns-clause-means
-returns-clause-means c = meant c
+returns-clause-means c = meaning c

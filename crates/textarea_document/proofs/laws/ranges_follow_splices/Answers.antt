@@ -1,14 +1,14 @@
-use Rattle.textarea_document.proofs.RangesOverSplices.{all_stay_or_are_dropped, all_stem, redone_goes, stepped_goes, undone_goes}
+use Rattle.textarea_document.proofs.RangesOverSplices.{all_stay_or_are_dropped, all_stem, ranges_follow_redo, ranges_follow_step, ranges_follow_undo}
 use Rattle.textarea_document.proofs.laws.ranges_follow_splices.Goals as goal
 
 pub returns-clause-stepped : goal.returns-clause-stepped
-returns-clause-stepped c = stepped_goes
+returns-clause-stepped c = ranges_follow_step
 
 pub returns-clause-undone : goal.returns-clause-undone
-returns-clause-undone c = undone_goes
+returns-clause-undone c = ranges_follow_undo
 
 pub returns-clause-redone : goal.returns-clause-redone
-returns-clause-redone c = redone_goes
+returns-clause-redone c = ranges_follow_redo
 
 pub returns-clause-stem : goal.returns-clause-stem
 returns-clause-stem c = all_stem

@@ -13,18 +13,18 @@ loop-index-preserved c =
     let f = moved_by c.args.start c.args.old c.args.new in
     let all : List AtomicRange = c.args.ranges.now in
     let before : List AtomicRange = c.loop-index.ranges in
-    let kept : ℕ = c.loop-index.kept in
+    let retained : ℕ = c.loop-index.retained in
     let index : ℕ = c.loop-index.index in
     let within : index < length before = omega arith in
     elim c.match-moved.branch [
       | in-Some w ↦
           let found : f (get_or before index nothing) ≡ Some w.in-Some.range = sym c.moved.ensures ∙ w.in-Some.is in
-          let next = closing_some f IsMovable before all kept index nothing w.in-Some.range within found c.loop-index.invariant in
-          subst (λ (xs : List AtomicRange). Closing f IsMovable xs c.match-moved.kept (index + 1) all) (sym w.ranges-is)
-          (subst (λ (n : ℕ). Closing f IsMovable (set before kept w.in-Some.range) n (index + 1) all) (sym w.kept-is) next)
+          let next = closing_some f IsMovable before all retained index nothing w.in-Some.range within found c.loop-index.invariant in
+          subst (λ (xs : List AtomicRange). Closing f IsMovable xs c.match-moved.retained (index + 1) all) (sym w.ranges-is)
+          (subst (λ (n : ℕ). Closing f IsMovable (set before retained w.in-Some.range) n (index + 1) all) (sym w.retained-is) next)
       | in_default w ↦
           let found : f (get_or before index nothing) ≡ None = sym c.moved.ensures ∙ w.in_default.is in
-          let next = closing_none f IsMovable before all kept index nothing within found c.loop-index.invariant in
-          subst (λ (xs : List AtomicRange). Closing f IsMovable xs c.match-moved.kept (index + 1) all) (sym w.ranges-is)
-          (subst (λ (n : ℕ). Closing f IsMovable before n (index + 1) all) (sym w.kept-is) next)
+          let next = closing_none f IsMovable before all retained index nothing within found c.loop-index.invariant in
+          subst (λ (xs : List AtomicRange). Closing f IsMovable xs c.match-moved.retained (index + 1) all) (sym w.ranges-is)
+          (subst (λ (n : ℕ). Closing f IsMovable before n (index + 1) all) (sym w.retained-is) next)
     ]

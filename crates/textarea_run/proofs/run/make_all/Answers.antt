@@ -4,7 +4,7 @@ use Rattle.tui_textarea.specs.Run.{Leads}
 use Rattle.tui_textarea.specs.CallResults.{call_result}
 use Rattle.textarea_calls.specs.declared.answer.Answer.{Answer}
 use Rattle.textarea_calls.specs.declared.call.Call.{Call}
-use Rattle.tui_textarea.proofs.RangesOverCalls.{SoFar, at_start, ranges_at_end, ranges_at_refused, so_far_next}
+use Rattle.tui_textarea.proofs.RangesOverCalls.{SoFar, at_start, ranges_at_end, ranges_at_out_of_memory, so_far_next}
 use Rattle.tui_textarea.proofs.Runs.{leads_more}
 use Rattle.textarea_run.proofs.run.make_all.Goals as goal
 
@@ -31,7 +31,7 @@ loop-index-preserved c =
       led = subst (λ (all : List Answer). Leads c.args.area.now c.args.buffer.now (take (c.loop-index.index + 1) c.args.calls.now) (map call_result all) c.make.new.area c.make.new.buffer) (sym items)
           (leads_more c.args.area.now c.loop-index.area c.make.new.area c.args.buffer.now c.loop-index.buffer c.make.new.buffer c.args.calls.now c.loop-index.answers.items c.loop-index.index c.index-calls-index.result c.in-Ok.answer within c.index-calls-index.is before.led did.made);
       ranges = subst (λ (all : List Answer). SoFar c.args.area.now c.args.buffer.now (take (c.loop-index.index + 1) c.args.calls.now) (map call_result all) c.make.new.area c.make.new.buffer) (sym items)
-          (so_far_next c.args.area.now c.loop-index.area c.make.new.area c.args.buffer.now c.loop-index.buffer c.make.new.buffer c.args.calls.now c.loop-index.answers.items c.loop-index.index c.index-calls-index.result c.in-Ok.answer within c.index-calls-index.is did.behind before.led did.made did.goes before.ranges);
+          (so_far_next c.args.area.now c.loop-index.area c.make.new.area c.args.buffer.now c.loop-index.buffer c.make.new.buffer c.args.calls.now c.loop-index.answers.items c.loop-index.index c.index-calls-index.result c.in-Ok.answer within c.index-calls-index.is did.after before.led did.made did.ranges_follow before.ranges);
       counted = c.push.ensures.len ∙ ap (λ b. cond b (vec_len c.loop-index.answers + 1) (vec_len c.loop-index.answers)) pushed ∙ ap (λ n. n + 1) before.counted;
       room = omega (arith, before.room, c.push.ensures.capacity);
     }
@@ -44,15 +44,15 @@ returns-in-Err-clause-led c =
       before = c.loop-index.area;
       screen = c.loop-index.buffer;
       led = c.loop-index.invariant.led;
-      refused = c.in-Err.ensures.err;
-      spared = c.in-Err.ensures.spared;
+      ran_out = c.in-Err.ensures.err;
+      buffer_left = c.in-Err.ensures.buffer_left;
     })
 
 pub returns-in-Err-clause-ranges : goal.returns-in-Err-clause-ranges
 returns-in-Err-clause-ranges c =
     let before = c.loop-index.invariant in
     let counted : length c.loop-index.answers.items ≡ c.loop-index.index = omega (arith, c.loop-index.answers.ok, before.counted) in
-    ranges_at_refused c.args.area.now c.loop-index.area c.make.new.area c.args.buffer.now c.loop-index.buffer c.args.calls.now c.loop-index.answers.items c.loop-index.index counted c.in-Err.ensures.left before.ranges
+    ranges_at_out_of_memory c.args.area.now c.loop-index.area c.make.new.area c.args.buffer.now c.loop-index.buffer c.args.calls.now c.loop-index.answers.items c.loop-index.index counted c.in-Err.ensures.left before.ranges
 
 pub returns-clause-led : goal.returns-clause-led
 returns-clause-led c =

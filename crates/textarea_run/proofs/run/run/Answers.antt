@@ -4,9 +4,9 @@ use Rattle.tui_textarea.proofs.RangesOverCalls.{ranges_at_first}
 use Rattle.textarea_run.proofs.run.run.Goals as goal
 
 -- what holds after an error holds if there is an error
-so_of_refused : {T E : Type 0} (outcome : Result T E) (P : Type 0) → is_err outcome ≡ true → OnErr outcome P → P
-so_of_refused (Ok done) P is so = let no : false ≡ true = is in cc
-so_of_refused (Err error) P is so = so
+fact_of_error : {T E : Type 0} (outcome : Result T E) (P : Type 0) → is_err outcome ≡ true → OnErr outcome P → P
+fact_of_error (Ok done) P is so = let no : false ≡ true = is in cc
+fact_of_error (Err error) P is so = so
 
 pub returns-then-is_err-clause-ranges : goal.returns-then-is_err-clause-ranges
 returns-then-is_err-clause-ranges c =
@@ -16,6 +16,6 @@ returns-then-is_err-clause-ranges c =
 pub returns-then-is_err-clause-led : goal.returns-then-is_err-clause-led
 returns-then-is_err-clause-led c =
     let reserve = c.try_reserve in
-    let full = so_of_refused reserve.result (vec_capacity c.new-answers.result < vec_len c.new-answers.result + length c.args.calls.now)
+    let full = fact_of_error reserve.result (vec_capacity c.new-answers.result < vec_len c.new-answers.result + length c.args.calls.now)
     (sym c.is_err.ensures.value ∙ c.if-is_err.true) reserve.ensures.full in
     inl (record { some = omega (arith, c.new-answers.ensures.len, full); first = refl; answered = reserve.ensures.items ∙ c.new-answers.ensures.items; state = refl; screen = refl })

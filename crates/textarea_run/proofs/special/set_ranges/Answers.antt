@@ -6,7 +6,7 @@ use Rattle.textarea_data.specs.declared.range.RejectedAtomicRange.{RejectedAtomi
 use Rattle.textarea_ranges.specs.Rejected.{AreRejected}
 use Rattle.textarea_ranges.specs.Valid.{AreValid}
 use Rattle.textarea_ranges.proofs.RejectedLemmas.{accepted_if_valid}
-use Rattle.tui_textarea.specs.Calls.{ranges_answer, rejected_ranges, with_ranges_if}
+use Rattle.tui_textarea.specs.Calls.{ranges_result, rejected_ranges, with_ranges_if}
 use Rattle.textarea_run.proofs.OutOfMemory.{with_rejected}
 use Rattle.textarea_run.proofs.special.set_ranges.Goals as goal
 
@@ -17,7 +17,7 @@ none c =
     (accepted_if_valid rows c.args.ranges.items).1 valid
 
 pub returns-in-Ok-clause-answer : goal.returns-in-Ok-clause-answer
-returns-in-Ok-clause-answer c = sym (ap ranges_answer (none c))
+returns-in-Ok-clause-answer c = sym (ap ranges_result (none c))
 
 pub returns-in-Ok-clause-ok : goal.returns-in-Ok-clause-ok
 returns-in-Ok-clause-ok c =
@@ -27,10 +27,10 @@ returns-in-Ok-clause-ok c =
 some : (c : goal.In-Err) → rejected_ranges c.args.area.now c.args.ranges.items ≢ []
 some c =
     let rows = lines c.args.area.now.document.text in
-    let refused : AreRejected rows c.args.ranges.items c.in-Err.error.rejected.items = subst (λ outcome. MatchResult outcome (λ _. AreValid rows c.args.ranges.items) (λ error. AreRejected rows c.args.ranges.items error.rejected.items)) c.in-Err.is c.in_ok-try_set_atomic_ranges.ensures.judged in
-    subst (λ (rejected : List RejectedAtomicRange). rejected ≢ []) refused.listed refused.some
+    let are_rejected : AreRejected rows c.args.ranges.items c.in-Err.error.rejected.items = subst (λ outcome. MatchResult outcome (λ _. AreValid rows c.args.ranges.items) (λ error. AreRejected rows c.args.ranges.items error.rejected.items)) c.in-Err.is c.in_ok-try_set_atomic_ranges.ensures.judged in
+    subst (λ (rejected : List RejectedAtomicRange). rejected ≢ []) are_rejected.listed are_rejected.some
 
 pub returns-in-Err-clause-ok : goal.returns-in-Err-clause-ok
 returns-in-Err-clause-ok c =
-    subst (λ outcome. OnErr outcome (c.try_set_atomic_ranges.new.self ≡ c.args.area.now)) c.in-Err.is c.in_ok-try_set_atomic_ranges.ensures.refused
+    subst (λ outcome. OnErr outcome (c.try_set_atomic_ranges.new.self ≡ c.args.area.now)) c.in-Err.is c.in_ok-try_set_atomic_ranges.ensures.unchanged_if_rejected
     ∙ sym (with_rejected (rejected_ranges c.args.area.now c.args.ranges.items) c.args.area.now c.args.ranges.items (some c))

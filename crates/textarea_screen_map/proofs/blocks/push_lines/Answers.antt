@@ -14,25 +14,25 @@ ticks_further : (ticks before more : List ℕ) (start count done size all : ℕ)
 ticks_further ticks before more start count done size all first at next sum =
     grind (arith, common_steps, append_assoc ticks (ticks_after start done) more, ticks_append start done size)
 
-pub cutting-preserved : goal.cutting-preserved
-cutting-preserved c =
+pub wraps-preserved : goal.wraps-preserved
+wraps-preserved c =
     let items = c.args.lines.now in
-    let from = c.cutting.from in
+    let from = c.wraps.from in
     let to = c.min-to.result in
-    let part = take (to - from) (drop from items) in
-    let old = all_rows c.cutting.blocks.blocks in
+    let segment = take (to - from) (drop from items) in
+    let old = all_rows c.wraps.blocks.blocks in
     let rows = c.in_ok-rows.rows.items in
-    let size : from + (to - from) ≡ to = omega (arith, c.min-to.ensures, c.cutting-test.true) in
-    let lines : take from items ++ part ≡ take to items = sym (take-add from (to - from) items) ∙ ap (λ n. take n items) size in
-    let count : from + length part ≡ to = omega (arith, size, c.min-to.ensures, length-take-le (to - from) (drop from items) (omega (arith, length-drop from items, c.min-to.ensures)), length-drop from items) in
-    let now : all_rows c.push.new.self.blocks ≡ old ++ rows = ap all_rows c.in_ok-push.ensures ∙ block_pushed c.cutting.blocks.blocks rows in (
+    let size : from + (to - from) ≡ to = omega (arith, c.min-to.ensures, c.wraps-test.true) in
+    let lines : take from items ++ segment ≡ take to items = sym (take-add from (to - from) items) ∙ ap (λ n. take n items) size in
+    let count : from + length segment ≡ to = omega (arith, size, c.min-to.ensures, length-take-le (to - from) (drop from items) (omega (arith, length-drop from items, c.min-to.ensures)), length-drop from items) in
+    let now : all_rows c.push.new.self.blocks ≡ old ++ rows = ap all_rows c.in_ok-push.ensures ∙ block_pushed c.wraps.blocks.blocks rows in (
       omega (arith, c.min-to.ensures),
-      omega (arith, c.in_ok-rows.ensures.counted, c.cutting.invariant.1, count),
+      omega (arith, c.in_ok-rows.ensures.counted, c.wraps.invariant.1, count),
       λ before h.
           subst (λ (t : List RowsView). AreRowsOf c.args.wrapping (before ++ lines_of (take to items)) t) (sym now)
           (subst (λ (t : List (List ℕ)). AreRowsOf c.args.wrapping t (old ++ rows))
-          (append_assoc before (lines_of (take from items)) (lines_of part) ∙ ap (λ t. before ++ t) (sym (map-append characters_of (take from items) part) ∙ ap lines_of lines))
-          (AreRowsOf-append c.args.wrapping (before ++ lines_of (take from items)) (lines_of part) old rows (c.cutting.invariant.2 before h) c.in_ok-rows.ensures.rows)),
+          (append_assoc before (lines_of (take from items)) (lines_of segment) ∙ ap (λ t. before ++ t) (sym (map-append characters_of (take from items) segment) ∙ ap lines_of lines))
+          (AreRowsOf-append c.args.wrapping (before ++ lines_of (take from items)) (lines_of segment) old rows (c.wraps.invariant.2 before h) c.in_ok-rows.ensures.rows)),
       ap ticks_of now ∙ map-append (λ (r : RowsView). r.tick) old rows
-          ∙ ticks_further (ticks_of (all_rows c.args.blocks.now.blocks)) (ticks_of old) (ticks_of rows) c.args.count.now c.cutting.count from (length part) to c.cutting.invariant.3 c.cutting.invariant.1 c.in_ok-rows.ensures.ticks count,
+          ∙ ticks_further (ticks_of (all_rows c.args.blocks.now.blocks)) (ticks_of old) (ticks_of rows) c.args.count.now c.wraps.count from (length segment) to c.wraps.invariant.3 c.wraps.invariant.1 c.in_ok-rows.ensures.ticks count,
     )

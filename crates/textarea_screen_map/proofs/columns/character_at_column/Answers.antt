@@ -4,7 +4,7 @@ use Rattle.std.proofs.lemmas.List.{length-drop, nil_from_length}
 use Rattle.std.proofs.lemmas.Str.{chars-nil, chars_past_char, IsUtf8-past_char}
 use Rattle.std.specs.Str.{chars}
 use Rattle.std.specs.Str.Iter.{chars_rest}
-use Rattle.textarea_wrap.proofs.ColumnLemmas.{shorter_behind}
+use Rattle.textarea_wrap.proofs.ColumnLemmas.{shorter_after}
 use Rattle.textarea_screen_map.proofs.RowColumns.{column_at-more, leads_to_covering, leads_to_end, leads_to_first, passed}
 use Rattle.textarea_screen_map.proofs.columns.character_at_column.Goals as goal
 
@@ -38,7 +38,7 @@ loop-c-preserved c =
     let split = c.in-Some.ensures.steps.0 in
     let read = chars_past_char _ _ c.in-Some.c was.text split in
     let step = passed cs _ c.loop-c.index c.in-Some.c was.within (was.left ∙ read) in
-    let shorter = shorter_behind c.in-Some.c _ _ split in
+    let shorter = shorter_after c.in-Some.c _ _ split in
     record {
       text = IsUtf8-past_char _ _ c.in-Some.c was.text split;
       left = step.2;

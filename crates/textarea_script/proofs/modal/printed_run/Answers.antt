@@ -9,6 +9,6 @@ returns c =
       mode = c.mode.result;
       taken = c.run-end.result.taken;
       stop = c.run-end.result.stop;
-      ends = record { new = c.run-end.new.area; ended = search rules; none_refused = search rules };
+      ends = record { new = c.run-end.new.area; ended = search rules; none_out_of_memory = search rules };
       first = subst (λ (l : List ℕ). StartsWith (string_bytes text) l) c.in_ok-head.ensures starts;
     }) c.with_report.ensures

@@ -11,21 +11,21 @@ use Rattle.textarea_text.proofs.fragment.join_with_line_feeds.Goals as goal
 
 pub returns-in_default : goal.returns-in_default
 returns-in_default c =
-    ap chars c.new.ensures.bytes ∙ chars-nil ∙ ap (λ t. fragment_text (text_of t)) (sym (nil_from_length c.args.pieces.now c.in_default.ensures.cases))
+    ap chars c.new.ensures.bytes ∙ chars-nil ∙ ap (λ t. fragment_text (text_of t)) (sym (nil_from_length c.args.fragment_lines.now c.in_default.ensures.cases))
 
-pub loop-piece-preserved : goal.loop-piece-preserved
-loop-piece-preserved c =
-    let text = string_bytes c.loop-piece.text in
-    let fed = chars_line_feed text (string_bytes c.push.new.self) (IsUtf8-string_bytes c.loop-piece.text) c.in_ok-push.ensures.bytes in
-    let put = chars-push_str (string_bytes c.push.new.self) (string_bytes c.piece-item.result) (string_bytes c.push_str.new.self) (IsUtf8-string_bytes c.push.new.self) (IsUtf8-string_bytes c.piece-item.result) (IsUtf8-string_bytes c.push_str.new.self)
-    (c.in_ok-push_str.ensures.bytes ∙ ap (λ t. string_bytes c.push.new.self ++ t) c.as_str-in-loop-piece.ensures.value) in
-    written_more (characters_of c.in_ok-text.text) (chars text) (characters_of c.push_str.new.self) (characters_of c.piece-item.result) c.in-Some.rest.now c.loop-piece.piece-index c.loop-piece.invariant (omega arith)
-    (put ∙ ap (λ t. t ++ characters_of c.piece-item.result) fed)
-    (sym (line_at c.in-Some.rest.now c.loop-piece.piece-index c.piece-item.result (omega arith) c.piece-item.is))
+pub loop-fragment_line-preserved : goal.loop-fragment_line-preserved
+loop-fragment_line-preserved c =
+    let text = string_bytes c.loop-fragment_line.text in
+    let fed = chars_line_feed text (string_bytes c.push.new.self) (IsUtf8-string_bytes c.loop-fragment_line.text) c.in_ok-push.ensures.bytes in
+    let put = chars-push_str (string_bytes c.push.new.self) (string_bytes c.fragment_line-item.result) (string_bytes c.push_str.new.self) (IsUtf8-string_bytes c.push.new.self) (IsUtf8-string_bytes c.fragment_line-item.result) (IsUtf8-string_bytes c.push_str.new.self)
+    (c.in_ok-push_str.ensures.bytes ∙ ap (λ t. string_bytes c.push.new.self ++ t) c.as_str-in-loop-fragment_line.ensures.value) in
+    written_more (characters_of c.in_ok-text.text) (chars text) (characters_of c.push_str.new.self) (characters_of c.fragment_line-item.result) c.in-Some.rest.now c.loop-fragment_line.fragment_line-index c.loop-fragment_line.invariant (omega arith)
+    (put ∙ ap (λ t. t ++ characters_of c.fragment_line-item.result) fed)
+    (sym (line_at c.in-Some.rest.now c.loop-fragment_line.fragment_line-index c.fragment_line-item.result (omega arith) c.fragment_line-item.is))
 
 pub returns : goal.returns
 returns c =
-    let parts = c.in-Some.ensures.cases in
-    written_done c.in-Some.first.now c.args.pieces.now c.in-Some.rest.now (characters_of c.in_ok-text.text) (characters_of c.loop-piece.text) c.loop-piece.piece-index c.loop-piece.invariant
-    (take_all c.loop-piece.piece-index (lines_of c.in-Some.rest.now) (omega (arith, length-map c.in-Some.rest.now characters_of)))
-    (ap chars (c.in_ok-text.ensures.ok ∙ c.as_str.ensures.value)) parts.0
+    let components = c.in-Some.ensures.cases in
+    written_done c.in-Some.first.now c.args.fragment_lines.now c.in-Some.rest.now (characters_of c.in_ok-text.text) (characters_of c.loop-fragment_line.text) c.loop-fragment_line.fragment_line-index c.loop-fragment_line.invariant
+    (take_all c.loop-fragment_line.fragment_line-index (lines_of c.in-Some.rest.now) (omega (arith, length-map c.in-Some.rest.now characters_of)))
+    (ap chars (c.in_ok-text.ensures.ok ∙ c.as_str.ensures.value)) components.0

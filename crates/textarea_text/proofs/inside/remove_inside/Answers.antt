@@ -3,15 +3,15 @@ use Rattle.std.proofs.lemmas.Result.{on_err_weaker}
 use Rattle.std.proofs.lemmas.Str.{IsUtf8-nil, IsUtf8-string_bytes, chars-nil}
 use Rattle.textarea_text.specs.Text.{characters_of}
 use Rattle.textarea_text.proofs.Columns.{offset_in, offsets_ordered}
-use Rattle.textarea_text.proofs.Insides.{always_ok, chars_between, line_changed, offset_given, place_kept, split_point}
+use Rattle.textarea_text.proofs.Insides.{always_ok, chars_between, line_changed, offset_of_place, place_unchanged, split_point}
 use Rattle.textarea_text.proofs.inside.remove_inside.Goals as goal
 use Rattle.textarea_text.proofs.inside.remove_inside.Goals.{After-replace_range}
 
 from : (c : goal.After-replace_range-arg-2-1) → c.args.offset ≡ offset_in (characters_of c.index_mut-line.result.now) c.args.start.1
-from c = offset_given c.args.lines.now.items c.args.start c.index_mut-line.result.now c.args.offset c.requires.start c.index_mut-line.ensures.value c.requires.offset
+from c = offset_of_place c.args.lines.now.items c.args.start c.index_mut-line.result.now c.args.offset c.requires.start c.index_mut-line.ensures.value c.requires.offset
 
 to : (c : goal.After-replace_range-arg-2-1) → c.args.end_offset ≡ offset_in (characters_of c.index_mut-line.result.now) c.args.end_column
-to c = offset_given c.args.lines.now.items (c.args.start.0, c.args.end_column) c.index_mut-line.result.now c.args.end_offset c.requires.end c.index_mut-line.ensures.value c.requires.end_offset
+to c = offset_of_place c.args.lines.now.items (c.args.start.0, c.args.end_column) c.index_mut-line.result.now c.args.end_offset c.requires.end c.index_mut-line.ensures.value c.requires.end_offset
 
 pub replace_range-requires-clause-start_le_end : goal.replace_range-requires-clause-start_le_end
 replace_range-requires-clause-start_le_end c =
@@ -43,10 +43,10 @@ now c =
     let cs = characters_of line in
     let column = c.args.start.1 in
     let later = c.args.end_column in
-    let at = offset_given c.args.lines.now.items c.args.start line c.args.offset c.requires.start c.index_mut-line.ensures.value c.requires.offset in
-    let behind = offset_given c.args.lines.now.items (c.args.start.0, later) line c.args.end_offset c.requires.end c.index_mut-line.ensures.value c.requires.end_offset in
+    let at = offset_of_place c.args.lines.now.items c.args.start line c.args.offset c.requires.start c.index_mut-line.ensures.value c.requires.offset in
+    let after = offset_of_place c.args.lines.now.items (c.args.start.0, later) line c.args.end_offset c.requires.end c.index_mut-line.ensures.value c.requires.end_offset in
     let bytes = always_ok c.replace_range.result _ c.replace_range.ensures.bytes (on_err_weaker c.replace_range.result (λ full. omega (arith, full, line.bytes.ok.1)) c.replace_range.ensures.full) in
-    chars_between (string_bytes line) [] (string_bytes new) column later c.args.offset c.args.end_offset (IsUtf8-string_bytes line) IsUtf8-nil (IsUtf8-string_bytes new) at behind bytes
+    chars_between (string_bytes line) [] (string_bytes new) column later c.args.offset c.args.end_offset (IsUtf8-string_bytes line) IsUtf8-nil (IsUtf8-string_bytes new) at after bytes
     ∙ ap (λ t. take column cs ++ (t ++ drop later cs)) chars-nil
 
 pub returns-clause-text : goal.returns-clause-text
@@ -55,8 +55,8 @@ returns-clause-text c =
 
 pub returns-clause-start : goal.returns-clause-start
 returns-clause-start c =
-    (place_kept c.args.lines.now.items c.index_mut-line.result.now c.replace_range.new.self c.args.start c.args.end_column [] c.args.offset c.requires.start c.index_mut-line.ensures.value c.requires.offset (now (goal.at.returns-clause-start c).After-replace_range)).0
+    (place_unchanged c.args.lines.now.items c.index_mut-line.result.now c.replace_range.new.self c.args.start c.args.end_column [] c.args.offset c.requires.start c.index_mut-line.ensures.value c.requires.offset (now (goal.at.returns-clause-start c).After-replace_range)).0
 
 pub returns-clause-offset : goal.returns-clause-offset
 returns-clause-offset c =
-    (place_kept c.args.lines.now.items c.index_mut-line.result.now c.replace_range.new.self c.args.start c.args.end_column [] c.args.offset c.requires.start c.index_mut-line.ensures.value c.requires.offset (now (goal.at.returns-clause-offset c).After-replace_range)).1
+    (place_unchanged c.args.lines.now.items c.index_mut-line.result.now c.replace_range.new.self c.args.start c.args.end_column [] c.args.offset c.requires.start c.index_mut-line.ensures.value c.requires.offset (now (goal.at.returns-clause-offset c).After-replace_range)).1

@@ -12,7 +12,7 @@ range-head-requires-clause-end_boundary c =
 
 pub range_from-tail-requires : goal.range_from-tail-requires
 range_from-tail-requires c =
-    λ _. boundary_at c.index-lines-end.result c.as_str-behind.result.now c.args.end.1 c.end_offset.result c.as_str-behind.ensures.value c.end_offset.ensures
+    λ _. boundary_at c.index-lines-end.result c.as_str-after.result.now c.args.end.1 c.end_offset.result c.as_str-after.ensures.value c.end_offset.ensures
 
 sub-zero : (n : ℕ) → n - 0 ≡ n
 sub-zero n = omega arith

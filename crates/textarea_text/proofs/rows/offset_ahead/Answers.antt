@@ -1,7 +1,7 @@
 use Rattle.std.proofs.Common.{◌∙◌, ap, arith, drop, length, subst, sym}
 use Rattle.std.proofs.lemmas.Grind.{common_steps}
 use Rattle.std.specs.Str.{chars, IsCharBoundary}
-use Rattle.textarea_text.proofs.Columns.{IsCharBoundary-column, drop_offset, length_cut, next_more}
+use Rattle.textarea_text.proofs.Columns.{IsCharBoundary-column, drop_offset, length_split, next_more}
 use Rattle.textarea_text.proofs.rows.offset_ahead.Goals as goal
 
 pub range_from-requires : goal.range_from-requires
@@ -17,8 +17,8 @@ loop-index-preserved c =
     next_more _ (chars c.args.line.now) _ _ c.loop-index._index c.next.result (omega (arith, c.requires.column)) c.loop-index.invariant c.next.ensures.steps.0
 
 pub overflow_sub-result : goal.overflow_sub-result
-overflow_sub-result c = omega (arith, length_cut c.args.line.now c.loop-index._index c.utf8.line, ap length (c.as_str.ensures ∙ c.loop-index.invariant))
+overflow_sub-result c = omega (arith, length_split c.args.line.now c.loop-index._index c.utf8.line, ap length (c.as_str.ensures ∙ c.loop-index.invariant))
 
 pub returns : goal.returns
 returns c =
-    grind (arith, common_steps, length_cut c.args.line.now c.loop-index._index c.utf8.line)
+    grind (arith, common_steps, length_split c.args.line.now c.loop-index._index c.utf8.line)

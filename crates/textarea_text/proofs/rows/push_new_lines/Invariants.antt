@@ -4,6 +4,6 @@ use Rattle.textarea_text.proofs.StringRows.{RowsSoFar}
 use Rattle.textarea_text.proofs.rows.push_new_lines.Given as goal
 
 -- the lines so far hold the start of the first line and the fragment's lines so far, one for each
-abbrev pub invariant-loop-piece : goal.invariant-loop-piece
-invariant-loop-piece l =
-    (vec_len l.rows ≡ l.piece-index) × RowsSoFar l.rows.items l.line (characters_of l.initial.line) (lines_of l.rest) l.piece-index
+abbrev pub invariant-loop-fragment_line : goal.invariant-loop-fragment_line
+invariant-loop-fragment_line l =
+    (vec_len l.rows ≡ l.fragment_line-index) × RowsSoFar l.rows.items l.line (characters_of l.initial.line) (lines_of l.rest) l.fragment_line-index

@@ -13,7 +13,7 @@ loop-c-preserved c =
     let step = c.in-Some.ensures.steps.0 in
     record {
       text = IsUtf8-past_char _ _ c.in-Some.c was.text step;
-      left = width_of_more c.args.tab_length c.loop-c.behind_stop _ c.unwrap_or.result c.in-Some.c _ _ _ was.left (chars_past_char _ _ c.in-Some.c was.text step)
+      left = width_of_more c.args.tab_length c.loop-c.after_stop _ c.unwrap_or.result c.in-Some.c _ _ _ was.left (chars_past_char _ _ c.in-Some.c was.text step)
           (c.unwrap_or.ensures ∙ ap (λ o. unwrap_or o 0) c.width.ensures.value) refl;
       below = omega arith;
     }

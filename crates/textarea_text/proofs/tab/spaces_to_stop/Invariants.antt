@@ -8,6 +8,6 @@ use Rattle.textarea_text.proofs.tab.spaces_to_stop.Given as goal
 abbrev pub invariant-loop-c : goal.invariant-loop-c
 invariant-loop-c l = record {
   text : IsUtf8 (chars_rest l.c-iterator);
-  left : (l.behind_stop + width_of (chars (chars_rest l.c-iterator))) % l.tab_length ≡ width_of (take l.column (chars l.line)) % l.tab_length;
-  below : l.behind_stop < l.tab_length;
+  left : (l.after_stop + width_of (chars (chars_rest l.c-iterator))) % l.tab_length ≡ width_of (take l.column (chars l.line)) % l.tab_length;
+  below : l.after_stop < l.tab_length;
 }

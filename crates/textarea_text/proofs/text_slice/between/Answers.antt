@@ -3,7 +3,7 @@ use Rattle.std.proofs.lemmas.Grind.{common_steps}
 use Rattle.std.specs.Str.{chars}
 use Rattle.textarea_text.specs.Text.{lines_of}
 use Rattle.textarea_text.proofs.StringRows.{line_at, row_within}
-use Rattle.textarea_text.proofs.BetweenLemmas.{up_to_from_index, column_within, column_within_last, line_in_part, part_from_lines, pieces_done, pieces_more, pieces_none}
+use Rattle.textarea_text.proofs.BetweenLemmas.{up_to_from_index, column_within, column_within_last, line_in_between, between_from_lines, lines_done, lines_more, lines_none}
 use Rattle.textarea_text.proofs.text_slice.between.Goals as goal
 
 pub slice_bounds-line-items-count : goal.slice_bounds-line-items-count
@@ -16,18 +16,18 @@ slice_bounds-line-items-start c =
 
 pub text_from-requires : goal.text_from-requires
 text_from-requires c =
-    grind (arith, common_steps, up_to_from_index (lines_of c.args.lines.now) c.args.from c.args.to c.requires.from c.requires.to c.requires.ordered, line_in_part, row_within c.args.lines.now c.args.to c.requires.to, column_within (lines_of c.args.lines.now) c.args.from c.loop-line.line-index c.loop-line.start c.requires.from c.loop-line.invariant.first c.loop-line.invariant.later)
+    grind (arith, common_steps, up_to_from_index (lines_of c.args.lines.now) c.args.from c.args.to c.requires.from c.requires.to c.requires.ordered, line_in_between, row_within c.args.lines.now c.args.to c.requires.to, column_within (lines_of c.args.lines.now) c.args.from c.loop-line.line-index c.loop-line.start c.requires.from c.loop-line.invariant.first c.loop-line.invariant.later)
 
 pub loop-line-preserved : goal.loop-line-preserved
 loop-line-preserved c =
     let line = c.line-item.result in
     let ordered = (up_to_from_index (lines_of c.args.lines.now) c.args.from c.args.to c.requires.from c.requires.to c.requires.ordered).0 in
-    let here = line_in_part c.args.lines.now c.args.from.0 (c.args.to.0 - c.args.from.0) c.loop-line.line-index line
+    let here = line_in_between c.args.lines.now c.args.from.0 (c.args.to.0 - c.args.from.0) c.loop-line.line-index line
     (omega (arith, row_within c.args.lines.now c.args.to c.requires.to)) (omega arith) c.line-item.is in
     record {
       len = omega (arith, c.loop-line.invariant.len, c.in_ok-push_line.ensures.len);
-      cut = pieces_more c.loop-line.pieces.items c.push_line.new.pieces.items (chars c.text_from.result.now) (lines_of c.args.lines.now) c.args.from c.args.to (c.args.from.0 + c.loop-line.line-index) c.loop-line.start (c.args.from.0 + (c.loop-line.line-index + 1))
-          c.requires.to.0 (omega arith) c.loop-line.invariant.cut c.in_ok-push_line.ensures.rows
+      split_text = lines_more c.loop-line.fragment_lines.items c.push_line.new.fragment_lines.items (chars c.text_from.result.now) (lines_of c.args.lines.now) c.args.from c.args.to (c.args.from.0 + c.loop-line.line-index) c.loop-line.start (c.args.from.0 + (c.loop-line.line-index + 1))
+          c.requires.to.0 (omega arith) c.loop-line.invariant.split_text c.in_ok-push_line.ensures.rows
           (c.text_from.ensures ∙ ap (λ t. drop c.loop-line.start (chars t)) c.as_str.ensures.value ∙ ap (drop c.loop-line.start) (sym here)) (omega arith);
       first = omega arith;
       later = omega arith;
@@ -47,13 +47,13 @@ returns-clause-len c =
 
 pub returns-clause-text : goal.returns-clause-text
 returns-clause-text c =
-    grind (arith, common_steps, up_to_from_index (lines_of c.args.lines.now) c.args.from c.args.to c.requires.from c.requires.to c.requires.ordered, line_at c.args.lines.now c.args.to.0 c.index-lines-to.result (row_within c.args.lines.now c.args.to c.requires.to) c.index-lines-to.is, row_within c.args.lines.now c.args.to c.requires.to, part_from_lines, pieces_done)
+    grind (arith, common_steps, up_to_from_index (lines_of c.args.lines.now) c.args.from c.args.to c.requires.from c.requires.to c.requires.ordered, line_at c.args.lines.now c.args.to.0 c.index-lines-to.result (row_within c.args.lines.now c.args.to c.requires.to) c.index-lines-to.is, row_within c.args.lines.now c.args.to c.requires.to, between_from_lines, lines_done)
 
 pub loop-line-init : goal.loop-line-init
 loop-line-init c =
     record {
-      len = c.in_ok-pieces.ensures.len;
-      cut = pieces_none _ (lines_of c.args.lines.now) c.args.from c.args.to (c.args.from.0 + 0) c.in_ok-pieces.ensures.items (add-zero c.args.from.0);
+      len = c.in_ok-fragment_lines.ensures.len;
+      split_text = lines_none _ (lines_of c.args.lines.now) c.args.from c.args.to (c.args.from.0 + 0) c.in_ok-fragment_lines.ensures.items (add-zero c.args.from.0);
       first = λ _. refl;
       later = λ (some : 0 < 0). absurd (omega arith);
     }

@@ -1,7 +1,7 @@
 use Rattle.std.proofs.Common.{◌≡◌, ◌∙◌, ◌-◌, ◌+◌, ◌++◌, arith, ap, subst, sym, take, drop, length, encode_utf8_all}
 use Rattle.std.specs.Str.{IsCharBoundary, chars}
 use Rattle.std.proofs.lemmas.List.{drop-take, drop_at, take-take}
-use Rattle.textarea_text.proofs.Columns.{IsCharBoundary-column, chars_from_bytes, encodes_cut, offsets_ordered, take_offset}
+use Rattle.textarea_text.proofs.Columns.{IsCharBoundary-column, chars_from_bytes, encodes_split, offsets_ordered, take_offset}
 use Rattle.textarea_text.proofs.text_slice.text_between.Goals as goal
 
 pub range-requires-clause-start_le_end : goal.range-requires-clause-start_le_end
@@ -28,7 +28,7 @@ returns c =
     let at : from ≡ length (encode_utf8_all (take c.args.start until)) =
     c.byte_offset-from.ensures ∙ ap (λ t. length (encode_utf8_all t)) (sym (take-take c.args.start c.args.end cs c.requires.start)) in
     let whole : take to bytes ≡ encode_utf8_all (take c.args.start until) ++ encode_utf8_all (drop c.args.start until) =
-    ap (λ n. take n bytes) c.byte_offset_from-to.ensures ∙ take_offset bytes c.args.end c.utf8.line ∙ encodes_cut until c.args.start in
+    ap (λ n. take n bytes) c.byte_offset_from-to.ensures ∙ take_offset bytes c.args.end c.utf8.line ∙ encodes_split until c.args.start in
     let is : c.range.result.now ≡ encode_utf8_all (drop c.args.start until) =
     c.range.ensures.value ∙ sym (drop-take from (to - from) bytes) ∙ ap (λ n. drop from (take n bytes)) added ∙ ap (drop from) whole
     ∙ drop_at (encode_utf8_all (take c.args.start until)) (encode_utf8_all (drop c.args.start until)) from (sym at) in

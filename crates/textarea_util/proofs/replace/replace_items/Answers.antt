@@ -7,8 +7,8 @@ pub returns-then-shared-count-clause-items : goal.returns-then-shared-count-clau
 returns-then-shared-count-clause-items g c =
     let start = c.args.start in
     let shared = c.min-shared.result in
-    c.remove_part-then-shared-count.ensures.items
-    ∙ ap (λ t. take (start + shared) t ++ drop (start + c.args.count) t) c.swap_parts.ensures.items
+    c.remove_segment-then-shared-count.ensures.items
+    ∙ ap (λ t. take (start + shared) t ++ drop (start + c.args.count) t) c.swap_segments.ensures.items
     ∙ replaced_by_fewer c.args.items.now.items c.args.new.items start c.args.count shared (omega arith) (omega arith) (omega arith)
 
 pub returns-then-not-is_empty-clause-items : goal.returns-then-not-is_empty-clause-items
@@ -20,7 +20,7 @@ returns-then-not-is_empty-clause-items g c =
     c.move_to_end.ensures.items
     ∙ ap (λ t. take (start + shared) t ++ (drop (start + shared + below) t ++ take below (drop (start + shared) t)))
     (c.append.ensures.items
-    ∙ ap (λ b. cond b (c.swap_parts.new.items.items ++ c.remove_part.new.items.items) c.swap_parts.new.items.items) (c.append.ensures.succeeds (omega arith))
-    ∙ ap (λ t. t ++ c.remove_part.new.items.items) c.swap_parts.ensures.items
-    ∙ ap (λ t. swapped ++ t) (c.remove_part.ensures.items ∙ c.swap_parts.ensures.rest))
+    ∙ ap (λ b. cond b (c.swap_segments.new.items.items ++ c.remove_segment.new.items.items) c.swap_segments.new.items.items) (c.append.ensures.succeeds (omega arith))
+    ∙ ap (λ t. t ++ c.remove_segment.new.items.items) c.swap_segments.ensures.items
+    ∙ ap (λ t. swapped ++ t) (c.remove_segment.ensures.items ∙ c.swap_segments.ensures.rest))
     ∙ replaced_by_more c.args.items.now.items c.args.new.items start c.args.count shared below (omega arith) (omega arith) (omega arith) (omega arith)

@@ -1,7 +1,7 @@
 use Rattle.std.proofs.Common.{List, refl, subst}
 use Rattle.textarea_screen.proofs.ChangeLemmas.{KeepsOutside-same}
 use Rattle.textarea_view.specs.Prelude.{Changes, area_of, contains, LineView, AreLinesOf, frame_change, Placement}
-use Rattle.textarea_view.proofs.Layers.{framed, kept_around}
+use Rattle.textarea_view.proofs.Layers.{framed, unchanged_around}
 use Rattle.textarea_view.proofs.frame.draw_frame.Goals as goal
 
 pub returns-clause-ok : goal.returns-clause-ok
@@ -18,11 +18,11 @@ returns-clause-ok c =
 
 pub returns-clause-outside : goal.returns-clause-outside
 returns-clause-outside c =
-    kept_around c.args.area c.args.inner c.args.buffer.now c.draw_around.new.buffer c.draw_inside.new.buffer c.requires.within c.draw_around.ensures.outside c.draw_inside.ensures.outside
+    unchanged_around c.args.area c.args.inner c.args.buffer.now c.draw_around.new.buffer c.draw_inside.new.buffer c.requires.within c.draw_around.ensures.outside c.draw_inside.ensures.outside
 
 pub returns-in_err-draw_inside-clause-outside : goal.returns-in_err-draw_inside-clause-outside
 returns-in_err-draw_inside-clause-outside c =
-    kept_around c.args.area c.args.inner c.args.buffer.now c.draw_around.new.buffer c.draw_inside.new.buffer c.requires.within c.draw_around.ensures.outside c.draw_inside.ensures.outside
+    unchanged_around c.args.area c.args.inner c.args.buffer.now c.draw_around.new.buffer c.draw_inside.new.buffer c.requires.within c.draw_around.ensures.outside c.draw_inside.ensures.outside
 
 pub returns-in_err-placement-clause-outside : goal.returns-in_err-placement-clause-outside
 returns-in_err-placement-clause-outside c = KeepsOutside-same (contains c.args.area) refl

@@ -22,5 +22,5 @@ loop-i-preserved c =
     let known = c.loop-i.invariant in (
       c.in_ok-show_in.ensures.same ∙ known.0,
       drawn_more c.args.frame.now c.args.top c.args.rows c.args.buffer.now c.loop-i.buffer c.draw_below.new.buffer c.loop-i.i (line_view c.show_in.new.line) known.1
-          c.in_ok-show_in.ensures.shown c.in_ok-draw_below.ensures.ok,
+          c.in_ok-show_in.ensures.displayed c.in_ok-draw_below.ensures.ok,
     )

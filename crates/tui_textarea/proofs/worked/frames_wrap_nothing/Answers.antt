@@ -1,7 +1,7 @@
 use Rattle.std.proofs.Common.{is_some}
 use Rattle.textarea_data.specs.declared.cursor.CursorMove.TheVariants.{Down}
 use Rattle.tui_textarea.specs.Search.{next_match, after_search}
-use Rattle.tui_textarea.proofs.WorkedCounts.{still_cut, width_searched}
+use Rattle.tui_textarea.proofs.WorkedCounts.{still_wrapped, width_searched}
 use Rattle.tui_textarea.proofs.worked.frames_wrap_nothing.Goals as goal
 
 pub returns : goal.returns
@@ -12,6 +12,6 @@ returns c = λ old drawn down scrolled again area scrolling at_cursor h k l m.
     let put = c.drawn_at_its_width.ensures.put old drawn area h in
     let put_down = c.moves_wrap_nothing.ensures.width_moved drawn down shift Down area.width k put in
     let put_scrolled = c.moves_wrap_nothing.ensures.width_scrolled down scrolled shift_then scrolling area.width l put_down in
-    still_cut drawn down scrolled again found (c.moves_wrap_nothing.ensures.moved drawn down shift Down k)
+    still_wrapped drawn down scrolled again found (c.moves_wrap_nothing.ensures.moved drawn down shift Down k)
     (c.moves_wrap_nothing.ensures.scrolled down scrolled shift_then scrolling l)
     (c.drawn_at_its_width.ensures.stays (after_search scrolled found) again area (width_searched scrolled found area.width put_scrolled) m)

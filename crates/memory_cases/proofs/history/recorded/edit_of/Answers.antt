@@ -25,4 +25,4 @@ returns-clause-splice c =
 pub returns-clause-well_formed : goal.returns-clause-well_formed
 returns-clause-well_formed c =
     let plan = c.args.plan.now in
-    copy_well_formed plan.kind c.in_ok-kind.kind plan.before plan.after c.new.result c.in_ok-kind.ensures.cases c.requires.some c.requires.pieces c.requires.ends (splice_is c) (end_is c) c.new.ensures.pieces
+    copy_well_formed plan.kind c.in_ok-kind.kind plan.before plan.after c.new.result c.in_ok-kind.ensures.cases c.requires.some c.requires.fragment_lines c.requires.ends (splice_is c) (end_is c) c.new.ensures.fragment_lines

@@ -16,7 +16,7 @@ record Exchanged (blocks : List (List RowsView)) (block start count gone come : 
   within : block < length blocks
   inside : start + count ≤ length (get_or blocks block [])
   now_is : now ≡ replaced (get_or blocks block []) start count new
-  part : gone ≤ row_total (get_or blocks block [])
+  segment : gone ≤ row_total (get_or blocks block [])
   turned : row_total now + gone ≡ row_total (get_or blocks block []) + come
   come_is : come ≡ row_total new
 
@@ -40,30 +40,30 @@ exchanged c =
       within = within;
       inside = inside;
       now_is = now;
-      part = omega (arith, c.count_rows-rows_gone.ensures, sums.part);
-      turned = omega (arith, c.count_rows-rows_gone.ensures, sums.part, sums.after, ap row_total now, come, whole, all, c.self.invariant.few_rows);
+      segment = omega (arith, c.count_rows-rows_gone.ensures, sums.segment);
+      turned = omega (arith, c.count_rows-rows_gone.ensures, sums.segment, sums.after, ap row_total now, come, whole, all, c.self.invariant.few_rows);
       come_is = come;
     }
 
 pub shift_from-requires-clause-enough : goal.shift_from-requires-clause-enough
-shift_from-requires-clause-enough c = λ k behind there.
+shift_from-requires-clause-enough c = λ k is_after there.
     let known = exchanged (goal.at.shift_from-requires-clause-enough c).After-replace_items in
     let blocks = rows_of_each c.self.inside.blocks.items in
-    omega (arith, known.inside, c.self.invariant.lines_are.right k (omega (arith, there, c.self.invariant.lines_are.len)), before_ordered length lines_sum blocks (c.args.block + 1) k behind, before_more length lines_sum blocks c.args.block known.within)
+    omega (arith, known.inside, c.self.invariant.lines_are.right k (omega (arith, there, c.self.invariant.lines_are.len)), before_ordered length lines_sum blocks (c.args.block + 1) k is_after, before_more length lines_sum blocks c.args.block known.within)
 
 pub shift_from-requires-clause-small : goal.shift_from-requires-clause-small
-shift_from-requires-clause-small c = λ k behind there.
+shift_from-requires-clause-small c = λ k is_after there.
     let blocks = rows_of_each c.self.inside.blocks.items in
     omega (arith, c.self.invariant.lines_are.right k (omega (arith, there, c.self.invariant.lines_are.len)), before_within length lines_sum blocks k, c.self.invariant.few_lines, c.requires.lines, c.len-come.ensures)
 
 pub shift_from-requires-2-clause-enough : goal.shift_from-requires-2-clause-enough
-shift_from-requires-2-clause-enough c = λ k behind there.
+shift_from-requires-2-clause-enough c = λ k is_after there.
     let known = exchanged (goal.at.shift_from-requires-2-clause-enough c).After-replace_items in
     let blocks = rows_of_each c.self.inside.blocks.items in
-    omega (arith, known.part, c.self.invariant.rows_are.right k (omega (arith, there, c.self.invariant.rows_are.len)), before_ordered row_total rows_sum blocks (c.args.block + 1) k behind, before_more row_total rows_sum blocks c.args.block known.within)
+    omega (arith, known.segment, c.self.invariant.rows_are.right k (omega (arith, there, c.self.invariant.rows_are.len)), before_ordered row_total rows_sum blocks (c.args.block + 1) k is_after, before_more row_total rows_sum blocks c.args.block known.within)
 
 pub shift_from-requires-2-clause-small : goal.shift_from-requires-2-clause-small
-shift_from-requires-2-clause-small c = λ k behind there.
+shift_from-requires-2-clause-small c = λ k is_after there.
     let known = exchanged (goal.at.shift_from-requires-2-clause-small c).After-replace_items in
     let blocks = rows_of_each c.self.inside.blocks.items in
     omega (arith, c.self.invariant.rows_are.right k (omega (arith, there, c.self.invariant.rows_are.len)), before_within row_total rows_sum blocks k, c.self.invariant.few_rows, c.requires.rows, known.come_is)

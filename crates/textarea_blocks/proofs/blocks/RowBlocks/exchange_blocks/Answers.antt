@@ -37,13 +37,13 @@ overflow_sub-rows_exchanged c =
     omega (arith, rows_from known, rows_to known, before_ordered row_total rows_sum (rows_of_each c.self.inside.blocks.items) c.args.from c.args.to c.requires.ordered)
 
 pub exchange-requires-clause-enough : goal.exchange-requires-clause-enough
-exchange-requires-clause-enough c = λ k behind there.
+exchange-requires-clause-enough c = λ k after there.
     let known = (goal.at.exchange-requires-clause-enough c).After-lines_before in
     let blocks = rows_of_each c.self.inside.blocks.items in
-    omega (arith, lines_to known, before_ordered length lines_sum blocks c.args.to k behind, c.self.invariant.lines_are.right k (omega (arith, there, c.self.invariant.lines_are.len)))
+    omega (arith, lines_to known, before_ordered length lines_sum blocks c.args.to k after, c.self.invariant.lines_are.right k (omega (arith, there, c.self.invariant.lines_are.len)))
 
 pub exchange-requires-clause-small : goal.exchange-requires-clause-small
-exchange-requires-clause-small c = λ k behind there.
+exchange-requires-clause-small c = λ k after there.
     let blocks = rows_of_each c.self.inside.blocks.items in
     omega (arith, before_within length lines_sum blocks k, c.self.invariant.lines_are.right k (omega (arith, there, c.self.invariant.lines_are.len)), c.self.invariant.few_lines, c.line_count.ensures, c.requires.lines)
 
@@ -53,13 +53,13 @@ exchange-requires-clause-small_new c = λ k there.
     omega (arith, lines_from known, before_within length lines_sum (rows_of_each c.self.inside.blocks.items) c.args.from, c.self.invariant.few_lines, before_within length lines_sum (rows_of_each c.new.inside.blocks.items) k, c.new.invariant.lines_are.right k (omega (arith, there, c.new.invariant.lines_are.len)), c.new.invariant.few_lines)
 
 pub exchange-requires-2-clause-enough : goal.exchange-requires-2-clause-enough
-exchange-requires-2-clause-enough c = λ k behind there.
+exchange-requires-2-clause-enough c = λ k after there.
     let known = (goal.at.exchange-requires-2-clause-enough c).After-rows_before in
     let blocks = rows_of_each c.self.inside.blocks.items in
-    omega (arith, rows_to known, before_ordered row_total rows_sum blocks c.args.to k behind, c.self.invariant.rows_are.right k (omega (arith, there, c.self.invariant.rows_are.len)))
+    omega (arith, rows_to known, before_ordered row_total rows_sum blocks c.args.to k after, c.self.invariant.rows_are.right k (omega (arith, there, c.self.invariant.rows_are.len)))
 
 pub exchange-requires-2-clause-small : goal.exchange-requires-2-clause-small
-exchange-requires-2-clause-small c = λ k behind there.
+exchange-requires-2-clause-small c = λ k after there.
     let blocks = rows_of_each c.self.inside.blocks.items in
     omega (arith, before_within row_total rows_sum blocks k, c.self.invariant.rows_are.right k (omega (arith, there, c.self.invariant.rows_are.len)), c.self.invariant.few_rows, c.row_count.ensures, c.requires.rows)
 

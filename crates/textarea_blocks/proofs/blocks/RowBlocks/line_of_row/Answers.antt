@@ -4,27 +4,27 @@ use Rattle.textarea_wrap.specs.RowsView.{RowsView}
 use Rattle.textarea_blocks.specs.Blocks.{BlocksView, all_rows, lines_before, rows_of_each}
 use Rattle.textarea_blocks.specs.Sums.{row_total}
 use Rattle.textarea_blocks.proofs.InBlocks.{before_more, block_count, line_there, rows_are, rows_sum, total_before, total_in_block}
-use Rattle.textarea_blocks.proofs.Totals.{found_at}
+use Rattle.textarea_blocks.proofs.Totals.{located_at}
 use Rattle.textarea_blocks.proofs.blocks.RowBlocks.line_of_row.Goals as goal
 use Rattle.textarea_blocks.proofs.blocks.RowBlocks.line_of_row.Goals.{After-at, After-at-2}
 
 -- the block of the row, its rows, and the rows before it
-record Found (rows : List (List RowsView)) (block before row : ℕ) (here : List RowsView) : Type 0 where
+record RowInBlock (rows : List (List RowsView)) (block before row : ℕ) (here : List RowsView) : Type 0 where
   within : block < length rows
   here_is : here ≡ get_or rows block []
   before_is : before ≡ total_before row_total rows block
   from : before ≤ row
   to : row - before < row_total here
 
-found : (c : After-at) → Found (rows_of_each c.self.inside.blocks.items) c.last_at_most-block.result c.at.result c.args.row c.as_slice.result.now
-found c =
+row_in_block : (c : After-at) → RowInBlock (rows_of_each c.self.inside.blocks.items) c.last_at_most-block.result c.at.result c.args.row c.as_slice.result.now
+row_in_block c =
     let items = c.self.inside.blocks.items in
     let blocks = rows_of_each items in
     let numbers = c.self.inside.rows.numbers in
     let block = c.last_at_most-block.result in
     let inside = c.last_at_most-block.ensures.within in
     let there : c.args.row < row_total (all_rows blocks) = omega (arith, c.requires, ap (λ (v : BlocksView). row_total (all_rows v.blocks)) c.self.view_is) in
-    let at = found_at row_total rows_sum blocks numbers c.args.row block c.self.invariant.rows_are inside c.last_at_most-block.ensures.from c.last_at_most-block.ensures.next there in
+    let at = located_at row_total rows_sum blocks numbers c.args.row block c.self.invariant.rows_are inside c.last_at_most-block.ensures.from c.last_at_most-block.ensures.next there in
     let within : block < length blocks = omega (arith, inside, c.self.invariant.rows_are.len) in
     let here : c.as_slice.result.now ≡ get_or blocks block [] = c.as_slice.ensures.value ∙ rows_are items block c.index.result.now (omega (arith, within, block_count items)) c.index.ensures in
     let before : c.at.result ≡ total_before row_total blocks block = c.at.ensures ∙ c.self.invariant.rows_are.right block within in
@@ -41,9 +41,9 @@ record Line (rows : List (List RowsView)) (block line index : ℕ) : Type 0 wher
   at : lines_before rows block + index ≡ line
   there : line < length (all_rows rows)
   up_to : row_total (take line (all_rows rows)) ≡ total_before row_total rows block + row_total (take index (get_or rows block []))
-  behind : row_total (take (line + 1) (all_rows rows)) ≡ total_before row_total rows block + row_total (take (index + 1) (get_or rows block []))
+  after : row_total (take (line + 1) (all_rows rows)) ≡ total_before row_total rows block + row_total (take (index + 1) (get_or rows block []))
 
-line : (c : After-at-2) (known : Found (rows_of_each c.self.inside.blocks.items) c.last_at_most-block.result c.at.result c.args.row c.as_slice.result.now) → Line (rows_of_each c.self.inside.blocks.items) c.last_at_most-block.result (c.at-2.result + c.row_in-index.result.0) c.row_in-index.result.0
+line : (c : After-at-2) (known : RowInBlock (rows_of_each c.self.inside.blocks.items) c.last_at_most-block.result c.at.result c.args.row c.as_slice.result.now) → Line (rows_of_each c.self.inside.blocks.items) c.last_at_most-block.result (c.at-2.result + c.row_in-index.result.0) c.row_in-index.result.0
 line c known =
     let blocks = rows_of_each c.self.inside.blocks.items in
     let block = c.last_at_most-block.result in
@@ -55,20 +55,20 @@ line c known =
       at = at;
       there = omega (arith, at, line_there blocks block index known.within inside);
       up_to = total_in_block row_total rows_sum blocks block index _ known.within (omega arith) at;
-      behind = total_in_block row_total rows_sum blocks block (index + 1) _ known.within (omega arith) (omega (arith, at));
+      after = total_in_block row_total rows_sum blocks block (index + 1) _ known.within (omega arith) (omega (arith, at));
     }
 
 pub row_in-index-requires : goal.row_in-index-requires
-row_in-index-requires c = (found (goal.at.row_in-index-requires c).After-at).to
+row_in-index-requires c = (row_in_block (goal.at.row_in-index-requires c).After-at).to
 
 pub overflow_add-result : goal.overflow_add-result
-overflow_add-result c = grind (arith, common_steps, line, found)
+overflow_add-result c = grind (arith, common_steps, line, row_in_block)
 
 pub returns-clause-line : goal.returns-clause-line
-returns-clause-line c = grind (arith, common_steps, line, found)
+returns-clause-line c = grind (arith, common_steps, line, row_in_block)
 
 pub returns-clause-row : goal.returns-clause-row
-returns-clause-row c = grind (arith, common_steps, found, line)
+returns-clause-row c = grind (arith, common_steps, row_in_block, line)
 
 pub returns-clause-inside : goal.returns-clause-inside
-returns-clause-inside c = grind (arith, common_steps, found, line)
+returns-clause-inside c = grind (arith, common_steps, row_in_block, line)

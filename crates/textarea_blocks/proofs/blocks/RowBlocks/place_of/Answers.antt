@@ -2,7 +2,7 @@ use Rattle.std.proofs.lemmas.Grind.{common_steps}
 use Rattle.std.proofs.Common.{◌<◌, [], ap, arith, get_or, length, subst}
 use Rattle.textarea_blocks.specs.Blocks.{BlocksView, all_rows, rows_of_each, IsBlockOf}
 use Rattle.textarea_blocks.proofs.InBlocks.{before_more, lines_sum}
-use Rattle.textarea_blocks.proofs.Totals.{found_at}
+use Rattle.textarea_blocks.proofs.Totals.{located_at}
 use Rattle.textarea_blocks.proofs.blocks.RowBlocks.place_of.Goals as goal
 
 pub returns-clause-within : goal.returns-clause-within
@@ -11,7 +11,7 @@ returns-clause-within c =
     let numbers = c.self.inside.lines.numbers in
     let block = c.last_at_most-block.result in
     let there : c.args.line < length (all_rows blocks) = omega (arith, c.requires, ap (λ (v : BlocksView). length (all_rows v.blocks)) c.self.view_is) in
-    let found = found_at length lines_sum blocks numbers c.args.line block c.self.invariant.lines_are c.last_at_most-block.ensures.within c.last_at_most-block.ensures.from c.last_at_most-block.ensures.next there in
+    let found = located_at length lines_sum blocks numbers c.args.line block c.self.invariant.lines_are c.last_at_most-block.ensures.within c.last_at_most-block.ensures.from c.last_at_most-block.ensures.next there in
     let within : block < length blocks = omega (arith, c.last_at_most-block.ensures.within, c.self.invariant.lines_are.len) in
     omega (
       arith,
@@ -33,6 +33,6 @@ returns-clause-block c =
     let blocks = rows_of_each c.self.inside.blocks.items in
     let block = c.last_at_most-block.result in
     let there : c.args.line < length (all_rows blocks) = omega (arith, c.requires, ap (λ (v : BlocksView). length (all_rows v.blocks)) c.self.view_is) in
-    let found = found_at length lines_sum blocks c.self.inside.lines.numbers c.args.line block c.self.invariant.lines_are c.last_at_most-block.ensures.within c.last_at_most-block.ensures.from c.last_at_most-block.ensures.next there in
+    let found = located_at length lines_sum blocks c.self.inside.lines.numbers c.args.line block c.self.invariant.lines_are c.last_at_most-block.ensures.within c.last_at_most-block.ensures.from c.last_at_most-block.ensures.next there in
     let within : block < length blocks = omega (arith, c.last_at_most-block.ensures.within, c.self.invariant.lines_are.len) in
     subst (λ (v : BlocksView). IsBlockOf v.blocks c.args.line block) c.self.view_is (record { within = within; from = found.0; to = found.1 })

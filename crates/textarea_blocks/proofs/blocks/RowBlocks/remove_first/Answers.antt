@@ -23,8 +23,8 @@ record Last (blocks : List (List RowsView)) (block count last index size : ℕ) 
   few_lines : length (all_rows blocks) ≤ 562949953421312
   few_rows : row_total (all_rows blocks) ≤ 562949953421312
 
-found : (c : After-len) → Last c.args.self.now.blocks c.args.block c.args.count c.place_of-last.result.0 c.place_of-last.result.1 c.len.result
-found c =
+last_place : (c : After-len) → Last c.args.self.now.blocks c.args.block c.args.count c.place_of-last.result.0 c.place_of-last.result.1 c.len.result
+last_place c =
     let blocks = c.args.self.now.blocks in
     let items = c.self.inside.blocks.items in
     let last = c.place_of-last.result.0 in
@@ -41,11 +41,11 @@ found c =
 
 pub exchange_blocks-requires-clause-ordered : goal.exchange_blocks-requires-clause-ordered
 exchange_blocks-requires-clause-ordered c =
-    omega (arith, (found (goal.at.exchange_blocks-requires-clause-ordered c).After-len).ordered)
+    omega (arith, (last_place (goal.at.exchange_blocks-requires-clause-ordered c).After-len).ordered)
 
 pub returns-then-index-len : goal.returns-then-index-len
 returns-then-index-len c =
-    let known = found (goal.at.returns-then-index-len c).After-len in
+    let known = last_place (goal.at.returns-then-index-len c).After-len in
     let blocks = c.args.self.now.blocks in
     let block = c.args.block in
     let next = c.place_of-last.result.0 + 1 in
@@ -57,23 +57,23 @@ returns-then-index-len c =
     ∙ ap (λ n. replaced rows first n []) size
 
 -- the block without its first lines
-cut : (c : After-exchange) → c.exchange.new.self.blocks ≡ set c.args.self.now.blocks c.place_of-last.result.0 (replaced (get_or c.args.self.now.blocks c.place_of-last.result.0 []) 0 (c.place_of-last.result.1 + 1) [])
-cut c = grind (arith, common_steps)
+exchanged_is : (c : After-exchange) → c.exchange.new.self.blocks ≡ set c.args.self.now.blocks c.place_of-last.result.0 (replaced (get_or c.args.self.now.blocks c.place_of-last.result.0 []) 0 (c.place_of-last.result.1 + 1) [])
+exchanged_is c = grind (arith, common_steps)
 
 pub exchange_blocks-requires-2-clause-ordered : goal.exchange_blocks-requires-2-clause-ordered
-exchange_blocks-requires-2-clause-ordered c = (found (goal.at.exchange_blocks-requires-2-clause-ordered c).After-len).ordered
+exchange_blocks-requires-2-clause-ordered c = (last_place (goal.at.exchange_blocks-requires-2-clause-ordered c).After-len).ordered
 
 pub exchange_blocks-requires-2-clause-lines : goal.exchange_blocks-requires-2-clause-lines
 exchange_blocks-requires-2-clause-lines c =
     let at = goal.at.exchange_blocks-requires-2-clause-lines c in
-    let known = found at.After-len in
+    let known = last_place at.After-len in
     let blocks = c.args.self.now.blocks in
     let last = c.place_of-last.result.0 in
     let here = get_or blocks last [] in
     omega (
       arith,
       known.few_lines,
-      ap (λ t. length (all_rows t)) (cut at.After-exchange),
+      ap (λ t. length (all_rows t)) (exchanged_is at.After-exchange),
       all_set length lines_sum blocks last (replaced here 0 (c.place_of-last.result.1 + 1) []) known.within,
       length-replaced here 0 (c.place_of-last.result.1 + 1) [] (omega (arith, known.inside)),
       ap (λ t. length (all_rows t)) c.new-3.ensures,
@@ -82,14 +82,14 @@ exchange_blocks-requires-2-clause-lines c =
 pub exchange_blocks-requires-2-clause-rows : goal.exchange_blocks-requires-2-clause-rows
 exchange_blocks-requires-2-clause-rows c =
     let at = goal.at.exchange_blocks-requires-2-clause-rows c in
-    let known = found at.After-len in
+    let known = last_place at.After-len in
     let blocks = c.args.self.now.blocks in
     let last = c.place_of-last.result.0 in
     let here = get_or blocks last [] in
     omega (
       arith,
       known.few_rows,
-      ap (λ t. row_total (all_rows t)) (cut at.After-exchange),
+      ap (λ t. row_total (all_rows t)) (exchanged_is at.After-exchange),
       all_set row_total rows_sum blocks last (replaced here 0 (c.place_of-last.result.1 + 1) []) known.within,
       row_total-replaced here [] 0 (c.place_of-last.result.1 + 1),
       row_total-span here 0 (c.place_of-last.result.1 + 1),
@@ -99,27 +99,27 @@ exchange_blocks-requires-2-clause-rows c =
 pub returns : goal.returns
 returns c =
     let at = goal.at.returns c in
-    let known = found at.After-len in
+    let known = last_place at.After-len in
     let blocks = c.args.self.now.blocks in
     let block = c.args.block in
     let last = c.place_of-last.result.0 in
-    let taken = c.place_of-last.result.1 + 1 in
+    let portion = c.place_of-last.result.1 + 1 in
     let here = get_or blocks last [] in
-    let now = set blocks last (replaced here 0 taken []) in
+    let now = set blocks last (replaced here 0 portion []) in
     let rows = all_rows blocks in
     let first = lines_before blocks block in
     let between = lines_before blocks last - first in
-    let same = cut at.After-exchange in
+    let same = exchanged_is at.After-exchange in
     let seam : lines_before blocks last + 0 ≡ first + between = omega (arith, before_ordered length lines_sum blocks block last known.ordered) in
-    let sum : between + taken ≡ c.args.count = omega (arith, known.at, before_ordered length lines_sum blocks block last known.ordered) in
-    let above = before_set length blocks last block (replaced here 0 taken []) known.ordered in
-    let below = before_set length blocks last last (replaced here 0 taken []) (omega arith) in
+    let sum : between + portion ≡ c.args.count = omega (arith, known.at, before_ordered length lines_sum blocks block last known.ordered) in
+    let above = before_set length blocks last block (replaced here 0 portion []) known.ordered in
+    let below = before_set length blocks last last (replaced here 0 portion []) (omega arith) in
     let size : lines_before now last - lines_before now block ≡ between = omega (arith, above, below) in
     let inside : first + between ≤ length rows = omega (arith, before_within length lines_sum blocks last, before_ordered length lines_sum blocks block last known.ordered) in
     ap all_rows (c.exchange_blocks-2.ensures ∙ ap (replaced c.exchange.new.self.blocks block (last - block)) c.new-3.ensures ∙ ap (λ t. replaced t block (last - block) []) same)
-    ∙ blocks_replaced now [] block last known.ordered (omega (arith, known.within, length-set blocks last (replaced here 0 taken [])))
+    ∙ blocks_replaced now [] block last known.ordered (omega (arith, known.within, length-set blocks last (replaced here 0 portion [])))
     ∙ ap (λ n. replaced (all_rows now) n (lines_before now last - lines_before now block) []) above
     ∙ ap (λ n. replaced (all_rows now) first n []) size
-    ∙ ap (λ t. replaced t first between []) (block_replaced blocks last 0 taken [] known.within (omega (arith, known.inside)) ∙ ap (λ n. replaced rows n taken []) seam)
-    ∙ first_removed rows first between taken inside
+    ∙ ap (λ t. replaced t first between []) (block_replaced blocks last 0 portion [] known.within (omega (arith, known.inside)) ∙ ap (λ n. replaced rows n portion []) seam)
+    ∙ first_removed rows first between portion inside
     ∙ ap (λ n. replaced rows first n []) sum

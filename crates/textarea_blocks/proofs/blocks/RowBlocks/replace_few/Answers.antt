@@ -5,7 +5,7 @@ use Rattle.textarea_util.proofs.Replacing.{length-replaced}
 use Rattle.textarea_wrap.specs.RowsView.{RowsView}
 use Rattle.textarea_blocks.specs.Blocks.{BlocksView, all_rows, lines_before}
 use Rattle.textarea_blocks.proofs.Exchanging.{none_removed, rest_removed}
-use Rattle.textarea_blocks.proofs.InBlocks.{before_more, before_within, behind_set, block_count, block_replaced, lines_sum, rows_are}
+use Rattle.textarea_blocks.proofs.InBlocks.{before_more, before_within, after_set, block_count, block_replaced, lines_sum, rows_are}
 use Rattle.textarea_blocks.proofs.Totals.{all_set}
 use Rattle.textarea_blocks.proofs.blocks.RowBlocks.replace_few.Goals as goal
 use Rattle.textarea_blocks.proofs.blocks.RowBlocks.replace_few.Goals.{After-min-shared, After-exchange}
@@ -18,8 +18,8 @@ record First (blocks : List (List RowsView)) (row count block index shared : ℕ
   shared_is : shared ≡ min count (length (get_or blocks block []) - index)
   next : lines_before blocks (block + 1) ≡ lines_before blocks block + length (get_or blocks block [])
 
-found : (c : After-min-shared) → First c.args.self.now.blocks c.args.row c.args.count c.place_of-block.result.0 c.place_of-block.result.1 c.min-shared.result
-found c =
+first_place : (c : After-min-shared) → First c.args.self.now.blocks c.args.row c.args.count c.place_of-block.result.0 c.place_of-block.result.1 c.min-shared.result
+first_place c =
     let blocks = c.args.self.now.blocks in
     let items = c.self.inside.blocks.items in
     let block = c.place_of-block.result.0 in
@@ -52,25 +52,25 @@ exchanged c known =
     record {
       rows_are = ap all_rows c.exchange.ensures ∙ block_replaced blocks block index shared new known.within fits ∙ ap (λ n. replaced (all_rows blocks) n shared new) known.at;
       size = omega (arith, ap (λ t. length (all_rows t)) c.exchange.ensures, all_set length lines_sum blocks block now known.within, size);
-      next = omega (arith, ap (λ t. lines_before t (block + 1)) c.exchange.ensures, behind_set length lines_sum blocks block now known.within, known.next, size);
+      next = omega (arith, ap (λ t. lines_before t (block + 1)) c.exchange.ensures, after_set length lines_sum blocks block now known.within, known.next, size);
     }
 
 pub exchange-requires-clause-room : goal.exchange-requires-clause-room
 exchange-requires-clause-room c =
-    let known = found (goal.at.exchange-requires-clause-room c).After-min-shared in
+    let known = first_place (goal.at.exchange-requires-clause-room c).After-min-shared in
     omega (arith, c.requires.room c.place_of-block.result.0 c.place_of-block.ensures.block, known.shared_is, known.next, known.at, known.inside)
 
 pub remove_first-requires-clause-count : goal.remove_first-requires-clause-count
 remove_first-requires-clause-count c =
     let at = goal.at.remove_first-requires-clause-count c in
-    let known = found at.After-min-shared in
+    let known = first_place at.After-min-shared in
     let turned = exchanged at.After-exchange known in
     omega (arith, turned.size, turned.next, known.next, known.at, known.inside, known.shared_is, c.requires.within, before_within length lines_sum c.args.self.now.blocks (c.place_of-block.result.0 + 1))
 
 pub returns : goal.returns
 returns c =
     let at = goal.at.returns c in
-    let known = found at.After-min-shared in
+    let known = first_place at.After-min-shared in
     let turned = exchanged at.After-exchange known in
     let blocks = c.args.self.now.blocks in
     let rows = all_rows blocks in
@@ -83,9 +83,9 @@ returns c =
     ∙ ap (λ t. replaced t next (count - shared) []) turned.rows_are
     ∙ elim (cases_lt shared count) [
       | inl less ↦
-          let behind : next ≡ row + length new = omega (arith, less, turned.next, known.next, known.at, known.inside, known.shared_is) in
+          let after : next ≡ row + length new = omega (arith, less, turned.next, known.next, known.at, known.inside, known.shared_is) in
           let sum : shared + (count - shared) ≡ count = omega (arith, less) in
-          ap (λ n. replaced (replaced rows row shared new) n (count - shared) []) behind
+          ap (λ n. replaced (replaced rows row shared new) n (count - shared) []) after
           ∙ rest_removed rows new row shared (count - shared) (omega (arith, c.requires.within))
           ∙ ap (λ n. replaced rows row n new) sum
       | inr most ↦

@@ -4,7 +4,7 @@ use Rattle.textarea_util.proofs.Replacing.{length-replaced}
 use Rattle.textarea_blocks.specs.Blocks.{all_rows, lines_before}
 use Rattle.textarea_blocks.proofs.Exchanging.{rest_removed}
 use Rattle.textarea_blocks.proofs.InBlocks.{blocks_replaced, lines_sum}
-use Rattle.textarea_blocks.proofs.Totals.{all_exchanged, total_behind}
+use Rattle.textarea_blocks.proofs.Totals.{all_exchanged, total_after}
 use Rattle.textarea_blocks.proofs.blocks.RowBlocks.replace_many.Goals as goal
 use Rattle.textarea_blocks.proofs.blocks.RowBlocks.replace_many.Goals.{After-block_count-2}
 
@@ -18,7 +18,7 @@ next c =
     let same = c.exchange_blocks.ensures in
     let zero_more : block + 0 ≡ block = omega arith in (
       omega (arith, c.block_count.ensures, c.block_count-2.ensures, ap length same, length-replaced blocks block (block - block) new (omega (arith, within)), within),
-      omega (arith, ap (λ t. lines_before t (block + (length new + 0))) same, total_behind length lines_sum blocks new block block 0 (omega arith) within, c.edge_of-block.ensures.edge, ap (lines_before blocks) zero_more),
+      omega (arith, ap (λ t. lines_before t (block + (length new + 0))) same, total_after length lines_sum blocks new block block 0 (omega arith) within, c.edge_of-block.ensures.edge, ap (lines_before blocks) zero_more),
       omega (arith, ap (λ t. length (all_rows t)) same, all_exchanged length lines_sum blocks new block block (omega arith) within),
     )
 

@@ -12,15 +12,15 @@ within c =
     omega (arith, c.place_of-block.ensures.block.within, ap (λ (v : BlocksView). length v.blocks) c.self.view_is, block_count c.self.inside.blocks.items)
 
 -- the rows of the blocks are unchanged
-kept : (c : After-reserve) → rows_of_each (set c.self.inside.blocks.items c.place_of-block.result.0 c.reserve.new.self) ≡ rows_of_each c.self.inside.blocks.items
-kept c = grind (arith, common_steps, blocks_set, rows_are, within c, set-get_or)
+rows_unchanged : (c : After-reserve) → rows_of_each (set c.self.inside.blocks.items c.place_of-block.result.0 c.reserve.new.self) ≡ rows_of_each c.self.inside.blocks.items
+rows_unchanged c = grind (arith, common_steps, blocks_set, rows_are, within c, set-get_or)
 
 pub invariant_of-self : goal.invariant_of-self
-invariant_of-self c = rw (kept (goal.at.invariant_of-self c).After-reserve) c.self.invariant
+invariant_of-self c = rw (rows_unchanged (goal.at.invariant_of-self c).After-reserve) c.self.invariant
 
 pub returns-clause-same : goal.returns-clause-same
 returns-clause-same c =
-    ap all_rows (kept (goal.at.returns-clause-same c).After-reserve) ∙ ap (λ (v : BlocksView). all_rows v.blocks) c.self.view_is ∙ c.in_ok-halve_full.ensures
+    ap all_rows (rows_unchanged (goal.at.returns-clause-same c).After-reserve) ∙ ap (λ (v : BlocksView). all_rows v.blocks) c.self.view_is ∙ c.in_ok-halve_full.ensures
 
 pub returns-clause-room : goal.returns-clause-room
 returns-clause-room c =
@@ -29,10 +29,10 @@ returns-clause-room c =
     let blocks = rows_of_each items in
     let block = c.place_of-block.result.0 in
     let now = set items block c.reserve.new.self in
-    let same = kept known in
+    let same = rows_unchanged known in
     let there = within known in
-    let seen = ap (λ (v : BlocksView). v.blocks) c.self.view_is in
-    let inside : IsBlockOf (rows_of_each now) c.args.row block = rw (same, seen) c.place_of-block.ensures.block in
+    let viewed = ap (λ (v : BlocksView). v.blocks) c.self.view_is in
+    let inside : IsBlockOf (rows_of_each now) c.args.row block = rw (same, viewed) c.place_of-block.ensures.block in
     let spare = spare_is now block c.reserve.new.self (omega (arith, there, length-set items block c.reserve.new.self)) (sym (get_or-set_same items block c.reserve.new.self c.reserve.new.self there)) in
     let at = c.place_of-block.ensures.line in
     let size : c.len.result ≡ length (get_or blocks block []) = omega (arith, c.len.ensures, c.index.result.now.ok.0, ap length (rows_are items block c.index.result.now there c.index.ensures)) in
@@ -52,8 +52,8 @@ returns-clause-room c =
       ap (λ t. lines_before t (block + 1)) same,
       before_more length lines_sum blocks block (omega (arith, there, block_count items)),
       at,
-      ap (λ t. lines_before t block) seen,
+      ap (λ t. lines_before t block) viewed,
       c.place_of-block.ensures.within,
-      ap (λ t. length (get_or t block [])) seen,
+      ap (λ t. length (get_or t block [])) viewed,
     ))
     c.reserve.ensures.ok

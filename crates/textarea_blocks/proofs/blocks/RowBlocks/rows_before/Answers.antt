@@ -2,7 +2,7 @@ use Rattle.std.proofs.Common.{◌≡◌, ◌+◌, ◌-◌, ◌<◌, ◌∙◌, a
 use Rattle.textarea_blocks.specs.Blocks.{BlocksView, rows_of_each}
 use Rattle.textarea_blocks.specs.Sums.{row_total}
 use Rattle.textarea_blocks.proofs.InBlocks.{before_within, block_count, rows_are, rows_sum, total_before}
-use Rattle.textarea_blocks.proofs.Totals.{number_behind}
+use Rattle.textarea_blocks.proofs.Totals.{number_after}
 use Rattle.textarea_blocks.proofs.blocks.RowBlocks.rows_before.Goals as goal
 use Rattle.textarea_blocks.proofs.blocks.RowBlocks.rows_before.Goals.{After-count_rows}
 
@@ -14,7 +14,7 @@ counted c =
     let there : last < length blocks = omega (arith, c.requires, c.if-block-eq0.false, ap (λ (v : BlocksView). length v.blocks) c.self.view_is) in
     let rows = rows_are items last c.index.result.now (omega (arith, there, block_count items)) c.index.ensures in
     let end : last + 1 ≡ c.args.block = omega (arith, c.if-block-eq0.false) in
-    omega (arith, number_behind row_total rows_sum blocks c.self.inside.rows.numbers last c.at.result _ c.self.invariant.rows_are there c.at.ensures (c.as_slice.ensures.value ∙ rows), c.count_rows.ensures, ap (total_before row_total blocks) end, before_within row_total rows_sum blocks c.args.block, c.self.invariant.few_rows)
+    omega (arith, number_after row_total rows_sum blocks c.self.inside.rows.numbers last c.at.result _ c.self.invariant.rows_are there c.at.ensures (c.as_slice.ensures.value ∙ rows), c.count_rows.ensures, ap (total_before row_total blocks) end, before_within row_total rows_sum blocks c.args.block, c.self.invariant.few_rows)
 
 pub overflow_add-result : goal.overflow_add-result
 overflow_add-result c =

@@ -11,16 +11,16 @@ use Rattle.textarea_blocks.proofs.blocks.RowBlocks.split_block_off.Goals as goal
 use Rattle.textarea_blocks.proofs.blocks.RowBlocks.split_block_off.Goals.{After-len}
 
 -- the block before and after, and the rows that are removed from it
-record Taken (blocks : List (List RowsView)) (block at gone : ℕ) (kept rows : List RowsView) : Type 0 where
+record SplitOff (blocks : List (List RowsView)) (block at gone : ℕ) (retained rows : List RowsView) : Type 0 where
   within : block < length blocks
   inside : at ≤ length (get_or blocks block [])
-  kept_is : kept ≡ take at (get_or blocks block [])
+  rest_is : retained ≡ take at (get_or blocks block [])
   rows_are : rows ≡ drop at (get_or blocks block [])
-  line_sum : length kept + gone ≡ length (get_or blocks block [])
-  row_sum : row_total kept + row_total rows ≡ row_total (get_or blocks block [])
+  line_sum : length retained + gone ≡ length (get_or blocks block [])
+  row_sum : row_total retained + row_total rows ≡ row_total (get_or blocks block [])
 
-taken : (c : After-len) → Taken (rows_of_each c.self.inside.blocks.items) c.args.block c.args.at c.len.result c.split_off.new.self.items c.in_ok-rows.rows.items
-taken c =
+split_off_is : (c : After-len) → SplitOff (rows_of_each c.self.inside.blocks.items) c.args.block c.args.at c.len.result c.split_off.new.self.items c.in_ok-rows.rows.items
+split_off_is c =
     let items = c.self.inside.blocks.items in
     let blocks = rows_of_each items in
     let block = c.args.block in
@@ -29,40 +29,40 @@ taken c =
     let within : block < length blocks = omega (arith, c.requires.block, ap (λ (v : BlocksView). length v.blocks) c.self.view_is) in
     let inside : at ≤ length here = omega (arith, c.requires.at, ap (λ (v : BlocksView). length (get_or v.blocks block [])) c.self.view_is) in
     let there = rows_are items block c.index_mut.result.now (omega (arith, within, block_count items)) c.index_mut.ensures.value in
-    let kept : c.split_off.new.self.items ≡ take at here = c.in_ok-rows.ensures.items ∙ ap (take at) there in
+    let retained : c.split_off.new.self.items ≡ take at here = c.in_ok-rows.ensures.items ∙ ap (take at) there in
     let rest : c.in_ok-rows.rows.items ≡ drop at here = c.in_ok-rows.ensures.tail ∙ ap (drop at) there in
     record {
       within = within;
       inside = inside;
-      kept_is = kept;
+      rest_is = retained;
       rows_are = rest;
-      line_sum = omega (arith, ap length kept, ap length rest, length-take-le at here inside, length-drop at here, c.len.ensures, c.in_ok-rows.rows.ok.0);
-      row_sum = omega (arith, ap row_total kept, ap row_total rest, row_total-take_drop at here);
+      line_sum = omega (arith, ap length retained, ap length rest, length-take-le at here inside, length-drop at here, c.len.ensures, c.in_ok-rows.rows.ok.0);
+      row_sum = omega (arith, ap row_total retained, ap row_total rest, row_total-take_drop at here);
     }
 
 pub shift_from-requires-clause-enough : goal.shift_from-requires-clause-enough
-shift_from-requires-clause-enough c = λ k behind there.
-    let known = taken (goal.at.shift_from-requires-clause-enough c).After-len in
+shift_from-requires-clause-enough c = λ k after there.
+    let known = split_off_is (goal.at.shift_from-requires-clause-enough c).After-len in
     let blocks = rows_of_each c.self.inside.blocks.items in
-    omega (arith, known.line_sum, c.self.invariant.lines_are.right k (omega (arith, there, c.self.invariant.lines_are.len)), before_ordered length lines_sum blocks (c.args.block + 1) k behind, before_more length lines_sum blocks c.args.block known.within)
+    omega (arith, known.line_sum, c.self.invariant.lines_are.right k (omega (arith, there, c.self.invariant.lines_are.len)), before_ordered length lines_sum blocks (c.args.block + 1) k after, before_more length lines_sum blocks c.args.block known.within)
 
 pub shift_from-requires-clause-small : goal.shift_from-requires-clause-small
-shift_from-requires-clause-small c = λ k behind there.
+shift_from-requires-clause-small c = λ k after there.
     omega (arith, c.self.invariant.lines_are.right k (omega (arith, there, c.self.invariant.lines_are.len)), before_within length lines_sum (rows_of_each c.self.inside.blocks.items) k, c.self.invariant.few_lines)
 
 pub shift_from-requires-2-clause-enough : goal.shift_from-requires-2-clause-enough
-shift_from-requires-2-clause-enough c = λ k behind there.
-    let known = taken (goal.at.shift_from-requires-2-clause-enough c).After-len in
+shift_from-requires-2-clause-enough c = λ k after there.
+    let known = split_off_is (goal.at.shift_from-requires-2-clause-enough c).After-len in
     let blocks = rows_of_each c.self.inside.blocks.items in
-    omega (arith, known.row_sum, c.count_rows-rows_gone.ensures, ap row_total c.as_slice.ensures.value, c.self.invariant.rows_are.right k (omega (arith, there, c.self.invariant.rows_are.len)), before_ordered row_total rows_sum blocks (c.args.block + 1) k behind, before_more row_total rows_sum blocks c.args.block known.within)
+    omega (arith, known.row_sum, c.count_rows-rows_gone.ensures, ap row_total c.as_slice.ensures.value, c.self.invariant.rows_are.right k (omega (arith, there, c.self.invariant.rows_are.len)), before_ordered row_total rows_sum blocks (c.args.block + 1) k after, before_more row_total rows_sum blocks c.args.block known.within)
 
 pub shift_from-requires-2-clause-small : goal.shift_from-requires-2-clause-small
-shift_from-requires-2-clause-small c = λ k behind there.
+shift_from-requires-2-clause-small c = λ k after there.
     omega (arith, c.self.invariant.rows_are.right k (omega (arith, there, c.self.invariant.rows_are.len)), before_within row_total rows_sum (rows_of_each c.self.inside.blocks.items) k, c.self.invariant.few_rows)
 
 pub invariant_of-self-2 : goal.invariant_of-self-2
 invariant_of-self-2 c =
-    let known = taken (goal.at.invariant_of-self-2 c).After-len in
+    let known = split_off_is (goal.at.invariant_of-self-2 c).After-len in
     let inside = c.self.inside in
     let blocks = rows_of_each inside.blocks.items in
     let block = c.args.block in
@@ -78,8 +78,8 @@ invariant_of-self-2 c =
       few_rows = omega (arith, all_set row_total rows_sum blocks block now known.within, known.row_sum, c.self.invariant.few_rows);
     })
 
-pub returns-clause-kept : goal.returns-clause-kept
-returns-clause-kept c = grind (arith, common_steps, taken, blocks_set c.self.inside.blocks.items c.args.block c.split_off.new.self)
+pub returns-clause-retained : goal.returns-clause-retained
+returns-clause-retained c = grind (arith, common_steps, split_off_is, blocks_set c.self.inside.blocks.items c.args.block c.split_off.new.self)
 
 pub index_mut-requires : goal.index_mut-requires
 index_mut-requires c =

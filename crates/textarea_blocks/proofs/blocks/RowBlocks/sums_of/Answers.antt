@@ -13,24 +13,24 @@ here_is : (c : After-count_rows-rows) → c.as_slice-here.result.now ≡ get_or 
 here_is c = grind (arith, common_steps, rows_are)
 
 -- the total of the lines, with those of one block more
-further : (c : After-count_rows-rows) (total : Sum) → IsSum total → total (take (c.args.count - (c.walking.left - c.min-taken.result)) (drop c.args.line (all_rows (rows_of_each c.self.inside.blocks.items)))) ≡ total (take (c.args.count - c.walking.left) (drop c.args.line (all_rows (rows_of_each c.self.inside.blocks.items)))) + total (take (c.walking.index + c.min-taken.result - c.walking.index) (drop c.walking.index c.as_slice-here.result.now))
+further : (c : After-count_rows-rows) (total : Sum) → IsSum total → total (take (c.args.count - (c.walking.left - c.min-portion.result)) (drop c.args.line (all_rows (rows_of_each c.self.inside.blocks.items)))) ≡ total (take (c.args.count - c.walking.left) (drop c.args.line (all_rows (rows_of_each c.self.inside.blocks.items)))) + total (take (c.walking.index + c.min-portion.result - c.walking.index) (drop c.walking.index c.as_slice-here.result.now))
 further c total sum =
     let items = c.self.inside.blocks.items in
     let blocks = rows_of_each items in
     let done = c.args.count - c.walking.left in
-    let size : done + c.min-taken.result ≡ c.args.count - (c.walking.left - c.min-taken.result) = omega (arith, c.min-taken.ensures, c.walking.invariant.0) in
+    let size : done + c.min-portion.result ≡ c.args.count - (c.walking.left - c.min-portion.result) = omega (arith, c.min-portion.ensures, c.walking.invariant.0) in
     ap (λ n. total (take n (drop c.args.line (all_rows blocks)))) (sym size)
-    ∙ total_further total sum blocks c.as_slice-here.result.now c.walking.block c.walking.index c.min-taken.result c.args.line done
+    ∙ total_further total sum blocks c.as_slice-here.result.now c.walking.block c.walking.index c.min-portion.result c.args.line done
     (omega (arith, c.walking.invariant.3 c.walking-test.true, block_count items))
     (here_is c)
-    (omega (arith, c.min-taken.ensures, c.walking.invariant.4 c.walking-test.true, ap length (here_is c)))
+    (omega (arith, c.min-portion.ensures, c.walking.invariant.4 c.walking-test.true, ap length (here_is c)))
     (omega (arith, c.walking.invariant.5 c.walking-test.true, c.walking.invariant.0))
 
-counted : (c : After-count_rows-rows) → (c.walking.rows + c.count_rows-rows.result ≡ row_total (take (c.args.count - (c.walking.left - c.min-taken.result)) (drop c.args.line (all_rows (rows_of_each c.self.inside.blocks.items))))) × (c.walking.rows + c.count_rows-rows.result ≤ row_total (all_rows (rows_of_each c.self.inside.blocks.items)))
+counted : (c : After-count_rows-rows) → (c.walking.rows + c.count_rows-rows.result ≡ row_total (take (c.args.count - (c.walking.left - c.min-portion.result)) (drop c.args.line (all_rows (rows_of_each c.self.inside.blocks.items))))) × (c.walking.rows + c.count_rows-rows.result ≤ row_total (all_rows (rows_of_each c.self.inside.blocks.items)))
 counted c =
     let rows = all_rows (rows_of_each c.self.inside.blocks.items) in
     let below = drop c.args.line rows in
-    let most = row_total-take_le (c.args.count - (c.walking.left - c.min-taken.result)) below in
+    let most = row_total-take_le (c.args.count - (c.walking.left - c.min-portion.result)) below in
     let sum = further c row_total rows_sum in
     let whole = row_total-take_drop c.args.line rows in (
       omega (arith, c.walking.invariant.1, c.count_rows-rows.ensures, sum, most, whole, c.self.invariant.few_rows),
@@ -58,8 +58,8 @@ walking-preserved c =
       λ more. elim (cases_lt (block + 1) (length items)) [
         | inl less ↦ less
         | inr most ↦
-            absurd (omega (arith, more, next, at, inside, here, all, c.min-taken.ensures, before_all length blocks (block + 1) (omega (arith, most, block_count items))))
+            absurd (omega (arith, more, next, at, inside, here, all, c.min-portion.ensures, before_all length blocks (block + 1) (omega (arith, most, block_count items))))
       ],
       λ more. omega arith,
-      λ more. omega (arith, more, next, at, inside, here, c.min-taken.ensures),
+      λ more. omega (arith, more, next, at, inside, here, c.min-portion.ensures),
     )

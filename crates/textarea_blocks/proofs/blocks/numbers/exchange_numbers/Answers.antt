@@ -15,6 +15,6 @@ returns c =
     (omega (arith, turned.len, c.args.numbers.now.ok.0, c.move_numbers-2.new.numbers.ok.0))
     (omega (arith, counted.len, c.args.new.ok.0, c.move_numbers.new.numbers.ok.0))
     turned.above
-    (λ k behind there. turned.moved k behind (omega (arith, there, c.args.numbers.now.ok.0)))
-    (λ k behind there. counted.moved k behind (omega (arith, there, c.args.new.ok.0)))
+    (λ k after there. turned.moved k after (omega (arith, there, c.args.numbers.now.ok.0)))
+    (λ k after there. counted.moved k after (omega (arith, there, c.args.new.ok.0)))
     c.replace_items.ensures.items

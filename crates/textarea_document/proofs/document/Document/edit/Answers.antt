@@ -29,7 +29,7 @@ pub invariant_of-self-in_err-ahead : goal.invariant_of-self-in_err-ahead
 invariant_of-self-in_err-ahead c =
     let inside = c.self.inside in
     let stays = c.in_err-ahead.ensures in
-    subst IsSound (sym (same_document inside.text_layout c.make_change.new.text_layout inside.cursor inside.anchor inside.ranges.items c.make_change.new.ranges.items inside.history.log c.reserve.new.self.log stays.laid_stay stays.ranges_stay c.reserve.ensures.same)) c.self.invariant
+    subst IsSound (sym (same_document inside.text_layout c.make_change.new.text_layout inside.cursor inside.anchor inside.ranges.items c.make_change.new.ranges.items inside.history.log c.reserve.new.self.log stays.layout_stays stays.ranges_stay c.reserve.ensures.same)) c.self.invariant
 
 pub invariant_of-self-2 : goal.invariant_of-self-2
 invariant_of-self-2 c =

@@ -1,7 +1,7 @@
 use Rattle.std.proofs.Common.{◌≡◌, ◌≤◌, ◌∙◌, ◌∷◌, ℕ, Global, List, String, [], ap, arith, false, refl, subst, sym, true}
 use Rattle.textarea_document.specs.Prelude.{as_nanos, size_limit, Symbol, text_of, Place, end, size_of, Splice, DocumentState, insertion, insertion_place, has_symbols, symbols_inserted, after_edit}
 use Rattle.textarea_document.proofs.Inserts.{filled_length}
-use Rattle.textarea_document.proofs.Parts.{well_formed}
+use Rattle.textarea_document.proofs.Betweens.{well_formed}
 use Rattle.textarea_document.proofs.document.Document.insert.Goals as goal
 
 -- with a symbol, an insertion is an edit
@@ -12,7 +12,7 @@ filled document (symbol ∷ symbols) now is = refl
 pub returns-clause-ok : goal.returns-clause-ok
 returns-clause-ok c =
     let document = c.args.self.now in
-    let items = c.args.pieces.items in
+    let items = c.args.fragment_lines.items in
     let now = as_nanos c.args.now in
     c.in_ok-edit.ensures.ok
     ∙ ap (λ (s : Splice). after_edit document s false now)
@@ -29,9 +29,9 @@ returns-clause-limit c = λ _. subst (λ (items : List (String Global)). size_of
 
 pub edit-requires-clause-well_formed : goal.edit-requires-clause-well_formed
 edit-requires-clause-well_formed c =
-    let items = c.args.pieces.items in
+    let items = c.args.fragment_lines.items in
     let start = c.insertion_place-start.result in
     well_formed c.edit_of.result (insertion start (text_of items)) c.edit_of.ensures.splice
     (filled_length (text_of items) (sym (ap has_symbols (ap text_of c.as_slice.ensures.value)) ∙ sym c.has_symbol.ensures ∙ c.if-not-has_symbol.false))
     (c.edit_of.ensures.end ∙ c.end_of-end.ensures ∙ ap (end start) (ap text_of c.as_slice-3.ensures.value))
-    c.edit_of.ensures.pieces
+    c.edit_of.ensures.fragment_lines

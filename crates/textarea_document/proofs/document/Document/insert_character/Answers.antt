@@ -1,7 +1,7 @@
 use Rattle.std.proofs.Common.{◌≡◌, ◌≤◌, ◌∙◌, ◌∷◌, [], ap, arith, subst, sym}
 use Rattle.std.proofs.lemmas.Result.{on_ok_weaker}
 use Rattle.textarea_document.specs.Prelude.{IfSome, as_nanos, Character, Place, Splice, insertion, after_edit}
-use Rattle.textarea_document.proofs.Parts.{well_formed}
+use Rattle.textarea_document.proofs.Betweens.{well_formed}
 use Rattle.textarea_document.proofs.document.Document.insert_character.Goals as goal
 
 inserts : (c : goal.After-between) → c.between.result.splice ≡ insertion c.insertion_place-row.result (Character c.args.c ∷ [])
@@ -9,7 +9,7 @@ inserts c = c.between.ensures.splice
 
 pub edit-requires-clause-well_formed : goal.edit-requires-clause-well_formed
 edit-requires-clause-well_formed c =
-    well_formed c.between.result (insertion c.insertion_place-row.result (Character c.args.c ∷ [])) (inserts c) (omega arith) c.between.ensures.end (subst (λ o. IfSome o (λ n. 2 ≤ n)) (sym c.between.ensures.pieces) tt)
+    well_formed c.between.result (insertion c.insertion_place-row.result (Character c.args.c ∷ [])) (inserts c) (omega arith) c.between.ensures.end (subst (λ o. IfSome o (λ n. 2 ≤ n)) (sym c.between.ensures.fragment_lines) tt)
 
 pub returns-clause-ok : goal.returns-clause-ok
 returns-clause-ok c =

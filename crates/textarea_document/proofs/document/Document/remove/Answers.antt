@@ -1,6 +1,6 @@
 use Rattle.std.proofs.Common.{◌≤◌, ◌∙◌, List, ap, arith, false, subst, sym}
 use Rattle.std.proofs.lemmas.Result.{on_ok_weaker}
-use Rattle.textarea_document.specs.Prelude.{as_nanos, Symbol, Place, index_of, part_removed, removal, after_edit}
+use Rattle.textarea_document.specs.Prelude.{as_nanos, Symbol, Place, index_of, between_removed, removal, after_edit}
 use Rattle.textarea_document.proofs.document.Document.remove.Goals as goal
 
 pub between-requires-clause-ordered : goal.between-requires-clause-ordered
@@ -11,7 +11,7 @@ between-requires-clause-ordered c =
     subst (λ (t : List Symbol). index_of t wide.0 ≤ index_of t wide.1) (sym c.lines.ensures.value) ordered
 
 pub returns-clause-ok : goal.returns-clause-ok
-unfolding part_removed
+unfolding between_removed
 returns-clause-ok c =
     let document = c.args.self.now in
     on_ok_weaker c.remove_whole.result

@@ -4,8 +4,8 @@ use Rattle.textarea_document.specs.Prelude.{as_nanos, IfOk, AtomicRange, range_b
 use Rattle.textarea_document.proofs.document.Document.remove_before.Goals as goal
 
 -- without a range at the cursor nothing changes
-stays : (document left : DocumentState) (hit : Option AtomicRange) (now : ℕ) → left ≡ removed_range_or (range_before document) document now document → hit ≡ range_before document → hit ≡ None → left ≡ document
-stays document left hit now removed is none = removed ∙ ap (λ (o : Option AtomicRange). removed_range_or o document now document) (sym is ∙ none)
+stays : (document left : DocumentState) (at_place : Option AtomicRange) (now : ℕ) → left ≡ removed_range_or (range_before document) document now document → at_place ≡ range_before document → at_place ≡ None → left ≡ document
+stays document left at_place now removed is none = removed ∙ ap (λ (o : Option AtomicRange). removed_range_or o document now document) (sym is ∙ none)
 
 pub returns-in-None-clause-removed : goal.returns-in-None-clause-removed
 returns-in-None-clause-removed c =

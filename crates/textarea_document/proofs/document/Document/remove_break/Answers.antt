@@ -24,8 +24,8 @@ edit-requires-clause-fits c =
     let document = c.args.self.now in
     subst (Fits document.text) (sym (removes c)) (break_removal_fits document.text (document.cursor.0 - 1) (within c))
 
-pub edit-requires-clause-cuts_none : goal.edit-requires-clause-cuts_none
-edit-requires-clause-cuts_none c =
+pub edit-requires-clause-splits_none : goal.edit-requires-clause-splits_none
+edit-requires-clause-splits_none c =
     let document = c.args.self.now in
     let row = document.cursor.0 - 1 in
     subst (SplitsNoRange document.ranges) (sym (removes c))

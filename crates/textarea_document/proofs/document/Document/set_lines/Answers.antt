@@ -1,7 +1,7 @@
 use Rattle.std.proofs.Common.{◌∙◌, ℕ, List, ap, refl, subst, sym}
 use Rattle.textarea_document.specs.Prelude.{lines_of, text_of, IsPlaceOf, Place, clip, DocumentState, fresh_document, IsSound}
 use Rattle.textarea_text.proofs.Befores.{text_place}
-use Rattle.textarea_document.proofs.Sounds.{fresh_is, same_document, sound_laid}
+use Rattle.textarea_document.proofs.Sounds.{fresh_is, same_document, sound_layout}
 use Rattle.textarea_document.proofs.document.Document.set_lines.Goals as goal
 
 pub invariant_of-self : goal.invariant_of-self
@@ -13,7 +13,7 @@ pub invariant_of-self-2 : goal.invariant_of-self-2
 invariant_of-self-2 c =
     let items = c.args.lines.items in
     let cursor = c.clip-place.result in
-    sound_laid (text_of items) c.self.inside.text_layout.layout.settings c.self.inside.text_layout.layout.count cursor c.max_items.result c.set_lines.new.self c.clear.new.self.items c.new-history.result.log c.in_ok-set_lines.ensures.ok c.clear.ensures.items c.new-history.ensures (text_place items cursor (subst (λ t. IsPlaceOf (lines_of t) cursor) c.as_slice.ensures.value c.clip-place.ensures.is_place))
+    sound_layout (text_of items) c.self.inside.text_layout.layout.settings c.self.inside.text_layout.layout.count cursor c.max_items.result c.set_lines.new.self c.clear.new.self.items c.new-history.result.log c.in_ok-set_lines.ensures.ok c.clear.ensures.items c.new-history.ensures (text_place items cursor (subst (λ t. IsPlaceOf (lines_of t) cursor) c.as_slice.ensures.value c.clip-place.ensures.is_place))
 
 pub returns-clause-ok : goal.returns-clause-ok
 returns-clause-ok c =

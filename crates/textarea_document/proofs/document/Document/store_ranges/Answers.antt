@@ -7,8 +7,8 @@ use Rattle.textarea_document.proofs.document.Document.store_ranges.Goals as goal
 pub invariant_of-self : goal.invariant_of-self
 invariant_of-self c =
     let text = c.self.inside.text_layout.text in
-    let given = c.args.ranges.items in
-    let valid : AreValid (lines text) given = subst (λ (s : DocumentState). AreValid (lines s.text) given) (sym c.self.view_is) c.requires.valid in
+    let supplied = c.args.ranges.items in
+    let valid : AreValid (lines text) supplied = subst (λ (s : DocumentState). AreValid (lines s.text) supplied) (sym c.self.view_is) c.requires.valid in
     let first : AreValid (lines text) c.as_slice.result.now = subst (AreValid (lines text)) (sym c.as_slice.ensures.value) valid in
     let old = c.self.invariant in
     record {
@@ -26,11 +26,11 @@ invariant_of-self c =
 pub returns : goal.returns
 returns c =
     let inside = c.self.inside in
-    let given = c.args.ranges.items in
+    let supplied = c.args.ranges.items in
     let at = c.move_out-cursor.result in
-    ap (λ (o : Option Place). document_of inside.text_layout at o given inside.history.log)
+    ap (λ (o : Option Place). document_of inside.text_layout at o supplied inside.history.log)
     (c.unless_empty-self-inside.ensures
     ∙ ap (λ (o : Option Place). unless_empty o at) (c.anchor_out-anchor.ensures ∙ ap (λ (r : List AtomicRange). anchor_out r inside.anchor) c.as_slice-2.ensures.value))
-    ∙ ap (λ (p : Place). document_of inside.text_layout p (unless_empty (anchor_out given inside.anchor) p) given inside.history.log)
+    ∙ ap (λ (p : Place). document_of inside.text_layout p (unless_empty (anchor_out supplied inside.anchor) p) supplied inside.history.log)
     (c.move_out-cursor.ensures.value ∙ ap (λ (r : List AtomicRange). moved_out r inside.cursor Forward) c.as_slice.ensures.value)
-    ∙ ap (λ (s : DocumentState). with_ranges s given) c.self.view_is
+    ∙ ap (λ (s : DocumentState). with_ranges s supplied) c.self.view_is

@@ -15,5 +15,5 @@ pub returns-clause-splice : goal.returns-clause-splice
 returns-clause-splice c =
     c.between-else-inserts-2.ensures.splice
     ∙ ap (λ (s : List Symbol). record { place = c.args.start; symbols = s; inserts = false })
-    (text_is c.args.pieces.items c.pop.new.self.items c.pop.result c.unwrap-text.result (omega (arith, c.len.ensures, c.if-len-gt1.false)) c.pop.ensures.items c.unwrap-text.ensures)
-    ∙ ap (λ b. record { place = c.args.start; symbols = text_of c.args.pieces.items; inserts = b }) (sym c.if-inserts-2.false)
+    (text_is c.args.fragment_lines.items c.pop.new.self.items c.pop.result c.unwrap-text.result (omega (arith, c.len.ensures, c.if-len-gt1.false)) c.pop.ensures.items c.unwrap-text.ensures)
+    ∙ ap (λ b. record { place = c.args.start; symbols = text_of c.args.fragment_lines.items; inserts = b }) (sym c.if-inserts-2.false)

@@ -1,7 +1,7 @@
 use Rattle.std.proofs.Common.{◌∙◌, ap, drop}
 use Rattle.std.specs.Str.{chars}
 use Rattle.textarea_text.proofs.Columns.{drop_offset}
-use Rattle.textarea_document.proofs.SymbolAfters.{behind_is, boundary_of}
+use Rattle.textarea_document.proofs.SymbolAfters.{symbol_after_is, boundary_of}
 use Rattle.textarea_document.proofs.document.removals.character_after.Goals as goal
 
 pub range_from-requires : goal.range_from-requires
@@ -9,6 +9,6 @@ range_from-requires c = λ _. boundary_of c.args.line.now c.args.column c.args.o
 
 pub returns : goal.returns
 returns c =
-    behind_is _ (chars c.args.line.now) _ _ c.args.column c.next.result c.requires.column
+    symbol_after_is _ (chars c.args.line.now) _ _ c.args.column c.next.result c.requires.column
     (c.chars.ensures.rest ∙ c.range_from.ensures.value ∙ ap (λ n. drop n c.args.line.now) c.requires.offset ∙ drop_offset c.args.line.now c.args.column c.utf8.line)
     c.next.ensures.steps.0

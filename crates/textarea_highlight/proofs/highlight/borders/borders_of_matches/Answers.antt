@@ -5,9 +5,9 @@ use Rattle.textarea_highlight.proofs.BorderLemmas.{match_borders-push}
 use Rattle.textarea_highlight.proofs.highlight.borders.borders_of_matches.Goals as goal
 
 -- a match in the loop is one that the iterator yields
-given : {S : Type 0} (steps : S → Option (ℕ × ℕ) → S → Type 0) (matches first here rest : S) (before : List (ℕ × ℕ)) (found : ℕ × ℕ) →
+step_gives : {S : Type 0} (steps : S → Option (ℕ × ℕ) → S → Type 0) (matches first here rest : S) (before : List (ℕ × ℕ)) (found : ℕ × ℕ) →
     first ≡ matches → Yields steps first before here → steps here (Some found) rest → YieldsThen steps matches before (Some found) rest
-given {S} steps matches first here rest before found same yielded step =
+step_gives {S} steps matches first here rest before found same yielded step =
     (here, subst (λ (s : S). Yields steps s before here) same yielded, step)
 
 false_is_no_true : false ≡ true → ⊥
@@ -27,7 +27,7 @@ loop-found-preserved g c =
       nothing = λ none.
           (c.in_ok-push_highlight.ensures.nothing
           (none c.loop-found.yielded found _
-          (given g.I.Iterator.next_gives c.args.matches _ c.loop-found.found-iterator c.next.new.self c.loop-found.yielded found c.into_iter-found-iterator.ensures.into_iter_gives c.loop-found.yielded_by c.in-Some.ensures.steps))).1
+          (step_gives g.I.Iterator.next_gives c.args.matches _ c.loop-found.found-iterator c.next.new.self c.loop-found.yielded found c.into_iter-found-iterator.ensures.into_iter_gives c.loop-found.yielded_by c.in-Some.ensures.steps))).1
           ∙ was.nothing none;
       placed = c.in_ok-push_highlight.ensures.placed was.placed;
     }
@@ -36,7 +36,7 @@ pub returns-in_err-push_highlight-clause-nothing : goal.returns-in_err-push_high
 returns-in_err-push_highlight-clause-nothing g c = λ none.
     absurd (false_is_no_true (c.in_err-push_highlight.ensures.nothing
     (none c.loop-found.yielded c.in-Some.found _
-    (given g.I.Iterator.next_gives c.args.matches _ c.loop-found.found-iterator c.next.new.self c.loop-found.yielded c.in-Some.found c.into_iter-found-iterator.ensures.into_iter_gives c.loop-found.yielded_by c.in-Some.ensures.steps))).0)
+    (step_gives g.I.Iterator.next_gives c.args.matches _ c.loop-found.found-iterator c.next.new.self c.loop-found.yielded c.in-Some.found c.into_iter-found-iterator.ensures.into_iter_gives c.loop-found.yielded_by c.in-Some.ensures.steps))).0)
 
 pub returns-clause-nothing : goal.returns-clause-nothing
 returns-clause-nothing g c = λ none. (refl, c.loop-found.invariant.nothing none)

@@ -9,22 +9,22 @@ use Rattle.textarea_highlight.proofs.highlight.display.expand_tabs.Goals as goal
 
 pub loop-c-preserved : goal.loop-c-preserved
 loop-c-preserved c =
-    let t = YieldsList-turn (YieldsList-from_chars c.args.piece.now c.utf8.piece cc) c.loop-c.yielded _ c.loop-c.yielded_by _ _ c.in-Some.c c.in-Some.is c.next.ensures.steps in
+    let t = YieldsList-turn (YieldsList-from_chars c.args.segment.now c.utf8.segment cc) c.loop-c.yielded _ c.loop-c.yielded_by _ _ c.in-Some.c c.in-Some.is c.next.ensures.steps in
     let n = length_push c.loop-c.yielded c.in-Some.c in (
       rw (n, c.column_after-next.ensures.value)
-          (expanded_more c.args.tab_len c.loop-c.at (chars c.args.piece.now) (length c.loop-c.yielded) c.in-Some.c t _ _ c.in_ok-push_display.ensures ∙ c.loop-c.invariant.0),
+          (expanded_more c.args.tab_len c.loop-c.at (chars c.args.segment.now) (length c.loop-c.yielded) c.in-Some.c t _ _ c.in_ok-push_display.ensures ∙ c.loop-c.invariant.0),
       omega (arith, c.loop-c.invariant.1, c.column_after-next.ensures.near, n),
     )
 
 pub column_after-next-requires : goal.column_after-next-requires
 column_after-next-requires c =
-    let t = YieldsList-turn (YieldsList-from_chars c.args.piece.now c.utf8.piece cc) c.loop-c.yielded _ c.loop-c.yielded_by _ _ c.in-Some.c c.in-Some.is c.next.ensures.steps in
-    omega (arith, c.loop-c.invariant.1, t.0, length_chars c.args.piece.now c.utf8.piece)
+    let t = YieldsList-turn (YieldsList-from_chars c.args.segment.now c.utf8.segment cc) c.loop-c.yielded _ c.loop-c.yielded_by _ _ c.in-Some.c c.in-Some.is c.next.ensures.steps in
+    omega (arith, c.loop-c.invariant.1, t.0, length_chars c.args.segment.now c.utf8.segment)
 
 pub returns : goal.returns
 returns c =
-    let t = YieldsList-end (YieldsList-from_chars c.args.piece.now c.utf8.piece cc) c.loop-c.yielded _ c.loop-c.yielded_by _ _ c.in-None.is c.next.ensures.steps in
-    let none = drop_all (length c.loop-c.yielded) (chars c.args.piece.now) (omega (arith, t.1)) in
+    let t = YieldsList-end (YieldsList-from_chars c.args.segment.now c.utf8.segment cc) c.loop-c.yielded _ c.loop-c.yielded_by _ _ c.in-None.is c.next.ensures.steps in
+    let none = drop_all (length c.loop-c.yielded) (chars c.args.segment.now) (omega (arith, t.1)) in
     sym (append-nil (string_bytes c.loop-c.expanded))
     ∙ sym (ap (λ ys. string_bytes c.loop-c.expanded ++ encode_utf8_all (with_spaces c.args.tab_len c.loop-c.at ys)) none)
     ∙ c.loop-c.invariant.0

@@ -5,6 +5,6 @@ use Rattle.textarea_highlight.proofs.highlight.display.expand_tabs.Given as goal
 
 abbrev pub invariant-loop-c : goal.invariant-loop-c
 invariant-loop-c l =
-    (string_bytes l.expanded ++ encode_utf8_all (with_spaces l.tab_len l.at (drop (length l.yielded) (chars l.piece)))
-    ≡ encode_utf8_all (with_spaces l.tab_len l.column (chars l.piece)))
+    (string_bytes l.expanded ++ encode_utf8_all (with_spaces l.tab_len l.at (drop (length l.yielded) (chars l.segment)))
+    ≡ encode_utf8_all (with_spaces l.tab_len l.column (chars l.segment)))
     × (l.at ≤ l.column + 255 * length l.yielded)

@@ -1,36 +1,36 @@
 use Rattle.std.proofs.lemmas.Grind.{common_steps}
 use Rattle.std.proofs.Common.{sym, ◌∙◌, arith}
-use Rattle.textarea_highlight.proofs.DisplayLemmas.{kept_at_zero, changed_at_zero, kept_at_some, changed_at_some, text_of_kept}
+use Rattle.textarea_highlight.proofs.DisplayLemmas.{unchanged_at_zero, changed_at_zero, unchanged_at_some, changed_at_some, text_of_unchanged}
 use Rattle.textarea_highlight.proofs.highlight.display.show_tabs.Goals as goal
 
 pub returns-in_ok-drop_tabs-clause-borrowed : goal.returns-in_ok-drop_tabs-clause-borrowed
 returns-in_ok-drop_tabs-clause-borrowed c = (
   λ none. absurd none,
-  λ same. changed_at_zero c.args.tab_len c.args.column c.args.piece.now c.utf8.piece c.if-tab_len-eq0.true (sym c.has_tab_after_start.ensures ∙ c.if-has_tab_after_start.true) same,
+  λ same. changed_at_zero c.args.tab_len c.args.column c.args.segment.now c.utf8.segment c.if-tab_len-eq0.true (sym c.has_tab_after_start.ensures ∙ c.if-has_tab_after_start.true) same,
 )
 
 pub returns-else-has_tab_after_start-clause-text : goal.returns-else-has_tab_after_start-clause-text
 returns-else-has_tab_after_start-clause-text c =
-    text_of_kept c.args.tab_len c.args.column c.args.piece.now c.utf8.piece
-    (kept_at_zero c.args.tab_len c.args.column c.args.piece.now c.utf8.piece c.if-tab_len-eq0.true (sym c.has_tab_after_start.ensures ∙ c.if-has_tab_after_start.false))
+    text_of_unchanged c.args.tab_len c.args.column c.args.segment.now c.utf8.segment
+    (unchanged_at_zero c.args.tab_len c.args.column c.args.segment.now c.utf8.segment c.if-tab_len-eq0.true (sym c.has_tab_after_start.ensures ∙ c.if-has_tab_after_start.false))
 
 pub returns-else-has_tab_after_start-clause-borrowed : goal.returns-else-has_tab_after_start-clause-borrowed
 returns-else-has_tab_after_start-clause-borrowed c = (
-  λ _. kept_at_zero c.args.tab_len c.args.column c.args.piece.now c.utf8.piece c.if-tab_len-eq0.true (sym c.has_tab_after_start.ensures ∙ c.if-has_tab_after_start.false),
+  λ _. unchanged_at_zero c.args.tab_len c.args.column c.args.segment.now c.utf8.segment c.if-tab_len-eq0.true (sym c.has_tab_after_start.ensures ∙ c.if-has_tab_after_start.false),
   λ _. tt,
 )
 
 pub returns-in_ok-expand_tabs-clause-borrowed : goal.returns-in_ok-expand_tabs-clause-borrowed
 returns-in_ok-expand_tabs-clause-borrowed c = (
   λ none. absurd none,
-  λ same. changed_at_some c.args.tab_len c.args.column c.args.piece.now c.utf8.piece (omega arith) (sym c.has_tab.ensures ∙ c.if-has_tab.true) same,
+  λ same. changed_at_some c.args.tab_len c.args.column c.args.segment.now c.utf8.segment (omega arith) (sym c.has_tab.ensures ∙ c.if-has_tab.true) same,
 )
 
 pub returns-else-has_tab-clause-text : goal.returns-else-has_tab-clause-text
-returns-else-has_tab-clause-text c = grind (arith, common_steps, text_of_kept, kept_at_some)
+returns-else-has_tab-clause-text c = grind (arith, common_steps, text_of_unchanged, unchanged_at_some)
 
 pub returns-else-has_tab-clause-borrowed : goal.returns-else-has_tab-clause-borrowed
 returns-else-has_tab-clause-borrowed c = (
-  λ _. kept_at_some c.args.tab_len c.args.column c.args.piece.now c.utf8.piece (omega arith) (sym c.has_tab.ensures ∙ c.if-has_tab.false),
+  λ _. unchanged_at_some c.args.tab_len c.args.column c.args.segment.now c.utf8.segment (omega arith) (sym c.has_tab.ensures ∙ c.if-has_tab.false),
   λ _. tt,
 )

@@ -1,7 +1,7 @@
 use Rattle.std.proofs.lemmas.Grind.{common_steps}
 use Rattle.std.proofs.Common.{refl, inl, arith}
 use Rattle.std.proofs.lemmas.Str.{IsCharBoundary-start, IsCharBoundary-end}
-use Rattle.textarea_highlight.proofs.SplitLemmas.{cut_more, pass_more, room_left, cut_at_start, column_at_start, edge_at}
+use Rattle.textarea_highlight.proofs.SplitLemmas.{split_more, pass_more, room_left, split_at_start, column_at_start, edge_at}
 use Rattle.textarea_highlight.proofs.WholeLemmas.{whole}
 use Rattle.textarea_highlight.proofs.highlight.split.split.Goals as goal
 
@@ -14,8 +14,8 @@ loop-border-init c = record {
   column = column_at_start c.args.row_style.tab_len;
   room = omega arith;
   base_is = c.restart.ensures.base;
-  behind = c.restart.ensures.none;
-  split = cut_at_start _ _ _ _ _ _;
+  after = c.restart.ensures.none;
+  split = split_at_start _ _ _ _ _ _;
 }
 
 pub split_to-requires-clause-order : goal.split_to-requires-clause-order
@@ -32,9 +32,9 @@ pub loop-border-preserved : goal.loop-border-preserved
 loop-border-preserved c =
     let i = c.loop-border.border-index in
     pass_more _ _ _ _ _ _ i _ _ _ _ _
-    (cut_more _ _ _ _ _ _ i _ _ _ _ _ _ _ c.utf8.row c.loop-border.invariant (c.loop-border.invariant.splits.ahead i _ (omega arith) c.loop-border-test.true)
+    (split_more _ _ _ _ _ _ i _ _ _ _ _ _ _ c.utf8.row c.loop-border.invariant (c.loop-border.invariant.splits.ahead i _ (omega arith) c.loop-border-test.true)
     (c.requires.placed i _ c.loop-border-test.true) (edge_at _ _ i _ c.loop-border-test.true) (λ k e le lt. c.requires.ordered i k _ e le lt)
-    c.in_ok-split_to.ensures.added c.in_ok-split_to.ensures.shown c.in_ok-split_to.ensures.bound)
+    c.in_ok-split_to.ensures.added c.in_ok-split_to.ensures.displayed c.in_ok-split_to.ensures.bound)
     c.loop-border-test.true c.in_ok-pass.ensures.base c.in_ok-pass.ensures.ok
 
 pub split_to-requires-2-clause-order : goal.split_to-requires-2-clause-order
@@ -49,10 +49,10 @@ split_to-requires-2-clause-room c =
 
 pub returns-clause-added : goal.returns-clause-added
 returns-clause-added c =
-    let end = cut_more _ _ _ _ _ _ _ _ _ _ _ _ _ _ c.utf8.row c.loop-border.invariant c.loop-border.invariant.boundary.0 (IsCharBoundary-end c.args.row.now) (inl refl)
-    (λ k d le lt. absurd (omega arith)) c.in_ok-split_to-2.ensures.added c.in_ok-split_to-2.ensures.shown c.in_ok-split_to-2.ensures.bound in
+    let end = split_more _ _ _ _ _ _ _ _ _ _ _ _ _ _ c.utf8.row c.loop-border.invariant c.loop-border.invariant.boundary.0 (IsCharBoundary-end c.args.row.now) (inl refl)
+    (λ k d le lt. absurd (omega arith)) c.in_ok-split_to-2.ensures.added c.in_ok-split_to-2.ensures.displayed c.in_ok-split_to-2.ensures.bound in
     let split = end.split in record {
-      pieces = split.0;
+      segments = split.0;
       split = split.1;
       added = split.2;
       whole = λ stops. whole c.args.row.now c.args.borders.now _ _ _ split.0 c.utf8.row c.requires.placed stops split.1;

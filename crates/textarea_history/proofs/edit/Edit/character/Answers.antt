@@ -1,7 +1,7 @@
 use Rattle.std.proofs.Common.{◌∙◌, ◌≤◌, sym, ap, arith, subst}
 use Rattle.std.proofs.lemmas.List.{length-map}
 use Rattle.textarea_history.specs.Prelude.{IfSome, chars, characters, characters_of, lines_of, Stored, character_of}
-use Rattle.textarea_history.proofs.Runs.{only_reversed, only_pieces, symbols_as, pieces_as}
+use Rattle.textarea_history.proofs.Runs.{only_reversed, only_lines, symbols_as, line_count_as}
 use Rattle.textarea_history.proofs.edit.Edit.character.Goals as goal
 
 pub returns-in-Typed : goal.returns-in-Typed
@@ -12,5 +12,5 @@ returns-in-Typed c =
 
 pub returns-in-Chunk : goal.returns-in-Chunk
 returns-in-Chunk c =
-    only_pieces (lines_of c.in-Chunk.field-0.items) (omega (arith, pieces_as c.in-Chunk.is (subst (λ (s : Stored). IfSome s.pieces (λ n. 2 ≤ n)) (sym c.self.view_is) c.requires.pieces), length-map c.in-Chunk.field-0.items characters_of))
+    only_lines (lines_of c.in-Chunk.field-0.items) (omega (arith, line_count_as c.in-Chunk.is (subst (λ (s : Stored). IfSome s.fragment_lines (λ n. 2 ≤ n)) (sym c.self.view_is) c.requires.fragment_lines), length-map c.in-Chunk.field-0.items characters_of))
     ∙ ap character_of (symbols_as c.self.inside.start c.self.inside.end c.self.view_is c.in-Chunk.is)

@@ -1,6 +1,6 @@
 use Rattle.std.proofs.Common.{◌≡◌, ◌∙◌, ◌++◌, ◌∷◌, [], sym, ap, subst, cond}
 use Rattle.textarea_history.specs.Prelude.{characters_of, end, Stored, IsWellFormed, stored_of, symbols_in, merged, Typed}
-use Rattle.textarea_history.proofs.Runs.{pushed_in_room, grown_splice, grown_kept}
+use Rattle.textarea_history.proofs.Runs.{pushed_in_room, grown_splice, grown_content}
 use Rattle.textarea_history.proofs.edit.Edit.grow.Goals as goal
 use Rattle.textarea_history.proofs.edit.Edit.grow.Goals.{After-push}
 
@@ -16,7 +16,7 @@ splice c =
 
 well_formed : (c : After-push) → IsWellFormed (stored_of (Typed c.push.new.self) c.self.inside.inserts (cond c.self.inside.inserts c.self.inside.start c.edit.inside.start) (cond c.self.inside.inserts c.edit.inside.end c.self.inside.end))
 well_formed c =
-    grown_kept c.self.inside.content c.self.inside.inserts c.self.inside.start c.self.inside.end c.edit.inside.start c.edit.inside.end c.in-Typed.text c.push.new.self c.args.c c.args.self.now c.args.edit.now.splice (subst IsWellFormed (sym c.self.view_is) c.requires.well_formed) c.self.view_is c.in-Typed.is (pushed c) c.requires.character
+    grown_content c.self.inside.content c.self.inside.inserts c.self.inside.start c.self.inside.end c.edit.inside.start c.edit.inside.end c.in-Typed.text c.push.new.self c.args.c c.args.self.now c.args.edit.now.splice (subst IsWellFormed (sym c.self.view_is) c.requires.well_formed) c.self.view_is c.in-Typed.is (pushed c) c.requires.character
     (ap (λ (s : Stored). s.splice.place) (sym c.edit.view_is))
     (ap (λ (s : Stored). s.end) c.edit.view_is ∙ c.requires.other.ends ∙ ap (λ (s : Stored). end s.splice.place c.args.edit.now.splice.symbols) (sym c.edit.view_is))
     c.requires.direction c.requires.place

@@ -1,6 +1,6 @@
 use Rattle.std.proofs.Common.{◌≡◌, ◌∙◌, ◌∷◌, [], ◌++◌, sym, ap, subst, encode_utf8}
 use Rattle.textarea_history.specs.Prelude.{characters_of, IsWellFormed}
-use Rattle.textarea_history.proofs.Runs.{characters_of-first, kept_again, splice_again}
+use Rattle.textarea_history.proofs.Runs.{characters_of-first, content_again, splice_again}
 use Rattle.textarea_history.proofs.edit.Edit.reserve.Goals as goal
 
 first : (c : goal.Joined-self-2) → characters_of c.try_reserve-in-Character.new.self ≡ c.in-Character.c ∷ []
@@ -10,7 +10,7 @@ first c =
 
 pub returns-in_ok-try_reserve-in-Character-clause-well_formed : goal.returns-in_ok-try_reserve-in-Character-clause-well_formed
 returns-in_ok-try_reserve-in-Character-clause-well_formed c =
-    kept_again c.self.inside.inserts c.self.inside.start c.self.inside.end c.in-Character.c c.try_reserve-in-Character.new.self (subst IsWellFormed (sym c.self.view_is) c.requires.well_formed) c.in-Character.is (first c)
+    content_again c.self.inside.inserts c.self.inside.start c.self.inside.end c.in-Character.c c.try_reserve-in-Character.new.self (subst IsWellFormed (sym c.self.view_is) c.requires.well_formed) c.in-Character.is (first c)
 
 pub returns-in_ok-try_reserve-in-Character-clause-splice : goal.returns-in_ok-try_reserve-in-Character-clause-splice
 returns-in_ok-try_reserve-in-Character-clause-splice c =

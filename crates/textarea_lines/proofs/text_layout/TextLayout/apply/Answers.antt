@@ -5,11 +5,11 @@ use Rattle.textarea_lines.proofs.text_layout.TextLayout.apply.Goals as goal
 
 pub apply_inside-requires-clause-size : goal.apply_inside-requires-clause-size
 apply_inside-requires-clause-size c =
-    size_made c.self.inside.lines.items c.args.self.now.text c.self.inside.size c.in_ok-size.size c.args.change c.self.invariant.held.stored (ap (λ (s : TextAndLayout). s.text) c.self.view_is) c.requires c.in_ok-size.ensures.size
+    size_made c.self.inside.lines.items c.args.self.now.text c.self.inside.size c.in_ok-size.size c.args.change c.self.invariant.contents.stored (ap (λ (s : TextAndLayout). s.text) c.self.view_is) c.requires c.in_ok-size.ensures.size
 
 pub apply_by_lines-requires-clause-size : goal.apply_by_lines-requires-clause-size
 apply_by_lines-requires-clause-size c =
-    size_made c.self.inside.lines.items c.args.self.now.text c.self.inside.size c.in_ok-size.size c.args.change c.self.invariant.held.stored (ap (λ (s : TextAndLayout). s.text) c.self.view_is) c.requires c.in_ok-size.ensures.size
+    size_made c.self.inside.lines.items c.args.self.now.text c.self.inside.size c.in_ok-size.size c.args.change c.self.invariant.contents.stored (ap (λ (s : TextAndLayout). s.text) c.self.view_is) c.requires c.in_ok-size.ensures.size
 
 pub apply_inside-requires-clause-whole : goal.apply_inside-requires-clause-whole
 apply_inside-requires-clause-whole c = search rules

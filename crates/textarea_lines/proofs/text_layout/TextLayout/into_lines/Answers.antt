@@ -6,4 +6,4 @@ pub returns-clause-text : goal.returns-clause-text
 returns-clause-text c = ap (λ (l : TextAndLayout). l.text) c.self.view_is
 
 pub returns-clause-some : goal.returns-clause-some
-returns-clause-some c = omega (arith, c.self.invariant.held.stored.some, c.self.inside.lines.ok.0)
+returns-clause-some c = omega (arith, c.self.invariant.contents.stored.some, c.self.inside.lines.ok.0)

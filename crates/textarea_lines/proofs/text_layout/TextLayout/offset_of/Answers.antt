@@ -7,14 +7,14 @@ use Rattle.textarea_text.specs.Text.{lines, lines_of}
 use Rattle.textarea_text.proofs.Insides.{column_within, offset_read}
 use Rattle.textarea_text.proofs.StringRows.{row_within, rows_place}
 use Rattle.textarea_lines.specs.TextLayout.{TextAndLayout}
-use Rattle.textarea_lines.proofs.Stores.{lines_held}
+use Rattle.textarea_lines.proofs.Stores.{lines_stored}
 use Rattle.textarea_lines.proofs.text_layout.TextLayout.offset_of.Goals as goal
 use Rattle.textarea_lines.proofs.text_layout.TextLayout.offset_of.Goals.{After-as_str-line}
 
 -- the position is one of the stored lines
 there : (c : After-as_str-line) → IsPlaceOf (lines_of c.self.inside.lines.items) c.args.place
 there c =
-    rows_place c.self.inside.lines.items c.args.place c.self.invariant.held.stored.some (subst (λ (l : TextAndLayout). IsPlace l.text c.args.place) (sym c.self.view_is) c.requires)
+    rows_place c.self.inside.lines.items c.args.place c.self.invariant.contents.stored.some (subst (λ (l : TextAndLayout). IsPlace l.text c.args.place) (sym c.self.view_is) c.requires)
 
 column : (c : After-as_str-line) → c.args.place.1 ≤ length (chars c.as_str-line.result.now)
 column c =
@@ -22,11 +22,11 @@ column c =
 
 -- the stored lines are those of the text
 same : (c : After-as_str-line) → offset_at (lines_of c.self.inside.lines.items) c.args.place ≡ offset_at (lines c.args.self.now.text) c.args.place
-same c = grind (arith, common_steps, lines_held c.self.inside.lines.items c.self.invariant.held.stored.some)
+same c = grind (arith, common_steps, lines_stored c.self.inside.lines.items c.self.invariant.contents.stored.some)
 
 pub index-requires : goal.index-requires
 index-requires c =
-    let here = rows_place c.self.inside.lines.items c.args.place c.self.invariant.held.stored.some (subst (λ (l : TextAndLayout). IsPlace l.text c.args.place) (sym c.self.view_is) c.requires) in
+    let here = rows_place c.self.inside.lines.items c.args.place c.self.invariant.contents.stored.some (subst (λ (l : TextAndLayout). IsPlace l.text c.args.place) (sym c.self.view_is) c.requires) in
     omega (arith, row_within c.self.inside.lines.items c.args.place here, c.self.inside.lines.ok.0)
 
 pub byte_offset_from-requires-clause-known : goal.byte_offset_from-requires-clause-known

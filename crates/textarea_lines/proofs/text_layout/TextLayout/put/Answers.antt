@@ -8,7 +8,7 @@ use Rattle.textarea_lines.specs.declared.settings.LayoutSettings.{LayoutSettings
 use Rattle.textarea_lines.specs.TextLayout.{TextAndLayout, with_settings}
 use Rattle.textarea_lines.specs.Stored.{IsPlaceAtByte, IsNextWrap}
 use Rattle.textarea_lines.specs.View.{IsRewrappedIfOther}
-use Rattle.textarea_lines.proofs.Widths.{Holds, holds_cut, holds_kept_whole, holds_kept_wrapped}
+use Rattle.textarea_lines.proofs.Widths.{Holds, holds_wrap, holds_same_whole, holds_same_wrapped}
 use Rattle.textarea_lines.proofs.text_layout.TextLayout.put.Goals as goal
 use Rattle.textarea_lines.proofs.text_layout.TextLayout.put.Goals.{in-Some, in-None+else-not-is_wrapped, in-None+then-not-is_wrapped}
 
@@ -16,44 +16,44 @@ use Rattle.textarea_lines.proofs.text_layout.TextLayout.put.Goals.{in-Some, in-N
 record HoldsAll (inside : Inside) (settings : LayoutSettings) (text_layout : TextAndLayout) : Type 0 where
   pub rows : Holds settings inside.lines.items inside.size inside.count inside.map (with_settings text_layout settings)
   pub measured : IfSome inside.measured (λ last. IsRowCount last.wrapping (lines_of inside.lines.items) last.rows)
-  pub kept : IfSome inside.kept (IsNextWrap inside.count inside.lines.items)
+  pub cached : IfSome inside.cached (IsNextWrap inside.count inside.lines.items)
   pub place : IsPlaceAtByte inside.lines.items inside.found
 
-held : (c : goal.After-settings-1) → HoldsAll c.match-cut.self-inside c.args.settings c.args.self.now
-held c =
+contents : (c : goal.After-settings-1) → HoldsAll c.match-wraps.self-inside c.args.settings c.args.self.now
+contents c =
     let inside = c.self.inside in
     let items = inside.lines.items in
     let settings = c.args.settings in
     let text_layout = c.args.self.now in
-    let before : Holds inside.settings items inside.size inside.count inside.map text_layout = record { rows = c.self.invariant.held; is = c.self.view_is } in
-    elim c.match-cut.branch [
+    let before : Holds inside.settings items inside.size inside.count inside.map text_layout = record { rows = c.self.invariant.contents; is = c.self.view_is } in
+    elim c.match-wraps.branch [
       | in-Some w ↦
-          let cut = subst (λ (o : Option WrappedRows). IsRewrappedIfOther text_layout settings o) w.in-Some.is c.requires in
+          let wraps = subst (λ (o : Option WrappedRows). IsRewrappedIfOther text_layout settings o) w.in-Some.is c.requires in
           subst (λ (v : Inside). HoldsAll v settings text_layout) (sym w.self-inside-is)
           (record {
-            rows = holds_cut inside.settings settings items inside.size inside.count inside.map text_layout w.in-Some.cut before cut;
+            rows = holds_wrap inside.settings settings items inside.size inside.count inside.map text_layout w.in-Some.wraps before wraps;
             measured = c.self.invariant.measured;
-            kept = rw w.drop_measured.ensures tt;
+            cached = rw w.drop_measured.ensures tt;
             place = c.self.invariant.place;
           })
       | in-None+else-not-is_wrapped w ↦
           let stays = subst (λ (o : Option WrappedRows). IsRewrappedIfOther text_layout settings o) w.in-None.is c.requires in
           subst (λ (v : Inside). HoldsAll v settings text_layout) (sym w.self-inside-is)
-          (record { rows = holds_kept_wrapped inside.settings settings items inside.size inside.count inside.map text_layout before (sym w.is_wrapped.ensures ∙ w.if-not-is_wrapped.false) stays; measured = c.self.invariant.measured; kept = c.self.invariant.kept; place = c.self.invariant.place })
+          (record { rows = holds_same_wrapped inside.settings settings items inside.size inside.count inside.map text_layout before (sym w.is_wrapped.ensures ∙ w.if-not-is_wrapped.false) stays; measured = c.self.invariant.measured; cached = c.self.invariant.cached; place = c.self.invariant.place })
       | in-None+then-not-is_wrapped w ↦
           let stays = subst (λ (o : Option WrappedRows). IsRewrappedIfOther text_layout settings o) w.in-None.is c.requires in
           let set = w.set_tab_len.ensures in
           subst (λ (v : Inside). HoldsAll v settings text_layout) (sym w.self-inside-is)
           (record {
-            rows = holds_kept_whole inside.settings settings items inside.size inside.count inside.map w.set_tab_len.new.map text_layout before (sym w.is_wrapped.ensures ∙ w.if-not-is_wrapped.true) stays set.same set.wrapping (set.right (lines_of items) c.self.invariant.held.text_layout);
+            rows = holds_same_whole inside.settings settings items inside.size inside.count inside.map w.set_tab_len.new.map text_layout before (sym w.is_wrapped.ensures ∙ w.if-not-is_wrapped.true) stays set.same set.wrapping (set.right (lines_of items) c.self.invariant.contents.text_layout);
             measured = c.self.invariant.measured;
-            kept = c.self.invariant.kept;
+            cached = c.self.invariant.cached;
             place = c.self.invariant.place;
           })
     ]
 
 pub invariant_of-self : goal.invariant_of-self
-invariant_of-self c = record { held = (held c).rows.rows; measured = (held c).measured; kept = (held c).kept; place = (held c).place }
+invariant_of-self c = record { contents = (contents c).rows.rows; measured = (contents c).measured; cached = (contents c).cached; place = (contents c).place }
 
 pub returns : goal.returns
-returns c = (held c).rows.is
+returns c = (contents c).rows.is

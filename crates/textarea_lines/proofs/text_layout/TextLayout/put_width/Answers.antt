@@ -8,8 +8,8 @@ pub put-requires : goal.put-requires
 put-requires c =
     let inside = c.prepared.inside in
     let text_layout = c.args.self.now in
-    let ready : IsPrepared text_layout (record { inner_width = inside.inner_width; cut = inside.cut }) = subst (λ (p : PreparedView). IsPrepared text_layout p) (sym c.prepared.view_is) c.requires in
-    subst (λ (l : TextAndLayout). IsRewrappedIfOther text_layout (at_width l inside.inner_width) inside.cut) (sym c.put.view_is) ready.cut
+    let ready : IsPrepared text_layout (record { inner_width = inside.inner_width; wraps = inside.wraps }) = subst (λ (p : PreparedView). IsPrepared text_layout p) (sym c.prepared.view_is) c.requires in
+    subst (λ (l : TextAndLayout). IsRewrappedIfOther text_layout (at_width l inside.inner_width) inside.wraps) (sym c.put.view_is) ready.wraps
 
 pub returns : goal.returns
 returns c = grind (arith, common_steps)

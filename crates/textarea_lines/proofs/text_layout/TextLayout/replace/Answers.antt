@@ -1,25 +1,25 @@
 use Rattle.std.proofs.Common.{arith, List, ap, length, ◌∙◌}
 use Rattle.std.proofs.lemmas.Grind.{common_steps}
 use Rattle.textarea_util.specs.Replaced.{replaced}
-use Rattle.textarea_lines.proofs.Stores.{count_held}
-use Rattle.textarea_lines.proofs.Positions.{found_first}
+use Rattle.textarea_lines.proofs.Stores.{count_stored}
+use Rattle.textarea_lines.proofs.Positions.{located_first}
 use Rattle.textarea_lines.proofs.Changes.{Replacing, holds_replaced, layout_replaced, some_now}
 use Rattle.textarea_lines.proofs.text_layout.TextLayout.replace.Goals as goal
 use Rattle.textarea_lines.proofs.text_layout.TextLayout.replace.Goals.{After-replace}
 
 steps : (c : After-replace) → Replacing c.self.inside.lines.items c.replace_in.new.lines.items c.args.replacement.lines.items c.args.replacement.row c.args.replacement.count
 steps c = record {
-  some = c.self.invariant.held.stored.some;
+  some = c.self.invariant.contents.stored.some;
   now_is = c.replace_in.ensures ∙ ap (λ (t : List _). replaced t c.args.replacement.row c.args.replacement.count c.args.replacement.lines.items) c.in_ok-prepared.ensures.same_lines;
-  within = omega (arith, rw (← c.self.view_is) at c.requires.within, count_held c.self.inside.lines.items c.self.invariant.held.stored.some);
+  within = omega (arith, rw (← c.self.view_is) at c.requires.within, count_stored c.self.inside.lines.items c.self.invariant.contents.stored.some);
   new_some = omega (arith, c.requires.some, c.args.replacement.lines.ok.0);
 }
 
 pub prepare_rows_for-requires : goal.prepare_rows_for-requires
 prepare_rows_for-requires c = record {
-  rows = c.self.invariant.held.text_layout;
-  wrapping = c.self.invariant.held.wrapping_is;
-  within = omega (arith, rw (← c.self.view_is) at c.requires.within, count_held c.self.inside.lines.items c.self.invariant.held.stored.some);
+  rows = c.self.invariant.contents.text_layout;
+  wrapping = c.self.invariant.contents.wrapping_is;
+  within = omega (arith, rw (← c.self.view_is) at c.requires.within, count_stored c.self.inside.lines.items c.self.invariant.contents.stored.some);
   few = grind (arith, common_steps);
 }
 
@@ -33,10 +33,10 @@ pub invariant_of-self-2 : goal.invariant_of-self-2
 invariant_of-self-2 c =
     let known = steps (goal.at.invariant_of-self-2 c).After-replace in
     record {
-      held = holds_replaced _ _ _ _ _ _ _ _ _ known c.args.replacement.lines.ok.0 (c.replace.ensures.wrapping ∙ c.in_ok-prepared.ensures.ready.wrapping) (rw (c.replace.ensures.wrapping, c.replace.ensures.rows) c.in_ok-prepared.ensures.ready.rows) (rw (← c.self.view_is) at c.requires.size) c.requires.limit;
+      contents = holds_replaced _ _ _ _ _ _ _ _ _ known c.args.replacement.lines.ok.0 (c.replace.ensures.wrapping ∙ c.in_ok-prepared.ensures.ready.wrapping) (rw (c.replace.ensures.wrapping, c.replace.ensures.rows) c.in_ok-prepared.ensures.ready.rows) (rw (← c.self.view_is) at c.requires.size) c.requires.limit;
       measured = tt;
-      kept = rw c.drop_measured.ensures tt;
-      place = found_first c.replace_in.new.lines.items c.new-self-inside.result c.new-self-inside.ensures (some_now _ _ _ _ _ known);
+      cached = rw c.drop_measured.ensures tt;
+      place = located_first c.replace_in.new.lines.items c.new-self-inside.result c.new-self-inside.ensures (some_now _ _ _ _ _ known);
     }
 
 pub returns-clause-ok : goal.returns-clause-ok
@@ -46,4 +46,4 @@ returns-clause-ok c =
 
 pub replace_in-requires-clause-within : goal.replace_in-requires-clause-within
 replace_in-requires-clause-within c =
-    omega (arith, rw (← c.self.view_is) at c.requires.within, count_held c.self.inside.lines.items c.self.invariant.held.stored.some, c.prepare_rows_for.new.lines.ok.0, ap length c.in_ok-prepared.ensures.same_lines)
+    omega (arith, rw (← c.self.view_is) at c.requires.within, count_stored c.self.inside.lines.items c.self.invariant.contents.stored.some, c.prepare_rows_for.new.lines.ok.0, ap length c.in_ok-prepared.ensures.same_lines)

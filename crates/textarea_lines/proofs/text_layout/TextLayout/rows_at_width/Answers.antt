@@ -3,36 +3,36 @@ use Rattle.textarea_text.specs.Text.{lines, lines_of}
 use Rattle.textarea_screen_map.specs.Map.{IsRowCount}
 use Rattle.textarea_lines.specs.TextLayout.{TextAndLayout}
 use Rattle.textarea_lines.specs.Wrappings.{wrapping_for}
-use Rattle.textarea_lines.proofs.Measuring.{Measuring, counted_anew, counted_as_kept, counted_as_measured, counted_in_text, same_as_kept}
-use Rattle.textarea_lines.proofs.Stores.{lines_held}
+use Rattle.textarea_lines.proofs.Measuring.{Measuring, counted_from_scratch, counted_as_cached, counted_as_measured, counted_in_text, same_as_cached}
+use Rattle.textarea_lines.proofs.Stores.{lines_stored}
 use Rattle.textarea_lines.proofs.text_layout.TextLayout.rows_at_width.Goals as goal
 use Rattle.textarea_lines.proofs.text_layout.TextLayout.rows_at_width.Goals.{After-wrapping}
 
 steps : (c : After-wrapping) → Measuring c.self.inside.settings c.self.inside.lines.items c.as_slice-lines.result.now c.self.inside.size c.self.inside.count c.args.inner_width c.self.inside.map c.args.self.now c.wrapping_at-wrapping.result c.wrapping.result
 steps c = record {
-  held = c.self.invariant.held;
+  contents = c.self.invariant.contents;
   is = c.self.view_is;
-  lent_is = c.as_slice-lines.ensures.value;
+  borrowed_is = c.as_slice-lines.ensures.value;
   wrapping_is = c.wrapping_at-wrapping.ensures;
-  now_is = c.wrapping.ensures ∙ c.self.invariant.held.wrapping_is ∙ ap (λ t. wrapping_for c.self.inside.settings (length t)) (sym c.as_slice-lines.ensures.value);
+  now_is = c.wrapping.ensures ∙ c.self.invariant.contents.wrapping_is ∙ ap (λ t. wrapping_for c.self.inside.settings (length t)) (sym c.as_slice-lines.ensures.value);
 }
 
 pub invariant_of-self : goal.invariant_of-self
 invariant_of-self c =
     let items = c.self-2.inside.lines.items in
     let same : lines c.args.self.now.text ≡ lines_of items =
-    ap (λ (l : TextAndLayout). lines l.text) (sym (c.self-2.view_is ∙ c.count_rows_at.ensures.same)) ∙ lines_held items c.self-2.invariant.held.stored.some in
+    ap (λ (l : TextAndLayout). lines l.text) (sym (c.self-2.view_is ∙ c.count_rows_at.ensures.same)) ∙ lines_stored items c.self-2.invariant.contents.stored.some in
     record {
-      held = c.self-2.invariant.held;
+      contents = c.self-2.invariant.contents;
       measured = subst (λ (t : List (List ℕ)). IsRowCount c.wrapping_at-wrapping.result t c.in_ok-rows.rows) same c.in_ok-rows.ensures.rows;
-      kept = c.self-2.invariant.kept;
+      cached = c.self-2.invariant.cached;
       place = c.self-2.invariant.place;
     }
 
 pub returns-then-is_same-clause-rows : goal.returns-then-is_same-clause-rows
 returns-then-is_same-clause-rows c =
     let known = steps (goal.at.returns-then-is_same-clause-rows c).After-wrapping in
-    counted_in_text _ _ _ _ _ _ _ _ _ _ _ known (counted_as_kept _ _ _ _ _ _ _ _ _ _ _ known (sym c.is_same.ensures ∙ c.if-is_same.true) c.row_count.ensures)
+    counted_in_text _ _ _ _ _ _ _ _ _ _ _ known (counted_as_cached _ _ _ _ _ _ _ _ _ _ _ known (sym c.is_same.ensures ∙ c.if-is_same.true) c.row_count.ensures)
 
 pub returns-then-is_same-2-clause-rows : goal.returns-then-is_same-2-clause-rows
 returns-then-is_same-2-clause-rows c =
@@ -41,11 +41,11 @@ returns-then-is_same-2-clause-rows c =
 
 pub returns-in_err-rows-clause-no_memory : goal.returns-in_err-rows-clause-no_memory
 returns-in_err-rows-clause-no_memory c = λ yes.
-    let test = same_as_kept _ _ _ _ _ _ _ _ _ _ (steps (goal.at.returns-in_err-rows-clause-no_memory c).After-wrapping) in
+    let test = same_as_cached _ _ _ _ _ _ _ _ _ _ (steps (goal.at.returns-in_err-rows-clause-no_memory c).After-wrapping) in
     absurd (cc (test, yes, c.is_same.ensures, c.if-is_same.false))
 
 pub returns-clause-rows : goal.returns-clause-rows
-returns-clause-rows c = counted_anew _ _ _ _ _ _ _ _ _ _ _ (steps (goal.at.returns-clause-rows c).After-wrapping) c.in_ok-rows.ensures.rows
+returns-clause-rows c = counted_from_scratch _ _ _ _ _ _ _ _ _ _ _ (steps (goal.at.returns-clause-rows c).After-wrapping) c.in_ok-rows.ensures.rows
 
 pub returns-clause-same : goal.returns-clause-same
 returns-clause-same c = c.self-2.view_is ∙ c.count_rows_at.ensures.same

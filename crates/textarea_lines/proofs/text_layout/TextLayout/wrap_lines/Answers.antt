@@ -4,8 +4,8 @@ use Rattle.textarea_text.specs.Size.{size_of}
 use Rattle.textarea_text.specs.Text.{lines_of}
 use Rattle.textarea_screen_map.specs.LineRows.{AreRowsOf}
 use Rattle.textarea_lines.specs.Wrappings.{wrapping_for}
-use Rattle.textarea_lines.proofs.Changes.{laid_new}
-use Rattle.textarea_lines.proofs.Positions.{found_first}
+use Rattle.textarea_lines.proofs.Changes.{wrapped_new}
+use Rattle.textarea_lines.proofs.Positions.{located_first}
 use Rattle.textarea_lines.proofs.text_layout.TextLayout.wrap_lines.Goals as goal
 
 pub invariant_of-result : goal.invariant_of-result
@@ -15,16 +15,16 @@ invariant_of-result c =
     let some : 0 < length items = omega (arith, c.requires, c.args.lines.ok.0) in
     let size_is = c.in_ok-size.ensures.size ∙ ap size_of c.as_slice.ensures.value in
     record {
-      held = record {
+      contents = record {
         stored = record { some = some; size_is = size_is; limit = omega (arith, size_is, ap size_of c.as_slice-2.ensures.value, c.in_ok-map.ensures.limit) };
         wrapping_is = c.in_ok-map.ensures.wrapping ∙ c.wrapping_for-wrapping.ensures ∙ ap (wrapping_for c.args.settings) (c.len.ensures ∙ c.args.lines.ok.0);
         text_layout = subst (λ (t : List (String Global)). AreRowsOf map.wrapping (lines_of t) map.rows) c.as_slice-2.ensures.value c.in_ok-map.ensures.rows;
       };
       measured = tt;
-      kept = tt;
-      place = found_first items c.new-2.result c.new-2.ensures some;
+      cached = tt;
+      place = located_first items c.new-2.result c.new-2.ensures some;
     }
 
 pub returns : goal.returns
 returns c =
-    laid_new c.args.settings c.args.lines.items c.as_slice-2.result.now c.args.count c.new.new.counter c.in_ok-map.map.rows (omega (arith, c.requires, c.args.lines.ok.0)) c.as_slice-2.ensures.value c.in_ok-map.ensures.counted c.in_ok-map.ensures.ticks
+    wrapped_new c.args.settings c.args.lines.items c.as_slice-2.result.now c.args.count c.new.new.counter c.in_ok-map.map.rows (omega (arith, c.requires, c.args.lines.ok.0)) c.as_slice-2.ensures.value c.in_ok-map.ensures.counted c.in_ok-map.ensures.ticks

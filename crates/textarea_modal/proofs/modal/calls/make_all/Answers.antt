@@ -4,7 +4,7 @@ use Rattle.textarea_modal.specs.Calls.{key_call}
 use Rattle.textarea_modal.specs.declared.step.KeyCall.{KeyCall}
 use Rattle.textarea_modal.specs.declared.step.KeyCall.TheVariants.{Edit}
 use Rattle.textarea_calls.specs.declared.kind.Edit.TheVariants.{InsertTab}
-use Rattle.textarea_modal.proofs.Runs.{draws_nothing, made_more, on_err, refused_here}
+use Rattle.textarea_modal.proofs.Runs.{draws_nothing, made_more, on_err, ran_out_here}
 use Rattle.textarea_modal.proofs.modal.calls.make_all.Goals as goal
 
 -- the call at an index
@@ -24,7 +24,7 @@ returns-in_err-make-clause-err c =
     let index = c.loop-call.call-index in
     let here = c.loop-call-test.true in
     on_err c.from_residual.result
-    (refused_here c.args.area.now c.loop-call.area c.make.new.area (map key_call calls) index (key_call (at calls index)) (within calls index here) (is_call calls index here) c.loop-call.invariant c.in_err-make.ensures.err (draws_nothing (at calls index)))
+    (ran_out_here c.args.area.now c.loop-call.area c.make.new.area (map key_call calls) index (key_call (at calls index)) (within calls index here) (is_call calls index here) c.loop-call.invariant c.in_err-make.ensures.err (draws_nothing (at calls index)))
 
 pub loop-call-preserved : goal.loop-call-preserved
 loop-call-preserved c =

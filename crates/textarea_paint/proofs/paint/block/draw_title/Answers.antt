@@ -41,7 +41,7 @@ returns-in-Some-clause-inline c = λ short.
 pub returns-in-Some-clause-err : goal.returns-in-Some-clause-err
 returns-in-Some-clause-err c =
     on_err_weaker c.draw_left.result
-    (λ kept.
-    KeepsOutside-wider (contains c.args.area) kept
+    (λ unchanged.
+    KeepsOutside-wider (contains c.args.area) unchanged
     (λ x y outside. ap (λ cells. is_in_cells cells x y) (cells_are c) ∙ title_cells-within c.args.block.now.borders c.args.area x y c.requires.rows outside))
     c.draw_left.ensures.err

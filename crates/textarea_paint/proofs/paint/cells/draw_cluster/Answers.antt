@@ -13,10 +13,10 @@ returns-clause-drawn c = λ left column at.
     let pen = c.args.pen in
     let cluster : Cluster = styled_cluster c.args.cluster in
     let hidden = c.min-hidden.result in
-    let shown = c.min-shown.result in
-    let end = pen.x + shown in
+    let displayed = c.min-displayed.result in
+    let end = pen.x + displayed in
     Changes-as (λ x y cell. row_change cells left (placed_at column cluster ∷ []) x y cell) c.in_ok-draw_columns.ensures.drawn
     (λ x y cell.
-    ap (λ k. cond (is_between cells.y pen.x end x y) (with_symbol (symbol_of (eqb shown k) (eqb x pen.x) cluster.text) cluster.style cell) cell) c.cluster_columns-columns.ensures
-    ∙ row_change-one cells pen left column hidden shown cluster at
+    ap (λ k. cond (is_between cells.y pen.x end x y) (with_symbol (symbol_of (eqb displayed k) (eqb x pen.x) cluster.text) cluster.style cell) cell) c.cluster_columns-columns.ensures
+    ∙ row_change-one cells pen left column hidden displayed cluster at
     (record { left_of = omega arith; inside = omega arith }) x y cell)

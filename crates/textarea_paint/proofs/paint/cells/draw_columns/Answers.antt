@@ -17,7 +17,7 @@ loop-column-preserved c = record {
       (λ column row cell.
       between_more c.args.y c.args.x c.max-column.result c.loop-column.column c.args.is_whole c.args.cluster.text.now c.symbol_of-symbol.result.now c.args.cluster.style column row cell (omega arith)
       c.symbol_of-symbol.ensures.value);
-  behind = omega arith;
+  after = omega arith;
 }
 
 pub returns-clause-drawn : goal.returns-clause-drawn

@@ -8,5 +8,5 @@ abbrev pub invariant-loop-column : goal.invariant-loop-column
 invariant-loop-column l = record {
   drawn : Changes l.fn.buffer l.buffer
       (λ column row cell. cond (is_between l.y l.initial.column l.column column row) (with_symbol (symbol_of l.is_whole (eqb column l.x) l.cluster.text.now) l.cluster.style cell) cell);
-  behind : l.column ≤ max l.initial.column l.column-end;
+  after : l.column ≤ max l.initial.column l.column-end;
 }

@@ -6,8 +6,8 @@ use Rattle.textarea_screen.specs.Text.{line_view}
 use Rattle.textarea_screen.proofs.ChangeLemmas.{Changes-inside, Changes-none}
 use Rattle.textarea_paint.specs.Cells.{place_from}
 use Rattle.textarea_paint.specs.Clusters.{row_clusters}
-use Rattle.textarea_paint.specs.Row.{first_shown_column, placed_row, fitting, row_cell}
-use Rattle.textarea_paint.proofs.RowAreaLemmas.{first_shown-fitting, placed_row-fitting, row_start-within, unseen_row, row_cell-outside, row_of_texts, kept_outside, not_none}
+use Rattle.textarea_paint.specs.Row.{first_visible_column, placed_row, fitting, row_cell}
+use Rattle.textarea_paint.proofs.RowAreaLemmas.{first_visible-fitting, placed_row-fitting, row_start-within, unseen_row, row_cell-outside, row_of_texts, unchanged_outside, not_none}
 use Rattle.textarea_paint.proofs.paint.row.draw_row.Goals as goal
 
 pub returns-then-not-contains-clause-ok : goal.returns-then-not-contains-clause-ok
@@ -16,7 +16,7 @@ returns-then-not-contains-clause-ok c =
     Changes-inside (row_cell c.args.rows c.args.y line) (Changes-none c.args.buffer.now (λ column row cell. cell) (λ column row cell. refl))
     (λ column row cell inside.
     sym (row_cell-outside c.args.rows c.args.y line column row cell
-    (unseen_row c.args.rows.area c.area.result c.intersection-seen.result c.args.y c.intersection-seen.ensures (sym c.contains.ensures ∙ c.if-not-contains.true) column row
+    (unseen_row c.args.rows.area c.area.result c.intersection-visible.result c.args.y c.intersection-visible.ensures (sym c.contains.ensures ∙ c.if-not-contains.true) column row
     (ap (λ area. contains area column row) c.area.ensures ∙ inside))))
 
 pub returns-in-Left-clause-ok : goal.returns-in-Left-clause-ok
@@ -24,18 +24,18 @@ returns-in-Left-clause-ok c =
     let rows = c.args.rows in
     let line = line_view c.args.line.now in
     on_ok_weaker c.draw_left.result
-    (row_of_texts c.args.rows c.area.result c.intersection-seen.result c.args.y c.intersection-seen.ensures (sym c.contains.ensures ∙ c.if-not-contains.false) line
-    rows.left (place_from 0 (row_clusters rows.style line)) (ap (λ a. first_shown_column a rows.left) c.in-Left.is)
+    (row_of_texts c.args.rows c.area.result c.intersection-visible.result c.args.y c.intersection-visible.ensures (sym c.contains.ensures ∙ c.if-not-contains.false) line
+    rows.left (place_from 0 (row_clusters rows.style line)) (ap (λ a. first_visible_column a rows.left) c.in-Left.is)
     (ap (λ a. placed_row a rows.area.width (row_clusters rows.style line)) c.in-Left.is))
     c.draw_left.ensures.ok
 
 pub returns-in-Left-clause-err : goal.returns-in-Left-clause-err
 returns-in-Left-clause-err c =
-    grind (arith, common_steps, on_err_weaker c.draw_left.result (kept_outside c.args.rows c.area.result c.intersection-seen.result c.args.y c.intersection-seen.ensures (sym c.contains.ensures ∙ c.if-not-contains.false)) c.draw_left.ensures.err, kept_outside c.args.rows c.area.result c.intersection-seen.result c.args.y c.intersection-seen.ensures (sym c.contains.ensures ∙ c.if-not-contains.false))
+    grind (arith, common_steps, on_err_weaker c.draw_left.result (unchanged_outside c.args.rows c.area.result c.intersection-visible.result c.args.y c.intersection-visible.ensures (sym c.contains.ensures ∙ c.if-not-contains.false)) c.draw_left.ensures.err, unchanged_outside c.args.rows c.area.result c.intersection-visible.result c.args.y c.intersection-visible.ensures (sym c.contains.ensures ∙ c.if-not-contains.false))
 
 pub returns-in-Left-clause-unseen : goal.returns-in-Left-clause-unseen
 returns-in-Left-clause-unseen c none =
-    absurd (not_none c.args.rows c.area.result c.intersection-seen.result c.args.y c.intersection-seen.ensures (sym c.contains.ensures ∙ c.if-not-contains.false) c.args.buffer.now c.area.ensures none)
+    absurd (not_none c.args.rows c.area.result c.intersection-visible.result c.args.y c.intersection-visible.ensures (sym c.contains.ensures ∙ c.if-not-contains.false) c.args.buffer.now c.area.ensures none)
 
 pub draw_fitting-requires-clause-within : goal.draw_fitting-requires-clause-within
 draw_fitting-requires-clause-within c = grind (arith, common_steps, row_start-within)
@@ -46,15 +46,15 @@ returns-in_default-clause-ok c =
     let line = line_view c.args.line.now in
     let clusters = row_clusters rows.style line in
     on_ok_weaker c.draw_fitting.result
-    (row_of_texts c.args.rows c.area.result c.intersection-seen.result c.args.y c.intersection-seen.ensures (sym c.contains.ensures ∙ c.if-not-contains.false) line
-    0 (place_from c.row_start-start.result (fitting rows.area.width clusters)) (first_shown-fitting rows.alignment rows.left c.in_default.not-Left)
+    (row_of_texts c.args.rows c.area.result c.intersection-visible.result c.args.y c.intersection-visible.ensures (sym c.contains.ensures ∙ c.if-not-contains.false) line
+    0 (place_from c.row_start-start.result (fitting rows.area.width clusters)) (first_visible-fitting rows.alignment rows.left c.in_default.not-Left)
     (placed_row-fitting rows.alignment rows.area.width c.row_start-start.result clusters c.in_default.not-Left c.row_start-start.ensures))
     c.draw_fitting.ensures.ok
 
 pub returns-in_default-clause-err : goal.returns-in_default-clause-err
 returns-in_default-clause-err c =
-    grind (arith, common_steps, on_err_weaker c.draw_fitting.result (kept_outside c.args.rows c.area.result c.intersection-seen.result c.args.y c.intersection-seen.ensures (sym c.contains.ensures ∙ c.if-not-contains.false)) c.draw_fitting.ensures.err, kept_outside c.args.rows c.area.result c.intersection-seen.result c.args.y c.intersection-seen.ensures (sym c.contains.ensures ∙ c.if-not-contains.false))
+    grind (arith, common_steps, on_err_weaker c.draw_fitting.result (unchanged_outside c.args.rows c.area.result c.intersection-visible.result c.args.y c.intersection-visible.ensures (sym c.contains.ensures ∙ c.if-not-contains.false)) c.draw_fitting.ensures.err, unchanged_outside c.args.rows c.area.result c.intersection-visible.result c.args.y c.intersection-visible.ensures (sym c.contains.ensures ∙ c.if-not-contains.false))
 
 pub returns-in_default-clause-unseen : goal.returns-in_default-clause-unseen
 returns-in_default-clause-unseen c none =
-    absurd (not_none c.args.rows c.area.result c.intersection-seen.result c.args.y c.intersection-seen.ensures (sym c.contains.ensures ∙ c.if-not-contains.false) c.args.buffer.now c.area.ensures none)
+    absurd (not_none c.args.rows c.area.result c.intersection-visible.result c.args.y c.intersection-visible.ensures (sym c.contains.ensures ∙ c.if-not-contains.false) c.args.buffer.now c.area.ensures none)

@@ -15,9 +15,9 @@ pub loop-cluster-preserved-then-columns-from : goal.loop-cluster-preserved-then-
 loop-cluster-preserved-then-columns-from c =
     let columns = c.cluster_columns-columns in
     let row = row_clusters c.args.style (line_view c.args.line.now) in
-    let behind = clusters_left c.next.new.self in
-    subst (λ n. IsMeasuring c.args.width row (c.loop-cluster.room - n) behind) (sym columns.ensures)
-    (measuring_fits (styled_cluster c.in-Some.cluster) behind c.loop-cluster.invariant c.in-Some.ensures.steps (omega (arith, columns.ensures)) (omega (arith, columns.ensures)))
+    let after = clusters_left c.next.new.self in
+    subst (λ n. IsMeasuring c.args.width row (c.loop-cluster.room - n) after) (sym columns.ensures)
+    (measuring_fits (styled_cluster c.in-Some.cluster) after c.loop-cluster.invariant c.in-Some.ensures.steps (omega (arith, columns.ensures)) (omega (arith, columns.ensures)))
 
 pub loop-cluster-preserved : goal.loop-cluster-preserved
 loop-cluster-preserved c =

@@ -32,14 +32,14 @@ sums c =
     let few = ap (λ (v : MapView). row_total (replaced v.rows row count new)) c.self.view_is in
     let small = ap (λ (v : MapView). size_total (replaced v.rows row count new)) c.self.view_is in
     record {
-      gone_is = omega (arith, c.sums_of-old.ensures.rows, visual.part, c.self.invariant.all);
-      total_is = omega (arith, c.sums_of-old.ensures.rows, visual.part, visual.after, c.self.invariant.all, c.requires.total);
+      gone_is = omega (arith, c.sums_of-old.ensures.rows, visual.segment, c.self.invariant.all);
+      total_is = omega (arith, c.sums_of-old.ensures.rows, visual.segment, visual.after, c.self.invariant.all, c.requires.total);
       few = omega (arith, few, c.requires.limit.few);
-      gone_size_is = omega (arith, c.sums_of-old.ensures.size, sizes.part, c.self.invariant.size_is, c.self.invariant.limit.size);
-      size_is = omega (arith, c.sums_of-old.ensures.size, sizes.part, sizes.after, c.self.invariant.size_is, c.self.invariant.limit.size, c.requires.size);
+      gone_size_is = omega (arith, c.sums_of-old.ensures.size, sizes.segment, c.self.invariant.size_is, c.self.invariant.limit.size);
+      size_is = omega (arith, c.sums_of-old.ensures.size, sizes.segment, sizes.after, c.self.invariant.size_is, c.self.invariant.limit.size, c.requires.size);
       small = omega (arith, small, c.requires.limit.size);
-      lines = omega (arith, lines_few rows, lines_few new, sizes.part, sizes.after, c.self.invariant.limit.size, small, c.requires.limit.size);
-      visual = omega (arith, visual.part, visual.after, c.self.invariant.limit.few, few, c.requires.limit.few);
+      lines = omega (arith, lines_few rows, lines_few new, sizes.segment, sizes.after, c.self.invariant.limit.size, small, c.requires.limit.size);
+      visual = omega (arith, visual.segment, visual.after, c.self.invariant.limit.few, few, c.requires.limit.few);
     }
 
 pub put_rows-requires-clause-room : goal.put_rows-requires-clause-room

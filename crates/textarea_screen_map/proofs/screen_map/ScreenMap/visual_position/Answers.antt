@@ -9,14 +9,14 @@ use Rattle.textarea_wrap.specs.WrapResult.{IsWrapped}
 use Rattle.textarea_blocks.specs.Blocks.{all_rows}
 use Rattle.textarea_blocks.specs.Sums.{range_at, ranges_at, row_total}
 use Rattle.textarea_screen_map.specs.Map.{MapView}
-use Rattle.textarea_screen_map.proofs.Holding.{bytes_of_line, cut_of, first_begins, offset_within, range_is, rows_at, some_rows}
+use Rattle.textarea_screen_map.proofs.Holding.{bytes_of_line, wrapped_of, first_begins, offset_within, range_is, rows_at, some_rows}
 use Rattle.textarea_screen_map.proofs.Layouts.{length-AreRowsOf}
-use Rattle.textarea_screen_map.proofs.VisualRows.{rows_below, seen_in}
+use Rattle.textarea_screen_map.proofs.VisualRows.{rows_below, visual_in}
 use Rattle.textarea_screen_map.proofs.screen_map.ScreenMap.visual_position.Goals as goal
 use Rattle.textarea_screen_map.proofs.screen_map.ScreenMap.visual_position.Goals.{After-rows_of-ranges, After-display_column_after_text-column}
 
-cut : (c : After-rows_of-ranges) → IsWrapped c.args.self.now.wrapping.mode c.args.self.now.wrapping.tab_len (max c.args.self.now.wrapping.width 1) (encode_utf8_all (get_or (lines_of c.args.lines.now) c.args.place.0 [])) c.rows_of-ranges.result.now
-cut c = cut_of _ _ _ _ _ c.rows_of-ranges.ensures c.requires.rows c.requires.place.0
+wrapped : (c : After-rows_of-ranges) → IsWrapped c.args.self.now.wrapping.mode c.args.self.now.wrapping.tab_len (max c.args.self.now.wrapping.width 1) (encode_utf8_all (get_or (lines_of c.args.lines.now) c.args.place.0 [])) c.rows_of-ranges.result.now
+wrapped c = wrapped_of _ _ _ _ _ c.rows_of-ranges.ensures c.requires.rows c.requires.place.0
 
 within : (c : After-rows_of-ranges) → c.args.place.0 < length c.args.lines.now
 within c = omega (arith, c.requires.place.0, length-map c.args.lines.now characters_of)
@@ -41,13 +41,13 @@ rows_of-ranges-requires c =
 
 pub row_holding-row-requires : goal.row_holding-row-requires
 row_holding-row-requires c =
-    let is = cut (goal.at.row_holding-row-requires c).After-rows_of-ranges in
+    let is = wrapped (goal.at.row_holding-row-requires c).After-rows_of-ranges in
     record { some = some_rows _ _ _ _ _ is; first = omega (arith, first_begins _ _ _ _ _ is) }
 
 pub range-requires-clause-start_boundary : goal.range-requires-clause-start_boundary
 range-requires-clause-start_boundary c =
     let known = (goal.at.range-requires-clause-start_boundary c).After-rows_of-ranges in
-    λ _. rw (bytes known) (range_is _ _ _ _ _ c.row_holding-row.result (cut known) c.row_holding-row.ensures.within).start
+    λ _. rw (bytes known) (range_is _ _ _ _ _ c.row_holding-row.result (wrapped known) c.row_holding-row.ensures.within).start
 
 pub range-requires-clause-end_boundary : goal.range-requires-clause-end_boundary
 range-requires-clause-end_boundary c =
@@ -66,8 +66,8 @@ pub overflow_add-result : goal.overflow_add-result
 overflow_add-result c =
     let rows = (all_rows c.self.inside.blocks.blocks) in
     let within = there (goal.at.overflow_add-result c).After-display_column_after_text-column in
-    let held : c.row_holding-row.result < length (ranges_at rows c.args.place.0) = omega (arith, c.row_holding-row.ensures.within, ap length c.rows_of-ranges.ensures, ap (λ (v : MapView). length (ranges_at v.rows c.args.place.0)) c.self.view_is) in
-    omega (arith, c.first_row.ensures, ap (λ (v : MapView). row_total (take c.args.place.0 v.rows)) c.self.view_is, rows_below rows c.args.place.0 c.row_holding-row.result within held, c.self.invariant.all, c.self.invariant.limit.few)
+    let stored : c.row_holding-row.result < length (ranges_at rows c.args.place.0) = omega (arith, c.row_holding-row.ensures.within, ap length c.rows_of-ranges.ensures, ap (λ (v : MapView). length (ranges_at v.rows c.args.place.0)) c.self.view_is) in
+    omega (arith, c.first_row.ensures, ap (λ (v : MapView). row_total (take c.args.place.0 v.rows)) c.self.view_is, rows_below rows c.args.place.0 c.row_holding-row.result within stored, c.self.invariant.all, c.self.invariant.limit.few)
 
 pub returns : goal.returns
 returns c =
@@ -78,7 +78,7 @@ returns c =
     let same = offset_of_line c.index-lines-place.result _ c.args.place.1 offset c.as_str-line.ensures.value c.byte_offset-offset.ensures ∙ ap (λ (t : List ℕ). offset_in t c.args.place.1) (sym (line_at _ _ c.index-lines-place.result (within known) c.index-lines-place.is)) in
     let start = ap (λ (t : List (ℕ × ℕ)). (range_at t row).0) c.rows_of-ranges.ensures in
     let first = (range_at (ranges_at c.args.self.now.rows c.args.place.0) row).0 in
-    let found = seen_in c.args.self.now.wrapping (lines_of c.args.lines.now) c.args.self.now.rows c.args.place row offset _ _ c.range.result.now c.requires.rows c.requires.place
+    let found = visual_in c.args.self.now.wrapping (lines_of c.args.lines.now) c.args.self.now.rows c.args.place row offset _ _ c.range.result.now c.requires.rows c.requires.place
     (omega (arith, c.row_holding-row.ensures.within, ap length c.rows_of-ranges.ensures))
     (omega (arith, c.row_holding-row.ensures.from, start))
     (λ more. omega (arith, c.row_holding-row.ensures.next (omega (arith, more, ap length c.rows_of-ranges.ensures)), ap (λ (t : List (ℕ × ℕ)). (range_at t (row + 1)).0) c.rows_of-ranges.ensures))

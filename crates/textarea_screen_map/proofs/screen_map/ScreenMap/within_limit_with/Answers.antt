@@ -38,13 +38,13 @@ sums c =
     let total = ap (λ (v : MapView). row_total v.rows) c.self.view_is in
     let size = ap (λ (v : MapView). size_total v.rows) c.self.view_is in
     record {
-      gone_is = omega (arith, c.sums_of-old.ensures.rows, visual.part, gone, total, c.self.invariant.all);
+      gone_is = omega (arith, c.sums_of-old.ensures.rows, visual.segment, gone, total, c.self.invariant.all);
       few = omega (arith, c.self.invariant.all, c.self.invariant.limit.few);
       total_is = omega (arith, c.sums_of-old.ensures.rows, visual.after, gone, total, c.self.invariant.all);
       come_is = c.sums_of-total.ensures.rows;
-      gone_size_is = omega (arith, c.sums_of-old.ensures.size, sizes.part, gone_size, size, c.self.invariant.size_is);
+      gone_size_is = omega (arith, c.sums_of-old.ensures.size, sizes.segment, gone_size, size, c.self.invariant.size_is);
       small = omega (arith, c.self.invariant.size_is, c.self.invariant.limit.size);
-      size_is = omega (arith, c.sums_of-old.ensures.size, sizes.part, sizes.after, gone_size, size, c.self.invariant.size_is, c.self.invariant.limit.size);
+      size_is = omega (arith, c.sums_of-old.ensures.size, sizes.segment, sizes.after, gone_size, size, c.self.invariant.size_is, c.self.invariant.limit.size);
       come_size_is = c.sums_of-total.ensures.size;
     }
 

@@ -1,10 +1,10 @@
 use Rattle.std.proofs.Common.{arith}
 use Rattle.std.proofs.lemmas.Grind.{common_steps}
-use Rattle.textarea_search.proofs.FailureLemmas.{refused_of_built, carried_of_built, own_of_built}
+use Rattle.textarea_search.proofs.FailureLemmas.{failure_of_built, carried_of_built, own_of_built}
 use Rattle.textarea_search.proofs.pattern.Pattern.new.Goals as goal
 
-pub returns-clause-refused : goal.returns-clause-refused
-returns-clause-refused c = grind (arith, common_steps, refused_of_built)
+pub returns-clause-pattern_failure : goal.returns-clause-pattern_failure
+returns-clause-pattern_failure c = grind (arith, common_steps, failure_of_built)
 
 pub returns-clause-carried : goal.returns-clause-carried
 returns-clause-carried c = grind (arith, common_steps, carried_of_built)

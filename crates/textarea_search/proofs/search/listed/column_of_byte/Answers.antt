@@ -5,6 +5,6 @@ use Rattle.textarea_search.proofs.search.listed.column_of_byte.Goals as goal
 
 pub returns : goal.returns
 returns c =
-    let cut : c.range.result.now ≡ take c.args.byte c.args.line.now = grind arith in
-    rw (← cut)
+    let boundary : c.range.result.now ≡ take c.args.byte c.args.line.now = grind arith in
+    rw (← boundary)
     (count_from_yields_List _ _ c.count.ensures.ran (YieldsList-from_chars _ c.range.utf8 c.chars.ensures.rest))

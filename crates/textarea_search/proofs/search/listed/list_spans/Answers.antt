@@ -4,10 +4,10 @@ use Rattle.textarea_search.proofs.search.listed.list_spans.Goals as goal
 
 -- the stored spans and the ones that are left make up the whole list, also after the first of those
 -- left is appended to the stored ones
-moved : (held now left behind all : List (ℕ × ℕ)) (a b start end : ℕ) → now ≡ held ++ (a, b) ∷ [] → a ≡ start → b ≡ end → left ≡ (start, end) ∷ behind → held ++ left ≡ all →
-    now ++ behind ≡ all
-moved held now left behind all a b start end pushed at_start at_end taken before =
-    ap (λ l. l ++ behind) pushed ∙ append_assoc held ((a, b) ∷ []) behind ∙ ap₂ (λ s e. held ++ (s, e) ∷ behind) at_start at_end ∙ sym (ap (λ l. held ++ l) taken) ∙ before
+moved : (stored now left after all : List (ℕ × ℕ)) (a b start end : ℕ) → now ≡ stored ++ (a, b) ∷ [] → a ≡ start → b ≡ end → left ≡ (start, end) ∷ after → stored ++ left ≡ all →
+    now ++ after ≡ all
+moved stored now left after all a b start end pushed at_start at_end taken before =
+    ap (λ l. l ++ after) pushed ∙ append_assoc stored ((a, b) ∷ []) after ∙ ap₂ (λ s e. stored ++ (s, e) ∷ after) at_start at_end ∙ sym (ap (λ l. stored ++ l) taken) ∙ before
 
 pub loop-found-init : goal.loop-found-init
 loop-found-init c = (refl, omega arith, search rules)

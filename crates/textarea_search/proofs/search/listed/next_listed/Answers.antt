@@ -2,7 +2,7 @@ use Rattle.std.proofs.lemmas.Grind.{common_steps}
 use Rattle.std.proofs.Common.{◌≡◌, ◌-◌, None, Some, option_map, sym, ap, ◌∙◌, arith, rules}
 use Rattle.regex.specs.Patterns.{span, find_str}
 use Rattle.regex.specs.Strings.{matcher_pattern, match_span}
-use Rattle.textarea_search.proofs.ListedLemmas.{next_same_span, next_later_span, first_of_rest, starts_behind, forth_of_start}
+use Rattle.textarea_search.proofs.ListedLemmas.{next_same_span, next_later_span, first_of_rest, starts_after, forth_of_start}
 use Rattle.textarea_search.proofs.search.listed.next_listed.Goals as goal
 
 pub returns-in_err-found-clause-found : goal.returns-in_err-found-clause-found
@@ -28,7 +28,7 @@ returns-then-end-after-clause-found c =
 
 pub returns-then-end-after-clause-forth : goal.returns-then-end-after-clause-forth
 returns-then-end-after-clause-forth c =
-    grind (arith, common_steps, forth_of_start c.args.after c.find_at-then-end-after.result (starts_behind _ c.args.line.now c.args.after c.find_at-then-end-after.result c.find_at-then-end-after.ensures.found), starts_behind _ c.args.line.now c.args.after c.find_at-then-end-after.result c.find_at-then-end-after.ensures.found)
+    grind (arith, common_steps, forth_of_start c.args.after c.find_at-then-end-after.result (starts_after _ c.args.line.now c.args.after c.find_at-then-end-after.result c.find_at-then-end-after.ensures.found), starts_after _ c.args.line.now c.args.after c.find_at-then-end-after.result c.find_at-then-end-after.ensures.found)
 
 pub returns-clause-found : goal.returns-clause-found
 returns-clause-found c =
@@ -40,4 +40,4 @@ returns-clause-found c =
 
 pub returns-clause-forth : goal.returns-clause-forth
 returns-clause-forth c =
-    grind (arith, common_steps, starts_behind _ c.args.line.now c.saturating_sub.result (Some c.in_ok-found.found) c.in_ok-found.ensures.found)
+    grind (arith, common_steps, starts_after _ c.args.line.now c.saturating_sub.result (Some c.in_ok-found.found) c.in_ok-found.ensures.found)

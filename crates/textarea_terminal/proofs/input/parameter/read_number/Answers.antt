@@ -1,5 +1,5 @@
 use Rattle.std.proofs.Common.{sym, ◌∙◌}
-use Rattle.textarea_terminal.proofs.InputParts.{number_from-loop, number_from-end}
+use Rattle.textarea_terminal.proofs.InputPrefixes.{number_from-loop, number_from-end}
 use Rattle.textarea_terminal.proofs.input.parameter.read_number.Goals as goal
 
 pub loop-digit-preserved : goal.loop-digit-preserved

@@ -1,7 +1,7 @@
 use Rattle.std.proofs.Common.{◌≡◌, ◌-◌, true, false, get_or, drop, sym, ap, ◌∙◌, arith}
 use Rattle.std.proofs.lemmas.List.{at_drop_all}
 use Rattle.textarea_terminal.specs.InputSequence.{is_inner, count_front, inner_limit}
-use Rattle.textarea_terminal.proofs.InputParts.{count_front-more, count_front-end, count_front-nil, count_front-zero}
+use Rattle.textarea_terminal.proofs.InputPrefixes.{count_front-more, count_front-end, count_front-nil, count_front-zero}
 use Rattle.textarea_terminal.proofs.input.sequence.inner_len.Goals as goal
 
 pub loop-byte-preserved : goal.loop-byte-preserved

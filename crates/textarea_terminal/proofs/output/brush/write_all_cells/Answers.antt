@@ -29,7 +29,7 @@ loop-place-preserved c =
     let olds = replicate count fresh_cell in
     let os = replicate (count - (c.loop-place.place + 1)) fresh_cell in
     let old_at = Split-replicate count c.loop-place.place fresh_cell (omega arith) in
-    let step = rw c.loop-place.invariant.1 at (c.in_ok-write_change.ensures fresh_cell c.is_fresh-is_shown.ensures) in (
+    let step = rw c.loop-place.invariant.1 at (c.in_ok-write_change.ensures fresh_cell c.is_fresh-is_printed.ensures) in (
       Wrote-then (Reaches c.args.start c.write_change.new.brush c.args.columns (c.loop-place.place + 1) olds (map cell_view c.args.new.now))
           c.loop-place.invariant.0 step
           (λ xs ys reaches change.

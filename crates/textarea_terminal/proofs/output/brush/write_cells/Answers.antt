@@ -27,7 +27,7 @@ loop-place-preserved c =
     let old = cell_view c.index-old-place.result in
     let os = map cell_view (drop (c.loop-place.place + 1) c.args.old.now) in
     let old_at = Split-at c.args.old.now c.loop-place.place c.index-old-place.result c.index-old-place.is (omega (arith, c.requires.length)) in
-    let step = rw c.loop-place.invariant.1 at (c.in_ok-write_change.ensures old c.is_alike-is_shown.ensures) in (
+    let step = rw c.loop-place.invariant.1 at (c.in_ok-write_change.ensures old c.is_alike-is_printed.ensures) in (
       Wrote-then (Reaches c.args.start c.write_change.new.brush c.args.columns (c.loop-place.place + 1) olds (map cell_view c.args.new.now))
           c.loop-place.invariant.0 step
           (λ xs ys reaches change.

@@ -9,7 +9,7 @@ returns-in_ok-extend_from_slice c = record {
   bytes = c.in_ok-extend_from_slice.ensures.items;
   with_ranges = (
     refl,
-    λ terminal known. ap (λ (b : Bool). record terminal { has_cursor_shown = b }) (sym c.if-wanted.true),
+    λ terminal known. ap (λ (b : Bool). record terminal { has_visible_cursor = b }) (sym c.if-wanted.true),
     λ there. absurd (not-known c.args.known c.args.wanted c.eq.result c.eq.ensures c.if-eq.false there),
     refl,
     refl,
@@ -22,7 +22,7 @@ returns-in_ok-extend_from_slice-2 c = record {
   bytes = c.in_ok-extend_from_slice-2.ensures.items;
   with_ranges = (
     refl,
-    λ terminal known. ap (λ (b : Bool). record terminal { has_cursor_shown = b }) (sym c.if-wanted.false),
+    λ terminal known. ap (λ (b : Bool). record terminal { has_visible_cursor = b }) (sym c.if-wanted.false),
     λ there. absurd (not-known c.args.known c.args.wanted c.eq.result c.eq.ensures c.if-eq.false there),
     refl,
     refl,

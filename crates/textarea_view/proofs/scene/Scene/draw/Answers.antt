@@ -18,5 +18,5 @@ returns-clause-ok c =
     on_ok_weaker c.draw_rows.result
     (λ drawn.
     let d = subst (λ (s : SceneState). DrawnTo s c.args.top rows old c.draw_rows.new.buffer count) c.new-frame.ensures drawn in
-    (d.lines, record { all = d.many ∙ all; shown = d.shown }, d.change))
+    (d.lines, record { all = d.many ∙ all; displayed = d.displayed }, d.change))
     c.draw_rows.ensures.ok

@@ -1,18 +1,18 @@
 use Rattle.std.proofs.Common.{◌∷◌, List, length, get_or, map, ap, ◌∙◌, arith}
 use Rattle.std.proofs.lemmas.List.{take_all}
 use Rattle.textarea_view.specs.Prelude.{LineView, SpanView, content_view, span_view, Style, Span, blank, borrowed_span}
-use Rattle.textarea_view.proofs.Placeholder.{lent_from, lent_more}
+use Rattle.textarea_view.proofs.Placeholder.{borrowed_from, borrowed_more}
 use Rattle.textarea_view.proofs.scene.placeholder.after_blank.Goals as goal
 
 pub loop-span-preserved : goal.loop-span-preserved
 loop-span-preserved c =
     let i = c.loop-span.span-index in
     let item = c.span-item.result in
-    let lent = c.styled-in-loop-span.result in
+    let borrowed = c.styled-in-loop-span.result in
     let all = c.deref-span-items.ensures.value in
     let styled = c.styled-in-loop-span.ensures in
-    let same = lent_from item lent c.as_str.result.now (ap (λ (span : Span). content_view span.content) styled) (ap (λ (span : Span). span.style) styled) c.as_str.ensures in
-    lent_more c.args.line.now.spans.items c.loop-span.spans.items c.push-in-loop-span.new.self.items i item lent c.args.style (omega (arith, ap length all)) c.loop-span.invariant
+    let same = borrowed_from item borrowed c.as_str.result.now (ap (λ (span : Span). content_view span.content) styled) (ap (λ (span : Span). span.style) styled) c.as_str.ensures in
+    borrowed_more c.args.line.now.spans.items c.loop-span.spans.items c.push-in-loop-span.new.self.items i item borrowed c.args.style (omega (arith, ap length all)) c.loop-span.invariant
     (c.span-item.is ∙ ap (λ items. get_or items i item) all) same c.in_ok-push-2.ensures.items
 
 -- a line of these spans

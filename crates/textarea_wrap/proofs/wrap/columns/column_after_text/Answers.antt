@@ -3,7 +3,7 @@ use Rattle.std.proofs.Common.{◌∙◌, arith}
 use Rattle.std.proofs.lemmas.List.{nil_from_length}
 use Rattle.std.proofs.lemmas.Str.{chars-nil, chars_past_char, IsUtf8-past_char}
 use Rattle.std.specs.Str.Iter.{chars_rest}
-use Rattle.textarea_wrap.proofs.ColumnLemmas.{shorter_behind}
+use Rattle.textarea_wrap.proofs.ColumnLemmas.{shorter_after}
 use Rattle.textarea_wrap.proofs.wrap.columns.column_after_text.Goals as goal
 
 pub loop-c-preserved : goal.loop-c-preserved
@@ -15,7 +15,7 @@ loop-c-preserved c =
     record {
       text = IsUtf8-past_char _ _ c.in-Some.c was.text step;
       left = rw made.value (rw read at was.left);
-      fits = omega (arith, was.fits, made.near, shorter_behind _ _ _ step);
+      fits = omega (arith, was.fits, made.near, shorter_after _ _ _ step);
       after = omega (arith, was.after, made.after);
     }
 

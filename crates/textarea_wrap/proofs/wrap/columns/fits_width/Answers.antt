@@ -6,7 +6,7 @@ use Rattle.std.proofs.lemmas.Str.{chars-nil, chars_past_char, IsUtf8-past_char}
 use Rattle.std.specs.Str.{chars}
 use Rattle.std.specs.Str.Iter.{chars_rest}
 use Rattle.textarea_wrap.specs.Columns.{end_column}
-use Rattle.textarea_wrap.proofs.ColumnLemmas.{end_column-after, shorter_behind}
+use Rattle.textarea_wrap.proofs.ColumnLemmas.{end_column-after, shorter_after}
 use Rattle.textarea_wrap.proofs.wrap.columns.fits_width.Goals as goal
 
 pub returns-then-width-column : goal.returns-then-width-column
@@ -29,8 +29,8 @@ loop-c-preserved c =
     record {
       text = IsUtf8-past_char _ _ c.in-Some.c was.text step;
       left = rw made.value (rw read at was.left);
-      fits = omega (arith, was.fits, made.near, shorter_behind _ _ _ step);
-      within = let kept = c.if-width-column.false in omega arith;
+      fits = omega (arith, was.fits, made.near, shorter_after _ _ _ step);
+      within = let retained = c.if-width-column.false in omega arith;
     }
 
 pub returns : goal.returns

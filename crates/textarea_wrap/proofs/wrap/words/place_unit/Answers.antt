@@ -5,7 +5,7 @@ use Rattle.textarea_wrap.specs.WrapRules.{HangsOver, Stretch}
 use Rattle.textarea_wrap.specs.WordWalk.{IsWordWalk}
 use Rattle.textarea_wrap.proofs.WordLemmas.{IsWordWalk-join, IsWordWalk-close, IsWordWalk-empty, IsWordWalk-split}
 use Rattle.textarea_wrap.proofs.wrap.words.place_unit.Goals as goal
-use Rattle.textarea_wrap.proofs.wrap.words.place_unit.Goals.{After-column_after_text-alone, then-joined-width-via-then-joined-width, then-joined-width-via-else-joined-width+then-hangs_over, then-is_open, else-is_open, then-is_open-2+in_ok-push, else-is_open-2}
+use Rattle.textarea_wrap.proofs.wrap.words.place_unit.Goals.{After-column_after_text-single, then-joined-width-via-then-joined-width, then-joined-width-via-else-joined-width+then-hangs_over, then-is_open, else-is_open, then-is_open-2+in_ok-push, else-is_open-2}
 
 pub returns-then-joined-width-clause-placed : goal.returns-then-joined-width-clause-placed
 returns-then-joined-width-clause-placed c = λ units before walk.
@@ -25,11 +25,11 @@ returns-then-joined-width-clause-placed c = λ units before walk.
     IsWordWalk-join _ _ units before _ _ left _ _ _ _ walk joined.ensures.value room
 
 -- after the open row, if there is one, the unit is before an empty row
-empty : (c : After-column_after_text-alone) (units : Stretch) (before : List (ℕ × ℕ)) → IsWordWalk c.args.tab_len c.args.width units before c.args.rows.now.items (c.args.unit.now ∷ map (λ (unit : Bor (List ℕ)). unit.now) c.args.later.now) c.args.row.start c.args.row.end c.args.row.column
+empty : (c : After-column_after_text-single) (units : Stretch) (before : List (ℕ × ℕ)) → IsWordWalk c.args.tab_len c.args.width units before c.args.rows.now.items (c.args.unit.now ∷ map (λ (unit : Bor (List ℕ)). unit.now) c.args.later.now) c.args.row.start c.args.row.end c.args.row.column
     → IsWordWalk c.args.tab_len c.args.width units before c.if-is_open-2.rows.items (c.args.unit.now ∷ map (λ (unit : Bor (List ℕ)). unit.now) c.args.later.now) c.args.row.end c.args.row.end 0
 empty c units before walk =
     let left = map (λ (unit : Bor (List ℕ)). unit.now) c.args.later.now in
-    let stands : c.args.row.start < c.args.row.end → HangsOver c.args.width c.column_after_text-joined.result c.args.unit.now left → ⊥ = λ started h.
+    let occurs : c.args.row.start < c.args.row.end → HangsOver c.args.width c.column_after_text-joined.result c.args.unit.now left → ⊥ = λ started h.
     elim c.if-is_open.branch [
       | then-is_open v ↦ false≢true (sym c.if-hangs_over.false ∙ v.value-is ∙ v.hangs_over.ensures.1 h)
       | else-is_open v ↦ let closed = v.if-is_open.false in absurd (omega arith)
@@ -37,18 +37,18 @@ empty c units before walk =
     elim c.if-is_open-2.branch [
       | then-is_open-2+in_ok-push v ↦
           rw (v.rows-is, v.in_ok-push.ensures.ok)
-          (IsWordWalk-close _ _ units before _ _ left _ _ _ _ walk c.column_after_text-joined.ensures.value v.if-is_open-2.true c.if-joined-width.false (stands v.if-is_open-2.true))
+          (IsWordWalk-close _ _ units before _ _ left _ _ _ _ walk c.column_after_text-joined.ensures.value v.if-is_open-2.true c.if-joined-width.false (occurs v.if-is_open-2.true))
       | else-is_open-2 v ↦ rw v.rows-is (IsWordWalk-empty _ _ units before _ _ left _ _ _ walk v.if-is_open-2.false)
     ]
 
-pub returns-then-alone-width-clause-placed : goal.returns-then-alone-width-clause-placed
-returns-then-alone-width-clause-placed c = λ units before walk.
-    let nothing = empty (goal.at.returns-then-alone-width-clause-placed c).After-column_after_text-alone units before walk in
-    IsWordWalk-join _ _ units before _ _ _ _ _ _ _ nothing c.column_after_text-alone.ensures.value (inl c.if-alone-width.true)
+pub returns-then-single-width-clause-placed : goal.returns-then-single-width-clause-placed
+returns-then-single-width-clause-placed c = λ units before walk.
+    let nothing = empty (goal.at.returns-then-single-width-clause-placed c).After-column_after_text-single units before walk in
+    IsWordWalk-join _ _ units before _ _ _ _ _ _ _ nothing c.column_after_text-single.ensures.value (inl c.if-single-width.true)
 
 pub returns-clause-placed : goal.returns-clause-placed
 returns-clause-placed c = λ units before walk.
-    let nothing = empty (goal.at.returns-clause-placed c).After-column_after_text-alone units before walk in
-    let cut = c.in_ok-push_glyph_rows.ensures in
-    let over = rw c.column_after_text-alone.ensures.value at c.if-alone-width.false in
-    rw cut.3 (IsWordWalk-split _ _ units before _ _ _ _ _ _ nothing cut.0 (le_refl c.args.row.end) over cut.1 cut.2)
+    let nothing = empty (goal.at.returns-clause-placed c).After-column_after_text-single units before walk in
+    let wrapped = c.in_ok-push_glyph_rows.ensures in
+    let over = rw c.column_after_text-single.ensures.value at c.if-single-width.false in
+    rw wrapped.3 (IsWordWalk-split _ _ units before _ _ _ _ _ _ nothing wrapped.0 (le_refl c.args.row.end) over wrapped.1 wrapped.2)

@@ -10,6 +10,6 @@ returns c =
       lines = c.count_never_falls.ensures.lines;
     } in
     record {
-      made = λ old new call answer sound h. call_grows never old new call (c.each_call_wraps.ensures.made old new call answer sound h);
-      refused = λ old new call sound h. left_grows never old new (c.each_call_wraps.ensures.refused old new call sound h);
+      made = λ old new call returned sound h. call_grows never old new call (c.each_call_wraps.ensures.made old new call returned sound h);
+      out_of_memory = λ old new call sound h. left_grows never old new (c.each_call_wraps.ensures.out_of_memory old new call sound h);
     }

@@ -4,7 +4,7 @@ use Rattle.textarea_text.specs.Place.{Place}
 use Rattle.textarea_search.specs.Starts.{found_start}
 use Rattle.tui_textarea.specs.State.{State}
 use Rattle.tui_textarea.specs.Search.{found_match}
-use Rattle.tui_textarea.proofs.Searches.{found_in_text, search_is}
+use Rattle.tui_textarea.proofs.Searches.{target_in_text, search_is}
 use Rattle.tui_textarea.proofs.textarea.TextArea.found_match.Goals as goal
 
 pub returns-clause-found : goal.returns-clause-found
@@ -16,6 +16,6 @@ returns-clause-found c =
 
 pub returns-clause-place : goal.returns-clause-place
 returns-clause-place c =
-    found_in_text c.find.result (found_match c.args.direction c.args.self.now c.args.match_cursor) c.lines.result.now c.args.self.now.document.text
+    target_in_text c.find.result (found_match c.args.direction c.args.self.now c.args.match_cursor) c.lines.result.now c.args.self.now.document.text
     (subst (λ (s : State). lines_of c.lines.result.now ≡ lines s.document.text) c.self.view_is c.lines.ensures.lines)
     (returns-clause-found c) c.find.ensures.within

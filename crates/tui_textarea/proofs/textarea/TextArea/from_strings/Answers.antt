@@ -6,5 +6,5 @@ use Rattle.tui_textarea.proofs.textarea.TextArea.from_strings.Goals as goal
 
 pub returns : goal.returns
 returns c c' =
-    let given = c'.in_ok-all.ensures in
-    IfOk-weaker c'.new.result _ _ (λ area is. (given.0, given.1, is ∙ ap (λ strings. new_state (text_of strings)) given.2)) c'.new.ensures
+    let ranges_set = c'.in_ok-all.ensures in
+    IfOk-weaker c'.new.result _ _ (λ area is. (ranges_set.0, ranges_set.1, is ∙ ap (λ strings. new_state (text_of strings)) ranges_set.2)) c'.new.ensures

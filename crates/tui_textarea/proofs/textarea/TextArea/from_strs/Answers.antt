@@ -5,5 +5,5 @@ use Rattle.tui_textarea.proofs.textarea.TextArea.from_strs.Goals as goal
 
 pub returns : goal.returns
 returns c c' =
-    let given = c'.in_ok-all.ensures in
-    IfOk-weaker c'.new.result _ _ (λ area is. (given.0, given.1, is ∙ ap new_state given.2)) c'.new.ensures
+    let ranges_set = c'.in_ok-all.ensures in
+    IfOk-weaker c'.new.result _ _ (λ area is. (ranges_set.0, ranges_set.1, is ∙ ap new_state ranges_set.2)) c'.new.ensures

@@ -4,15 +4,15 @@ use Rattle.textarea_document.specs.DocumentState.{DocumentState}
 use Rattle.tui_textarea.specs.Rendered as below
 use Rattle.tui_textarea.specs.DrawingState.{DrawingState}
 use Rattle.textarea_screen.specs.declared.screen.rect.Rect.{Rect}
-use Rattle.tui_textarea.specs.Drawing.{IsRendered, drawing_parts}
+use Rattle.tui_textarea.specs.Drawing.{IsRendered, widget_of}
 use Rattle.tui_textarea.specs.State.{State}
 use Rattle.tui_textarea.proofs.textarea.TextArea.render.Goals as goal
 
 rendered : {T E : Type 0} (r : Result T E) {view old : State} → view ≡ old → (area : Rect) (document : DocumentState) (drawing : DrawingState)
-    → OnOk r (below.ArePartsRendered (drawing_parts view) area (drawing_parts (record view { document = document; drawing = drawing })))
+    → OnOk r (below.IsWidgetRendered (widget_of view) area (widget_of (record view { document = document; drawing = drawing })))
     → OnOk r (IsRendered old area (record view { document = document; drawing = drawing }))
 rendered (Ok x) {view} is area document drawing h = record {
-  parts = subst (λ (s : State). below.ArePartsRendered (drawing_parts s) area (drawing_parts (record view { document = document; drawing = drawing }))) is h;
+  widget = subst (λ (s : State). below.IsWidgetRendered (widget_of s) area (widget_of (record view { document = document; drawing = drawing }))) is h;
   rest = ap (λ (s : State). record s { document = document; drawing = drawing }) is;
 }
 rendered (Err e) is area document drawing h = h
@@ -32,8 +32,8 @@ returns-clause-cells c = c.render.ensures.cells
 pub returns-clause-back : goal.returns-clause-back
 returns-clause-back c = c.render.ensures.back
 
-pub returns-clause-shown : goal.returns-clause-shown
-returns-clause-shown c = c.render.ensures.shown
+pub returns-clause-displayed : goal.returns-clause-displayed
+returns-clause-displayed c = c.render.ensures.displayed
 
 pub returns-clause-err : goal.returns-clause-err
 returns-clause-err c = left c.render.result c.self.view_is c.render.new.document c.render.new.self c.render.ensures.err

@@ -24,4 +24,4 @@ returns-in-Down-clause-target c =
 
 pub returns-in-InViewport-clause-target : goal.returns-in-InViewport-clause-target
 returns-in-InViewport-clause-target c =
-    subst (λ (s : State). IsTarget s c.args.cursor_move (Some c.nearest_shown_place.result)) c.self.view_is (inside_target _ c.args.cursor_move c.nearest_shown_place.result c.in-InViewport.is c.nearest_shown_place.ensures.inside)
+    subst (λ (s : State). IsTarget s c.args.cursor_move (Some c.nearest_visible_place.result)) c.self.view_is (inside_target _ c.args.cursor_move c.nearest_visible_place.result c.in-InViewport.is c.nearest_visible_place.ensures.inside)

@@ -1,7 +1,7 @@
 use Rattle.std.proofs.lemmas.Grind.{common_steps}
 use Rattle.std.proofs.Common.{◌≡◌, ◌<◌, ◌∙◌, arith, get_or, length}
 use Rattle.textarea_blocks.proofs.InBlocks.{item_is}
-use Rattle.textarea_blocks.proofs.Shifting.{length-turned, turned_above, turned_behind}
+use Rattle.textarea_blocks.proofs.Shifting.{length-turned, turned_above, shifted_after}
 use Rattle.textarea_blocks.proofs.blocks.numbers.Numbers.at.Goals as goal
 use Rattle.textarea_blocks.proofs.blocks.numbers.Numbers.at.Goals.{After-index-item}
 
@@ -28,4 +28,4 @@ overflow_sub-result c =
     omega (arith, item known, c.self.invariant.enough c.args.block (omega (arith, c.if-block-self.false)) (there known))
 
 pub returns : goal.returns
-returns c = grind (arith, common_steps, item, turned_behind, there)
+returns c = grind (arith, common_steps, item, shifted_after, there)

@@ -36,14 +36,14 @@ exchange_numbers-requires-clause-room c =
     )
 
 pub exchange_numbers-requires-clause-enough : goal.exchange_numbers-requires-clause-enough
-exchange_numbers-requires-clause-enough c = λ k behind there.
+exchange_numbers-requires-clause-enough c = λ k after there.
     let same = old (goal.at.exchange_numbers-requires-clause-enough c).After-move_numbers-2 in
-    omega (arith, c.requires.enough k behind (omega (arith, there, ap length same, c.move_numbers-2.new.numbers.ok.0)), ap (λ (t : List ℕ). get_or t k 0) same)
+    omega (arith, c.requires.enough k after (omega (arith, there, ap length same, c.move_numbers-2.new.numbers.ok.0)), ap (λ (t : List ℕ). get_or t k 0) same)
 
 pub exchange_numbers-requires-clause-small : goal.exchange_numbers-requires-clause-small
-exchange_numbers-requires-clause-small c = λ k behind there.
+exchange_numbers-requires-clause-small c = λ k after there.
     let same = old (goal.at.exchange_numbers-requires-clause-small c).After-move_numbers-2 in
-    omega (arith, c.requires.small k behind (omega (arith, there, ap length same, c.move_numbers-2.new.numbers.ok.0)), ap (λ (t : List ℕ). get_or t k 0) same)
+    omega (arith, c.requires.small k after (omega (arith, there, ap length same, c.move_numbers-2.new.numbers.ok.0)), ap (λ (t : List ℕ). get_or t k 0) same)
 
 pub exchange_numbers-requires-clause-small_new : goal.exchange_numbers-requires-clause-small_new
 exchange_numbers-requires-clause-small_new c = λ k there.
@@ -57,12 +57,12 @@ returns c =
 
 pub invariant_of-self : goal.invariant_of-self
 invariant_of-self c = record {
-  enough = λ k behind there. absurd (omega (arith, behind, there, c.len-self-inside.ensures, c.exchange_numbers.new.numbers.ok.0));
-  small = λ k behind there. absurd (omega (arith, behind, there, c.len-self-inside.ensures, c.exchange_numbers.new.numbers.ok.0));
+  enough = λ k after there. absurd (omega (arith, after, there, c.len-self-inside.ensures, c.exchange_numbers.new.numbers.ok.0));
+  small = λ k after there. absurd (omega (arith, after, there, c.len-self-inside.ensures, c.exchange_numbers.new.numbers.ok.0));
 }
 
 pub move_numbers-requires-2-clause-enough : goal.move_numbers-requires-2-clause-enough
-move_numbers-requires-2-clause-enough c = λ k behind there. c.self.invariant.enough k behind (omega (arith, there, c.self.inside.items.ok.0))
+move_numbers-requires-2-clause-enough c = λ k after there. c.self.invariant.enough k after (omega (arith, there, c.self.inside.items.ok.0))
 
 pub move_numbers-requires-2-clause-small : goal.move_numbers-requires-2-clause-small
-move_numbers-requires-2-clause-small c = λ k behind there. omega (arith, c.self.invariant.small k behind (omega (arith, there, c.self.inside.items.ok.0)))
+move_numbers-requires-2-clause-small c = λ k after there. omega (arith, c.self.invariant.small k after (omega (arith, there, c.self.inside.items.ok.0)))

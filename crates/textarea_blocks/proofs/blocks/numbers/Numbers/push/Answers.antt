@@ -18,6 +18,6 @@ returns c =
 
 pub invariant_of-self : goal.invariant_of-self
 invariant_of-self c = record {
-  enough = λ k behind there. absurd (omega (arith, behind, there, c.len-self-inside.ensures, c.push.new.self.ok.0));
-  small = λ k behind there. absurd (omega (arith, behind, there, c.len-self-inside.ensures, c.push.new.self.ok.0));
+  enough = λ k after there. absurd (omega (arith, after, there, c.len-self-inside.ensures, c.push.new.self.ok.0));
+  small = λ k after there. absurd (omega (arith, after, there, c.len-self-inside.ensures, c.push.new.self.ok.0));
 }

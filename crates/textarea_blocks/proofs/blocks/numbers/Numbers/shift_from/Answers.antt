@@ -16,8 +16,8 @@ both c =
     let less = sum_is c.checked_add.result _ (inside.less + c.args.gone) c.in-Some-Some.less c.checked_add.ensures c.in-Some-Some.is-0 in
     let more = sum_is c.checked_add-then-from-self.result _ (inside.more + c.args.come) c.in-Some-Some.more c.checked_add-then-from-self.ensures c.in-Some-Some.is-1 in
     joined inside.items.items c.args.self.now.numbers inside.from inside.less inside.more c.args.gone c.args.come c.saturating_sub-self-inside.result c.saturating_sub-self-inside-in-Some-Some.result (ap (λ (v : NumbersView). v.numbers) c.self.view_is) c.self.invariant
-    (λ k behind there. c.requires.enough k (omega (arith, behind, c.if-from-self.true)) there)
-    (λ k behind there. omega (arith, c.requires.small k (omega (arith, behind, c.if-from-self.true)) there))
+    (λ k after there. c.requires.enough k (omega (arith, after, c.if-from-self.true)) there)
+    (λ k after there. omega (arith, c.requires.small k (omega (arith, after, c.if-from-self.true)) there))
     (omega (arith, c.saturating_sub-self-inside.ensures, less, more))
     (omega (arith, c.saturating_sub-self-inside-in-Some-Some.ensures, less, more))
 
@@ -29,8 +29,8 @@ returns-in-Some-Some-clause-above c = λ k above.
     (both (goal.at.returns-in-Some-Some-clause-above c).After-saturating_sub-self-inside-in-Some-Some).above k (omega (arith, above, c.if-from-self.true))
 
 pub returns-in-Some-Some-clause-moved : goal.returns-in-Some-Some-clause-moved
-returns-in-Some-Some-clause-moved c = λ k behind there.
-    (both (goal.at.returns-in-Some-Some-clause-moved c).After-saturating_sub-self-inside-in-Some-Some).moved k (omega (arith, behind, c.if-from-self.true)) there
+returns-in-Some-Some-clause-moved c = λ k after there.
+    (both (goal.at.returns-in-Some-Some-clause-moved c).After-saturating_sub-self-inside-in-Some-Some).moved k (omega (arith, after, c.if-from-self.true)) there
 
 pub returns-in-Some-Some-clause-len : goal.returns-in-Some-Some-clause-len
 returns-in-Some-Some-clause-len c =
@@ -46,12 +46,12 @@ one c =
     let same : now ≡ c.args.self.now.numbers = settled inside.items c.move_numbers.new.numbers inside.from inside.less inside.more turned.len turned.above turned.moved ∙ ap (λ (v : NumbersView). v.numbers) c.self.view_is in
     joined now c.args.self.now.numbers from 0 0 c.args.gone c.args.come c.saturating_sub-self-inside-2.result c.saturating_sub-self-inside-3.result (not_turned from now ∙ same)
     (record {
-      enough = λ k behind there. omega arith;
-      small = λ k behind there.
-          omega (arith, c.requires.small k behind (omega (arith, there, ap length same)), ap (λ (t : List ℕ). get_or t k 0) same);
+      enough = λ k after there. omega arith;
+      small = λ k after there.
+          omega (arith, c.requires.small k after (omega (arith, there, ap length same)), ap (λ (t : List ℕ). get_or t k 0) same);
     })
     c.requires.enough
-    (λ k behind there. omega (arith, c.requires.small k behind there))
+    (λ k after there. omega (arith, c.requires.small k after there))
     (omega (arith, c.saturating_sub-self-inside-2.ensures))
     (omega (arith, c.saturating_sub-self-inside-3.ensures))
 
@@ -68,4 +68,4 @@ pub returns-clause-len : goal.returns-clause-len
 returns-clause-len c = (one (goal.at.returns-clause-len c).After-saturating_sub-self-inside-3).len
 
 pub returns-then-gone-come-clause-moved : goal.returns-then-gone-come-clause-moved
-returns-then-gone-come-clause-moved c = λ k behind there. ap (λ n. get_or c.args.self.now.numbers k 0 + n) c.if-gone-come.true
+returns-then-gone-come-clause-moved c = λ k after there. ap (λ n. get_or c.args.self.now.numbers k 0 + n) c.if-gone-come.true

@@ -13,7 +13,7 @@ pub returns-clause-text : goal.returns-clause-text
 returns-clause-text c =
     let display = c.args.self.now in elim c.match-self.branch [
       | in-Some+in_ok-mask_text-in-Some w ↦ ap (λ (text : SpanText). text_bytes_of (content_view text)) w.content-is ∙ w.in_ok-mask_text-in-Some.ensures
-          ∙ ap (λ (mask : Option ℕ). display_bytes mask display.tab_len display.column c.args.piece.now) (sym w.in-Some.is)
+          ∙ ap (λ (mask : Option ℕ). display_bytes mask display.tab_len display.column c.args.segment.now) (sym w.in-Some.is)
       | in-None+in_ok-content-in-None w ↦ ap (λ (text : SpanText). text_bytes_of (content_view text)) w.content-is ∙ w.in_ok-content-in-None.ensures.text
-          ∙ ap (λ (mask : Option ℕ). display_bytes mask display.tab_len display.column c.args.piece.now) (sym w.in-None.is)
+          ∙ ap (λ (mask : Option ℕ). display_bytes mask display.tab_len display.column c.args.segment.now) (sym w.in-None.is)
     ]

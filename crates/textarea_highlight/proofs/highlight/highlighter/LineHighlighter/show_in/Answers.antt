@@ -15,8 +15,8 @@ invariant_of-self-2 c =
 pub push_row-requires-clause-ordered : goal.push_row-requires-clause-ordered
 push_row-requires-clause-ordered c = ascending c.sort.new.borders.items c.in_ok-sort.ensures.sorted
 
-pub returns-clause-shown : goal.returns-clause-shown
-returns-clause-shown c =
+pub returns-clause-displayed : goal.returns-clause-displayed
+returns-clause-displayed c =
     let sorted = c.in_ok-sort.ensures in
     on_ok_weaker c.push_row.result
     (λ added.
@@ -30,4 +30,4 @@ returns-clause-nothing c = λ none.
     let unsorted = ap (λ h. h.borders) c.self.view_is ∙ none.borders in
     let same = length_permutation _ _ c.in_ok-sort.ensures.permutation ∙ ap length unsorted in
     c.push_row.ensures.nothing (ap (λ h. h.row) c.self.view_is ∙ none.row) (nil_from_length c.sort.new.borders.items (omega (arith, same)))
-    (ap end_style c.self.view_is ∙ none.behind)
+    (ap end_style c.self.view_is ∙ none.after)

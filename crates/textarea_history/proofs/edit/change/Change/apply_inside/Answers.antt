@@ -1,8 +1,8 @@
 use Rattle.std.proofs.Common.{◌∙◌, ◌≡◌, ◌+◌, [], Bool, false, ap, arith, length, refl, subst, sym}
 use Rattle.textarea_history.specs.Prelude.{offset_at, Splice, OccursAt, index_of, symbols_in, weight, Allows, lines_of, text_of}
-use Rattle.textarea_text.proofs.StringRows.{rows_place, stands_until}
+use Rattle.textarea_text.proofs.StringRows.{rows_place, occurs_until}
 use Rattle.textarea_history.proofs.Changes.{Removing, characters_of_one, ends_inside, has_break, removing, symbols_of_change}
-use Rattle.textarea_history.proofs.Offsets.{offset_behind, offset_bound}
+use Rattle.textarea_history.proofs.Offsets.{offset_after, offset_bound}
 use Rattle.textarea_history.proofs.edit.change.Change.apply_inside.Goals as goal
 use Rattle.textarea_history.proofs.edit.change.Change.apply_inside.Goals.{After-weight}
 
@@ -17,24 +17,24 @@ known c =
     (ends_inside c.args.self.now c.start-start.result c.end-end.result c.requires.inside c.start-start.ensures c.end-end.ensures).0
 
 -- the byte offset at which the symbols end
-behind : (c : After-weight) → offset_at (lines_of c.args.lines.now.items) (c.start-start.result.0, c.end-end.result.1) ≡ c.args.offset + weight c.args.self.now.symbols
-behind c =
+after : (c : After-weight) → offset_at (lines_of c.args.lines.now.items) (c.start-start.result.0, c.end-end.result.1) ≡ c.args.offset + weight c.args.self.now.symbols
+after c =
     let rows = lines_of c.args.lines.now.items in
     let text = text_of c.args.lines.now.items in
     let splice = c.args.self.now in
     let start = c.start-start.result in
     let ends = ends_inside splice start c.end-end.result c.requires.inside c.start-start.ensures c.end-end.ensures in
-    let stands : OccursAt text splice.place splice.symbols = subst (λ (b : Bool). Allows b text splice.place splice.symbols) (removes c) c.requires.fits.allowed in
-    let until = stands_until text splice.place splice.symbols c.requires.fits.is_place stands in
+    let occurs : OccursAt text splice.place splice.symbols = subst (λ (b : Bool). Allows b text splice.place splice.symbols) (removes c) c.requires.fits.allowed in
+    let until = occurs_until text splice.place splice.symbols c.requires.fits.is_place occurs in
     let index : index_of text (start.0, c.end-end.result.1) ≡ index_of text start + length splice.symbols =
     ap (index_of text) ends.0 ∙ until.1 ∙ ap (λ p. index_of text p + length splice.symbols) (sym c.start-start.ensures) in
-    offset_behind rows start (start.0, c.end-end.result.1) splice.symbols (known c).from (known c).end_place refl
-    (subst (λ p. OccursAt text p splice.symbols) (sym c.start-start.ensures) stands) index
+    offset_after rows start (start.0, c.end-end.result.1) splice.symbols (known c).from (known c).end_place refl
+    (subst (λ p. OccursAt text p splice.symbols) (sym c.start-start.ensures) occurs) index
     ∙ ap (λ n. n + weight splice.symbols) (ap (offset_at rows) c.start-start.ensures ∙ sym c.requires.offset)
 
 pub overflow_add-offset : goal.overflow_add-offset
 overflow_add-offset c =
-    omega (arith, behind (goal.at.overflow_add-offset c).After-weight, c.weight.ensures, offset_bound c.args.lines.now.items (c.start-start.result.0, c.end-end.result.1))
+    omega (arith, after (goal.at.overflow_add-offset c).After-weight, c.weight.ensures, offset_bound c.args.lines.now.items (c.start-start.result.0, c.end-end.result.1))
 
 pub remove_inside-requires-clause-start : goal.remove_inside-requires-clause-start
 remove_inside-requires-clause-start c = (known (goal.at.remove_inside-requires-clause-start c).After-weight).from
@@ -44,7 +44,7 @@ remove_inside-requires-clause-end c = (known (goal.at.remove_inside-requires-cla
 
 pub remove_inside-requires-clause-end_offset : goal.remove_inside-requires-clause-end_offset
 remove_inside-requires-clause-end_offset c =
-    omega (arith, behind (goal.at.remove_inside-requires-clause-end_offset c).After-weight, c.weight.ensures, offset_bound c.args.lines.now.items (c.start-start.result.0, c.end-end.result.1))
+    omega (arith, after (goal.at.remove_inside-requires-clause-end_offset c).After-weight, c.weight.ensures, offset_bound c.args.lines.now.items (c.start-start.result.0, c.end-end.result.1))
 
 pub remove_inside-requires-clause-ordered : goal.remove_inside-requires-clause-ordered
 remove_inside-requires-clause-ordered c = (ends_inside c.args.self.now c.start-start.result c.end-end.result c.requires.inside c.start-start.ensures c.end-end.ensures).1

@@ -2,7 +2,7 @@ use Rattle.std.proofs.lemmas.Grind.{common_steps}
 use Rattle.std.proofs.Common.{◌≡◌, [], refl, sym, ◌∙◌, arith}
 use Rattle.std.proofs.lemmas.Bool.{eqb-true}
 use Rattle.std.proofs.lemmas.List.{nil_from_length}
-use Rattle.textarea_paint.proofs.ClusterLemmas.{clusters_left-text, clusters_left-plain, clusters_left-cut, clusters_left-span, clusters_left-none}
+use Rattle.textarea_paint.proofs.ClusterLemmas.{clusters_left-text, clusters_left-plain, clusters_left-split, clusters_left-span, clusters_left-none}
 use Rattle.textarea_paint.proofs.paint.clusters.LineClustersIterator.next.Goals as goal
 
 pub returns-in-Some-clause-steps : goal.returns-in-Some-clause-steps
@@ -23,12 +23,12 @@ returns-in-Some-split_plain-clause-goes c = grind (arith, common_steps, returns-
 
 pub returns-in_err-span-clause-steps : goal.returns-in_err-span-clause-steps
 returns-in_err-span-clause-steps c =
-    grind (arith, common_steps, nil_from_length, nil_from_length c.loop-text.self.behind.now (eqb-true _ _ (sym c.is_empty.ensures ∙ c.if-is_empty.true)), eqb-true _ _ (sym c.is_empty.ensures ∙ c.if-is_empty.true), clusters_left-none)
+    grind (arith, common_steps, nil_from_length, nil_from_length c.loop-text.self.after.now (eqb-true _ _ (sym c.is_empty.ensures ∙ c.if-is_empty.true)), eqb-true _ _ (sym c.is_empty.ensures ∙ c.if-is_empty.true), clusters_left-none)
 
 pub loop-text-preserved-then-is_empty : goal.loop-text-preserved-then-is_empty
 loop-text-preserved-then-is_empty c =
-    grind (arith, common_steps, nil_from_length c.loop-text.self.behind.now (eqb-true _ _ (sym c.is_empty.ensures ∙ c.if-is_empty.true)), eqb-true _ _ (sym c.is_empty.ensures ∙ c.if-is_empty.true), clusters_left-span)
+    grind (arith, common_steps, nil_from_length c.loop-text.self.after.now (eqb-true _ _ (sym c.is_empty.ensures ∙ c.if-is_empty.true)), eqb-true _ _ (sym c.is_empty.ensures ∙ c.if-is_empty.true), clusters_left-span)
 
 pub loop-text-preserved : goal.loop-text-preserved
 loop-text-preserved c =
-    sym (clusters_left-cut c.loop-text.self _ c.in_default.ensures.steps.0 c.graphemes-self.ensures.left refl refl refl refl) ∙ c.loop-text.invariant
+    sym (clusters_left-split c.loop-text.self _ c.in_default.ensures.steps.0 c.graphemes-self.ensures.left refl refl refl refl) ∙ c.loop-text.invariant

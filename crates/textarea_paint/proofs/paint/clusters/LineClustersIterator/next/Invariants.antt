@@ -7,4 +7,4 @@ abbrev pub invariant-loop-text : goal.invariant-loop-text
 invariant-loop-text l = clusters_left l.self ≡ clusters_left l.initial.self
 
 abbrev pub decreases-loop-text : goal.decreases-loop-text
-decreases-loop-text l = 2 * length (iter_rest l.self.spans) + min (length l.self.behind.now) 1
+decreases-loop-text l = 2 * length (iter_rest l.self.spans) + min (length l.self.after.now) 1

@@ -9,19 +9,19 @@ returns-then-is_cursor_row c =
     let h = c.args.highlighter.now in
     let cursor = c.args.self.now.cursor in record {
       ok = on_ok_weaker c.cursor_line.result
-          (λ told.
-          told ∙ ap (λ (s : SceneState). with_cursor_line h (s.cursor.1 - c.column_count.result) s.look.cursor_line_style) (c.scene.view_is ∙ c.self.view_is)
-          ∙ cursor_here c.args.self.now (row_of_texts c.args.shown) h c.column_count.result
-          (ap (λ (row : VisualRow). holds_place row cursor) c.requires.shown ∙ sym c.is_cursor_row.ensures ∙ c.if-is_cursor_row.true) c.column_count.ensures)
+          (λ highlights_are.
+          highlights_are ∙ ap (λ (s : SceneState). with_cursor_line h (s.cursor.1 - c.column_count.result) s.look.cursor_line_style) (c.scene.view_is ∙ c.self.view_is)
+          ∙ cursor_here c.args.self.now (row_of_texts c.args.displayed) h c.column_count.result
+          (ap (λ (row : VisualRow). holds_place row cursor) c.requires.displayed ∙ sym c.is_cursor_row.ensures ∙ c.if-is_cursor_row.true) c.column_count.ensures)
           c.cursor_line.ensures.ok;
     }
 
-pub returns-then-scene-shown : goal.returns-then-scene-shown
-returns-then-scene-shown c =
+pub returns-then-scene-displayed : goal.returns-then-scene-displayed
+returns-then-scene-displayed c =
     let h = c.args.highlighter.now in
     let scene = c.scene.view_is ∙ c.self.view_is in
     let cursor = c.args.self.now.cursor in record {
       ok = c.set_line_style.ensures ∙ ap (λ (s : SceneState). with_base h s.look.cursor_line_style) scene
-          ∙ cursor_near c.args.self.now (row_of_texts c.args.shown) h (ap (λ (row : VisualRow). holds_place row cursor) c.requires.shown ∙ sym c.is_cursor_row.ensures ∙ c.if-is_cursor_row.false)
-          (sym (ap (λ (s : SceneState). s.cursor.0) scene) ∙ c.if-scene-shown.true);
+          ∙ cursor_near c.args.self.now (row_of_texts c.args.displayed) h (ap (λ (row : VisualRow). holds_place row cursor) c.requires.displayed ∙ sym c.is_cursor_row.ensures ∙ c.if-is_cursor_row.false)
+          (sym (ap (λ (s : SceneState). s.cursor.0) scene) ∙ c.if-scene-displayed.true);
     }

@@ -1,7 +1,0 @@
-use Rattle.std.proofs.Common.{[]}
-use Rattle.textarea_terminal.proofs.InputUnits.{unit_at-nil}
-use Rattle.textarea_terminal.proofs.InputStreams.{feeding-concat}
-use Rattle.textarea_terminal.proofs.input.laws.any_pieces.Goals as goal
-
-pub returns : goal.returns
-returns c = λ pieces. feeding-concat [] pieces unit_at-nil
