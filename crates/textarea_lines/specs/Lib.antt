@@ -5,3 +5,4 @@ pub mod Replacing
 pub mod TextRows
 pub mod View
 pub mod LineWraps
+pub mod Prelude

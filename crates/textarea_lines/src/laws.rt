@@ -1,15 +1,6 @@
 //! Laws of lines with their visual rows. Each is the contract of a function without effect.
 ghost use Rattle.std.specs.Prelude.{◌≡◌, ◌<◌, ◌≤◌, ℕ, List, Option};
-ghost use Rattle.textarea_text.specs.Place.{Place};
-ghost use Rattle.textarea_text.specs.Splice.{Fits, Splice};
-ghost use Rattle.textarea_text.specs.Text.{Symbol};
-ghost use Rattle.textarea_wrap.specs.RowsView.{RowsView};
-ghost use Rattle.textarea_lines.specs.TextRows.{IsFoundAbove, IsFoundBelow, HasLayout};
-ghost use Rattle.textarea_lines.specs.LineWraps.{WrapsForSplices, WrapsAllLines, WrapsForSettings, WrapsForSplice, WrapsForWidth};
-ghost use Rattle.textarea_lines.specs.TextLayout.{TextAndLayout, applied_to, at_width, layout_from_scratch, with_settings, wrapping_at, wrapping_of};
-ghost use Rattle.textarea_screen_map.specs.BorrowedLines.{BorrowedRows};
-ghost use Rattle.textarea_lines.specs.View.{IsViewOf};
-ghost use Rattle.textarea_lines.specs.declared.settings.LayoutSettings.{LayoutSettings};
+ghost use Rattle.textarea_lines.specs.Prelude.{Place, Fits, Splice, Symbol, RowsView, IsFoundAbove, IsFoundBelow, HasLayout, WrapsForSplices, WrapsAllLines, WrapsForSettings, WrapsForSplice, WrapsForWidth, TextAndLayout, applied_to, at_width, layout_from_scratch, with_settings, wrapping_at, wrapping_of, BorrowedRows, IsViewOf, LayoutSettings};
 
 use textarea_screen_map::laws::{one_map, one_visual_position};
 

@@ -1,11 +1,6 @@
 //! Wrapping of lines for a change.
 ghost use Rattle.std.specs.Prelude.{◌≡◌, ◌≢◌, ◌+◌, ◌-◌, ◌^◌, ◌<◌, ◌≤◌, ◌++◌, [], get_or, length, vec_capacity, vec_len, IfOk, None, OnOk};
-ghost use Rattle.textarea_text.specs.Text.{lines_of};
-ghost use Rattle.textarea_screen_map.specs.LineRows.{AreRowsOf, ticks_after, ticks_of};
-ghost use Rattle.textarea_blocks.specs.Blocks.{all_rows};
-ghost use Rattle.textarea_lines.specs.TextRows.{CanStayWhole, HasWholeLine};
-ghost use Rattle.textarea_lines.specs.TextLayout.{count_after, lines_after};
-ghost use Rattle.textarea_lines.specs.Replacing.{AreReadyRows, CanReplace};
+ghost use Rattle.textarea_lines.specs.Prelude.{lines_of, AreRowsOf, ticks_after, ticks_of, all_rows, CanStayWhole, HasWholeLine, count_after, lines_after, AreReadyRows, CanReplace};
 
 use crate::settings::{LayoutSettings, is_same, wrapping_for};
 use std::alloc::{AllocError, Global};

@@ -2,20 +2,7 @@
 mod width;
 
 ghost use Rattle.std.specs.Prelude.{◌≡◌, ◌+◌, ◌-◌, ◌<◌, ◌≤◌, ◌↔◌, [], length, vec_len, false, true, IfOk, IfSome, IsOk, IsTrue, OnErr, OnOk, if◌then◌else◌};
-ghost use Rattle.textarea_util.specs.Limit.{size_limit};
-ghost use Rattle.textarea_text.specs.Offset.{offset_at};
-ghost use Rattle.textarea_text.specs.Place.{Place, IsPlace};
-ghost use Rattle.textarea_text.specs.Size.{size_of, weight};
-ghost use Rattle.textarea_text.specs.Splice.{Fits, applied};
-ghost use Rattle.textarea_text.specs.Text.{lines, lines_of, text_of};
-ghost use Rattle.textarea_text.specs.Touched.{breaks_of};
-ghost use Rattle.textarea_blocks.specs.Sums.{row_total};
-ghost use Rattle.textarea_screen_map.specs.Map.{IsRowCount};
-ghost use Rattle.textarea_screen_map.specs.VisualPositions.{IsVisualPosition};
-ghost use Rattle.textarea_lines.specs.TextRows.{IsFoundAbove, IsFoundBelow, IsRowCountAt, OfRows};
-ghost use Rattle.textarea_lines.specs.TextLayout.{applied_to, is_wrapped_at, layout_from_scratch, with_settings, keeps_wrapping, with_replacement};
-ghost use Rattle.textarea_lines.specs.Stored.{size_after};
-ghost use Rattle.textarea_lines.specs.Wrappings.{is_wrapped};
+ghost use Rattle.textarea_lines.specs.Prelude.{size_limit, offset_at, Place, IsPlace, size_of, weight, Fits, applied, lines, lines_of, text_of, breaks_of, row_total, IsRowCount, IsVisualPosition, IsFoundAbove, IsFoundBelow, IsRowCountAt, OfRows, applied_to, is_wrapped_at, layout_from_scratch, with_settings, keeps_wrapping, with_replacement, size_after, is_wrapped};
 
 use crate::rewrap::{Measured, WrappedRows, drop_measured, prepare_rows_for, put_whole_line};
 use crate::settings::{LayoutSettings, is_same, is_wrapped, wrapping_at, wrapping_for};

@@ -5,3 +5,4 @@ pub mod Columns
 pub mod LineClusters
 pub mod Plain
 pub mod Row
+pub mod Prelude

@@ -5,3 +5,4 @@ pub mod Prepared
 pub mod VisualRows
 pub mod VisualPositions
 pub mod RowTexts
+pub mod Prelude

@@ -1,8 +1,6 @@
 //! Wrapping of lines, with their visual rows in blocks.
 ghost use Rattle.std.specs.Prelude.{◌≡◌, ◌+◌, ◌≤◌, ◌++◌, ℕ, List, length, OnOk};
-ghost use Rattle.textarea_text.specs.Text.{lines_of};
-ghost use Rattle.textarea_blocks.specs.Blocks.{all_rows};
-ghost use Rattle.textarea_screen_map.specs.LineRows.{AreRowsOf, ticks_after, ticks_of};
+ghost use Rattle.textarea_screen_map.specs.Prelude.{lines_of, all_rows, AreRowsOf, ticks_after, ticks_of};
 
 use crate::layout::{Wrapping, rows_of};
 use std::alloc::{AllocError, Global};

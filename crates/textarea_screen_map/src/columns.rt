@@ -1,9 +1,6 @@
 //! The display columns of the characters of one visual row.
 ghost use Rattle.std.specs.Prelude.{◌≡◌, ◌-◌, ◌<◌, chars, length, if◌then◌else◌};
-ghost use Rattle.textarea_util.specs.Limit.{size_limit};
-ghost use Rattle.textarea_wrap.specs.Columns.{display_end_column};
-ghost use Rattle.textarea_screen_map.specs.VisualRows.{column_at};
-ghost use Rattle.textarea_screen_map.specs.VisualPositions.{LeadsTo};
+ghost use Rattle.textarea_screen_map.specs.Prelude.{size_limit, display_end_column, column_at, LeadsTo};
 
 use textarea_text::rows::{byte_offset, column_count};
 use textarea_wrap::wrap::columns::{display_column_after, display_column_after_text};

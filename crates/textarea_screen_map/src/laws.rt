@@ -1,18 +1,7 @@
 //! Laws of the map. Each is the contract of a function without effect.
 ghost use Rattle.std.specs.Prelude.{◌≡◌, ◌≢◌, ◌<◌, ◌≤◌, ◌^◌, ℕ, List, map, max};
-ghost use Rattle.textarea_text.specs.Place.{IsPlaceOf, Place};
-ghost use Rattle.textarea_text.specs.Size.{weight};
-ghost use Rattle.textarea_text.specs.Text.{following};
-ghost use Rattle.textarea_wrap.specs.Fitting.{HaveFittingClusters};
-ghost use Rattle.textarea_wrap.specs.RowsView.{RowsView};
+ghost use Rattle.textarea_screen_map.specs.Prelude.{IsPlaceOf, Place, weight, following, HaveFittingClusters, RowsView, VisualPosition, Wrapping, AreRowsOf, row_total, size_total, IsRowCount, greatest_column, row_at, HasNoZeroWidth, IsAbove, IsBelow, IsPlaceAt, IsPlaceNear, IsVisualUpTo, IsVisualPosition};
 ghost use Rattle.textarea_wrap.specs.declared.wrap.WrapMode.TheVariants as mode;
-ghost use Rattle.textarea_screen_map.specs.declared.layout.VisualPosition.{VisualPosition};
-ghost use Rattle.textarea_screen_map.specs.declared.layout.Wrapping.{Wrapping};
-ghost use Rattle.textarea_screen_map.specs.LineRows.{AreRowsOf};
-ghost use Rattle.textarea_blocks.specs.Sums.{row_total, size_total};
-ghost use Rattle.textarea_screen_map.specs.Map.{IsRowCount};
-ghost use Rattle.textarea_screen_map.specs.VisualRows.{greatest_column, row_at};
-ghost use Rattle.textarea_screen_map.specs.VisualPositions.{HasNoZeroWidth, IsAbove, IsBelow, IsPlaceAt, IsPlaceNear, IsVisualUpTo, IsVisualPosition};
 
 use textarea_wrap::laws::one_wrapping;
 

@@ -1,10 +1,6 @@
 //! The visual rows of several lines.
 ghost use Rattle.std.specs.Prelude.{◌≡◌, ◌+◌, ◌≤◌, ◌++◌, ℕ, List, length, IfOk, OnOk};
-ghost use Rattle.textarea_util.specs.Limit.{size_limit};
-ghost use Rattle.textarea_text.specs.Size.{size_of};
-ghost use Rattle.textarea_text.specs.Text.{lines_of};
-ghost use Rattle.textarea_screen_map.specs.LineRows.{AreRowsOf, ticks_after, ticks_of};
-ghost use Rattle.textarea_screen_map.specs.Map.{IsRowCount};
+ghost use Rattle.textarea_screen_map.specs.Prelude.{size_limit, size_of, lines_of, AreRowsOf, ticks_after, ticks_of, IsRowCount};
 
 use std::alloc::{AllocError, Global};
 use textarea_text::rows::size_within_limit;

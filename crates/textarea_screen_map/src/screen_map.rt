@@ -1,14 +1,7 @@
 //! The visual rows of each line of a text, in blocks of lines. They count from 0 over all lines.
 ghost use Rattle.std.specs.Prelude.{◌≡◌, ◌+◌, ◌*◌, ◌<◌, ◌≤◌, ◌↔◌, ◌∷◌, [], ℕ, List, length, min, take, IfOk, IsOk, OnOk};
-ghost use Rattle.textarea_util.specs.Limit.{size_limit};
-ghost use Rattle.textarea_util.specs.Replaced.{replaced};
-ghost use Rattle.textarea_text.specs.Size.{size_of};
-ghost use Rattle.textarea_text.specs.Text.{lines_of};
+ghost use Rattle.textarea_screen_map.specs.Prelude.{size_limit, replaced, size_of, lines_of, AreRowsOf, ticks_after, ticks_of, with_tab_len, IsEdge, all_rows, IsWithinLimit, ranges_at, row_total, size_total, HasRoom, CanPutRows, rows_in, rows_with};
 ghost use Rattle.textarea_wrap.specs.declared.wrap.WrapMode.TheVariants as mode;
-ghost use Rattle.textarea_screen_map.specs.LineRows.{AreRowsOf, ticks_after, ticks_of, with_tab_len};
-ghost use Rattle.textarea_blocks.specs.Blocks.{IsEdge, all_rows};
-ghost use Rattle.textarea_blocks.specs.Sums.{IsWithinLimit, ranges_at, row_total, size_total};
-ghost use Rattle.textarea_screen_map.specs.Prepared.{HasRoom, CanPutRows, rows_in, rows_with};
 
 use crate::blocks::{BLOCK, push_lines};
 use crate::layout::{Wrapping, rows_of};

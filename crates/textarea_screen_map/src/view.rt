@@ -1,15 +1,6 @@
 //! Read access to lines with their visual rows.
 ghost use Rattle.std.specs.Prelude.{◌≡◌, ◌+◌, ◌<◌, ◌≤◌, length, take};
-ghost use Rattle.textarea_util.specs.Limit.{size_limit};
-ghost use Rattle.textarea_text.specs.Place.{IsPlaceOf};
-ghost use Rattle.textarea_text.specs.Size.{size_of};
-ghost use Rattle.textarea_text.specs.Text.{lines_of};
-ghost use Rattle.textarea_screen_map.specs.LineRows.{AreRowsOf};
-ghost use Rattle.textarea_blocks.specs.Sums.{row_total};
-ghost use Rattle.textarea_screen_map.specs.VisualRows.{greatest_column, row_at};
-ghost use Rattle.textarea_screen_map.specs.VisualPositions.{IsPlaceNear, IsVisualPosition};
-ghost use Rattle.textarea_screen_map.specs.RowTexts.{HasFrontOfLine, row_of_texts};
-ghost use Rattle.textarea_screen_map.specs.BorrowedLines.{AreRowsRight, borrowed_rows};
+ghost use Rattle.textarea_screen_map.specs.Prelude.{size_limit, IsPlaceOf, size_of, lines_of, AreRowsOf, row_total, greatest_column, row_at, IsPlaceNear, IsVisualPosition, HasFrontOfLine, row_of_texts, AreRowsRight, borrowed_rows};
 
 use crate::layout::VisualPosition;
 use crate::screen_map::{RowText, ScreenMap};

@@ -30,3 +30,4 @@ pub mod Patterns
 pub mod Run
 pub mod CallSplices
 pub mod CallResults
+pub mod Prelude

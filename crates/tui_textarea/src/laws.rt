@@ -1,28 +1,6 @@
 //! Laws of text areas and their visual rows, each the contract of a function that does nothing.
 ghost use Rattle.std.specs.Prelude.{◌≡◌, ◌<◌, ◌^◌, ℕ, Bool, [], true, false, length};
-ghost use Rattle.textarea_util.specs.Limit.{size_limit};
-ghost use Rattle.textarea_data.specs.declared.cursor.CursorMove.{CursorMove};
-ghost use Rattle.textarea_data.specs.declared.scroll.Scrolling.{Scrolling};
-ghost use Rattle.textarea_document.specs.DocumentRows.{text_and_layout};
-ghost use Rattle.textarea_document.specs.Sound.{IsSound};
-ghost use Rattle.tui_textarea.specs.CaretHit.{IsCaretHit};
-ghost use Rattle.tui_textarea.specs.DrawnFrame.{frame_of};
-ghost use Rattle.textarea_view.specs.Frame.{shows_placeholder};
-ghost use Rattle.tui_textarea.specs.CaretVisible.{IsCaretVisible};
-ghost use Rattle.textarea_calls.specs.declared.action.Action.{Action};
-ghost use Rattle.textarea_screen_map.specs.BorrowedLines.{BorrowedRows};
-ghost use Rattle.textarea_lines.specs.View.{IsViewOf};
-ghost use Rattle.textarea_blocks.specs.Sums.{row_total};
-ghost use Rattle.textarea_screen.specs.declared.screen.rect.Rect.{Rect};
-ghost use Rattle.textarea_view.specs.Measure.{saturated_u16, width_inside};
-ghost use Rattle.textarea_view.specs.declared.surround.measure.TextAreaMeasure.{TextAreaMeasure};
-ghost use Rattle.textarea_text.specs.Size.{weight};
-ghost use Rattle.tui_textarea.specs.Drawing.{IsRendered, widget_of};
-ghost use Rattle.tui_textarea.specs.Frames.{HasLayoutFor};
-ghost use Rattle.tui_textarea.specs.Measure.{IsMeasured, IsMeasuredAround};
-ghost use Rattle.tui_textarea.specs.Input.{IsAfterAction};
-ghost use Rattle.tui_textarea.specs.Moves.{IsMovedWith, IsScrolledWith};
-ghost use Rattle.tui_textarea.specs.State.{State};
+ghost use Rattle.tui_textarea.specs.Prelude.{size_limit, CursorMove, Scrolling, text_and_layout, IsSound, IsCaretHit, frame_of, shows_placeholder, IsCaretVisible, Action, BorrowedRows, IsViewOf, row_total, Rect, saturated_u16, width_inside, TextAreaMeasure, weight, IsRendered, widget_of, HasLayoutFor, IsMeasured, IsMeasuredAround, IsAfterAction, IsMovedWith, IsScrolledWith, State};
 
 use crate::drawing::laws::{caret_hit_is_cursor, caret_is_visible, one_nearest_place};
 pub use crate::textarea::laws::{

@@ -18,13 +18,7 @@ pub mod settings;
 mod surround;
 
 ghost use Rattle.std.specs.Prelude.{◌≡◌, ◌<◌, ◌≤◌, ◌↔◌, length, OnErr, OnOk, IfOk, IsTrue, [], vec_len};
-ghost use Rattle.textarea_util.specs.Limit.{size_limit};
-ghost use Rattle.textarea_text.specs.Text.{lines, lines_of, text_of};
-ghost use Rattle.textarea_text.specs.Place.{IsPlace};
-ghost use Rattle.textarea_text.specs.Size.{size_of};
-ghost use Rattle.textarea_document.specs.DocumentState.{fresh_document};
-ghost use Rattle.textarea_text.specs.Between.{clip};
-ghost use Rattle.tui_textarea.specs.State.{new_state, with_other_lines};
+ghost use Rattle.tui_textarea.specs.Prelude.{size_limit, lines, lines_of, text_of, IsPlace, size_of, fresh_document, clip, new_state, with_other_lines};
 
 use crate::drawing::Drawing;
 use crate::textarea::settings::Settings;

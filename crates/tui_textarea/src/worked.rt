@@ -1,19 +1,7 @@
 //! Worked cases of the number of wrapped lines, each the contract of a function that does nothing.
 ghost use Rattle.std.specs.Prelude.{◌≡◌, ◌+◌, Bool, Some};
-ghost use Rattle.textarea_data.specs.declared.cursor.CursorMove.TheVariants.{Down};
-ghost use Rattle.textarea_data.specs.declared.scroll.Scrolling.{Scrolling};
-ghost use Rattle.textarea_document.specs.DocumentWraps.{WrapsNothing};
-ghost use Rattle.textarea_document.specs.DocumentRows.{text_and_layout};
-ghost use Rattle.textarea_lines.specs.LineWraps.{map_width};
-ghost use Rattle.textarea_screen.specs.declared.screen.rect.Rect.{Rect};
-ghost use Rattle.textarea_screen.specs.declared.screen.style.Style.{Style};
+ghost use Rattle.tui_textarea.specs.Prelude.{Down, Scrolling, WrapsNothing, text_and_layout, map_width, Rect, Style, IsRendered, newline_inserted, IsMoved, IsScrolled, next_match, after_search, State, IsAtEndOf, wrapped_so_far, hundred_lines, with_redone, nine_lines, with_undone, with_a, with_x_y_z};
 ghost use Rattle.textarea_wrap.specs.declared.wrap.WrapMode.TheVariants as mode;
-ghost use Rattle.tui_textarea.specs.Drawing.{IsRendered};
-ghost use Rattle.tui_textarea.specs.Edits.{newline_inserted};
-ghost use Rattle.tui_textarea.specs.Moves.{IsMoved, IsScrolled};
-ghost use Rattle.tui_textarea.specs.Search.{next_match, after_search};
-ghost use Rattle.tui_textarea.specs.State.{State};
-ghost use Rattle.tui_textarea.specs.Worked.{IsAtEndOf, wrapped_so_far, hundred_lines, with_redone, nine_lines, with_undone, with_a, with_x_y_z};
 
 use crate::laws::{drawn_at_its_width, moves_wrap_nothing};
 

@@ -1,7 +1,6 @@
 //! Changes of the inner width in two steps: the first may allocate, but doesn't change the lines.
 ghost use Rattle.std.specs.Prelude.{◌≡◌, true, IfOk, IfSome, IsOk};
-ghost use Rattle.textarea_lines.specs.TextLayout.{at_width, with_settings, keeps_wrapping};
-ghost use Rattle.textarea_lines.specs.View.{IsRewrappedIfOther, IsPrepared, IsViewOf, IsWholeWrap};
+ghost use Rattle.textarea_lines.specs.Prelude.{at_width, with_settings, keeps_wrapping, IsRewrappedIfOther, IsPrepared, IsViewOf, IsWholeWrap};
 
 use super::TextLayout;
 use crate::rewrap::{WrappedRows, drop_measured};

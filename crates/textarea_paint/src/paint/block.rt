@@ -1,14 +1,6 @@
 //! A block's borders, corners and title.
 ghost use Rattle.std.specs.Prelude.{◌≡◌, ◌+◌, ◌<◌, ◌≤◌, ◌&&◌, length, IsOk, IfSome, OnOk, OnErr, if◌then◌else◌};
-ghost use Rattle.textarea_screen.specs.Block.{block_view};
-ghost use Rattle.textarea_screen.specs.Buffer.{Changes, KeepsOutside};
-ghost use Rattle.textarea_screen.specs.Cell.{with_symbol};
-ghost use Rattle.textarea_screen.specs.Inset.{inset_of};
-ghost use Rattle.textarea_screen.specs.Rect.{contains, is_in_row};
-ghost use Rattle.textarea_screen.specs.Style.{empty_style};
-ghost use Rattle.textarea_screen.specs.declared.screen.cell.TheConstants.{INLINE_BYTES};
-ghost use Rattle.textarea_paint.specs.Block.{in_area, in_turn, side_changes, corner_changes, title_change, block_cell};
-ghost use Rattle.textarea_paint.specs.Clusters.{row_clusters, AreInline};
+ghost use Rattle.textarea_paint.specs.Prelude.{block_view, Changes, KeepsOutside, with_symbol, inset_of, contains, is_in_row, empty_style, INLINE_BYTES, in_area, in_turn, side_changes, corner_changes, title_change, block_cell, row_clusters, AreInline};
 
 use super::cells::RowCells;
 use super::row::draw_left;

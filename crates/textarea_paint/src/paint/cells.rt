@@ -1,11 +1,6 @@
 //! Grapheme clusters in the cells of a row, from left to right.
 ghost use Rattle.std.specs.Prelude.{◌≡◌, ◌+◌, ◌≤◌, ◌==◌, ℕ, max, length, [], ◌∷◌, IfOk, IsOk, OnOk, OnErr, if◌then◌else◌};
-ghost use Rattle.textarea_screen.specs.Buffer.{Changes, KeepsOutside};
-ghost use Rattle.textarea_screen.specs.Cell.{with_symbol};
-ghost use Rattle.textarea_screen.specs.declared.screen.cell.TheConstants.{INLINE_BYTES};
-ghost use Rattle.textarea_paint.specs.Cells.{IsPenAt, IsColumnWithin, row_change, is_in_cells, is_between, placed_at, symbol_of};
-ghost use Rattle.textarea_paint.specs.Columns.{columns_of};
-ghost use Rattle.textarea_paint.specs.LineClusters.{styled_cluster};
+ghost use Rattle.textarea_paint.specs.Prelude.{Changes, KeepsOutside, with_symbol, INLINE_BYTES, IsPenAt, IsColumnWithin, row_change, is_in_cells, is_between, placed_at, symbol_of, columns_of, styled_cluster};
 
 use super::clusters::StyledCluster;
 use super::columns::cluster_columns;

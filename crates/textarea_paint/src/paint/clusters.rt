@@ -1,10 +1,7 @@
 //! The grapheme clusters of a line.
 ghost use Rattle.std.specs.Prelude.{◌≡◌, ◌<◌, ◌≤◌, ◌↔◌, true, length, ◌∷◌, IsTrue, IfSome};
-ghost use Rattle.unicode_segmentation.specs.Grapheme.{graphemes};
+ghost use Rattle.textarea_paint.specs.Prelude.{graphemes, line_view, row_clusters, BeginsPlain, IsPrintable};
 ghost use Rattle.std.specs.Iterator.{YieldsFirstBy, item_count};
-ghost use Rattle.textarea_screen.specs.Text.{line_view};
-ghost use Rattle.textarea_paint.specs.Clusters.{row_clusters};
-ghost use Rattle.textarea_paint.specs.Plain.{BeginsPlain, IsPrintable};
 
 use std::slice;
 use textarea_screen::screen::{Line, Span, Style};

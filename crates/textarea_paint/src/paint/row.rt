@@ -1,11 +1,6 @@
 //! A line drawn in one row of cells.
 ghost use Rattle.std.specs.Prelude.{◌≡◌, ◌+◌, ◌≤◌, min, IsOk, OnOk, OnErr};
-ghost use Rattle.textarea_screen.specs.Buffer.{area_of, Changes, HasNone, KeepsOutside};
-ghost use Rattle.textarea_screen.specs.Rect.{is_in_row};
-ghost use Rattle.textarea_screen.specs.Text.{line_view};
-ghost use Rattle.textarea_paint.specs.Cells.{is_in_cells, place_from, row_change};
-ghost use Rattle.textarea_paint.specs.Clusters.{row_clusters, AreInline};
-ghost use Rattle.textarea_paint.specs.Row.{fitting, clusters_width, line_offset, row_cell};
+ghost use Rattle.textarea_paint.specs.Prelude.{area_of, Changes, HasNone, KeepsOutside, is_in_row, line_view, is_in_cells, place_from, row_change, row_clusters, AreInline, fitting, clusters_width, line_offset, row_cell};
 
 use super::cells::{Pen, RowCells, draw_cluster};
 use super::clusters::LineClusters;

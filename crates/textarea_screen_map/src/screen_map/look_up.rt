@@ -2,14 +2,7 @@
 //! moves up and down. They allocate nothing, and borrow the lines that the map was made for. A tab
 //! reaches to the next tab stop, and takes one column without tab stops.
 ghost use Rattle.std.specs.Prelude.{◌≡◌, ◌+◌, ◌<◌, ◌≤◌, length, min, take, MatchOption};
-ghost use Rattle.textarea_util.specs.Limit.{size_limit};
-ghost use Rattle.textarea_text.specs.Text.{lines_of};
-ghost use Rattle.textarea_text.specs.Place.{IsPlaceOf};
-ghost use Rattle.textarea_screen_map.specs.LineRows.{AreRowsOf};
-ghost use Rattle.textarea_blocks.specs.Sums.{range_at, row_total};
-ghost use Rattle.textarea_screen_map.specs.VisualRows.{greatest_column, row_at, row_width};
-ghost use Rattle.textarea_screen_map.specs.RowTexts.{HasFrontOfLine, row_of_texts};
-ghost use Rattle.textarea_screen_map.specs.VisualPositions.{IsAbove, IsBelow, IsInFirstRow, IsInLastRow, IsPlaceAt, IsPlaceNear, IsVisualPosition};
+ghost use Rattle.textarea_screen_map.specs.Prelude.{size_limit, lines_of, IsPlaceOf, AreRowsOf, range_at, row_total, greatest_column, row_at, row_width, HasFrontOfLine, row_of_texts, IsAbove, IsBelow, IsInFirstRow, IsInLastRow, IsPlaceAt, IsPlaceNear, IsVisualPosition};
 
 use super::ScreenMap;
 use crate::columns::{character_at_column, greatest_cursor_column};

@@ -1,18 +1,6 @@
 //! Laws of runs of calls, each the contract of a function that does nothing.
 ghost use Rattle.std.specs.Prelude.{◌≡◌, ◌≤◌, List};
-ghost use Rattle.textarea_text.specs.Splice.{CanApply};
-ghost use Rattle.textarea_document.specs.DocumentWraps.{SplicedBy};
-ghost use Rattle.textarea_document.specs.RangesOverSplices.{SplitNoRange, RangesStayWhole};
-ghost use Rattle.textarea_document.specs.Sound.{IsSound};
-ghost use Rattle.textarea_screen.specs.declared.screen.buffer.Buffer.{Buffer};
-ghost use Rattle.tui_textarea.specs.State.{State};
-ghost use Rattle.tui_textarea.specs.CallWraps.{WrapsByCall};
-ghost use Rattle.textarea_calls.specs.declared.call.Call.{Call};
-ghost use Rattle.tui_textarea.specs.RangesOverCalls.{RangesFollowCall, IsUndoOrRedo};
-ghost use Rattle.tui_textarea.specs.Outcomes.{IsResultOf, IsAfterCall, IsAfterOutOfMemory};
-ghost use Rattle.tui_textarea.specs.Run.{Leads, ShowsSame};
-ghost use Rattle.tui_textarea.specs.CallResults.{CallResult};
-ghost use Rattle.tui_textarea.specs.CallSplices.{OfSplicesOutOfMemory, splices_of};
+ghost use Rattle.tui_textarea.specs.Prelude.{CanApply, SplicedBy, SplitNoRange, RangesStayWhole, IsSound, Buffer, State, WrapsByCall, Call, RangesFollowCall, IsUndoOrRedo, IsResultOf, IsAfterCall, IsAfterOutOfMemory, Leads, ShowsSame, CallResult, OfSplicesOutOfMemory, splices_of};
 
 use crate::drawing::laws::{one_drawing, one_rendering};
 use crate::laws::{one_input, one_move};

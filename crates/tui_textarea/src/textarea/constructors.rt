@@ -2,8 +2,7 @@
 ghost use Rattle.std.specs.Prelude.{◌≡◌, IfOk, List, ℕ, String};
 ghost use Rattle.std.specs.Borrow.{Bor};
 ghost use Rattle.std.specs.Iterator.{IsFinite, Drains};
-ghost use Rattle.textarea_text.specs.Text.{text_of};
-ghost use Rattle.tui_textarea.specs.State.{new_state, text_of_each};
+ghost use Rattle.tui_textarea.specs.Prelude.{text_of, new_state, text_of_each};
 
 use crate::textarea::TextArea;
 use std::alloc::{AllocError, Global};

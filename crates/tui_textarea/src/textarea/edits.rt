@@ -2,12 +2,7 @@
 //! is strictly inside an atomic range to the range's end.
 ghost use Rattle.std.specs.Prelude.{◌≡◌, ◌<◌, OnOk, OnErr, IsOk, IfOk, false, [], replicate, vec_len};
 ghost use Rattle.std.specs.Str.{chars};
-ghost use Rattle.textarea_text.specs.Text.{Character, text_of};
-ghost use Rattle.textarea_document.specs.Edits.{has_symbols};
-ghost use Rattle.textarea_document.specs.Selection.{is_selected};
-ghost use Rattle.textarea_text.specs.Fragment.{fragment_symbols};
-ghost use Rattle.tui_textarea.specs.Edits.{inserts_tab, inserts_text, symbols_or_none_inserted, spaces_to_stop, char_inserted, char_or_break_inserted, newline_inserted, tab_inserted, tab_or_spaces_inserted, str_inserted};
-ghost use Rattle.tui_textarea.specs.Selection.{IsInsertOutOfMemory, selection_cancelled, unselected};
+ghost use Rattle.tui_textarea.specs.Prelude.{Character, text_of, has_symbols, is_selected, fragment_symbols, inserts_tab, inserts_text, symbols_or_none_inserted, spaces_to_stop, char_inserted, char_or_break_inserted, newline_inserted, tab_inserted, tab_or_spaces_inserted, str_inserted, IsInsertOutOfMemory, selection_cancelled, unselected};
 
 use crate::textarea::TextArea;
 use std::alloc::{AllocError, Global};

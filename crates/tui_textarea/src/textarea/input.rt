@@ -1,10 +1,7 @@
 //! Keys: each input asks for one of the calls, by one of the two key tables of `textarea_calls`.
 ghost use Rattle.std.specs.Prelude.{◌≡◌, IfOk, OnErr, OnOk};
-ghost use Rattle.textarea_calls.specs.CallGroups.{call_of_edit};
+ghost use Rattle.tui_textarea.specs.Prelude.{call_of_edit, IsAfterAction, IsInputOutOfMemory, ActMayRunOutOfMemory, action_flag, asked_by, asked_without_shortcuts, IsResultOf, IsAfterCall, RanOutOfMemory, Flag};
 ghost use Rattle.textarea_calls.specs.declared.action.Action.TheVariants as act;
-ghost use Rattle.tui_textarea.specs.Input.{IsAfterAction, IsInputOutOfMemory, ActMayRunOutOfMemory, action_flag, asked_by, asked_without_shortcuts};
-ghost use Rattle.tui_textarea.specs.Outcomes.{IsResultOf, IsAfterCall, RanOutOfMemory};
-ghost use Rattle.tui_textarea.specs.CallResults.{Flag};
 
 use crate::textarea::TextArea;
 use std::alloc::AllocError;

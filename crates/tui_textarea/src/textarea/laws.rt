@@ -1,12 +1,6 @@
 //! Laws of text areas, each the contract of a function that does nothing.
 ghost use Rattle.std.specs.Prelude.{ℕ, ◌≡◌, ◌<◌, ◌≤◌, Bool, length, true, IfSome};
-ghost use Rattle.textarea_text.specs.Place.{IsPlace};
-ghost use Rattle.textarea_text.specs.Splice.{Fits, Splice};
-ghost use Rattle.textarea_document.specs.DocumentLaw.{RestoresAll, RestoresDocument, ListsFit};
-ghost use Rattle.textarea_document.specs.Outcomes.{after_edit};
-ghost use Rattle.textarea_document.specs.Selection.{is_selected};
-ghost use Rattle.textarea_document.specs.Sound.{IsSound};
-ghost use Rattle.tui_textarea.specs.TextAreaLaw.{HasRowsFromScratch, PastesCopy};
+ghost use Rattle.tui_textarea.specs.Prelude.{IsPlace, Fits, Splice, RestoresAll, RestoresDocument, ListsFit, after_edit, is_selected, IsSound, HasRowsFromScratch, PastesCopy};
 
 use crate::textarea::TextArea;
 use textarea_lines::laws::one_list_of_rows;

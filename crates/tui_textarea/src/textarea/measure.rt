@@ -1,7 +1,6 @@
 //! Measuring the height.
 ghost use Rattle.std.specs.Prelude.{◌≡◌, ◌≤◌, IfOk, IsOk, true};
-ghost use Rattle.textarea_view.specs.SurroundState.{AreBounds};
-ghost use Rattle.tui_textarea.specs.Measure.{IsMeasured, reads_rows};
+ghost use Rattle.tui_textarea.specs.Prelude.{AreBounds, IsMeasured, reads_rows};
 
 use crate::textarea::TextArea;
 use std::alloc::AllocError;

@@ -1,7 +1,6 @@
 //! Moves of the cursor.
 ghost use Rattle.std.specs.Prelude.{◌≡◌, IfSome};
-ghost use Rattle.textarea_text.specs.Place.{IsPlace};
-ghost use Rattle.tui_textarea.specs.Moves.{IsMoved, IsMovedWith, IsTarget, anchor_with, bias_of};
+ghost use Rattle.tui_textarea.specs.Prelude.{IsPlace, IsMoved, IsMovedWith, IsTarget, anchor_with, bias_of};
 
 use crate::textarea::TextArea;
 use textarea_data::cursor::CursorMove;

@@ -1,8 +1,6 @@
 //! Undo and redo.
 ghost use Rattle.std.specs.Prelude.{◌≡◌, OnOk, OnErr, IsOk, IfOk, None, is_some};
-ghost use Rattle.textarea_history.specs.Log.{newest, next};
-ghost use Rattle.textarea_document.specs.Outcomes.{after_redo, after_undo};
-ghost use Rattle.tui_textarea.specs.State.{with_document};
+ghost use Rattle.tui_textarea.specs.Prelude.{newest, next, after_redo, after_undo, with_document};
 
 use crate::textarea::TextArea;
 use std::alloc::AllocError;

@@ -1,12 +1,6 @@
 //! Atomic ranges: spans of characters in a line that are edited as a whole.
 ghost use Rattle.std.specs.Prelude.{◌≡◌, IfOk, IsOk, MatchResult, None, OnErr, OnOk, is_some};
-ghost use Rattle.textarea_text.specs.Text.{lines};
-ghost use Rattle.textarea_ranges.specs.Lookup.{range_around};
-ghost use Rattle.textarea_ranges.specs.Order.{AreInOrder};
-ghost use Rattle.textarea_ranges.specs.Rejected.{AreRejected};
-ghost use Rattle.textarea_ranges.specs.Valid.{AreValid};
-ghost use Rattle.textarea_document.specs.Edits.{range_at_cursor};
-ghost use Rattle.tui_textarea.specs.Ranges.{cursor_normalized, atomic_range_removed, ranges_accepted, ranges_cleared};
+ghost use Rattle.tui_textarea.specs.Prelude.{lines, range_around, AreInOrder, AreRejected, AreValid, range_at_cursor, cursor_normalized, atomic_range_removed, ranges_accepted, ranges_cleared};
 
 use crate::textarea::TextArea;
 use std::alloc::AllocError;

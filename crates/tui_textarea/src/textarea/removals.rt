@@ -1,8 +1,6 @@
 //! Removals. If text is selected, each of them but `clear` removes only that.
 ghost use Rattle.std.specs.Prelude.{◌≡◌, ◌<◌, OnOk, OnErr, IsOk, IfOk, IfSome, MatchOption, false, true};
-ghost use Rattle.textarea_text.specs.Place.{IsPlace, index_of, place_of};
-ghost use Rattle.textarea_document.specs.Edits.{has_symbols};
-ghost use Rattle.tui_textarea.specs.Removals.{break_before_removed, text_cleared, has_ahead, has_before, has_after, has_break_before, has_line_before, has_line_after, has_word_before, has_word_after, index_ahead, back_to_word_removed, on_to_word_end_removed, line_end_removed, line_head_removed, removes_or, symbol_before_removed, symbol_after_removed, symbols_ahead_removed, unselected_or, word_before_removed, word_after_removed, yanked};
+ghost use Rattle.tui_textarea.specs.Prelude.{IsPlace, index_of, place_of, has_symbols, break_before_removed, text_cleared, has_ahead, has_before, has_after, has_break_before, has_line_before, has_line_after, has_word_before, has_word_after, index_ahead, back_to_word_removed, on_to_word_end_removed, line_end_removed, line_head_removed, removes_or, symbol_before_removed, symbol_after_removed, symbols_ahead_removed, unselected_or, word_before_removed, word_after_removed, yanked};
 
 use crate::textarea::TextArea;
 use std::alloc::AllocError;

@@ -1,17 +1,7 @@
 //! Drawing into a buffer, the caret, the position that a cell shows, and scrolling.
 ghost use Rattle.std.specs.Prelude.{◌≡◌, IfOk, IfSome, IsOk, OnErr, OnOk};
 ghost use Rattle.std.specs.Option.{option_map};
-ghost use Rattle.tui_textarea.specs.CaretHit.{IsCursorAtCaret, IsCaretHit};
-ghost use Rattle.tui_textarea.specs.Hit.{IsHitTest};
-ghost use Rattle.tui_textarea.specs.Rendered.{IsDrawn};
-ghost use Rattle.tui_textarea.specs.CaretVisible.{IsCaretVisible};
-ghost use Rattle.textarea_view.specs.Placements.{cell_of_position};
-ghost use Rattle.textarea_screen.specs.Buffer.{KeepsOutside};
-ghost use Rattle.textarea_screen.specs.Rect.{contains};
-ghost use Rattle.textarea_screen.specs.declared.screen.alignment.Alignment.TheVariants.{Left};
-ghost use Rattle.textarea_text.specs.Place.{IsPlace};
-ghost use Rattle.tui_textarea.specs.Drawing.{IsRendered, widget_of};
-ghost use Rattle.tui_textarea.specs.Moves.{IsScrolled, IsScrolledWith};
+ghost use Rattle.tui_textarea.specs.Prelude.{IsCursorAtCaret, IsCaretHit, IsHitTest, IsDrawn, IsCaretVisible, cell_of_position, KeepsOutside, contains, Left, IsPlace, IsRendered, widget_of, IsScrolled, IsScrolledWith};
 
 use crate::textarea::TextArea;
 use std::alloc::AllocError;

@@ -1,9 +1,7 @@
 //! The search pattern, and the searches for it.
 ghost use Rattle.std.specs.Prelude.{◌≡◌, [], Some, None, OnOk, OnErr, IsOk, IfOk, IfErr, IfSome, is_some};
 ghost use Rattle.std.specs.Option.{option_copied};
-ghost use Rattle.textarea_text.specs.Place.{IsPlace};
-ghost use Rattle.textarea_search.specs.PatternErrors.{IsErrorFor, IsOwnFailure, IsPatternFailure};
-ghost use Rattle.tui_textarea.specs.Search.{found_match, next_match, previous_match, after_search, with_pattern};
+ghost use Rattle.tui_textarea.specs.Prelude.{IsPlace, IsErrorFor, IsOwnFailure, IsPatternFailure, found_match, next_match, previous_match, after_search, with_pattern};
 
 use crate::textarea::TextArea;
 use std::alloc::AllocError;

@@ -1,10 +1,7 @@
 //! The selection, copying and cutting.
 ghost use Rattle.std.specs.Prelude.{◌≡◌, OnOk, OnErr, IsOk, IfOk, IfSome, false, is_some, string_bytes};
 ghost use Rattle.std.specs.Str.{chars};
-ghost use Rattle.textarea_text.specs.Place.{IsPlace};
-ghost use Rattle.textarea_document.specs.Selection.{is_selected, selection};
-ghost use Rattle.textarea_text.specs.Fragment.{fragment_symbols, fragment_text};
-ghost use Rattle.tui_textarea.specs.Selection.{all_selected, selection_copied, selection_cut, selection_cancelled, selection_started};
+ghost use Rattle.tui_textarea.specs.Prelude.{IsPlace, is_selected, selection, fragment_symbols, fragment_text, all_selected, selection_copied, selection_cut, selection_cancelled, selection_started};
 
 use crate::textarea::TextArea;
 use std::alloc::AllocError;

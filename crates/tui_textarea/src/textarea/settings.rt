@@ -1,10 +1,7 @@
 //! The settings.
 ghost use Rattle.std.specs.Prelude.{◌≡◌, ◌<◌, ◌≤◌, ◌+◌, length, [], ◌∷◌};
 ghost use Rattle.std.specs.Duration.{as_nanos};
-ghost use Rattle.textarea_history.specs.Log.{empty_log};
-ghost use Rattle.textarea_document.specs.Outcomes.{run_ended};
-ghost use Rattle.tui_textarea.specs.State.{default_settings, with_document};
-ghost use Rattle.tui_textarea.specs.LayoutCalls.{indent_of};
+ghost use Rattle.tui_textarea.specs.Prelude.{empty_log, run_ended, default_settings, with_document, indent_of};
 
 use crate::textarea::TextArea;
 use std::time::Duration;

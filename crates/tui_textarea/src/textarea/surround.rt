@@ -1,11 +1,7 @@
 //! The surround: a block around the text, a placeholder for an empty text, and height limits.
 ghost use Rattle.std.specs.Prelude.{◌≡◌, [], IsOk, None, OnErr, OnOk, Some};
 ghost use Rattle.std.specs.Option.{option_map};
-ghost use Rattle.textarea_screen.specs.Block.{block_view};
-ghost use Rattle.textarea_screen.specs.Text.{text_view};
-ghost use Rattle.textarea_view.specs.SurroundState.{AreBounds, first_bytes, style_with_lines};
-ghost use Rattle.textarea_view.specs.Outcomes.{with_max_rows, with_min_rows, with_placeholder_style, with_placeholder_text};
-ghost use Rattle.tui_textarea.specs.Measure.{with_surround};
+ghost use Rattle.tui_textarea.specs.Prelude.{block_view, text_view, AreBounds, first_bytes, style_with_lines, with_max_rows, with_min_rows, with_placeholder_style, with_placeholder_text, with_surround};
 
 use crate::textarea::TextArea;
 use std::alloc::AllocError;
