@@ -1,0 +1,154 @@
+/* Refuses each request for memory of a list of calls, one in turn. The call that is refused says so,
+ * leaves the text area as it was, and, made again, leads to the same end. Linked with
+ * -Wl,--wrap=malloc,--wrap=realloc. Exit status 1, and what fails, if something does. */
+#include "check.h"
+
+static long refused_at; /* the number of the request to refuse; 0 for none */
+static long requests;
+
+void *__real_malloc(size_t size);
+void *__real_realloc(void *at, size_t size);
+
+static int is_refused(void) { return ++requests == refused_at; }
+
+void *__wrap_malloc(size_t size) { return is_refused() ? NULL : __real_malloc(size); }
+
+void *__wrap_realloc(void *at, size_t size) { return is_refused() ? NULL : __real_realloc(at, size); }
+
+static ta_handle_t copy;
+static const ta_style_t none = {0};
+static const ta_area_t place = {1, 1, 12, 5};
+
+static uint32_t made(ta_handle_t *a) { return ta_new(a); }
+static uint32_t typed(ta_handle_t *a) { return ta_insert_char(a, 'x'); }
+static uint32_t broken(ta_handle_t *a) { return ta_insert_newline(a); }
+static uint32_t written(ta_handle_t *a) { return ta_insert_str(a, TEXT("one two\nthree and a long line of text\n\xe7\x8a\xac")); }
+static uint32_t tabbed(ta_handle_t *a) { return ta_insert_tab(a); }
+static uint32_t selected(ta_handle_t *a) { return ta_start_selection(a) | ta_move_cursor(a, TA_MOVE_UP); }
+static uint32_t over(ta_handle_t *a) { return ta_insert_str(a, TEXT("over\nit")); }
+static uint32_t copied(ta_handle_t *a) { return ta_select_all(a) | ta_copy(a); }
+static uint32_t pasted(ta_handle_t *a) { return ta_paste(a); }
+static uint32_t top(ta_handle_t *a) { return ta_jump(a, 0, 2); }
+static uint32_t next_word(ta_handle_t *a) { return ta_delete_next_word(a); }
+static uint32_t to_end(ta_handle_t *a) { return ta_delete_line_by_end(a); }
+static uint32_t next_char(ta_handle_t *a) { return ta_delete_next_char(a); }
+static uint32_t some(ta_handle_t *a) { return ta_delete_str(a, 4); }
+static uint32_t undone(ta_handle_t *a) { return ta_undo(a); }
+static uint32_t redone(ta_handle_t *a) { return ta_redo(a); }
+static uint32_t wrapped(ta_handle_t *a) { return ta_set_wrap_mode(a, TA_WRAP_WORD_OR_GLYPH); }
+static uint32_t numbered(ta_handle_t *a) { return ta_set_line_number_style(a, &none); }
+static uint32_t pattern(ta_handle_t *a) { return ta_set_search_pattern(a, TEXT("t[a-z]+")); }
+static uint32_t wrong(ta_handle_t *a) {
+    uint32_t status = ta_set_search_pattern(a, TEXT("(a"));
+    return status == TA_PATTERN_REJECTED ? TA_OK : status;
+}
+static uint32_t found(ta_handle_t *a) { return ta_search_forward(a, false); }
+static uint32_t ranges(ta_handle_t *a) {
+    ta_range_t two[] = {{1, 0, 2}, {0, 0, 1}};
+    return ta_set_atomic_ranges(a, two, 2);
+}
+static uint32_t bad_ranges(ta_handle_t *a) {
+    ta_range_t two[] = {{1, 2, 2}, {9, 0, 1}};
+    uint32_t status = ta_set_atomic_ranges(a, two, 2);
+    return status == TA_RANGES_REJECTED ? TA_OK : status;
+}
+static uint32_t block(ta_handle_t *a) {
+    ta_block_t all = {.borders = TA_BORDER_TOP | TA_BORDER_LEFT, .has_title = true};
+    ta_span_t span = {5, none};
+    return ta_set_block(a, &all, TEXT("title"), &span, 1);
+}
+static uint32_t placeholder(ta_handle_t *a) { return ta_set_placeholder_text(a, TEXT("placeholder")); }
+static uint32_t styled(ta_handle_t *a) {
+    ta_span_t spans[] = {{2, none}, {3, none}};
+    ta_line_t lines[] = {{1, none}, {1, none}};
+    return ta_set_styled_placeholder(a, TEXT("title"), spans, 2, lines, 2, &none);
+}
+static uint32_t highlight(ta_handle_t *a) { return ta_custom_highlight(a, 0, 0, 1, 3, &none, 3); }
+static uint32_t screen(ta_handle_t *a) { return ta_screen_reset(a, &place); }
+static uint32_t long_cell(ta_handle_t *a) {
+    return ta_screen_put(a, 2, 2, TEXT("a text that is longer than a cell has room for"), &none);
+}
+static uint32_t drawn(ta_handle_t *a) { return ta_render(a, &place); }
+static uint32_t measured(ta_handle_t *a) {
+    ta_measure_t heights;
+    return ta_measure(a, 9, &heights);
+}
+static uint32_t yank(ta_handle_t *a) {
+    uint8_t out[4];
+    size_t needed;
+    return ta_yank_text(a, out, 4, &needed) | ta_set_yank_text(a, TEXT("new\ntext"));
+}
+static uint32_t cloned(ta_handle_t *a) { return ta_clone(a, &copy); }
+static uint32_t lines(ta_handle_t *a) {
+    size_t ends[] = {3, 10};
+    return ta_set_lines(a, TEXT("one and two"), ends, 2, 1, 4);
+}
+static uint32_t key(ta_handle_t *a) {
+    ta_input_t input = {.key = TA_KEY_CHAR, .argument = 'k'};
+    return ta_input(a, &input);
+}
+static uint32_t cleared(ta_handle_t *a) { return ta_clear(a); }
+
+static uint32_t (*const steps[])(ta_handle_t *) = {
+    made,    written, typed,    broken,  selected,  over,       tabbed,      copied, pasted, top,
+    typed,   undone,  redone,   wrapped, numbered,  screen,     drawn,       some,   drawn,  next_word,
+    to_end,  undone,  undone,   ranges,  bad_ranges, next_char, undone,      pattern, wrong, found,
+    block,   placeholder, styled, highlight, drawn, long_cell,  measured,    yank,   pasted, cloned,
+    key,     lines,   key,      drawn,   cleared,   drawn,
+};
+
+/* A text of all that can be read of the text area without memory. */
+static const char *state_of(ta_handle_t *area) {
+    static char state[4][2500];
+    static int next;
+    size_t n[6] = {0};
+    char *text = state[next++ % 4];
+    if (!area->full) return "empty";
+    long before = refused_at;
+    refused_at = 0;
+    ta_cursor(area, &n[0], &n[1]);
+    ta_selection_range(area, &n[2], &n[3], &n[4], &n[5]);
+    snprintf(text, 2500, "%s%zu %zu, %zu %zu %zu %zu", lines_of(area), n[0], n[1], n[2], n[3], n[4], n[5]);
+    refused_at = before;
+    return text;
+}
+
+/* Makes all calls; where one is refused, checks it and makes it again. */
+static const char *run(long refused, int *was_refused) {
+    ta_handle_t area = {0};
+    refused_at = refused;
+    requests = 0;
+    *was_refused = 0;
+    for (size_t i = 0; i < sizeof steps / sizeof *steps; i++) {
+        const char *before = state_of(&area);
+        uint32_t status = steps[i](&area);
+        if (status == TA_OUT_OF_MEMORY) {
+            CHECK(!*was_refused && requests >= refused);
+            *was_refused = 1;
+            if (steps[i] != over && steps[i] != copied) CHECK(!strcmp(before, state_of(&area)));
+            status = steps[i](&area);
+        }
+        if (status > TA_FALSE) {
+            printf("step %zu returns %u where request %ld is refused\n", i, status, refused);
+            exit(1);
+        }
+    }
+    refused_at = 0;
+    const char *end = state_of(&area);
+    ta_free(&area);
+    ta_free(&copy);
+    return end;
+}
+
+int main(void) {
+    int was_refused;
+    char end[2500];
+    strcpy(end, run(0, &was_refused));
+    long count = requests;
+    for (long k = 1; k <= count; k++) {
+        const char *other = run(k, &was_refused);
+        CHECK(!strcmp(end, other));
+    }
+    printf("%ld requests refused, each in turn\n", count);
+    return 0;
+}

@@ -1,0 +1,160 @@
+"""Makes the calls of a script of `tascript` on a `TextArea`, and prints what `tascript` prints.
+
+    python3 replay.py < script
+
+A script has one command a line (docs/RULES.md); every command here is one that can be read.
+"""
+
+import re
+import sys
+
+from textarea import (
+    Area, Input, Key, Move, Page, PatternRejected, Range, RangesRejected, Style, TextArea, WrapMode,
+)
+
+ESCAPES = {"\\": "\\\\", "\n": "\\n", "\r": "\\r", "\t": "\\t"}
+EDITS = """insert_tab delete_newline delete_char delete_next_char delete_line_by_end
+delete_line_by_head delete_word delete_next_word clear cut paste undo redo""".split()
+CALLS = "insert_newline copy start_selection cancel_selection select_all clear_atomic_ranges".split()
+
+
+def escaped(text):
+    return "".join(ESCAPES.get(c, c) for c in text)
+
+
+def unescaped(text):
+    def character(match):
+        letter = match[1]
+        return chr(int(match[2], 16)) if match[2] else {"n": "\n", "r": "\r", "t": "\t"}.get(letter, letter)
+
+    return re.sub(r"\\(u\{(\w+)\}|.)", character, text, flags=re.S)
+
+
+def constant(name):
+    """The name of a constant for a name of Rust."""
+    return re.sub(r"(?<=[a-z0-9])(?=[A-Z])", "_", name).upper()
+
+
+def input_of(words):
+    modifiers, key, *rest = words.split(" ", 2)
+    argument = 0
+    if key == "Char":
+        argument = unescaped(rest[0])
+    elif key == "F":
+        argument = int(rest[0])
+    return Input(Key[constant(key)], argument, "c" in modifiers, "a" in modifiers, "s" in modifiers)
+
+
+def truth(value):
+    return "true" if value else "false"
+
+
+class Replay:
+    def __init__(self):
+        self.area = TextArea()
+        self.area.set_now(0)
+        self.area.reset_screen(Area(0, 0, 80, 24))
+        self.drawn = None
+
+    def call(self, line):
+        """Makes the call of a command, and returns its result in words."""
+        area, (name, _, words) = self.area, line.partition(" ")
+        numbers = [int(w) for w in words.split()] if re.fullmatch(r"-?\d+( -?\d+)*", words) else []
+        if name in EDITS:
+            return truth(getattr(area, name)())
+        if name in CALLS:
+            getattr(area, name)()
+        elif name == "insert_char":
+            area.insert_char(unescaped(words))
+        elif name == "insert_str":
+            return truth(area.insert_str(unescaped(words)))
+        elif name == "delete_str":
+            return truth(area.delete_str(numbers[0]))
+        elif name in ("search_forward", "search_back"):
+            return truth(getattr(area, name)(words == "true"))
+        elif name == "input":
+            return truth(area.input(input_of(words)))
+        elif name == "yank_text":
+            return "text " + escaped(area.yank_text)
+        elif name == "set_yank_text":
+            area.yank_text = unescaped(words)
+        elif name == "set_search_pattern":
+            try:
+                area.search_pattern = unescaped(words)
+            except PatternRejected:
+                return "pattern"
+        elif name == "ranges":
+            try:
+                area.atomic_ranges = [Range(*numbers[i:i + 3]) for i in range(0, len(numbers), 3)]
+            except RangesRejected as error:
+                names = "Empty RowOutOfBounds ColumnOutOfBounds OverlapsPrevious".split()
+                rejected = [f"{r.row}:{r.start}..{r.end} {names[why]}" for r, why in error.rejected]
+                return " ".join(["rejected", *rejected])
+        elif name == "set_lines":
+            row, column, *text = words.split(" ", 2)
+            lines = (text[0] if text else "").split("\\n")
+            area.set_lines([unescaped(line) for line in lines], (int(row), int(column)))
+        elif name == "measure":
+            return " ".join(map(str, area.measure(numbers[0])))
+        elif name == "render":
+            self.drawn = Area(*numbers)
+            area.render(self.drawn)
+        elif name == "hit":
+            place = area.cursor_at_position(*numbers)
+            return f"{place[0]} {place[1]}" if place else "none"
+        elif name == "move":
+            area.move_cursor(Move[constant(words)])
+        elif name == "jump":
+            area.jump(*numbers)
+        elif name == "scroll":
+            area.scroll(*numbers)
+        elif name == "page":
+            area.scroll_page(Page[constant(words)])
+        elif name == "set_tab_length":
+            area.tab_length = numbers[0]
+        elif name == "set_hard_tab_indent":
+            area.hard_tab_indent = words == "true"
+        elif name == "set_max_histories":
+            area.max_histories = numbers[0]
+        elif name == "set_undo_coalescing":
+            area.undo_coalescing = words == "true"
+        elif name == "set_wrap_mode":
+            area.wrap_mode = WrapMode[constant(words)]
+        elif name == "set_mask_char":
+            area.mask_char = unescaped(words)
+        elif name == "clear_mask_char":
+            area.mask_char = None
+        elif name == "line_numbers":
+            area.line_number_style = Style() if words == "true" else None
+        elif name == "now":
+            area.set_now(numbers[0] * 1_000_000)
+        else:
+            sys.exit(f"no command: {line}")
+        return "ok"
+
+    def end(self):
+        """What is printed of the text area and its screen."""
+        area = self.area
+        out = [f"lines {len(area.lines)}", *("|" + escaped(line) for line in area.lines)]
+        out.append("cursor {} {}".format(*area.cursor))
+        ends = area.selection_range
+        out.append("selection {} {} {} {}".format(*ends[0], *ends[1]) if ends else "selection none")
+        if self.drawn:
+            x, y, width, height = self.drawn
+            right, bottom = min(x + width, 65535, 80), min(y + height, 65535, 24)
+            rows = area.cells[y:bottom]
+            out.append(f"screen {len(rows)}")
+            out += ["|" + escaped("".join(cell.symbol for cell in row[x:right])) + "|" for row in rows]
+        return out
+
+
+def main():
+    replay, out = Replay(), []
+    for line in sys.stdin.buffer.read().decode().split("\n"):
+        if line:
+            out.append(f"{len(out) + 1} {replay.call(line)}")
+    sys.stdout.buffer.write("".join(line + "\n" for line in out + replay.end()).encode())
+
+
+if __name__ == "__main__":
+    main()

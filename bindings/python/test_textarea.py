@@ -1,0 +1,203 @@
+"""Tests of each group of calls: python3 -m unittest test_textarea"""
+
+import doctest
+import unittest
+
+import textarea
+from textarea import (
+    Alignment, Area, Block, Borders, Color, CursorRenderMode, Input, Key, Line, Modifier, Move,
+    Padding, Page, PatternRejected, Range, RangesRejected, Reason, Side, Span, Style, TextArea,
+    WrapMode,
+)
+
+RED = Style(Color.RED, add=Modifier.BOLD)
+
+
+class Calls(unittest.TestCase):
+    def test_lines(self):
+        area = TextArea("one\ntwo")
+        self.assertEqual((area.lines, area.cursor, area.is_empty), (["one", "two"], (0, 0), False))
+        self.assertEqual((area.line(1), area.line(2)), ("two", None))
+        area.set_lines(["a\nb", "é" * 200], (1, 999))
+        self.assertEqual((area.lines, area.cursor), (["a\nb", "é" * 200], (1, 200)))
+        self.assertEqual(TextArea.from_lines([]).lines, [""])
+        self.assertEqual(TextArea.from_lines(str(i) for i in range(50)).line(49), "49")
+        copy = area.copy_area()
+        self.assertTrue(area.clear() and area.is_empty)
+        self.assertEqual(copy.lines[0], "a\nb")
+        self.assertEqual(repr(area), "<TextArea [''] cursor=(0, 0)>")
+        with self.assertRaises(ValueError):
+            area.set_lines([])
+
+    def test_edits(self):
+        area = TextArea()
+        area.insert_char("a")
+        area.insert_newline()
+        self.assertTrue(area.insert_str("b\r\nc") and area.insert_tab() and not area.insert_str(""))
+        self.assertEqual(area.lines, ["a", "b", "c   "])
+        self.assertFalse(area.paste())
+        area.yank_text = "x\ny"
+        self.assertTrue(area.paste() and area.yank_text == "x\ny")
+        self.assertTrue(area.delete_char() and area.delete_newline() and area.delete_word())
+        area.jump(0, 0)
+        self.assertTrue(area.delete_next_char() and area.delete_next_char() and area.delete_str(2))
+        self.assertTrue(area.delete_next_word() and area.delete_line_by_end() and not area.delete_line_by_head())
+        self.assertTrue(area.undo() and area.redo() and not area.redo())
+        with self.assertRaises(ValueError):
+            area.insert_char("\ud800")
+
+    def test_history(self):
+        area = TextArea()
+        self.assertEqual((area.max_histories, area.undo_coalescing), (50, False))
+        area.undo_coalescing = True
+        area.insert_char("a")
+        area.insert_char("b")
+        self.assertTrue(area.undo() and area.is_empty)
+        for seconds in (1, 2):
+            area.set_now(seconds * 10**9)
+            area.insert_char("c")
+        self.assertTrue(area.undo() and area.text == "c")
+        area.max_histories = 0
+        self.assertFalse(area.undo())
+
+    def test_moves_and_selection(self):
+        area = TextArea("one two\nthree")
+        area.move_cursor(Move.WORD_FORWARD)
+        self.assertEqual((area.cursor, area.selection_range, area.is_selecting), ((0, 4), None, False))
+        area.start_selection()
+        area.move_cursor(Move.DOWN)
+        self.assertEqual(area.selection_range, ((0, 4), (1, 4)))
+        area.copy()
+        self.assertEqual(area.yank_text, "two\nthre")
+        self.assertFalse(area.cut())
+        area.select_all()
+        area.cancel_selection()
+        area.select_all()
+        self.assertTrue(area.cut() and area.is_empty)
+        area = TextArea("\n".join(map(str, range(20))))
+        area.reset_screen(Area(0, 0, 24, 8))
+        area.render(Area(0, 0, 24, 8))
+        area.scroll(15)
+        self.assertEqual((area.cursor, area.viewport), ((15, 0), (15, 0, 24, 8)))
+        area.scroll_page(Page.HALF_PAGE_UP)
+        area.scroll_page(Page.PAGE_UP)
+        self.assertEqual(area.cursor, (10, 0))
+        with self.assertRaises(ValueError):
+            area.move_cursor(14)
+
+    def test_inputs(self):
+        area = TextArea()
+        self.assertTrue(area.input(Input.char("犬")) and area.input(Input(Key.ENTER)))
+        self.assertFalse(area.input(Input(Key.F, 12)) or area.input(Input(Key.NULL)))
+        self.assertTrue(area.input(Input.char("u", ctrl=True)) and area.text == "犬")
+        self.assertFalse(area.input_without_shortcuts(Input.char("u", ctrl=True)))
+        self.assertTrue(area.input_without_shortcuts(Input(Key.BACKSPACE)) and area.is_empty)
+
+    def test_search(self):
+        area = TextArea("one two\none")
+        self.assertIsNone(area.search_pattern)
+        area.search_pattern = "o.e"
+        self.assertTrue(area.search_forward() and area.cursor == (1, 0))
+        self.assertTrue(area.search_back() and area.cursor == (0, 0) and area.search_forward(True))
+        with self.assertRaisesRegex(PatternRejected, "."):
+            area.search_pattern = "("
+        self.assertEqual(area.search_pattern, "o.e")
+        area.search_pattern = None
+        self.assertIsNone(area.search_pattern)
+
+    def test_ranges(self):
+        area = TextArea("@one two\nthree")
+        area.atomic_ranges = [Range(1, 0, 5), Range(0, 0, 4)]
+        self.assertEqual(area.atomic_ranges, [(0, 0, 4), (1, 0, 5)])
+        with self.assertRaises(RangesRejected) as caught:
+            area.atomic_ranges = [Range(0, 2, 2), Range(7, 0, 1)]
+        self.assertEqual(caught.exception.rejected, [((0, 2, 2), Reason.EMPTY), ((7, 0, 1), Reason.ROW_OUT_OF_BOUNDS)])
+        self.assertEqual(area.atomic_range_at_cursor(Side.FORWARD), (0, 0, 4))
+        self.assertIsNone(area.atomic_range_at_cursor(Side.BACKWARD))
+        self.assertFalse(area.normalize_cursor_around_atomic_ranges(Side.FORWARD))
+        self.assertEqual(area.delete_atomic_range_at_cursor(Side.FORWARD), (0, 0, 4))
+        self.assertEqual((area.lines[0], area.atomic_ranges), (" two", [(1, 0, 5)]))
+        area.clear_atomic_ranges()
+        self.assertEqual(area.atomic_ranges, [])
+
+    def test_settings(self):
+        area = TextArea("one two three")
+        self.assertEqual((area.tab_length, area.hard_tab_indent, area.indent), (4, False, "    "))
+        area.tab_length, area.hard_tab_indent = 2, True
+        self.assertEqual((area.tab_length, area.indent), (2, "\t"))
+        for mode in WrapMode:
+            area.wrap_mode = mode
+            self.assertEqual(area.wrap_mode, mode)
+        area.wrap_mode = WrapMode.WORD
+        self.assertEqual(area.measure(6), (3, 3, 1, 65535))
+        area.line_number_style = RED
+        self.assertEqual(area.line_number_style, RED)
+        for alignment in Alignment:
+            area.alignment = alignment
+            self.assertEqual(area.alignment, alignment)
+        self.assertIsNone(area.line_number_style)
+        area.line_number_style = None
+        area.min_rows, area.max_rows = 3, 0
+        self.assertEqual((area.min_rows, area.max_rows), (3, 3))
+
+    def test_looks(self):
+        area = TextArea("one")
+        styles = [RED, Style(bg=Color.rgb(1, 2, 3)), Style(Color.indexed(9)), Style(remove=Modifier.DIM), Style(Color.RESET)]
+        names = ["style", "cursor_style", "cursor_line_style", "selection_style", "search_style"]
+        for name, style in zip(names, styles):
+            setattr(area, name, style)
+        self.assertEqual([getattr(area, name) for name in names], styles)
+        self.assertIsNone(area.mask_char)
+        area.mask_char = "•"
+        area.cursor_render_mode = CursorRenderMode.HIDDEN
+        self.assertEqual((area.mask_char, area.cursor_render_mode), ("•", CursorRenderMode.HIDDEN))
+        area.custom_highlight((0, 1), (0, 3), Style(Color.GREEN), 40)
+        area.reset_screen(Area(0, 0, 5, 1))
+        area.render(Area(0, 0, 5, 1))
+        self.assertEqual((area.screen, area.cell(1, 0).fg, area.cell(9, 9)), (["•••  "], Color.GREEN, None))
+        area.mask_char = None
+        area.clear_custom_highlight()
+        area.render(Area(0, 0, 5, 1))
+        self.assertEqual(area.screen, ["one  "])
+
+    def test_surroundings(self):
+        area = TextArea()
+        title = Line((Span("a"), Span("bc", RED)), RED)
+        block = Block(Borders.ALL, Padding(1, 1, 1, 1), title, RED, RED)
+        self.assertIsNone(area.block)
+        area.block = block
+        self.assertEqual(area.block, block)
+        area.set_placeholder_text("say")
+        area.reset_screen(Area(2, 1, 9, 5))
+        area.render(Area(2, 1, 9, 5))
+        self.assertEqual([area.screen[0], area.screen[2]], ["┌abc────┐", "│  say  │"])
+        self.assertEqual((area.placeholder_text, area.placeholder_style), ("say", Style(Color.DARK_GRAY)))
+        area.set_placeholder([title, Line.of("x"), Line()], RED)
+        self.assertEqual(area.placeholder, ((title, Line.of("x"), Line()), RED))
+        area.placeholder_style = Style()
+        self.assertEqual(area.placeholder_style, Style())
+        area.set_placeholder([])
+        self.assertIsNone(area.placeholder_style)
+        area.block = None
+        self.assertIsNone(area.block)
+
+    def test_drawing(self):
+        area = TextArea("one\ntwo")
+        self.assertIsNone(area.rendered_cursor_position)
+        area.reset_screen(Area(10, 5, 8, 2))
+        area.render(Area(10, 5, 8, 2))
+        self.assertEqual((area.screen, area.screen_area), (["one     ", "two     "], (10, 5, 8, 2)))
+        self.assertEqual(area.rendered_cursor_position, (10, 5))
+        self.assertEqual((area.cursor_at_position(12, 6), area.cursor_at_position(9, 5)), ((1, 2), None))
+        long = "e" + "\u0301" * 14
+        area.put(11, 5, long, RED)
+        self.assertEqual((area.cell(11, 5).symbol, area.cells[0][1].fg), (long, Color.RED))
+        area.set_screen_style(Area(11, 5, 1, 1), Style(Color.BLUE))
+        self.assertEqual(area.cell(11, 5).fg, Color.BLUE)
+
+    def test_documentation(self):
+        self.assertEqual(doctest.testmod(textarea).failed, 0)
+
+
+if __name__ == "__main__":
+    unittest.main()

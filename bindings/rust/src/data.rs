@@ -1,0 +1,254 @@
+//! Plain data.
+
+use crate::sys;
+use std::error::Error;
+use std::fmt;
+use std::ops::Deref;
+
+/// A way to move the cursor.
+#[derive(Clone, Copy, Debug, PartialEq, Eq)]
+pub enum CursorMove {
+    /// To the next position; from the end of a line, to the start of the next one.
+    Forward,
+    /// To the previous position; from the start of a line, to the end of the line above.
+    Back,
+    /// To the visual row above.
+    Up,
+    /// To the visual row below.
+    Down,
+    /// To the start of the cursor's line.
+    Head,
+    /// To the end of the cursor's line.
+    End,
+    /// To the first line.
+    Top,
+    /// To the last line.
+    Bottom,
+    /// To the start of the next word.
+    WordForward,
+    /// To the last character of a word.
+    WordEnd,
+    /// To the start of the previous word.
+    WordBack,
+    /// To the start of the next paragraph.
+    ParagraphForward,
+    /// To the start of the previous paragraph.
+    ParagraphBack,
+    /// To this row and column, both counted from 0.
+    Jump(u16, u16),
+    /// Into the area that was last drawn, if the cursor is outside of it.
+    InViewport,
+}
+
+/// How far to scroll, and in which direction.
+#[derive(Clone, Copy, Debug, PartialEq, Eq)]
+pub enum Scrolling {
+    /// By visual rows, down if positive, and by columns, to the right if positive.
+    Delta { rows: i16, cols: i16 },
+    /// Down by the height of the viewport.
+    PageDown,
+    /// Up by the height of the viewport.
+    PageUp,
+    /// Down by half the height of the viewport.
+    HalfPageDown,
+    /// Up by half the height of the viewport.
+    HalfPageUp,
+}
+
+impl From<(i16, i16)> for Scrolling {
+    fn from((rows, cols): (i16, i16)) -> Scrolling {
+        Scrolling::Delta { rows, cols }
+    }
+}
+
+/// How lines are wrapped into visual rows.
+#[derive(Clone, Copy, Debug, Default, PartialEq, Eq)]
+pub enum WrapMode {
+    /// One row per line.
+    #[default]
+    None,
+    /// At the ends of words.
+    Word,
+    /// At the ends of grapheme clusters.
+    Glyph,
+    /// At the ends of words, and inside a word that is too long for a row.
+    WordOrGlyph,
+}
+
+/// How the cell at the cursor is drawn.
+#[derive(Clone, Copy, Debug, Default, PartialEq, Eq)]
+pub enum CursorRenderMode {
+    /// In the cursor's style.
+    #[default]
+    Cell,
+    /// As any other, for the terminal's own cursor.
+    Hidden,
+}
+
+/// Characters of a line that are edited as a whole: from `start_col` up to, but not including,
+/// `end_col`. Row and columns count from 0, columns in characters.
+#[derive(Clone, Copy, Debug, PartialEq, Eq)]
+pub struct AtomicRange {
+    pub row: usize,
+    pub start_col: usize,
+    pub end_col: usize,
+}
+
+/// The end to which a cursor strictly inside an atomic range moves.
+#[derive(Clone, Copy, Debug, PartialEq, Eq)]
+pub enum AtomicCursorBias {
+    /// To the range's start.
+    Backward,
+    /// To the range's end.
+    Forward,
+}
+
+/// The side of the cursor on which an atomic range is looked for.
+#[derive(Clone, Copy, Debug, PartialEq, Eq)]
+pub enum AtomicDeleteDirection {
+    /// A range that starts before the cursor and ends at or after it.
+    Backward,
+    /// A range that starts at or before the cursor and ends after it.
+    Forward,
+}
+
+/// Why an atomic range is rejected.
+#[derive(Clone, Copy, Debug, PartialEq, Eq)]
+pub enum AtomicRangeRejectReason {
+    /// It ends where it starts.
+    Empty,
+    /// The text has no such row.
+    RowOutOfBounds,
+    /// It starts after its end, or ends past its line's end.
+    ColumnOutOfBounds,
+    /// It starts before the end of the last valid range of its row.
+    OverlapsPrevious,
+}
+
+/// A rejected atomic range, and why it is rejected.
+#[derive(Clone, Copy, Debug, PartialEq, Eq)]
+pub struct RejectedAtomicRange {
+    pub range: AtomicRange,
+    pub reason: AtomicRangeRejectReason,
+}
+
+/// The rejected ranges of a list, ordered by row and start.
+#[derive(Clone, Debug, PartialEq, Eq)]
+pub struct AtomicRangeError {
+    pub rejected: Vec<RejectedAtomicRange>,
+}
+
+/// Measured heights, in screen rows.
+#[derive(Clone, Copy, Debug, PartialEq, Eq)]
+pub struct TextAreaMeasure {
+    /// The rows of the text, or of the placeholder if that is drawn.
+    pub content_rows: u16,
+    /// The height of the whole area that shows the content, from `min_rows` to `max_rows`.
+    pub preferred_rows: u16,
+    /// The least height: the one that is set, or the block's rows and one more if that is greater.
+    pub min_rows: u16,
+    /// The greatest height: the one that is set, or the least if that is greater.
+    pub max_rows: u16,
+}
+
+/// Memory ran out.
+#[derive(Clone, Copy, Debug, PartialEq, Eq)]
+pub struct OutOfMemory;
+
+impl fmt::Display for OutOfMemory {
+    fn fmt(&self, f: &mut fmt::Formatter) -> fmt::Result {
+        f.write_str("out of memory")
+    }
+}
+
+impl Error for OutOfMemory {}
+
+/// A search pattern: its text, in the syntax of `regex`.
+#[derive(Clone, Debug, PartialEq, Eq)]
+pub struct Pattern(pub(crate) String);
+
+impl Pattern {
+    pub fn as_str(&self) -> &str {
+        &self.0
+    }
+}
+
+impl Deref for Pattern {
+    type Target = str;
+
+    fn deref(&self) -> &str {
+        &self.0
+    }
+}
+
+impl PartialEq<str> for Pattern {
+    fn eq(&self, text: &str) -> bool {
+        self.0 == text
+    }
+}
+
+impl PartialEq<&str> for Pattern {
+    fn eq(&self, text: &&str) -> bool {
+        self.0 == *text
+    }
+}
+
+impl fmt::Display for Pattern {
+    fn fmt(&self, f: &mut fmt::Formatter) -> fmt::Result {
+        f.write_str(&self.0)
+    }
+}
+
+/// Why a search pattern was not set.
+#[derive(Clone, Debug, PartialEq, Eq)]
+pub enum SearchError {
+    /// Out of memory for the pattern.
+    Memory(OutOfMemory),
+    /// The pattern is rejected: why, in the words of `regex`.
+    Pattern(String),
+}
+
+impl fmt::Display for SearchError {
+    fn fmt(&self, f: &mut fmt::Formatter) -> fmt::Result {
+        match self {
+            SearchError::Memory(error) => error.fmt(f),
+            SearchError::Pattern(why) => f.write_str(why),
+        }
+    }
+}
+
+impl Error for SearchError {}
+
+impl From<AtomicRange> for sys::Range {
+    fn from(range: AtomicRange) -> sys::Range {
+        sys::Range {
+            row: range.row,
+            start_col: range.start_col,
+            end_col: range.end_col,
+        }
+    }
+}
+
+impl From<sys::Range> for AtomicRange {
+    fn from(range: sys::Range) -> AtomicRange {
+        AtomicRange {
+            row: range.row,
+            start_col: range.start_col,
+            end_col: range.end_col,
+        }
+    }
+}
+
+impl From<sys::Rejected> for RejectedAtomicRange {
+    fn from(rejected: sys::Rejected) -> RejectedAtomicRange {
+        RejectedAtomicRange {
+            range: rejected.range.into(),
+            reason: match rejected.reason {
+                sys::REASON_EMPTY => AtomicRangeRejectReason::Empty,
+                sys::REASON_ROW_OUT_OF_BOUNDS => AtomicRangeRejectReason::RowOutOfBounds,
+                sys::REASON_COLUMN_OUT_OF_BOUNDS => AtomicRangeRejectReason::ColumnOutOfBounds,
+                _ => AtomicRangeRejectReason::OverlapsPrevious,
+            },
+        }
+    }
+}

@@ -1,0 +1,82 @@
+//! Key inputs, independent of the terminal library.
+
+use crate::sys;
+
+/// A key.
+#[derive(Clone, Copy, Debug, Default, PartialEq, Eq, Hash)]
+pub enum Key {
+    /// A key that types a character.
+    Char(char),
+    /// A function key by its number: F1, F2 and so on.
+    F(u8),
+    Backspace,
+    Enter,
+    Left,
+    Right,
+    Up,
+    Down,
+    Tab,
+    Delete,
+    Home,
+    End,
+    PageUp,
+    PageDown,
+    Esc,
+    /// Copy, which few terminals report.
+    Copy,
+    /// Cut, which few terminals report.
+    Cut,
+    /// Paste, which few terminals report.
+    Paste,
+    /// The mouse's wheel, turned down.
+    MouseScrollDown,
+    /// The mouse's wheel, turned up.
+    MouseScrollUp,
+    /// No key: an input that text areas ignore.
+    #[default]
+    Null,
+}
+
+/// A key with the modifiers that are pressed. The default is [`Key::Null`] without any.
+#[derive(Clone, Debug, Default, PartialEq, Eq, Hash)]
+pub struct Input {
+    pub key: Key,
+    pub ctrl: bool,
+    pub alt: bool,
+    pub shift: bool,
+}
+
+impl From<&Input> for sys::Input {
+    fn from(input: &Input) -> sys::Input {
+        let (key, argument) = match input.key {
+            Key::Char(c) => (sys::KEY_CHAR, c as u32),
+            Key::F(number) => (sys::KEY_F, number.into()),
+            Key::Backspace => (sys::KEY_BACKSPACE, 0),
+            Key::Enter => (sys::KEY_ENTER, 0),
+            Key::Left => (sys::KEY_LEFT, 0),
+            Key::Right => (sys::KEY_RIGHT, 0),
+            Key::Up => (sys::KEY_UP, 0),
+            Key::Down => (sys::KEY_DOWN, 0),
+            Key::Tab => (sys::KEY_TAB, 0),
+            Key::Delete => (sys::KEY_DELETE, 0),
+            Key::Home => (sys::KEY_HOME, 0),
+            Key::End => (sys::KEY_END, 0),
+            Key::PageUp => (sys::KEY_PAGE_UP, 0),
+            Key::PageDown => (sys::KEY_PAGE_DOWN, 0),
+            Key::Esc => (sys::KEY_ESC, 0),
+            Key::Copy => (sys::KEY_COPY, 0),
+            Key::Cut => (sys::KEY_CUT, 0),
+            Key::Paste => (sys::KEY_PASTE, 0),
+            Key::MouseScrollDown => (sys::KEY_MOUSE_SCROLL_DOWN, 0),
+            Key::MouseScrollUp => (sys::KEY_MOUSE_SCROLL_UP, 0),
+            Key::Null => (sys::KEY_NULL, 0),
+        };
+        sys::Input {
+            key,
+            argument,
+            ctrl: input.ctrl,
+            alt: input.alt,
+            shift: input.shift,
+        }
+    }
+}

@@ -1,0 +1,297 @@
+use crate::sys;
+use std::ops::{BitAnd, BitOr, BitOrAssign, Not, Sub};
+
+/// A colour of a terminal.
+#[derive(Clone, Copy, Debug, Default, PartialEq, Eq, Hash)]
+pub enum Color {
+    /// The terminal's own colour.
+    #[default]
+    Reset,
+    Black,
+    Red,
+    Green,
+    Yellow,
+    Blue,
+    Magenta,
+    Cyan,
+    Gray,
+    DarkGray,
+    LightRed,
+    LightGreen,
+    LightYellow,
+    LightBlue,
+    LightMagenta,
+    LightCyan,
+    White,
+    Rgb(u8, u8, u8),
+    Indexed(u8),
+}
+
+const NAMED: [Color; 17] = [
+    Color::Reset,
+    Color::Black,
+    Color::Red,
+    Color::Green,
+    Color::Yellow,
+    Color::Blue,
+    Color::Magenta,
+    Color::Cyan,
+    Color::Gray,
+    Color::DarkGray,
+    Color::LightRed,
+    Color::LightGreen,
+    Color::LightYellow,
+    Color::LightBlue,
+    Color::LightMagenta,
+    Color::LightCyan,
+    Color::White,
+];
+
+fn to_core(color: Option<Color>) -> sys::Color {
+    let (kind, red, green, blue) = match color {
+        None => (sys::COLOR_NONE, 0, 0, 0),
+        Some(Color::Rgb(red, green, blue)) => (sys::COLOR_RGB, red, green, blue),
+        Some(Color::Indexed(number)) => (sys::COLOR_INDEXED, number, 0, 0),
+        Some(named) => {
+            let at = NAMED
+                .iter()
+                .position(|c| *c == named)
+                .expect("the colour has a name");
+            (sys::COLOR_RESET + at as u32, 0, 0, 0)
+        }
+    };
+    sys::Color {
+        kind: kind as u8,
+        red,
+        green,
+        blue,
+    }
+}
+
+pub(crate) fn from_core(color: sys::Color) -> Option<Color> {
+    match u32::from(color.kind) {
+        sys::COLOR_NONE => None,
+        sys::COLOR_RGB => Some(Color::Rgb(color.red, color.green, color.blue)),
+        sys::COLOR_INDEXED => Some(Color::Indexed(color.red)),
+        kind => Some(NAMED[(kind - sys::COLOR_RESET) as usize]),
+    }
+}
+
+/// Attributes of a text besides its colours: a set with one bit for each.
+#[derive(Clone, Copy, Debug, Default, PartialEq, Eq, Hash)]
+pub struct Modifier(u16);
+
+impl Modifier {
+    pub const BOLD: Modifier = Modifier(1);
+    pub const DIM: Modifier = Modifier(2);
+    pub const ITALIC: Modifier = Modifier(4);
+    pub const UNDERLINED: Modifier = Modifier(8);
+    pub const SLOW_BLINK: Modifier = Modifier(16);
+    pub const RAPID_BLINK: Modifier = Modifier(32);
+    pub const REVERSED: Modifier = Modifier(64);
+    pub const HIDDEN: Modifier = Modifier(128);
+    pub const CROSSED_OUT: Modifier = Modifier(256);
+
+    pub const fn empty() -> Modifier {
+        Modifier(0)
+    }
+
+    pub const fn all() -> Modifier {
+        Modifier(511)
+    }
+
+    pub const fn bits(self) -> u16 {
+        self.0
+    }
+
+    pub(crate) const fn from_core(bits: u16) -> Modifier {
+        Modifier(bits)
+    }
+
+    pub const fn is_empty(self) -> bool {
+        self.0 == 0
+    }
+
+    pub const fn contains(self, other: Modifier) -> bool {
+        self.0 & other.0 == other.0
+    }
+
+    pub const fn intersects(self, other: Modifier) -> bool {
+        self.0 & other.0 != 0
+    }
+
+    pub const fn union(self, other: Modifier) -> Modifier {
+        Modifier(self.0 | other.0)
+    }
+
+    pub const fn difference(self, other: Modifier) -> Modifier {
+        Modifier(self.0 & !other.0)
+    }
+
+    pub fn insert(&mut self, other: Modifier) {
+        self.0 |= other.0;
+    }
+
+    pub fn remove(&mut self, other: Modifier) {
+        self.0 &= !other.0;
+    }
+}
+
+impl BitOr for Modifier {
+    type Output = Modifier;
+
+    fn bitor(self, other: Modifier) -> Modifier {
+        self.union(other)
+    }
+}
+
+impl BitOrAssign for Modifier {
+    fn bitor_assign(&mut self, other: Modifier) {
+        self.insert(other);
+    }
+}
+
+impl BitAnd for Modifier {
+    type Output = Modifier;
+
+    fn bitand(self, other: Modifier) -> Modifier {
+        Modifier(self.0 & other.0)
+    }
+}
+
+impl Sub for Modifier {
+    type Output = Modifier;
+
+    fn sub(self, other: Modifier) -> Modifier {
+        self.difference(other)
+    }
+}
+
+impl Not for Modifier {
+    type Output = Modifier;
+
+    fn not(self) -> Modifier {
+        Modifier::all().difference(self)
+    }
+}
+
+/// A change to the colours and modifiers of cells. A colour of `None` leaves the cell's colour; the
+/// modifiers of `add_modifier` are added, then those of `sub_modifier` removed.
+#[derive(Clone, Copy, Debug, Default, PartialEq, Eq, Hash)]
+pub struct Style {
+    pub fg: Option<Color>,
+    pub bg: Option<Color>,
+    pub add_modifier: Modifier,
+    pub sub_modifier: Modifier,
+}
+
+impl Style {
+    pub const fn new() -> Style {
+        Style {
+            fg: None,
+            bg: None,
+            add_modifier: Modifier::empty(),
+            sub_modifier: Modifier::empty(),
+        }
+    }
+
+    /// Returns the style that resets all.
+    pub const fn reset() -> Style {
+        Style {
+            fg: Some(Color::Reset),
+            bg: Some(Color::Reset),
+            add_modifier: Modifier::empty(),
+            sub_modifier: Modifier::all(),
+        }
+    }
+
+    pub const fn fg(mut self, color: Color) -> Style {
+        self.fg = Some(color);
+        self
+    }
+
+    pub const fn bg(mut self, color: Color) -> Style {
+        self.bg = Some(color);
+        self
+    }
+
+    pub const fn add_modifier(mut self, modifier: Modifier) -> Style {
+        self.sub_modifier = self.sub_modifier.difference(modifier);
+        self.add_modifier = self.add_modifier.union(modifier);
+        self
+    }
+
+    pub const fn remove_modifier(mut self, modifier: Modifier) -> Style {
+        self.add_modifier = self.add_modifier.difference(modifier);
+        self.sub_modifier = self.sub_modifier.union(modifier);
+        self
+    }
+
+    /// Returns the style that applies this one and then `other`.
+    pub fn patch(mut self, other: impl Into<Style>) -> Style {
+        let other = other.into();
+        self.fg = other.fg.or(self.fg);
+        self.bg = other.bg.or(self.bg);
+        self.add_modifier = self
+            .add_modifier
+            .difference(other.sub_modifier)
+            .union(other.add_modifier);
+        self.sub_modifier = self
+            .sub_modifier
+            .difference(other.add_modifier)
+            .union(other.sub_modifier);
+        self
+    }
+}
+
+impl From<Color> for Style {
+    fn from(color: Color) -> Style {
+        Style::new().fg(color)
+    }
+}
+
+impl From<Modifier> for Style {
+    fn from(modifier: Modifier) -> Style {
+        Style::new().add_modifier(modifier)
+    }
+}
+
+impl From<Style> for sys::Style {
+    fn from(style: Style) -> sys::Style {
+        sys::Style {
+            fg: to_core(style.fg),
+            bg: to_core(style.bg),
+            add_modifier: style.add_modifier.bits(),
+            sub_modifier: style.sub_modifier.bits(),
+        }
+    }
+}
+
+impl From<sys::Style> for Style {
+    fn from(style: sys::Style) -> Style {
+        Style {
+            fg: from_core(style.fg),
+            bg: from_core(style.bg),
+            add_modifier: Modifier::from_core(style.add_modifier),
+            sub_modifier: Modifier::from_core(style.sub_modifier),
+        }
+    }
+}
+
+/// The style of the core that changes nothing.
+pub(crate) const BLANK: sys::Style = sys::Style {
+    fg: sys::Color {
+        kind: 0,
+        red: 0,
+        green: 0,
+        blue: 0,
+    },
+    bg: sys::Color {
+        kind: 0,
+        red: 0,
+        green: 0,
+        blue: 0,
+    },
+    add_modifier: 0,
+    sub_modifier: 0,
+};

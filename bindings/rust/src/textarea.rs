@@ -1,0 +1,137 @@
+//! The text area.
+
+mod edits;
+mod looks;
+mod settings;
+mod texts;
+
+use crate::data::{OutOfMemory, Pattern};
+use crate::handle::{Handle, must};
+use crate::ratatui::text::Text;
+use crate::ratatui::widgets::Block;
+use crate::sys;
+use std::cell::OnceCell;
+use std::fmt;
+use std::marker::PhantomData;
+use std::time::{Duration, Instant};
+
+/// A multi-line text editor: lines with a cursor, a selection, a yanked text and an undo history;
+/// settings; a search pattern; a block, a placeholder and height limits around it; and its styles
+/// and viewport.
+///
+/// Rows and columns count from 0, columns in characters.
+pub struct TextArea<'a> {
+    core: Handle,
+    /// What is returned by reference is copied from the core when it is first asked for.
+    lines: OnceCell<Vec<String>>,
+    block: OnceCell<Option<Block<'static>>>,
+    placeholder: OnceCell<Text<'static>>,
+    pattern: OnceCell<Option<Pattern>>,
+    ranges: OnceCell<Vec<crate::AtomicRange>>,
+    clock: Clock,
+    borrows: PhantomData<Block<'a>>,
+}
+
+/// The time of edits: since the text area was made, or as it is set.
+#[derive(Clone, Copy)]
+enum Clock {
+    Since(Instant),
+    Set,
+}
+
+impl<'a> TextArea<'a> {
+    /// Returns a text area with these lines and the cursor at the start. An empty list becomes one
+    /// empty line. A line feed inside a line stays a character of that line.
+    pub fn new(lines: Vec<String>) -> TextArea<'a> {
+        must(TextArea::try_new(lines))
+    }
+
+    /// As [`TextArea::new`], but returns that memory ran out.
+    pub fn try_new(lines: Vec<String>) -> Result<TextArea<'a>, OutOfMemory> {
+        let mut area = TextArea::of(Handle::new()?, Clock::Since(Instant::now()));
+        if !lines.is_empty() {
+            area.try_set_lines(lines, (0, 0))?;
+        }
+        Ok(area)
+    }
+
+    fn of(core: Handle, clock: Clock) -> TextArea<'a> {
+        TextArea {
+            core,
+            lines: OnceCell::new(),
+            block: OnceCell::new(),
+            placeholder: OnceCell::new(),
+            pattern: OnceCell::new(),
+            ranges: OnceCell::new(),
+            clock,
+            borrows: PhantomData,
+        }
+    }
+
+    /// As `clone`, but returns that memory ran out.
+    pub fn try_clone(&self) -> Result<TextArea<'a>, OutOfMemory> {
+        Ok(TextArea::of(self.core.copy()?, self.clock))
+    }
+
+    /// Sets the time of the edits that follow, from any fixed time, instead of a clock's. The pause
+    /// between two typed edits decides whether they are undone together.
+    pub fn set_now(&mut self, now: Duration) {
+        self.clock = Clock::Set;
+        self.tell(now);
+    }
+
+    fn tell(&mut self, now: Duration) {
+        let nanoseconds = u64::try_from(now.as_nanos()).unwrap_or(u64::MAX);
+        self.core.is(|h| unsafe { sys::ta_set_now(h, nanoseconds) });
+    }
+
+    /// Makes a call that changes lines and ranges, and returns whether it did something.
+    fn edit(&mut self, call: impl FnOnce(*mut sys::Handle) -> u32) -> Result<bool, OutOfMemory> {
+        if let Clock::Since(start) = self.clock
+            && self.undo_coalescing()
+        {
+            self.tell(start.elapsed());
+        }
+        self.lines.take();
+        self.ranges.take();
+        self.core.on(call)
+    }
+}
+
+impl Default for TextArea<'_> {
+    fn default() -> Self {
+        TextArea::new(Vec::new())
+    }
+}
+
+impl<I> From<I> for TextArea<'_>
+where
+    I: IntoIterator,
+    I::Item: Into<String>,
+{
+    fn from(lines: I) -> Self {
+        TextArea::new(lines.into_iter().map(Into::into).collect())
+    }
+}
+
+impl<S: Into<String>> FromIterator<S> for TextArea<'_> {
+    fn from_iter<I: IntoIterator<Item = S>>(lines: I) -> Self {
+        lines.into()
+    }
+}
+
+impl Clone for TextArea<'_> {
+    fn clone(&self) -> Self {
+        must(self.try_clone())
+    }
+}
+
+impl fmt::Debug for TextArea<'_> {
+    fn fmt(&self, f: &mut fmt::Formatter) -> fmt::Result {
+        f.debug_struct("TextArea")
+            .field("lines", &self.lines())
+            .field("cursor", &self.cursor())
+            .field("selection_range", &self.selection_range())
+            .finish_non_exhaustive()
+    }
+}

@@ -1,0 +1,199 @@
+//! Tabs, wrapping, line numbers, alignment and heights.
+
+use super::TextArea;
+use crate::data::{OutOfMemory, TextAreaMeasure, WrapMode};
+use crate::handle::must;
+use crate::ratatui::BLANK;
+use crate::ratatui::layout::Alignment;
+use crate::ratatui::style::Style;
+use crate::sys;
+
+impl TextArea<'_> {
+    /// Sets the distance of tab stops, in columns; at 0 a tab inserts nothing.
+    pub fn set_tab_length(&mut self, len: u8) {
+        must(self.try_set_tab_length(len));
+    }
+
+    /// As `set_tab_length`, but returns that memory ran out.
+    pub fn try_set_tab_length(&mut self, len: u8) -> Result<(), OutOfMemory> {
+        self.core
+            .on(|h| unsafe { sys::ta_set_tab_length(h, len) })?;
+        Ok(())
+    }
+
+    /// Returns the distance of tab stops, in columns.
+    pub fn tab_length(&self) -> u8 {
+        let mut columns = 0;
+        self.core
+            .is(|h| unsafe { sys::ta_tab_length(h, &mut columns) });
+        columns
+    }
+
+    /// Sets whether a tab is inserted as a tab character, and not as spaces.
+    pub fn set_hard_tab_indent(&mut self, enabled: bool) {
+        self.core
+            .is(|h| unsafe { sys::ta_set_hard_tab_indent(h, enabled) });
+    }
+
+    /// Returns whether a tab is inserted as a tab character.
+    pub fn hard_tab_indent(&self) -> bool {
+        self.core.is(|h| unsafe { sys::ta_hard_tab_indent(h) })
+    }
+
+    /// Returns a tab at a line's start: a tab character, or a space for each column of its length.
+    pub fn indent(&self) -> &'static str {
+        const SPACES: &str = match std::str::from_utf8(&[b' '; 255]) {
+            Ok(spaces) => spaces,
+            Err(_) => unreachable!(),
+        };
+        if self.hard_tab_indent() {
+            "\t"
+        } else {
+            &SPACES[..usize::from(self.tab_length())]
+        }
+    }
+
+    /// Sets how lines are wrapped.
+    pub fn set_wrap_mode(&mut self, mode: WrapMode) {
+        must(self.try_set_wrap_mode(mode));
+    }
+
+    /// As `set_wrap_mode`, but returns that memory ran out.
+    pub fn try_set_wrap_mode(&mut self, mode: WrapMode) -> Result<(), OutOfMemory> {
+        let number = match mode {
+            WrapMode::None => sys::WRAP_NONE,
+            WrapMode::Word => sys::WRAP_WORD,
+            WrapMode::Glyph => sys::WRAP_GLYPH,
+            WrapMode::WordOrGlyph => sys::WRAP_WORD_OR_GLYPH,
+        };
+        self.core
+            .on(|h| unsafe { sys::ta_set_wrap_mode(h, number) })?;
+        Ok(())
+    }
+
+    /// Returns how lines are wrapped.
+    pub fn wrap_mode(&self) -> WrapMode {
+        let mut number = 0;
+        self.core
+            .is(|h| unsafe { sys::ta_wrap_mode(h, &mut number) });
+        match number {
+            sys::WRAP_WORD => WrapMode::Word,
+            sys::WRAP_GLYPH => WrapMode::Glyph,
+            sys::WRAP_WORD_OR_GLYPH => WrapMode::WordOrGlyph,
+            _ => WrapMode::None,
+        }
+    }
+
+    /// Shows line numbers, counted from 1, in this style.
+    pub fn set_line_number_style(&mut self, style: Style) {
+        must(self.try_set_line_number_style(style));
+    }
+
+    /// As `set_line_number_style`, but returns that memory ran out.
+    pub fn try_set_line_number_style(&mut self, style: Style) -> Result<(), OutOfMemory> {
+        let style = style.into();
+        self.core
+            .on(|h| unsafe { sys::ta_set_line_number_style(h, &style) })?;
+        Ok(())
+    }
+
+    /// Hides the line numbers.
+    pub fn remove_line_number(&mut self) {
+        must(self.try_remove_line_number());
+    }
+
+    /// As `remove_line_number`, but returns that memory ran out.
+    pub fn try_remove_line_number(&mut self) -> Result<(), OutOfMemory> {
+        self.core.on(|h| unsafe { sys::ta_remove_line_number(h) })?;
+        Ok(())
+    }
+
+    /// Returns the style of the line numbers, or `None` if they are hidden.
+    pub fn line_number_style(&self) -> Option<Style> {
+        let mut style = BLANK;
+        let is_shown = self
+            .core
+            .is(|h| unsafe { sys::ta_line_number_style(h, &mut style) });
+        is_shown.then_some(style.into())
+    }
+
+    /// Sets the alignment of visual rows. In the middle and at the right it also hides the line
+    /// numbers.
+    pub fn set_alignment(&mut self, alignment: Alignment) {
+        must(self.try_set_alignment(alignment));
+    }
+
+    /// As `set_alignment`, but returns that memory ran out.
+    pub fn try_set_alignment(&mut self, alignment: Alignment) -> Result<(), OutOfMemory> {
+        let number = match alignment {
+            Alignment::Left => sys::ALIGNMENT_LEFT,
+            Alignment::Center => sys::ALIGNMENT_CENTER,
+            Alignment::Right => sys::ALIGNMENT_RIGHT,
+        };
+        self.core
+            .on(|h| unsafe { sys::ta_set_alignment(h, number) })?;
+        Ok(())
+    }
+
+    /// Returns the alignment of visual rows.
+    pub fn alignment(&self) -> Alignment {
+        let mut number = 0;
+        self.core
+            .is(|h| unsafe { sys::ta_alignment(h, &mut number) });
+        match number {
+            sys::ALIGNMENT_CENTER => Alignment::Center,
+            sys::ALIGNMENT_RIGHT => Alignment::Right,
+            _ => Alignment::Left,
+        }
+    }
+
+    /// Sets the least height of the whole area, in screen rows; 0 counts as 1. The greatest height is
+    /// raised to it if it is less.
+    pub fn set_min_rows(&mut self, rows: u16) {
+        self.core.is(|h| unsafe { sys::ta_set_min_rows(h, rows) });
+    }
+
+    /// Returns the least height of the whole area, in screen rows.
+    pub fn min_rows(&self) -> u16 {
+        let mut rows = 0;
+        self.core.is(|h| unsafe { sys::ta_min_rows(h, &mut rows) });
+        rows
+    }
+
+    /// Sets the greatest height of the whole area, in screen rows; 0 counts as 1, and less than the
+    /// least height as that height.
+    pub fn set_max_rows(&mut self, rows: u16) {
+        self.core.is(|h| unsafe { sys::ta_set_max_rows(h, rows) });
+    }
+
+    /// Returns the greatest height of the whole area, in screen rows.
+    pub fn max_rows(&self) -> u16 {
+        let mut rows = 0;
+        self.core.is(|h| unsafe { sys::ta_max_rows(h, &mut rows) });
+        rows
+    }
+
+    /// Returns the height that an area of this width, in columns, needs for the block and all visual
+    /// rows of the text, or for the placeholder if that is shown.
+    pub fn measure(&mut self, width_cols: u16) -> TextAreaMeasure {
+        must(self.try_measure(width_cols))
+    }
+
+    /// As `measure`, but returns that memory ran out.
+    pub fn try_measure(&mut self, width_cols: u16) -> Result<TextAreaMeasure, OutOfMemory> {
+        let mut found = sys::Measure {
+            content_rows: 0,
+            preferred_rows: 0,
+            min_rows: 0,
+            max_rows: 0,
+        };
+        self.core
+            .on(|h| unsafe { sys::ta_measure(h, width_cols, &mut found) })?;
+        Ok(TextAreaMeasure {
+            content_rows: found.content_rows,
+            preferred_rows: found.preferred_rows,
+            min_rows: found.min_rows,
+            max_rows: found.max_rows,
+        })
+    }
+}

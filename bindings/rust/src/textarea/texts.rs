@@ -1,0 +1,546 @@
+//! Lines, yanked text, the search pattern, atomic ranges, the block and the placeholder.
+
+use super::TextArea;
+use crate::data::{
+    AtomicCursorBias, AtomicDeleteDirection, AtomicRange, AtomicRangeError, OutOfMemory, Pattern,
+    SearchError,
+};
+use crate::handle::must;
+use crate::ratatui::layout::Position;
+use crate::ratatui::style::Style;
+use crate::ratatui::text::Text;
+use crate::ratatui::widgets::{Block, Borders, Padding};
+use crate::ratatui::{BLANK, Parts};
+use crate::sys;
+
+impl<'a> TextArea<'a> {
+    /// Replaces all lines, and moves the cursor to the position in them that is nearest to `cursor`.
+    /// Forgets all edits, the selection, the atomic ranges and the custom highlights.
+    ///
+    /// # Panics
+    ///
+    /// If there is no line.
+    pub fn set_lines(&mut self, lines: Vec<String>, cursor: (usize, usize)) {
+        must(self.try_set_lines(lines, cursor));
+    }
+
+    /// As `set_lines`, but returns that memory ran out.
+    pub fn try_set_lines(
+        &mut self,
+        lines: Vec<String>,
+        (row, column): (usize, usize),
+    ) -> Result<(), OutOfMemory> {
+        assert!(!lines.is_empty(), "a text area has one line at least");
+        let text = lines.concat();
+        let mut end = 0;
+        let ends: Vec<usize> = lines
+            .iter()
+            .map(|line| {
+                end += line.len();
+                end
+            })
+            .collect();
+        self.edit(|h| unsafe {
+            sys::ta_set_lines(
+                h,
+                text.as_ptr(),
+                text.len(),
+                ends.as_ptr(),
+                ends.len(),
+                row,
+                column,
+            )
+        })?;
+        Ok(())
+    }
+
+    /// Returns the lines, at least one.
+    pub fn lines(&self) -> &[String] {
+        self.lines.get_or_init(|| {
+            let (mut needed, mut count) = (0, 0);
+            let (mut bytes, mut ends) = (Vec::new(), Vec::new());
+            loop {
+                self.core.is(|h| unsafe {
+                    sys::ta_lines(
+                        h,
+                        bytes.as_mut_ptr(),
+                        bytes.len(),
+                        &mut needed,
+                        ends.as_mut_ptr(),
+                        ends.len(),
+                        &mut count,
+                    )
+                });
+                if needed == bytes.len() && count == ends.len() {
+                    break;
+                }
+                bytes.resize(needed, 0);
+                ends.resize(count, 0);
+            }
+            let mut start = 0;
+            ends.into_iter()
+                .map(|end| {
+                    let line = &bytes[start..end];
+                    start = end;
+                    String::from_utf8(line.to_vec()).expect("texts of the core are UTF-8")
+                })
+                .collect()
+        })
+    }
+
+    /// Drops everything but the lines, and returns these.
+    pub fn into_lines(mut self) -> Vec<String> {
+        self.lines();
+        self.lines.take().unwrap_or_default()
+    }
+
+    /// Returns whether the text is one empty line.
+    pub fn is_empty(&self) -> bool {
+        self.core.is(|h| unsafe { sys::ta_is_empty(h) })
+    }
+
+    /// Returns the text that was yanked last, with a line feed for each line break; empty at first.
+    pub fn yank_text(&self) -> String {
+        must(self.try_yank_text())
+    }
+
+    /// As `yank_text`, but returns that memory ran out.
+    pub fn try_yank_text(&self) -> Result<String, OutOfMemory> {
+        let text = self
+            .core
+            .text(|h, out, room, needed| unsafe { sys::ta_yank_text(h, out, room, needed) })?;
+        Ok(text.unwrap_or_default())
+    }
+
+    /// Sets the text that `paste` inserts. Each line feed becomes a line break; a carriage return
+    /// directly before it is dropped.
+    pub fn set_yank_text(&mut self, text: impl Into<String>) {
+        must(self.try_set_yank_text(text));
+    }
+
+    /// As `set_yank_text`, but returns that memory ran out.
+    pub fn try_set_yank_text(&mut self, text: impl Into<String>) -> Result<(), OutOfMemory> {
+        let text = text.into();
+        self.core
+            .on(|h| unsafe { sys::ta_set_yank_text(h, text.as_ptr(), text.len()) })?;
+        Ok(())
+    }
+
+    /// Sets the search pattern, in the syntax of `regex`; an empty one removes the pattern.
+    pub fn set_search_pattern(&mut self, query: impl AsRef<str>) -> Result<(), SearchError> {
+        let query = query.as_ref();
+        let status = self
+            .core
+            .status(|h| unsafe { sys::ta_set_search_pattern(h, query.as_ptr(), query.len()) });
+        match status {
+            sys::OK => {
+                self.pattern.take();
+                Ok(())
+            }
+            sys::PATTERN_REJECTED => {
+                let why = self.core.text(|h, out, room, needed| unsafe {
+                    sys::ta_pattern_error(h, out, room, needed)
+                });
+                Err(SearchError::Pattern(must(why).unwrap_or_default()))
+            }
+            _ => Err(SearchError::Memory(OutOfMemory)),
+        }
+    }
+
+    /// Returns the search pattern, if one is set.
+    pub fn search_pattern(&self) -> Option<&Pattern> {
+        let pattern = self.pattern.get_or_init(|| {
+            let text = self.core.text(|h, out, room, needed| unsafe {
+                sys::ta_search_pattern(h, out, room, needed)
+            });
+            must(text).map(Pattern)
+        });
+        pattern.as_ref()
+    }
+
+    /// Moves the cursor to the next start of a match, and returns whether there was one: the first
+    /// after the cursor or, with `match_cursor`, at it, and past the text's end the first of all.
+    pub fn search_forward(&mut self, match_cursor: bool) -> bool {
+        must(self.try_search_forward(match_cursor))
+    }
+
+    /// As `search_forward`, but returns that memory ran out.
+    pub fn try_search_forward(&mut self, match_cursor: bool) -> Result<bool, OutOfMemory> {
+        self.core
+            .on(|h| unsafe { sys::ta_search_forward(h, match_cursor) })
+    }
+
+    /// Moves the cursor to the last start of a match before it or, with `match_cursor`, at it, and
+    /// past the text's start to the last of all; returns whether there was one.
+    pub fn search_back(&mut self, match_cursor: bool) -> bool {
+        must(self.try_search_back(match_cursor))
+    }
+
+    /// As `search_back`, but returns that memory ran out.
+    pub fn try_search_back(&mut self, match_cursor: bool) -> Result<bool, OutOfMemory> {
+        self.core
+            .on(|h| unsafe { sys::ta_search_back(h, match_cursor) })
+    }
+
+    /// Replaces the atomic ranges; they are sorted by row and start.
+    ///
+    /// # Panics
+    ///
+    /// If they are not valid for the text.
+    pub fn set_atomic_ranges<I>(&mut self, ranges: I)
+    where
+        I: IntoIterator<Item = AtomicRange>,
+    {
+        if let Err(error) = self.try_set_atomic_ranges(ranges) {
+            panic!("the atomic ranges are not valid: {error:?}");
+        }
+    }
+
+    /// Replaces the atomic ranges as `set_atomic_ranges` does, if they are valid for the text.
+    /// Otherwise changes nothing, and returns the rejected ones, sorted by row and start.
+    pub fn try_set_atomic_ranges<I>(&mut self, ranges: I) -> Result<(), AtomicRangeError>
+    where
+        I: IntoIterator<Item = AtomicRange>,
+    {
+        let ranges: Vec<sys::Range> = ranges.into_iter().map(Into::into).collect();
+        self.ranges.take();
+        let status = self
+            .core
+            .status(|h| unsafe { sys::ta_set_atomic_ranges(h, ranges.as_ptr(), ranges.len()) });
+        if status == sys::RANGES_REJECTED {
+            let blank = sys::Rejected {
+                range: NO_RANGE,
+                reason: 0,
+            };
+            let rejected = self.core.list(blank, |h, out, room, needed| unsafe {
+                sys::ta_rejected_ranges(h, out, room, needed)
+            });
+            return Err(AtomicRangeError {
+                rejected: rejected.into_iter().map(Into::into).collect(),
+            });
+        }
+        must(self.core.on(|_| status));
+        Ok(())
+    }
+
+    /// Drops all atomic ranges.
+    pub fn clear_atomic_ranges(&mut self) {
+        self.ranges.take();
+        self.core.is(|h| unsafe { sys::ta_clear_atomic_ranges(h) });
+    }
+
+    /// Returns the atomic ranges, sorted by row and start.
+    pub fn atomic_ranges(&self) -> &[AtomicRange] {
+        self.ranges.get_or_init(|| {
+            let ranges = self.core.list(NO_RANGE, |h, out, room, needed| unsafe {
+                sys::ta_atomic_ranges(h, out, room, needed)
+            });
+            ranges.into_iter().map(Into::into).collect()
+        })
+    }
+
+    /// Moves a cursor strictly inside an atomic range to one of its ends, and returns whether it
+    /// moved.
+    pub fn normalize_cursor_around_atomic_ranges(&mut self, bias: AtomicCursorBias) -> bool {
+        let bias = match bias {
+            AtomicCursorBias::Backward => sys::BACKWARD,
+            AtomicCursorBias::Forward => sys::FORWARD,
+        };
+        self.core
+            .is(|h| unsafe { sys::ta_normalize_cursor_around_atomic_ranges(h, bias) })
+    }
+
+    /// Returns the atomic range at this side of the cursor.
+    pub fn atomic_range_at_cursor(&self, direction: AtomicDeleteDirection) -> Option<AtomicRange> {
+        let mut range = NO_RANGE;
+        let side = side(direction);
+        let is_found = self
+            .core
+            .is(|h| unsafe { sys::ta_atomic_range_at_cursor(h, side, &mut range) });
+        is_found.then_some(range.into())
+    }
+
+    /// Removes the atomic range at this side of the cursor and returns it; yanks nothing.
+    pub fn delete_atomic_range_at_cursor(
+        &mut self,
+        direction: AtomicDeleteDirection,
+    ) -> Option<AtomicRange> {
+        must(self.try_delete_atomic_range_at_cursor(direction))
+    }
+
+    /// As `delete_atomic_range_at_cursor`, but returns that memory ran out.
+    pub fn try_delete_atomic_range_at_cursor(
+        &mut self,
+        direction: AtomicDeleteDirection,
+    ) -> Result<Option<AtomicRange>, OutOfMemory> {
+        let mut range = NO_RANGE;
+        let side = side(direction);
+        let is_found =
+            self.edit(|h| unsafe { sys::ta_delete_atomic_range_at_cursor(h, side, &mut range) })?;
+        Ok(is_found.then_some(range.into()))
+    }
+
+    /// Draws this block around the text, and replaces the old one.
+    pub fn set_block(&mut self, block: Block<'a>) {
+        must(self.try_set_block(block));
+    }
+
+    /// As `set_block`, but returns that memory ran out.
+    pub fn try_set_block(&mut self, block: Block<'a>) -> Result<(), OutOfMemory> {
+        let title = Parts::of(block.title.as_slice());
+        let plain = sys::Block {
+            borders: block.borders.bits(),
+            has_title: block.title.is_some(),
+            padding: sys::Padding {
+                left: block.padding.left,
+                right: block.padding.right,
+                top: block.padding.top,
+                bottom: block.padding.bottom,
+            },
+            style: block.style.into(),
+            border_style: block.border_style.into(),
+            title_style: title.lines.first().map_or(BLANK, |line| line.style),
+        };
+        self.block.take();
+        self.core.on(|h| unsafe {
+            sys::ta_set_block(
+                h,
+                &plain,
+                title.text.as_ptr(),
+                title.text.len(),
+                title.spans.as_ptr(),
+                title.spans.len(),
+            )
+        })?;
+        Ok(())
+    }
+
+    /// Removes the block, if there is one.
+    pub fn remove_block(&mut self) {
+        self.block.take();
+        self.core.is(|h| unsafe { sys::ta_remove_block(h) });
+    }
+
+    /// Returns the block around the text, if there is one.
+    pub fn block(&self) -> Option<&Block<'a>> {
+        let block: &Option<Block<'static>> = self.block.get_or_init(|| self.core_block());
+        block.as_ref()
+    }
+
+    fn core_block(&self) -> Option<Block<'static>> {
+        let mut block = NO_BLOCK;
+        let (mut bytes, mut spans) = (Vec::new(), Vec::new());
+        let (mut needed, mut count) = (0, 0);
+        loop {
+            let is_there = self.core.is(|h| unsafe {
+                sys::ta_block(
+                    h,
+                    &mut block,
+                    bytes.as_mut_ptr(),
+                    bytes.len(),
+                    &mut needed,
+                    spans.as_mut_ptr(),
+                    spans.len(),
+                    &mut count,
+                )
+            });
+            if !is_there {
+                return None;
+            }
+            if needed == bytes.len() && count == spans.len() {
+                break;
+            }
+            bytes.resize(needed, 0);
+            spans.resize(count, NO_SPAN);
+        }
+        let title = Parts {
+            text: String::from_utf8(bytes).expect("texts of the core are UTF-8"),
+            lines: vec![sys::Line {
+                spans: spans.len(),
+                style: block.title_style,
+            }],
+            spans,
+        };
+        let padding = block.padding;
+        let found = Block::new()
+            .borders(Borders::from_core(block.borders))
+            .padding(Padding::new(
+                padding.left,
+                padding.right,
+                padding.top,
+                padding.bottom,
+            ))
+            .style(block.style)
+            .border_style(block.border_style);
+        Some(match title.lines().pop() {
+            Some(line) if block.has_title => found.title(line),
+            _ => found,
+        })
+    }
+
+    /// Sets the placeholder, which is shown while the text is empty, to this text; the empty text
+    /// removes it. The placeholder's style stays.
+    pub fn set_placeholder_text(&mut self, placeholder: impl Into<String>) {
+        must(self.try_set_placeholder_text(placeholder));
+    }
+
+    /// As `set_placeholder_text`, but returns that memory ran out.
+    pub fn try_set_placeholder_text(
+        &mut self,
+        placeholder: impl Into<String>,
+    ) -> Result<(), OutOfMemory> {
+        let text = placeholder.into();
+        self.placeholder.take();
+        self.core
+            .on(|h| unsafe { sys::ta_set_placeholder_text(h, text.as_ptr(), text.len()) })?;
+        Ok(())
+    }
+
+    /// Sets the placeholder, which is shown while the text is empty, to these lines and their style;
+    /// without lines there is none.
+    pub fn set_styled_placeholder(&mut self, placeholder: impl Into<Text<'a>>) {
+        must(self.try_set_styled_placeholder(placeholder));
+    }
+
+    /// As `set_styled_placeholder`, but returns that memory ran out.
+    pub fn try_set_styled_placeholder(
+        &mut self,
+        placeholder: impl Into<Text<'a>>,
+    ) -> Result<(), OutOfMemory> {
+        let placeholder = placeholder.into();
+        let parts = Parts::of(&placeholder.lines);
+        let style = placeholder.style.into();
+        self.placeholder.take();
+        self.core.on(|h| unsafe {
+            sys::ta_set_styled_placeholder(
+                h,
+                parts.text.as_ptr(),
+                parts.text.len(),
+                parts.spans.as_ptr(),
+                parts.spans.len(),
+                parts.lines.as_ptr(),
+                parts.lines.len(),
+                &style,
+            )
+        })?;
+        Ok(())
+    }
+
+    /// Sets the style under those of the placeholder's lines, even while it has none.
+    pub fn set_placeholder_style(&mut self, style: Style) {
+        let style = style.into();
+        self.placeholder.take();
+        self.core
+            .is(|h| unsafe { sys::ta_set_placeholder_style(h, &style) });
+    }
+
+    /// Returns the whole placeholder, lines and style, even if it has no line.
+    pub fn placeholder(&self) -> &Text<'a> {
+        self.placeholder.get_or_init(|| self.core_placeholder())
+    }
+
+    fn core_placeholder(&self) -> Text<'static> {
+        let mut style = BLANK;
+        let (mut bytes, mut spans, mut lines) = (Vec::new(), Vec::new(), Vec::new());
+        let (mut needed, mut span_count, mut line_count) = (0, 0, 0);
+        loop {
+            self.core.is(|h| unsafe {
+                sys::ta_placeholder(
+                    h,
+                    &mut style,
+                    bytes.as_mut_ptr(),
+                    bytes.len(),
+                    &mut needed,
+                    spans.as_mut_ptr(),
+                    spans.len(),
+                    &mut span_count,
+                    lines.as_mut_ptr(),
+                    lines.len(),
+                    &mut line_count,
+                )
+            });
+            if needed == bytes.len() && span_count == spans.len() && line_count == lines.len() {
+                break;
+            }
+            bytes.resize(needed, 0);
+            spans.resize(span_count, NO_SPAN);
+            lines.resize(
+                line_count,
+                sys::Line {
+                    spans: 0,
+                    style: BLANK,
+                },
+            );
+        }
+        let text = String::from_utf8(bytes).expect("texts of the core are UTF-8");
+        let parts = Parts { text, spans, lines };
+        Text::from(parts.lines()).style(style)
+    }
+
+    /// Returns the text of the first span of the placeholder's first line; empty if there is none.
+    pub fn placeholder_text(&self) -> &str {
+        let first = self.placeholder().lines.first();
+        first
+            .and_then(|line| line.spans.first())
+            .map_or("", |span| &span.content)
+    }
+
+    /// Returns the style of the placeholder, or `None` if it has no line.
+    pub fn placeholder_style(&self) -> Option<Style> {
+        let mut style = BLANK;
+        let is_there = self
+            .core
+            .is(|h| unsafe { sys::ta_placeholder_style(h, &mut style) });
+        is_there.then_some(style.into())
+    }
+
+    /// Returns the position of the text that a cell of the screen shows, in the inner area of the
+    /// last drawing, for the present text and viewport; `None` for a cell outside of it.
+    pub fn cursor_at_position(&self, position: Position) -> Option<(usize, usize)> {
+        must(self.try_cursor_at_position(position))
+    }
+
+    /// As `cursor_at_position`, but returns that memory ran out.
+    pub fn try_cursor_at_position(
+        &self,
+        position: Position,
+    ) -> Result<Option<(usize, usize)>, OutOfMemory> {
+        let (mut row, mut column) = (0, 0);
+        let is_shown = self.core.on(|h| unsafe {
+            sys::ta_cursor_at_position(h, position.x, position.y, &mut row, &mut column)
+        })?;
+        Ok(is_shown.then_some((row, column)))
+    }
+}
+
+fn side(direction: AtomicDeleteDirection) -> u32 {
+    match direction {
+        AtomicDeleteDirection::Backward => sys::BACKWARD,
+        AtomicDeleteDirection::Forward => sys::FORWARD,
+    }
+}
+
+const NO_RANGE: sys::Range = sys::Range {
+    row: 0,
+    start_col: 0,
+    end_col: 0,
+};
+
+const NO_SPAN: sys::Span = sys::Span {
+    bytes: 0,
+    style: BLANK,
+};
+
+const NO_BLOCK: sys::Block = sys::Block {
+    borders: 0,
+    has_title: false,
+    padding: sys::Padding {
+        left: 0,
+        right: 0,
+        top: 0,
+        bottom: 0,
+    },
+    style: BLANK,
+    border_style: BLANK,
+    title_style: BLANK,
+};

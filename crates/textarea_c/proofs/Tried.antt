@@ -1,0 +1,82 @@
+-- What calls that may run out of memory leave, with the status of each.
+use Rattle.std.proofs.Common.{◌≡◌, ℕ, Bool, true, false, List, Option, Some, None, Result, Ok, Err, is_some, ap, ap₂, refl, subst, sym, ◌∙◌, arith}
+use Rattle.std.specs.Result.{IfOk, IsOk, OnErr, OnOk, MatchResult}
+use Rattle.std.specs.Prelude.{IfSome, IsSomeAnd, if◌then◌else◌}
+use Rattle.textarea_data.specs.declared.range.AtomicRange.{AtomicRange}
+use Rattle.textarea_data.specs.declared.range.AtomicRangeError.{AtomicRangeError}
+use Rattle.textarea_data.specs.declared.range.RejectedAtomicRange.{RejectedAtomicRange}
+use Rattle.textarea_ranges.specs.Rejected.{AreRejected}
+use Rattle.textarea_ranges.specs.Valid.{AreValid}
+use Rattle.textarea_text.specs.Text.{lines}
+use Rattle.tui_textarea.specs.Ranges.{ranges_accepted}
+use Rattle.tui_textarea.specs.State.{State}
+use Rattle.textarea_c.specs.declared.editor.Editor.{Editor}
+use Rattle.textarea_c.specs.Calls.{Calls, SetsRanges, Tells, Tries, with_area}
+use Rattle.textarea_c.specs.Ranges.{IsRangeOut}
+use Rattle.textarea_c.specs.declared.plain.range.Range.{Range}
+
+-- a call that returns whether there was something to do
+pub tried : {E : Type 0} (answer : Result Bool E) (status : ℕ) (found : Bool) (area new : State) (a : Editor)
+    → IfOk answer (λ removed. removed ≡ found) → OnOk answer (new ≡ area) → OnErr answer (new ≡ a.area) → (found ≡ false → IsOk answer)
+    → IfOk answer (λ flag. status ≡ (if flag then 0 else 1)) → OnErr answer (status ≡ 2)
+    → Tries found area status a (with_area a new)
+tried (Ok true) status found area new a removed ok err nothing said refused =
+    ((λ _. ap (with_area a) ok), (λ more. absurd (omega arith)), ((λ _. sym removed), (λ one. absurd (omega arith)), (λ none more. omega arith)))
+tried (Ok false) status found area new a removed ok err nothing said refused =
+    ((λ _. ap (with_area a) ok), (λ more. absurd (omega arith)), ((λ none. absurd (omega arith)), (λ _. sym removed), (λ none more. omega arith)))
+tried (Err e) status found area new a removed ok err nothing said refused = (
+  (λ less. absurd (omega arith)),
+  (λ _. (refused, ap (with_area a) err)),
+  ((λ none. absurd (omega arith)), (λ one. absurd (omega arith)), (λ none more. let never : false ≡ true = nothing none in cc)),
+)
+
+-- nothing was there to do, or it needed memory
+none_of : {A : Type 0} (x : Option A) → is_some x ≡ false → x ≡ None
+none_of None none = refl
+none_of (Some x) none = let never : true ≡ false = none in cc
+
+-- the status of a range that was found, or not
+pub range_tells : (found : Option AtomicRange) (status : ℕ) (range : Range) → IsRangeOut found status range → Tells (is_some found) status
+range_tells None status range is = ((λ none. absurd (omega arith)), (λ _. refl), (λ none more. omega arith))
+range_tells (Some hit) status range is = ((λ _. refl), (λ one. absurd (omega (arith, is.0))), (λ none more. omega (arith, is.0)))
+
+-- a range that was found is removed
+found_range_removed : (found : Option AtomicRange) (status : ℕ) (range : Range) (area : State) (a : Editor) (new : State)
+    → new ≡ area → IsRangeOut found status range → Tries (is_some found) area status a (with_area a new)
+found_range_removed None status range area a new ok is = ((λ _. ap (with_area a) ok), (λ more. absurd (omega arith)), range_tells None status range is)
+found_range_removed (Some hit) status range area a new ok is = ((λ _. ap (with_area a) ok), (λ more. absurd (omega arith)), range_tells (Some hit) status range is)
+
+pub range_removed : (found hit : Option AtomicRange) (status : ℕ) (range : Range) (area : State) (a : Editor) (new : State)
+    → found ≡ hit → new ≡ area → IsRangeOut found status range → Tries (is_some hit) area status a (with_area a new)
+range_removed found hit status range area a new same ok is =
+    subst (λ (h : Option AtomicRange). Tries (is_some h) area status a (with_area a new)) same (found_range_removed found status range area a new ok is)
+
+-- out of memory it stays
+pub range_left : (hit : Option AtomicRange) (area : State) (a : Editor) (new : State) → new ≡ a.area → (hit ≡ None → false ≡ true) → Tries (is_some hit) area 2 a (with_area a new)
+range_left hit area a new err nothing = (
+  (λ less. absurd (omega arith)),
+  (λ _. (refl, ap (with_area a) err)),
+  ((λ none. absurd (omega arith)), (λ one. absurd (omega arith)), (λ none more. let never : false ≡ true = nothing (none_of hit none) in cc)),
+)
+
+-- ranges that were set, or rejected
+pub ranges_set : {T : Type 0} (outcome : Result T AtomicRangeError) (status : ℕ) (ranges : List AtomicRange) (a b : Editor)
+    → MatchResult outcome (λ _. AreValid (lines a.area.document.text) ranges) (λ error. AreRejected (lines a.area.document.text) ranges error.rejected.items)
+    → OnOk outcome (b.area ≡ ranges_accepted a.area ranges) → OnErr outcome (b.area ≡ a.area)
+    → MatchResult outcome (λ _. (status ≡ 0) × (b.rejected ≡ a.rejected)) (λ error. (status ≡ 4) × (b.rejected ≡ error.rejected))
+    → b ≡ record a { area = b.area; rejected = b.rejected } → SetsRanges ranges status a b
+ranges_set (Ok done) status ranges a b judged set left stored rest =
+    ((λ _. (judged, rest ∙ ap₂ (λ area rejected. record a { area = area; rejected = rejected }) set stored.1)), (λ four. absurd (omega arith)), (λ none four. absurd (none stored.0)))
+ranges_set (Err error) status ranges a b judged set left stored rest = (
+  (λ none. absurd (omega arith)),
+  (λ _. (subst (λ (r : List RejectedAtomicRange). AreRejected (lines a.area.document.text) ranges r) (ap (λ e. e.items) (sym stored.1)) judged, rest ∙ ap (λ (area : State). record a { area = area; rejected = b.rejected }) left)),
+  (λ none four. absurd (four stored.0)),
+)
+
+-- what holds of the editor that was taken and the one that is put back
+pub lifted : (content after : Option Editor) (status : ℕ) (P : Editor → Editor → Type 0) (a b seen : Editor) → Some a ≡ content → seen ≡ a → after ≡ Some b → P seen b → Calls content status after P
+lifted content after status P a b seen taken same put holds =
+    subst (λ (o : Option Editor). Calls o status after P) taken (subst (λ (o : Option Editor). IsSomeAnd o (P a)) (sym put) (subst (λ (s : Editor). P s b) same holds))
+
+pub seen_in : (content : Option Editor) (P : Editor → Type 0) (a seen : Editor) → Some a ≡ content → seen ≡ a → P seen → IfSome content P
+seen_in content P a seen taken same holds = subst (λ (o : Option Editor). IfSome o P) taken (subst P same holds)

@@ -1,0 +1,12 @@
+use Rattle.std.proofs.Common.{ℕ, Option, subst}
+use Rattle.tui_textarea.specs.Drawing.{widget_of}
+use Rattle.tui_textarea.specs.Hit.{IsHitTest}
+use Rattle.textarea_c.proofs.calls.screen.find_position.Goals as goal
+
+pub returns-in-Ok-clause-hit : goal.returns-in-Ok-clause-hit
+returns-in-Ok-clause-hit c = λ ok.
+    subst (λ (found : Option (ℕ × ℕ)). IsHitTest (widget_of c.args.editor.now.area) c.args.cell.x c.args.cell.y found) (c.write_place.ensures.place ok) c.in-Ok.ensures.hit
+
+pub returns-in-Ok-clause-none : goal.returns-in-Ok-clause-none
+returns-in-Ok-clause-none c = λ ok.
+    subst (λ (found : Option (ℕ × ℕ)). IsHitTest (widget_of c.args.editor.now.area) c.args.cell.x c.args.cell.y found) (c.write_place.ensures.none ok) c.in-Ok.ensures.hit

@@ -1,0 +1,133 @@
+-- What exports return, and what is behind the handle after them. A status is 0 for ok, 1 for false,
+-- 2 for out of memory, 3 for a rejected pattern, 4 for rejected ranges, 5 for an empty handle, 6 for
+-- an invalid argument.
+use Rattle.std.specs.Prelude.{ℕ, ◌≡◌, ◌≢◌, ◌<◌, ◌≤◌, List, Bool, true, false, Option, Some, None, IsSomeAnd, MatchOption, if◌then◌else◌}
+use Rattle.textarea_data.specs.declared.range.AtomicRange.{AtomicRange}
+use Rattle.textarea_ranges.specs.Rejected.{AreRejected}
+use Rattle.textarea_ranges.specs.Valid.{AreValid}
+use Rattle.textarea_text.specs.Text.{lines}
+use Rattle.tui_textarea.specs.Patterns.{MayRejectPattern}
+use Rattle.tui_textarea.specs.Ranges.{ranges_accepted}
+use Rattle.tui_textarea.specs.Search.{with_pattern}
+use Rattle.tui_textarea.specs.State.{State}
+use Rattle.tui_textarea.specs.Selection.{IsInsertOutOfMemory}
+use Rattle.tui_textarea.specs.Measure.{with_surround}
+use Rattle.textarea_screen.specs.Block.{BlockView}
+use Rattle.textarea_screen.specs.Text.{TextView}
+use Rattle.textarea_c.specs.declared.editor.Editor.{Editor}
+
+-- an empty handle stays empty, and the status says so; otherwise an editor is behind the handle
+-- before and after the call, and `P` relates the two
+abbrev pub Calls : Option Editor → ℕ → Option Editor → (Editor → Editor → Type 0) → Type 0
+Calls before status after P = MatchOption before ((status ≡ 5) × (after ≡ None)) (λ a. IsSomeAnd after (P a))
+
+abbrev pub with_area : Editor → State → Editor
+with_area editor area = record editor { area = area }
+
+-- a call that changes nothing
+abbrev pub Reads : ℕ → Editor → Editor → Type 0
+Reads status a b = (status ≡ 0) × (b ≡ a)
+
+-- a call that changes nothing, of something that may not be there
+abbrev pub Asks : ℕ → Editor → Editor → Type 0
+Asks status a b = (status < 2) × (b ≡ a)
+
+-- a call that returns whether something is so, and changes nothing
+abbrev pub Answers : Bool → ℕ → Editor → Editor → Type 0
+Answers truth status a b = (status ≡ (if truth then 0 else 1)) × (b ≡ a)
+
+-- a call without a result that leaves this text area
+abbrev pub Sets : State → ℕ → Editor → Editor → Type 0
+Sets area status a b = (status ≡ 0) × (b ≡ with_area a area)
+
+-- the same with an argument that may be invalid
+abbrev pub SetsBy : {A : Type 0} → Option A → (A → State) → ℕ → Editor → Editor → Type 0
+SetsBy argument area status a b = MatchOption argument ((status ≡ 6) × (b ≡ a)) (λ x. Sets (area x) status a b)
+
+-- a call without a result that leaves a text area of which `P` holds
+abbrev pub Goes : (State → Type 0) → ℕ → Editor → Editor → Type 0
+Goes P status a b = (status ≡ 0) × P b.area × (b ≡ with_area a b.area)
+
+-- the same with an argument that may be invalid
+abbrev pub GoesBy : {A : Type 0} → Option A → (A → State → Type 0) → ℕ → Editor → Editor → Type 0
+GoesBy argument P status a b = MatchOption argument ((status ≡ 6) × (b ≡ a)) (λ x. Goes (P x) status a b)
+
+-- a call without a result that may run out of memory
+abbrev pub Changes : State → ℕ → Editor → Editor → Type 0
+Changes area status a b = (status ≡ 0 → b ≡ with_area a area) × (status ≢ 0 → (status ≡ 2) × (b ≡ a))
+
+-- a call with an argument that may be invalid
+abbrev pub Given : {A : Type 0} → Option A → (A → ℕ → Editor → Editor → Type 0) → ℕ → Editor → Editor → Type 0
+Given argument P status a b = MatchOption argument ((status ≡ 6) × (b ≡ a)) (λ x. P x status a b)
+
+-- a call that only needs memory
+abbrev pub Copies : ℕ → Editor → Editor → Type 0
+Copies status a b = (b ≡ a) × (status ≢ 0 → status ≡ 2)
+
+-- the same with an argument that may be invalid
+abbrev pub ChangesBy : {A : Type 0} → Option A → (A → State) → ℕ → Editor → Editor → Type 0
+ChangesBy argument area status a b = MatchOption argument ((status ≡ 6) × (b ≡ a)) (λ x. Changes (area x) status a b)
+
+-- a call that needs memory to read its argument, which may be invalid
+abbrev pub ChangesIf : {A : Type 0} → Option A → (A → State) → ℕ → Editor → Editor → Type 0
+ChangesIf argument area status a b =
+    (status ≡ 0 → IsSomeAnd argument (λ x. b ≡ with_area a (area x))) × (status ≡ 6 → argument ≡ None) × (status ≢ 0 → b ≡ a)
+    × (status ≢ 0 → status ≢ 6 → status ≡ 2)
+
+-- the block, and the placeholder, of a text area replaced
+abbrev pub with_block : State → BlockView → State
+with_block state block = with_surround state (record state.surround { block = Some block })
+
+abbrev pub with_placeholder : State → TextView → State
+with_placeholder state placeholder = with_surround state (record state.surround { placeholder = placeholder })
+
+-- the status says whether there was something to do; without it no memory is needed
+abbrev pub Tells : Bool → ℕ → Type 0
+Tells found status = (status ≡ 0 → found ≡ true) × (status ≡ 1 → found ≡ false) × (found ≡ false → status ≢ 2)
+
+-- a call that returns whether there was something to do, and that may run out of memory
+abbrev pub Tries : Bool → State → ℕ → Editor → Editor → Type 0
+Tries found area status a b = (status < 2 → b ≡ with_area a area) × (2 ≤ status → (status ≡ 2) × (b ≡ a)) × Tells found status
+
+-- the same with an argument that may be invalid
+abbrev pub TriesBy : {A : Type 0} → Option A → (A → Bool) → (A → State) → ℕ → Editor → Editor → Type 0
+TriesBy argument found area status a b = MatchOption argument ((status ≡ 6) × (b ≡ a)) (λ x. Tries (found x) (area x) status a b)
+
+-- an insertion; out of memory the selected text may have been removed
+abbrev pub Inserts : State → ℕ → Editor → Editor → Type 0
+Inserts area status a b =
+    (status ≡ 0 → b ≡ with_area a area) × (status ≢ 0 → (status ≡ 2) × IsInsertOutOfMemory a.area b.area × (b ≡ with_area a b.area))
+
+-- one that returns whether there was something to insert, and needs no memory where it does nothing
+abbrev pub TriesToInsert : Bool → Bool → State → ℕ → Editor → Editor → Type 0
+TriesToInsert found does area status a b =
+    (status < 2 → b ≡ with_area a area) × (2 ≤ status → (status ≡ 2) × IsInsertOutOfMemory a.area b.area × (b ≡ with_area a b.area))
+    × (status ≡ 0 → found ≡ true) × (status ≡ 1 → found ≡ false) × (does ≡ false → status ≢ 2)
+
+-- a search: out of memory nothing changes
+abbrev pub Searches : Bool → State → ℕ → Editor → Editor → Type 0
+Searches found area status a b =
+    (status < 2 → b ≡ with_area a area) × (2 ≤ status → (status ≡ 2) × (b ≡ a)) × (status ≡ 0 → found ≡ true)
+    × (status ≡ 1 → found ≡ false)
+
+-- setting a pattern: a rejected one leaves the text area, and its error is stored
+abbrev pub Patterns : List ℕ → ℕ → Editor → Editor → Type 0
+Patterns text status a b =
+    (status ≡ 0 → b ≡ with_area a (with_pattern a.area text))
+    × (status ≡ 3 → MayRejectPattern a.area text × (b ≡ record a { pattern_error = b.pattern_error }))
+    × (status ≢ 0 → status ≢ 3 → (status ≡ 2) × (b ≡ a))
+
+-- setting ranges: only valid ones are set; the rejected ones of others are stored
+abbrev pub SetsRanges : List AtomicRange → ℕ → Editor → Editor → Type 0
+SetsRanges ranges status a b =
+    (status ≡ 0 → AreValid (lines a.area.document.text) ranges × (b ≡ with_area a (ranges_accepted a.area ranges)))
+    × (status ≡ 4 → AreRejected (lines a.area.document.text) ranges b.rejected.items × (b ≡ record a { rejected = b.rejected }))
+    × (status ≢ 0 → status ≢ 4 → (status ≡ 2) × (b ≡ a))
+
+-- a call that changes the screen only
+abbrev pub Paints : (Editor → Editor → Type 0) → ℕ → Editor → Editor → Type 0
+Paints P status a b = (b ≡ record a { screen = b.screen }) × (status ≡ 0 → P a b) × (status ≢ 0 → (status ≡ 2) × (b ≡ a))
+
+-- one that needs no memory
+abbrev pub Restyles : (Editor → Editor → Type 0) → ℕ → Editor → Editor → Type 0
+Restyles P status a b = (status ≡ 0) × P a b × (b ≡ record a { screen = b.screen })

@@ -1,0 +1,21 @@
+//! The exports. Each takes the editor behind the handle, makes one call on it, and puts it back.
+//!
+//! Each returns `TA_EMPTY_HANDLE` if the handle is empty, and writes its out-parameters only if it
+//! returns `TA_OK`, where its comment says nothing else.
+
+pub mod appearance;
+pub mod edits;
+pub mod history;
+pub mod inputs;
+pub mod layout;
+pub mod life;
+pub mod lines;
+pub mod moves;
+pub mod ranges;
+pub mod removals;
+pub mod screen;
+pub mod search;
+pub mod selection;
+pub mod settings;
+pub mod styles;
+pub mod surround;

@@ -1,0 +1,88 @@
+//! Insertions. Each first removes the selected text, as its own edit, and then moves a cursor that
+//! is strictly inside an atomic range to the range's end.
+ghost use Rattle.std.specs.Str.{chars};
+ghost use Rattle.textarea_document.specs.Edits.{has_symbols};
+ghost use Rattle.textarea_text.specs.Fragment.{fragment_symbols};
+ghost use Rattle.tui_textarea.specs.Edits.{char_inserted, inserts_tab, inserts_text, newline_inserted, str_inserted, tab_inserted};
+ghost use Rattle.textarea_c.specs.Calls.{Calls, Given, Inserts, TriesToInsert};
+ghost use Rattle.textarea_c.specs.Inputs.{character_of};
+ghost use Rattle.textarea_c.specs.Texts.{text_in};
+
+use crate::handle::Handle;
+use crate::slices::text_of;
+use crate::status::{INVALID_ARGUMENT, done, flag, on};
+use std::alloc::Global;
+
+/// Inserts the character with this number at the cursor, or at the end of the atomic range that
+/// strictly contains it, as typed; a line feed and a carriage return break the line.
+///
+/// Statuses: ok, out of memory (the selected text may have been removed), invalid argument (no
+/// character has this number), empty handle.
+#[unsafe(no_mangle)]
+pub extern "C" fn ta_insert_char(handle: &mut Handle, alloc: Global, character: u32) -> u32
+    ensures { Calls handle.old.stored.content result handle.new.stored.content
+        (λ a b. Given (character_of character) (λ c. Inserts (char_inserted a.area c)) result a b) }
+{
+    on!(handle, alloc, editor => match char::from_u32(character) {
+        Some(c) => done(editor.area.insert_char(c)),
+        None => INVALID_ARGUMENT,
+    })
+}
+
+/// Breaks the line at the cursor, or at the end of the atomic range that strictly contains it.
+///
+/// Statuses: ok, out of memory (the selected text may have been removed), empty handle.
+#[unsafe(no_mangle)]
+pub extern "C" fn ta_insert_newline(handle: &mut Handle, alloc: Global) -> u32
+    ensures { Calls handle.old.stored.content result handle.new.stored.content
+        (λ a b. Inserts (newline_inserted a.area) result a b) }
+{
+    on!(handle, alloc, editor => done(editor.area.insert_newline()))
+}
+
+/// Inserts the text at the cursor, or at the end of the atomic range that strictly contains it.
+/// Each line feed breaks the line; a carriage return directly before it is dropped.
+///
+/// Statuses: ok (it inserted something or removed a selection), false, out of memory (the selected
+/// text may have been removed), invalid argument (the text is not UTF-8), empty handle.
+#[unsafe(no_mangle)]
+pub extern "C" fn ta_insert_str(handle: &mut Handle, alloc: Global, text: &[u8]) -> u32
+    ensures { Calls handle.old.stored.content result handle.new.stored.content
+        (λ a b. Given (text_in text.now) (λ t. TriesToInsert
+        (inserts_text a.area (fragment_symbols (chars t)))
+        (inserts_text a.area (fragment_symbols (chars t)))
+        (str_inserted a.area (fragment_symbols (chars t)))) result a b) }
+{
+    on!(handle, alloc, editor => match text_of(text) {
+        Some(text) => flag(editor.area.insert_str(text)),
+        None => INVALID_ARGUMENT,
+    })
+}
+
+/// Inserts a tab at the cursor, or at the end of the atomic range that strictly contains it: with
+/// hard tabs a tab character, as typed, otherwise spaces up to the next tab stop; at tab length 0
+/// nothing.
+///
+/// Statuses: ok (it inserted something or removed a selection), false, out of memory (the selected
+/// text may have been removed), empty handle.
+#[unsafe(no_mangle)]
+pub extern "C" fn ta_insert_tab(handle: &mut Handle, alloc: Global) -> u32
+    ensures { Calls handle.old.stored.content result handle.new.stored.content
+        (λ a b. TriesToInsert (inserts_tab a.area) (inserts_tab a.area) (tab_inserted a.area)
+        result a b) }
+{
+    on!(handle, alloc, editor => flag(editor.area.insert_tab()))
+}
+
+/// Inserts the yanked text where `ta_insert_str` inserts.
+///
+/// Statuses: ok, false (there was none), out of memory (the selected text may have been removed),
+/// empty handle.
+#[unsafe(no_mangle)]
+pub extern "C" fn ta_paste(handle: &mut Handle, alloc: Global) -> u32
+    ensures { Calls handle.old.stored.content result handle.new.stored.content
+        (λ a b. TriesToInsert (has_symbols a.area.yank) (inserts_text a.area a.area.yank)
+        (str_inserted a.area a.area.yank) result a b) }
+{
+    on!(handle, alloc, editor => flag(editor.area.paste()))
+}

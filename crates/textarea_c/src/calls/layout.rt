@@ -1,0 +1,148 @@
+//! Wrapping, line numbers, alignment and measuring.
+ghost use Rattle.std.specs.Prelude.{◌≡◌, IfSome, MatchOption, Some};
+ghost use Rattle.tui_textarea.specs.LayoutCalls.{number_style, with_alignment, with_line_numbers, with_wrap_mode, without_line_numbers};
+ghost use Rattle.tui_textarea.specs.Measure.{IsMeasured};
+ghost use Rattle.textarea_c.specs.Calls.{Asks, Calls, Changes, ChangesBy, Copies, Reads};
+ghost use Rattle.textarea_c.specs.Measures.{measure_of};
+ghost use Rattle.textarea_c.specs.Modes.{wrap_mode_of};
+ghost use Rattle.textarea_c.specs.Numbers.{alignment_of};
+ghost use Rattle.textarea_c.specs.Styles.{style_of};
+
+use crate::handle::Handle;
+use crate::measure::Measure;
+use crate::modes::{read_wrap_mode, wrap_mode_number};
+use crate::plain::numbers::{alignment_number, read_alignment};
+use crate::plain::style::Style;
+use crate::status::{FALSE, INVALID_ARGUMENT, OK, OUT_OF_MEMORY, done, on};
+use std::alloc::Global;
+
+/// Sets how lines are wrapped, to one of `TA_WRAP_..`. Before the first `ta_render` no line is
+/// wrapped.
+///
+/// Statuses: ok, out of memory, invalid argument (there is no such mode), empty handle.
+#[unsafe(no_mangle)]
+pub extern "C" fn ta_set_wrap_mode(handle: &mut Handle, alloc: Global, mode: u32) -> u32
+    ensures { Calls handle.old.stored.content result handle.new.stored.content
+        (λ a b. ChangesBy (wrap_mode_of mode) (λ m. with_wrap_mode a.area m) result a b) }
+{
+    on!(handle, alloc, editor => match read_wrap_mode(mode) {
+        Some(mode) => done(editor.area.set_wrap_mode(mode)),
+        None => INVALID_ARGUMENT,
+    })
+}
+
+/// Returns how lines are wrapped.
+///
+/// Statuses: ok, empty handle.
+#[unsafe(no_mangle)]
+pub extern "C" fn ta_wrap_mode(handle: &mut Handle, alloc: Global, mode: &mut u32) -> u32
+    ensures unchanged { Calls handle.old.stored.content result handle.new.stored.content
+        (λ a b. Reads result a b) }
+    ensures mode { IfSome handle.old.stored.content
+        (λ a. wrap_mode_of mode.new ≡ Some a.area.document.layout.settings.mode) }
+{
+    on!(handle, alloc, editor => {
+        *mode = wrap_mode_number(editor.area.wrap_mode());
+        OK
+    })
+}
+
+/// Shows line numbers, counted from 1, in this style.
+///
+/// Statuses: ok, out of memory, invalid argument (a colour's kind does not exist), empty handle.
+#[unsafe(no_mangle)]
+pub extern "C" fn ta_set_line_number_style(handle: &mut Handle, alloc: Global, style: &Style) -> u32
+    ensures { Calls handle.old.stored.content result handle.new.stored.content
+        (λ a b. ChangesBy (style_of style.now) (λ s. with_line_numbers a.area s) result a b) }
+{
+    on!(handle, alloc, editor => match style.read() {
+        Some(style) => done(editor.area.set_line_number_style(style)),
+        None => INVALID_ARGUMENT,
+    })
+}
+
+/// Hides the line numbers.
+///
+/// Statuses: ok, out of memory, empty handle.
+#[unsafe(no_mangle)]
+pub extern "C" fn ta_remove_line_number(handle: &mut Handle, alloc: Global) -> u32
+    ensures { Calls handle.old.stored.content result handle.new.stored.content
+        (λ a b. Changes (without_line_numbers a.area) result a b) }
+{
+    on!(handle, alloc, editor => done(editor.area.remove_line_number()))
+}
+
+/// Returns the style of the line numbers.
+///
+/// Statuses: ok, false (they are hidden), empty handle.
+#[unsafe(no_mangle)]
+pub extern "C" fn ta_line_number_style(handle: &mut Handle, alloc: Global, style: &mut Style) -> u32
+    ensures unchanged { Calls handle.old.stored.content result handle.new.stored.content
+        (λ a b. Asks result a b) }
+    ensures style { IfSome handle.old.stored.content (λ a. MatchOption (number_style a.area)
+        (result ≡ 1) (λ s. (result ≡ 0) × (style_of style.new ≡ Some s))) }
+{
+    on!(handle, alloc, editor => match editor.area.line_number_style() {
+        Some(found) => {
+            *style = Style::of(found);
+            OK
+        }
+        None => FALSE,
+    })
+}
+
+/// Sets the alignment of visual rows in the inner area, to one of `TA_ALIGNMENT_..`. In the middle
+/// and at the right it also hides the line numbers.
+///
+/// Statuses: ok, out of memory, invalid argument (there is no such alignment), empty handle.
+#[unsafe(no_mangle)]
+pub extern "C" fn ta_set_alignment(handle: &mut Handle, alloc: Global, alignment: u32) -> u32
+    ensures { Calls handle.old.stored.content result handle.new.stored.content
+        (λ a b. ChangesBy (alignment_of alignment) (λ x. with_alignment a.area x) result a b) }
+{
+    on!(handle, alloc, editor => match read_alignment(alignment) {
+        Some(alignment) => done(editor.area.set_alignment(alignment)),
+        None => INVALID_ARGUMENT,
+    })
+}
+
+/// Returns the alignment of visual rows in the inner area.
+///
+/// Statuses: ok, empty handle.
+#[unsafe(no_mangle)]
+pub extern "C" fn ta_alignment(handle: &mut Handle, alloc: Global, alignment: &mut u32) -> u32
+    ensures unchanged { Calls handle.old.stored.content result handle.new.stored.content
+        (λ a b. Reads result a b) }
+    ensures alignment { IfSome handle.old.stored.content
+        (λ a. alignment_of alignment.new ≡ Some a.area.drawing.look.alignment) }
+{
+    on!(handle, alloc, editor => {
+        *alignment = alignment_number(editor.area.alignment());
+        OK
+    })
+}
+
+/// Returns the height that an area of this width, in columns, needs for the block and all visual
+/// rows of the text, or for the placeholder if that is shown. The text area does not change.
+///
+/// Statuses: ok, out of memory, empty handle.
+#[unsafe(no_mangle)]
+pub extern "C" fn ta_measure(
+    handle: &mut Handle,
+    alloc: Global,
+    width: u16,
+    measure: &mut Measure,
+) -> u32
+    ensures unchanged { Calls handle.old.stored.content result handle.new.stored.content
+        (λ a b. Copies result a b) }
+    ensures measured { result ≡ 0 → IfSome handle.old.stored.content
+        (λ a. IsMeasured a.area width (measure_of measure.new)) }
+{
+    on!(handle, alloc, editor => match editor.area.measure(width) {
+        Ok(found) => {
+            *measure = Measure::of(found);
+            OK
+        }
+        Err(_) => OUT_OF_MEMORY,
+    })
+}

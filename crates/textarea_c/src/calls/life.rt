@@ -1,0 +1,90 @@
+//! Making, copying and freeing text areas.
+ghost use Rattle.std.specs.Prelude.{◌≡◌, [], IfOk, MatchOption, None};
+ghost use Rattle.tui_textarea.specs.State.{new_state};
+ghost use Rattle.textarea_c.specs.Calls.{Calls};
+ghost use Rattle.textarea_c.specs.Fresh.{IsEditorOf};
+
+use crate::editor::Editor;
+use crate::handle::Handle;
+use crate::status::{OK, OUT_OF_MEMORY, on};
+use std::alloc::{AllocError, Global};
+use textarea_screen::screen::{Buffer, Rect};
+use tui_textarea::TextArea;
+
+// Returns an editor of this text area, with an empty screen and nothing rejected.
+fn editor_of(alloc: Global, area: TextArea<'static>) -> Result<Editor, AllocError>
+    ensures { IfOk result (λ editor. IsEditorOf area.entry editor) }
+{
+    Ok(Editor {
+        area,
+        screen: Buffer::empty(alloc, Rect::new(0, 0, 0, 0))?,
+        rejected: Vec::new(alloc),
+        pattern_error: String::new(alloc),
+    })
+}
+
+// Returns an editor of an empty text area, on the heap.
+fn fresh_editor(alloc: Global) -> Result<Box<Editor>, AllocError>
+    ensures { IfOk result (λ editor. IsEditorOf (new_state []) editor.value) }
+{
+    let area = TextArea::try_default(alloc)?;
+    Ok(Box::new(alloc, editor_of(alloc, area)?)?)
+}
+
+// Returns an editor of a copy of the text area, on the heap.
+fn copied_editor(alloc: Global, area: &TextArea<'static>) -> Result<Box<Editor>, AllocError>
+    ensures { IfOk result (λ editor. IsEditorOf area.now editor.value) }
+{
+    let area = area.clone()?;
+    Ok(Box::new(alloc, editor_of(alloc, area)?)?)
+}
+
+/// Makes an empty text area, with one empty line, behind the handle. A text area that was behind it
+/// is freed first.
+///
+/// Statuses: ok, out of memory (the handle is empty then).
+#[unsafe(no_mangle)]
+pub extern "C" fn ta_new(handle: &mut Handle, alloc: Global) -> u32
+    ensures { MatchOption handle.new.stored.content (result ≡ 2)
+        (λ editor. (result ≡ 0) × IsEditorOf (new_state []) editor) }
+{
+    let _old = handle.take(alloc);
+    match fresh_editor(alloc) {
+        Ok(editor) => {
+            handle.put(editor);
+            OK
+        }
+        Err(_) => OUT_OF_MEMORY,
+    }
+}
+
+/// Frees the text area behind the handle, which is empty then. An empty handle stays empty.
+#[unsafe(no_mangle)]
+pub extern "C" fn ta_free(handle: &mut Handle, alloc: Global)
+    ensures { handle.new.stored.content ≡ None }
+{
+    let _editor = handle.take(alloc);
+}
+
+/// Makes a copy of the text area, with its history, behind another handle, `copy`. A text area that
+/// was behind that one is freed first. The copy's screen has no cells, and it has no rejected
+/// ranges or pattern.
+///
+/// Statuses: ok, out of memory, empty handle (where it is not ok, `copy` is empty).
+#[unsafe(no_mangle)]
+pub extern "C" fn ta_clone(handle: &mut Handle, alloc: Global, copy: &mut Handle) -> u32
+    ensures unchanged { Calls handle.old.stored.content result handle.new.stored.content
+        (λ a b. b ≡ a) }
+    ensures copy { MatchOption handle.old.stored.content (copy.new.stored.content ≡ None)
+        (λ a. MatchOption copy.new.stored.content (result ≡ 2)
+        (λ editor. (result ≡ 0) × IsEditorOf a.area editor)) }
+{
+    let _old = copy.take(alloc);
+    on!(handle, alloc, editor => match copied_editor(alloc, &editor.area) {
+        Ok(copied) => {
+            copy.put(copied);
+            OK
+        }
+        Err(_) => OUT_OF_MEMORY,
+    })
+}

@@ -1,0 +1,134 @@
+//! The search pattern, and the searches for it.
+ghost use Rattle.std.specs.Prelude.{◌≡◌, ◌≢◌, IfSome, MatchOption, is_some, length, string_bytes};
+ghost use Rattle.tui_textarea.specs.Search.{next_match, previous_match, after_search};
+ghost use Rattle.textarea_c.specs.Calls.{Asks, Calls, Given, Patterns, Reads, Searches};
+ghost use Rattle.textarea_c.specs.Copied.{written};
+ghost use Rattle.textarea_c.specs.Rejections.{IsRejection};
+ghost use Rattle.textarea_c.specs.Texts.{text_in};
+
+use crate::editor::Editor;
+use crate::handle::Handle;
+use crate::slices::{copied, text_of};
+use crate::status::{FALSE, INVALID_ARGUMENT, OK, OUT_OF_MEMORY, PATTERN_REJECTED, flag, on};
+use std::alloc::Global;
+use textarea_search::error::SearchError;
+
+/// Sets the search pattern, in the syntax of the Rust crate `regex`; an empty one removes the
+/// pattern. `ta_pattern_error` returns why a pattern is rejected.
+///
+/// Statuses: ok, out of memory, pattern rejected, invalid argument (the pattern is not UTF-8),
+/// empty handle. Where it is not ok, the pattern stays.
+#[unsafe(no_mangle)]
+pub extern "C" fn ta_set_search_pattern(handle: &mut Handle, alloc: Global, pattern: &[u8]) -> u32
+    ensures { Calls handle.old.stored.content result handle.new.stored.content
+        (λ a b. Given (text_in pattern.now) (λ text. Patterns text) result a b) }
+{
+    on!(handle, alloc, editor => match text_of(pattern) {
+        Some(pattern) => set_pattern(&mut editor, alloc, pattern),
+        None => INVALID_ARGUMENT,
+    })
+}
+
+// Sets the search pattern, or stores why it is rejected.
+fn set_pattern(editor: &mut Editor, alloc: Global, pattern: &str) -> u32
+    ensures { Patterns pattern.now result editor.old editor.new }
+{
+    match editor.area.set_search_pattern(pattern) {
+        Ok(()) => OK,
+        Err(error) => store_error(error, alloc, &mut editor.pattern_error),
+    }
+}
+
+// Stores why a pattern is rejected, if that is the error, and returns the status.
+fn store_error(error: SearchError, alloc: Global, text: &mut String) -> u32
+    ensures rejected { result ≡ 3 → IsRejection error }
+    ensures no_memory { result ≢ 3 → (result ≡ 2) × (text.new ≡ text.old) }
+{
+    match error {
+        SearchError::Memory(_) | SearchError::Pattern(regex::Error::OutOfMemory) => OUT_OF_MEMORY,
+        SearchError::Pattern(error) => match format!(in alloc; "{error}") {
+            Ok(words) => {
+                *text = words;
+                PATTERN_REJECTED
+            }
+            Err(_) => OUT_OF_MEMORY,
+        },
+    }
+}
+
+/// Returns why a pattern was rejected last, in words; empty if none was. `out` gets the first of
+/// its bytes, as many as there is room for, and `needed` the number of all.
+///
+/// Statuses: ok, empty handle.
+#[unsafe(no_mangle)]
+pub extern "C" fn ta_pattern_error(
+    handle: &mut Handle,
+    alloc: Global,
+    out: &mut [u8],
+    needed: &mut usize,
+) -> u32
+    ensures unchanged { Calls handle.old.stored.content result handle.new.stored.content
+        (λ a b. Reads result a b) }
+    ensures text { IfSome handle.old.stored.content
+        (λ a. (out.new ≡ written out.old (string_bytes a.pattern_error))
+        × (needed.new ≡ length (string_bytes a.pattern_error))) }
+{
+    on!(handle, alloc, editor => {
+        *needed = copied(editor.pattern_error.as_bytes(), out);
+        OK
+    })
+}
+
+/// Returns the text of the search pattern. `out` gets the first of its bytes, as many as there is
+/// room for, and `needed` the number of all.
+///
+/// Statuses: ok, false (no pattern is set), empty handle.
+#[unsafe(no_mangle)]
+pub extern "C" fn ta_search_pattern(
+    handle: &mut Handle,
+    alloc: Global,
+    out: &mut [u8],
+    needed: &mut usize,
+) -> u32
+    ensures unchanged { Calls handle.old.stored.content result handle.new.stored.content
+        (λ a b. Asks result a b) }
+    ensures text { IfSome handle.old.stored.content
+        (λ a. MatchOption a.area.pattern (result ≡ 1) (λ text. (result ≡ 0)
+        × (out.new ≡ written out.old text) × (needed.new ≡ length text))) }
+{
+    on!(handle, alloc, editor => match editor.area.search_pattern() {
+        Some(text) => {
+            *needed = copied(text.as_bytes(), out);
+            OK
+        }
+        None => FALSE,
+    })
+}
+
+/// Moves the cursor to the next start of a match: the first after the cursor or, with
+/// `match_cursor`, at it, and past the text's end the first of all. An open selection stays open,
+/// and a run of typing ends. Without a match nothing changes.
+///
+/// Statuses: ok (there was a match), false, out of memory, empty handle.
+#[unsafe(no_mangle)]
+pub extern "C" fn ta_search_forward(handle: &mut Handle, alloc: Global, match_cursor: bool) -> u32
+    ensures { Calls handle.old.stored.content result handle.new.stored.content
+        (λ a b. Searches (is_some (next_match a.area match_cursor))
+        (after_search a.area (next_match a.area match_cursor)) result a b) }
+{
+    on!(handle, alloc, editor => flag(editor.area.search_forward(match_cursor)))
+}
+
+/// Moves the cursor to the last start of a match before it or, with `match_cursor`, at it, and past
+/// the text's start to the last of all. An open selection stays open, and a run of typing ends.
+/// Without a match nothing changes.
+///
+/// Statuses: ok (there was a match), false, out of memory, empty handle.
+#[unsafe(no_mangle)]
+pub extern "C" fn ta_search_back(handle: &mut Handle, alloc: Global, match_cursor: bool) -> u32
+    ensures { Calls handle.old.stored.content result handle.new.stored.content
+        (λ a b. Searches (is_some (previous_match a.area match_cursor))
+        (after_search a.area (previous_match a.area match_cursor)) result a b) }
+{
+    on!(handle, alloc, editor => flag(editor.area.search_back(match_cursor)))
+}

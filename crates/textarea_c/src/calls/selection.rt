@@ -1,0 +1,159 @@
+//! The selection, copying and cutting, and the yanked text.
+ghost use Rattle.std.specs.Prelude.{◌≡◌, IfSome, MatchOption, is_some};
+ghost use Rattle.std.specs.Str.{chars};
+ghost use Rattle.textarea_document.specs.Selection.{is_selected, selection};
+ghost use Rattle.textarea_text.specs.Fragment.{fragment_symbols, fragment_text};
+ghost use Rattle.tui_textarea.specs.Selection.{all_selected, selection_cancelled, selection_copied, selection_cut, selection_started};
+ghost use Rattle.textarea_c.specs.Calls.{Answers, Asks, Calls, Changes, ChangesBy, Copies, Sets, Tries};
+ghost use Rattle.textarea_c.specs.Lines.{AreCharactersOut};
+ghost use Rattle.textarea_c.specs.Texts.{text_in};
+
+use crate::handle::Handle;
+use crate::slices::{copied_text, text_of};
+use crate::status::{FALSE, INVALID_ARGUMENT, OK, OUT_OF_MEMORY, done, flag, on, truth};
+use std::alloc::Global;
+
+/// Begins an empty selection at the cursor.
+///
+/// Statuses: ok, empty handle.
+#[unsafe(no_mangle)]
+pub extern "C" fn ta_start_selection(handle: &mut Handle, alloc: Global) -> u32
+    ensures { Calls handle.old.stored.content result handle.new.stored.content
+        (λ a b. Sets (selection_started a.area) result a b) }
+{
+    on!(handle, alloc, editor => {
+        editor.area.start_selection();
+        OK
+    })
+}
+
+/// Drops the selection, if there is one; the text stays.
+///
+/// Statuses: ok, empty handle.
+#[unsafe(no_mangle)]
+pub extern "C" fn ta_cancel_selection(handle: &mut Handle, alloc: Global) -> u32
+    ensures { Calls handle.old.stored.content result handle.new.stored.content
+        (λ a b. Sets (selection_cancelled a.area) result a b) }
+{
+    on!(handle, alloc, editor => {
+        editor.area.cancel_selection();
+        OK
+    })
+}
+
+/// Selects the whole text, and moves the cursor to its end.
+///
+/// Statuses: ok, empty handle.
+#[unsafe(no_mangle)]
+pub extern "C" fn ta_select_all(handle: &mut Handle, alloc: Global) -> u32
+    ensures { Calls handle.old.stored.content result handle.new.stored.content
+        (λ a b. Sets (all_selected a.area) result a b) }
+{
+    on!(handle, alloc, editor => {
+        editor.area.select_all();
+        OK
+    })
+}
+
+/// Returns whether a selection is open, even an empty one.
+///
+/// Statuses: ok (it is), false, empty handle.
+#[unsafe(no_mangle)]
+pub extern "C" fn ta_is_selecting(handle: &mut Handle, alloc: Global) -> u32
+    ensures { Calls handle.old.stored.content result handle.new.stored.content
+        (λ a b. Answers (is_some a.area.document.anchor) result a b) }
+{
+    on!(handle, alloc, editor => truth(editor.area.is_selecting()))
+}
+
+/// Returns the two ends of the selection, the first one first, even if it is empty.
+///
+/// Statuses: ok, false (no selection is open), empty handle.
+#[unsafe(no_mangle)]
+pub extern "C" fn ta_selection_range(
+    handle: &mut Handle,
+    alloc: Global,
+    start_row: &mut usize,
+    start_column: &mut usize,
+    end_row: &mut usize,
+    end_column: &mut usize,
+) -> u32
+    ensures unchanged { Calls handle.old.stored.content result handle.new.stored.content
+        (λ a b. Asks result a b) }
+    ensures ends { IfSome handle.old.stored.content
+        (λ a. MatchOption (selection a.area.document) (result ≡ 1)
+        (λ ends. (result ≡ 0) × ((start_row.new, start_column.new) ≡ ends.0)
+        × ((end_row.new, end_column.new) ≡ ends.1))) }
+{
+    on!(handle, alloc, editor => match editor.area.selection_range() {
+        Some((start, end)) => {
+            (*start_row, *start_column) = start;
+            (*end_row, *end_column) = end;
+            OK
+        }
+        None => FALSE,
+    })
+}
+
+/// Yanks the selected text, if there is any, and drops the selection.
+///
+/// Statuses: ok, out of memory, empty handle.
+#[unsafe(no_mangle)]
+pub extern "C" fn ta_copy(handle: &mut Handle, alloc: Global) -> u32
+    ensures { Calls handle.old.stored.content result handle.new.stored.content
+        (λ a b. Changes (selection_copied a.area) result a b) }
+{
+    on!(handle, alloc, editor => done(editor.area.copy()))
+}
+
+/// Yanks and removes the selected text, and drops the selection.
+///
+/// Statuses: ok, false (no text was selected), out of memory, empty handle.
+#[unsafe(no_mangle)]
+pub extern "C" fn ta_cut(handle: &mut Handle, alloc: Global) -> u32
+    ensures { Calls handle.old.stored.content result handle.new.stored.content
+        (λ a b. Tries (is_selected a.area.document) (selection_cut a.area) result a b) }
+{
+    on!(handle, alloc, editor => flag(editor.area.cut()))
+}
+
+/// Returns the text that was yanked last, with a line feed for each line break; empty at first.
+/// `out` gets the first of its bytes, as many as there is room for, and `needed` the number of all.
+///
+/// Statuses: ok, out of memory, empty handle.
+#[unsafe(no_mangle)]
+pub extern "C" fn ta_yank_text(
+    handle: &mut Handle,
+    alloc: Global,
+    out: &mut [u8],
+    needed: &mut usize,
+) -> u32
+    ensures unchanged { Calls handle.old.stored.content result handle.new.stored.content
+        (λ a b. Copies result a b) }
+    ensures text { result ≡ 0 → IfSome handle.old.stored.content
+        (λ a. AreCharactersOut (fragment_text a.area.yank) out.old out.new needed.new) }
+{
+    on!(handle, alloc, editor => match editor.area.yank_text() {
+        Ok(text) => {
+            *needed = copied_text(text.as_str(), out);
+            OK
+        }
+        Err(_) => OUT_OF_MEMORY,
+    })
+}
+
+/// Sets the text that `ta_paste` inserts. Each line feed becomes a line break; a carriage return
+/// directly before it is dropped.
+///
+/// Statuses: ok, out of memory, invalid argument (the text is not UTF-8), empty handle.
+#[unsafe(no_mangle)]
+pub extern "C" fn ta_set_yank_text(handle: &mut Handle, alloc: Global, text: &[u8]) -> u32
+    ensures { Calls handle.old.stored.content result handle.new.stored.content
+        (λ a b. ChangesBy (text_in text.now)
+        (λ t. record a.area { yank = fragment_symbols (chars t) }) result a b) }
+{
+    on!(handle, alloc, editor => match text_of(text) {
+        Some(text) => done(editor.area.set_yank_text(text)),
+        None => INVALID_ARGUMENT,
+    })
+}
