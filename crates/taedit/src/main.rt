@@ -1,0 +1,144 @@
+// Edits a file in a terminal that `bin/taedit` prepares: taedit [--modal] [FILE]
+#![tactic(auto)]
+
+use anyhow::{Result, bail};
+use std::env;
+use std::io::{Read, Write};
+use std::time::{Duration, Instant};
+use textarea_editor::message::Message;
+use textarea_editor::{Arguments, DiskFile, Editor, Effect, Screen};
+
+fn main(rt: HostRuntime) -> Result<()> {
+    let words: Vec<String> = env::args(&rt)?.skip(1).collect(rt.alloc())?;
+    match Arguments::read(words.as_slice()) {
+        Some(arguments) => edit(&rt, arguments),
+        None => bail!("usage: taedit [--modal] [FILE]"),
+    }
+}
+
+// Edits the file of the arguments. What owns an editor or a screen only passes it on, and drops it.
+fn edit(rt: &HostRuntime, arguments: Arguments<'_>) -> Result<()> {
+    let (columns, rows) = (size_in(rt, "COLUMNS", 80), size_in(rt, "LINES", 24));
+    let mut editor = Editor::new(rt.alloc(), columns, rows, arguments.is_modal)?;
+    let outcome = edit_with(rt, &mut editor, arguments.name);
+    drop(editor);
+    outcome
+}
+
+fn size_in(rt: &HostRuntime, variable: &str, other: u16) -> u16 {
+    match env::var(rt, variable) {
+        Ok(text) => text.parse::<u16>().unwrap_or(other),
+        Err(_) => other,
+    }
+}
+
+fn edit_with(rt: &HostRuntime, editor: &mut Editor, name: Option<&str>) -> Result<()> {
+    let mut file = DiskFile::default();
+    if let Some(name) = name {
+        open(rt, editor, &mut file, name)?;
+    }
+    let mut screen = Screen::new(rt.alloc(), editor.screen_area())?;
+    let outcome = run(rt, editor, &mut screen, &mut file);
+    drop(screen);
+    outcome
+}
+
+fn open(rt: &HostRuntime, editor: &mut Editor, file: &mut DiskFile, name: &str) -> Result<()> {
+    match file.read(rt, name) {
+        Ok(text) => editor.open(name, text)?,
+        Err(trouble) => editor.show_message(Message::NotOpened(trouble)),
+    }
+    Ok(())
+}
+
+// Takes what the terminal sends, until the editor quits or the terminal is gone.
+fn run(
+    rt: &HostRuntime,
+    editor: &mut Editor,
+    screen: &mut Screen,
+    file: &mut DiskFile,
+) -> Result<()> {
+    let begin = Instant::now(rt)?;
+    show(rt, editor, screen)?;
+    for _ in 0..u64::MAX {
+        let mut bytes = [0u8; 4096];
+        let asked = Instant::now(rt)?;
+        let count = rt.stdin().read(&mut bytes)?;
+        let now = Instant::now(rt)?;
+        let is_gone = screen.is_gone(count, now.duration_since(asked));
+        let time = now.duration_since(begin);
+        if is_gone || !take(rt, editor, screen, file, time, &bytes[..count])? {
+            break;
+        }
+    }
+    Ok(())
+}
+
+// Takes bytes of the terminal, and returns whether the program goes on.
+fn take(
+    rt: &HostRuntime,
+    editor: &mut Editor,
+    screen: &mut Screen,
+    file: &mut DiskFile,
+    time: Duration,
+    bytes: &[u8],
+) -> Result<bool> {
+    let Ok(events) = screen.read(bytes) else {
+        editor.show_message(Message::Memory);
+        show(rt, editor, screen)?;
+        return Ok(true);
+    };
+    for event in &events {
+        let effect = editor.step(time, event);
+        if !carry_out(rt, editor, screen, file, effect)? {
+            return Ok(false);
+        }
+    }
+    if !events.is_empty() {
+        show(rt, editor, screen)?;
+    }
+    Ok(true)
+}
+
+// Does what a step of the editor asks for, and returns whether the program goes on.
+fn carry_out(
+    rt: &HostRuntime,
+    editor: &mut Editor,
+    screen: &Screen,
+    file: &mut DiskFile,
+    effect: Effect,
+) -> Result<bool> {
+    match effect {
+        Effect::Nothing => Ok(true),
+        Effect::Quit => Ok(false),
+        Effect::Copy(text) => copy(rt, screen, text.as_str()),
+        Effect::Save { text, overwrites } => {
+            let name = editor.name().unwrap_or("");
+            let end = file.save(rt, name, text.as_str(), overwrites);
+            Ok(editor.saved(end) != Effect::Quit)
+        }
+    }
+}
+
+// Gives a text to the terminal's clipboard. If memory runs out, the clipboard stays as it is.
+fn copy(rt: &HostRuntime, screen: &Screen, text: &str) -> Result<bool> {
+    let mut out = Vec::new(rt.alloc());
+    let _ = screen.copy(text, &mut out);
+    write(rt, out.as_slice())?;
+    Ok(true)
+}
+
+// Shows the editor's frame. If memory runs out, the terminal shows the frame before.
+fn show(rt: &HostRuntime, editor: &mut Editor, screen: &mut Screen) -> Result<()> {
+    let mut out = Vec::new(rt.alloc());
+    let _ = screen.show(editor, &mut out);
+    write(rt, out.as_slice())
+}
+
+// Writes bytes to the terminal at once.
+fn write(rt: &HostRuntime, bytes: &[u8]) -> Result<()> {
+    let mut terminal = rt.stdout();
+    terminal.write_all(bytes)?;
+    terminal.flush()?;
+    Ok(())
+}

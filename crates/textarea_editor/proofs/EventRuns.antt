@@ -1,0 +1,61 @@
+-- Runs of events.
+use Rattle.std.proofs.Common.{◌≡◌, ◌≢◌, ◌⊎◌, false, List, [], ◌∷◌, ◌++◌, inl, inr, refl, subst, sym}
+use Rattle.std.specs.declared.time.Duration.{Duration}
+use Rattle.textarea_calls.specs.declared.call.Call.{Call}
+use Rattle.textarea_calls.specs.declared.call.Call.TheVariants.{SetNow}
+use Rattle.textarea_editor.proofs.Drafts.{honest_then, makes_none, makes_then}
+use Rattle.textarea_editor.specs.Draft.{FailsIn, FailsInAsked, IsHonest, Makes, MakesSome}
+use Rattle.textarea_editor.specs.declared.draft.Draft.{Draft}
+use Rattle.textarea_editor.specs.Editor.{AsksToSave, MayQuit}
+use Rattle.textarea_editor.specs.Steps.{AreSteps, FailsAt, IsStep, IsTimed, MakesCallsOf, Moment, NoneFails}
+use Rattle.textarea_editor.specs.declared.editor.Editor.{Editor}
+use Rattle.textarea_editor.specs.declared.effect.Effect.{Effect}
+use Rattle.textarea_editor.specs.declared.effect.Effect.TheVariants.{Quit}
+use Rattle.textarea_editor.specs.declared.message.Message.TheVariants.{Memory}
+use Rattle.textarea_terminal.specs.declared.input.event.Event.{Event}
+
+-- ---- the text after events
+
+failed_honest : (old new : Draft) (first : List Call) (IsAsked : List Call → Type 0) → (FailsIn old first new ⊎ FailsInAsked IsAsked old new) → IsHonest old new
+failed_honest old new first IsAsked (inl early) = early.honest
+failed_honest old new first IsAsked (inr fails) = fails.fails.honest
+
+step_honest : (old new : Editor) (now : Duration) (event : Event) (effect : Effect) → (MakesSome (IsTimed old now event) old.draft new.draft ⊎ FailsAt old now event effect new) → IsHonest old.draft new.draft
+step_honest old new now event effect (inl made) = made.makes.honest
+step_honest old new now event effect (inr failed) = failed_honest old.draft new.draft (SetNow now ∷ []) (IsTimed old now event) failed.fails
+
+run_honest : (old new : Editor) (moments : List Moment) → AreSteps old moments new → IsHonest old.draft new.draft
+run_honest old new [] same = subst (λ (e : Editor). IsHonest old.draft e.draft) (sym same) (λ is. (is, refl))
+run_honest old new (this ∷ later) steps =
+    honest_then old.draft this.after.draft new.draft (step_honest old this.after this.now this.event this.effect steps.0.led) (run_honest this.after new later steps.1)
+
+pub unchanged_since : (saved now : Editor) (moments : List Moment) → AreSteps saved moments now → now.draft.is_changed ≡ false → now.draft.area.document.text ≡ saved.draft.area.document.text
+unchanged_since saved now moments steps is = (run_honest saved now moments steps is).1
+
+may_quit : (saved old : Editor) (moments : List Moment) → AreSteps saved moments old → MayQuit old → (AsksToSave old ⊎ (old.draft.area.document.text ≡ saved.draft.area.document.text))
+may_quit saved old moments steps (inl is) = inr (unchanged_since saved old moments steps is)
+may_quit saved old moments steps (inr asked) = inl asked
+
+pub quits_after : (saved old new : Editor) (moments : List Moment) (now : Duration) (event : Event) → AreSteps saved moments old → IsStep old now event Quit new → (AsksToSave old ⊎ (old.draft.area.document.text ≡ saved.draft.area.document.text))
+quits_after saved old new moments now event steps step = may_quit saved old moments steps step.carries
+
+-- ---- the calls of events
+
+step_made : (old new : Editor) (now : Duration) (event : Event) (effect : Effect) → new.message ≢ Memory → (MakesSome (IsTimed old now event) old.draft new.draft ⊎ FailsAt old now event effect new) → MakesSome (IsTimed old now event) old.draft new.draft
+step_made old new now event effect other (inl made) = made
+step_made old new now event effect other (inr failed) = absurd (other failed.message)
+
+pub run_made : (old new : Editor) (moments : List Moment) → AreSteps old moments new → NoneFails moments → MakesCallsOf old moments new
+run_made old new [] same none = record {
+  calls = [];
+  are = refl;
+  makes = subst (λ (e : Editor). Makes old.draft [] e.draft) (sym same) (makes_none old.draft);
+}
+run_made old new (this ∷ later) steps none =
+    let first = step_made old this.after this.now this.event this.effect none.0 steps.0.led in
+    let rest = run_made this.after new later steps.1 none.1 in
+    record {
+      calls = first.calls ++ rest.calls;
+      are = (first.calls, rest.calls, first.asked, rest.are, refl);
+      makes = makes_then old.draft this.after.draft new.draft first.calls rest.calls first.makes rest.makes;
+    }

@@ -1,0 +1,7 @@
+mod Drafts
+mod EventRuns
+mod FileLines
+mod ModalKeys
+mod Texts
+mod Times
+mod Clicks

@@ -1,0 +1,15 @@
+use Rattle.std.proofs.Common.{◌≡◌, ◌∙◌, ℕ, arith, false, subst, sym, take}
+use Rattle.std.proofs.lemmas.List.Elements.{All-more}
+use Rattle.std.specs.List.{All}
+use Rattle.textarea_editor.specs.EventCalls.{binds}
+use Rattle.textarea_editor.specs.declared.keys.TheConstants.{BINDINGS}
+use Rattle.textarea_editor.proofs.keys.command_of.Goals as goal
+
+pub loop-binding-preserved : goal.loop-binding-preserved
+loop-binding-preserved c =
+    All-more (λ binding. binds binding c.args.input.now c.args.is_modal ≡ false) BINDINGS c.loop-binding.binding-index _ c.loop-binding-test.true c.loop-binding.invariant (sym c.binds.ensures ∙ c.if-binds.false)
+
+pub returns : goal.returns
+returns c =
+    let all : c.loop-binding.binding-index ≡ 16 = omega arith in
+    subst (λ (n : ℕ). All (λ binding. binds binding c.args.input.now c.args.is_modal ≡ false) (take n BINDINGS)) all c.loop-binding.invariant

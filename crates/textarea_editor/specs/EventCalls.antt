@@ -1,0 +1,261 @@
+-- The calls on the text area that each event makes, as a table: by what the next key is for, the
+-- key, and the command that it is bound to.
+use Rattle.std.specs.Prelude.{◌≡◌, ℕ, ◌-◌, ◌==◌, ◌&&◌, ◌||◌, nat_lt, not, Bool, true, false, List, [], ◌∷◌, ◌++◌, Option, Some, None, is_some, if◌then◌else◌, slice_index_or, string_bytes, All, Contains}
+use Rattle.std.specs.Borrow.{Bor}
+use Rattle.std.specs.Str.{chars}
+use Rattle.textarea_calls.specs.declared.call.Call.{Call}
+use Rattle.textarea_calls.specs.declared.call.Call.TheVariants as call
+use Rattle.textarea_data.specs.declared.input.Input.{Input}
+use Rattle.textarea_data.specs.declared.input.Key.{Key}
+use Rattle.textarea_data.specs.declared.input.Key.TheVariants.{Char, Esc, F, MouseScrollDown, MouseScrollUp}
+use Rattle.textarea_editor.specs.LineNumber.{IsLineNumber, row_of}
+use Rattle.textarea_editor.specs.Moves.{calls_to}
+use Rattle.textarea_editor.specs.Patterns.{first_line, pasted, pattern_of}
+use Rattle.textarea_editor.specs.PromptKeys.{prompt_key}
+use Rattle.textarea_editor.specs.declared.editor.Editor.{Editor}
+use Rattle.textarea_editor.specs.declared.editor.TheConstants.{WHEEL_DOWN, WHEEL_UP}
+use Rattle.textarea_editor.specs.declared.focus.Asked.{Asked}
+use Rattle.textarea_editor.specs.declared.focus.Asked.TheVariants as asks
+use Rattle.textarea_editor.specs.declared.focus.Focus.{Focus}
+use Rattle.textarea_editor.specs.declared.focus.Focus.TheVariants as focus
+use Rattle.textarea_editor.specs.declared.focus.PromptKey.{PromptKey}
+use Rattle.textarea_editor.specs.declared.focus.PromptKey.TheVariants as prompt
+use Rattle.textarea_editor.specs.declared.keys.Binding.{Binding}
+use Rattle.textarea_editor.specs.declared.keys.Command.{Command}
+use Rattle.textarea_editor.specs.declared.keys.Command.TheVariants as command
+use Rattle.textarea_editor.specs.declared.keys.TheConstants.{BINDINGS}
+use Rattle.textarea_modal.specs.Table.{passed_on, step}
+use Rattle.textarea_modal.specs.declared.mode.Mode.{Mode}
+use Rattle.textarea_screen.specs.Style.{empty_style}
+use Rattle.textarea_screen.specs.declared.screen.color.Color.TheVariants.{DarkGray}
+use Rattle.textarea_screen.specs.declared.screen.style.Style.{Style}
+use Rattle.textarea_terminal.specs.declared.input.event.Event.{Event}
+use Rattle.textarea_terminal.specs.declared.input.event.Event.TheVariants as event
+use Rattle.textarea_terminal.specs.declared.input.event.Mouse.{Mouse}
+use Rattle.textarea_terminal.specs.declared.input.event.MouseButton.TheVariants.{Left}
+use Rattle.textarea_terminal.specs.declared.input.event.MouseKind.{MouseKind}
+use Rattle.textarea_terminal.specs.declared.input.event.MouseKind.TheVariants.{Drag, Press}
+use Rattle.textarea_text.specs.Fragment.{fragment_symbols}
+use Rattle.textarea_text.specs.Place.{Place}
+use Rattle.textarea_text.specs.Text.{lines}
+use Rattle.textarea_wrap.specs.declared.wrap.WrapMode.{WrapMode}
+use Rattle.textarea_wrap.specs.declared.wrap.WrapMode.TheVariants as wrap
+use Rattle.tui_textarea.specs.Drawing.{widget_of}
+use Rattle.tui_textarea.specs.DrawnFrame.{WidgetState}
+use Rattle.tui_textarea.specs.Edits.{inserts_text, str_inserted}
+use Rattle.tui_textarea.specs.Hit.{IsHitTest}
+use Rattle.tui_textarea.specs.Input.{IsAfterAction, action_flag, asked_by}
+use Rattle.tui_textarea.specs.State.{State}
+
+-- a borrowed text, at no address
+abbrev pub borrowed : List ℕ → Bor (List ℕ)
+borrowed text = record { ref_ptr = (0, 0); now = text }
+
+-- ---- commands
+
+-- whether the bound key is the pressed one; only characters, function keys and Esc are bound
+abbrev pub is_bound : Key → Key → Bool
+is_bound (Char c) (Char d) = c == d
+is_bound (F m) (F n) = m == n
+is_bound Esc Esc = true
+is_bound bound pressed = false
+
+abbrev pub is_same : Bool → Bool → Bool
+is_same true held = held
+is_same false held = not held
+
+-- whether the row of the table binds the input; some rows don't with modal keys
+abbrev pub binds : Binding → Input → Bool → Bool
+binds binding input is_modal =
+    is_bound binding.input.key input.key && (is_same binding.input.ctrl input.ctrl && (is_same binding.input.alt input.alt && (is_same binding.input.shift input.shift && (binding.with_modal || not is_modal))))
+
+-- the command of a row of the table that binds the input, if there is one
+abbrev pub IsCommandOf : Input → Bool → Option Command → Type 0
+IsCommandOf input is_modal None = All (λ binding. binds binding input is_modal ≡ false) BINDINGS
+IsCommandOf input is_modal (Some found) = (binding : Binding) × Contains BINDINGS binding × (binds binding input is_modal ≡ true) × (binding.command ≡ found)
+
+-- how lines are wrapped, if long ones are or not
+abbrev pub wrap_mode : Bool → WrapMode
+wrap_mode true = wrap.WordOrGlyph
+wrap_mode false = wrap.None
+
+abbrev pub number_style : Style
+number_style = record empty_style { fg = Some DarkGray }
+
+-- shows the line numbers, or hides them
+abbrev pub numbers_call : Bool → Call
+numbers_call true = call.SetLineNumberStyle number_style
+numbers_call false = call.RemoveLineNumber
+
+-- to the next match, or to the one before
+abbrev pub find_calls : Bool → List Call
+find_calls true = call.SearchForward false ∷ []
+find_calls false = call.SearchBack false ∷ []
+
+-- a command's calls; long lines are wrapped now or not, lines are numbered or not, a selection is
+-- open or not
+abbrev pub command_calls : Bool → Bool → Bool → Command → List Call
+command_calls wraps numbers selecting command.Save = []
+command_calls wraps numbers selecting command.Quit = []
+command_calls wraps numbers selecting command.Find = []
+command_calls wraps numbers selecting command.FindNext = find_calls true
+command_calls wraps numbers selecting command.FindPrevious = find_calls false
+command_calls wraps numbers selecting command.GoToLine = []
+command_calls wraps numbers selecting command.Undo = call.Undo ∷ []
+command_calls wraps numbers selecting command.Redo = call.Redo ∷ []
+command_calls wraps numbers selecting command.Cut = if selecting then call.Cut ∷ [] else []
+command_calls wraps numbers selecting command.Copy = if selecting then call.Copy ∷ [] else []
+command_calls wraps numbers selecting command.Paste = call.Paste ∷ []
+command_calls wraps numbers selecting command.SelectAll = call.SelectAll ∷ []
+command_calls wraps numbers selecting command.Wrap = call.SetWrapMode (wrap_mode (not wraps)) ∷ []
+command_calls wraps numbers selecting command.LineNumbers = numbers_call (not numbers) ∷ []
+command_calls wraps numbers selecting command.Help = []
+command_calls wraps numbers selecting command.Cancel = call.CancelSelection ∷ call.SetSearchPattern (borrowed []) ∷ []
+
+-- ---- other keys in the text
+
+-- a key of the modal editor, if there is one, or of the text area
+abbrev pub typed_calls : Option Mode → Input → List Call
+typed_calls None input = passed_on input ∷ []
+typed_calls (Some mode) input = (step mode input).calls
+
+-- a key that is bound to no command; the wheel scrolls by three rows
+abbrev pub unbound_calls : Option Mode → Key → Input → List Call
+unbound_calls modal MouseScrollDown input = call.Scroll WHEEL_DOWN ∷ []
+unbound_calls modal MouseScrollUp input = call.Scroll WHEEL_UP ∷ []
+unbound_calls modal other input = typed_calls modal input
+
+abbrev pub is_selecting : State → Bool
+is_selecting area = is_some area.document.anchor
+
+abbrev pub key_calls : Option Command → Option Mode → Bool → Bool → Bool → Input → List Call
+key_calls (Some found) modal wraps numbers selecting input = command_calls wraps numbers selecting found
+key_calls None modal wraps numbers selecting input = unbound_calls modal input.key input
+
+-- an input in the text
+pub record IsKeyInText (modal : Option Mode) (wraps numbers selecting : Bool) (input : Input) (calls : List Call) : Type 0 where
+  pub command : Option Command
+  pub found : IsCommandOf input (is_some modal) command
+  pub calls_are : calls ≡ key_calls command modal wraps numbers selecting input
+
+-- ---- the prompt
+
+-- the prompt's text
+abbrev pub prompt_line : State → List ℕ
+prompt_line field = slice_index_or (lines field.document.text) 0 []
+
+-- from where the prompt was opened to the first match
+abbrev pub look_calls : Place → List ℕ → List Call
+look_calls origin pattern = calls_to origin ++ call.SetSearchPattern (borrowed pattern) ∷ call.SearchForward true ∷ []
+
+-- the matches of the prompt's text are lit and the first one is found
+pub record IsLookingFor (origin : Place) (field : State) (calls : List Call) : Type 0 where
+  pub pattern : List ℕ
+  pub pattern_is : chars pattern ≡ pattern_of (prompt_line field)
+  pub calls_are : calls ≡ look_calls origin pattern
+
+-- the prompt's text is now that of this field
+abbrev pub IsPromptChanged : Asked → Place → State → List Call → Type 0
+IsPromptChanged asks.Text origin field calls = IsLookingFor origin field calls
+IsPromptChanged asked origin field calls = calls ≡ []
+
+-- the prompt's text may have changed
+abbrev pub IsPromptEdited : Bool → Asked → Place → State → List Call → Type 0
+IsPromptEdited true asked origin field calls = IsPromptChanged asked origin field calls
+IsPromptEdited false asked origin field calls = calls ≡ []
+
+-- to the start of a line, which drops the selection
+abbrev pub row_calls : Option ℕ → List Call
+row_calls None = []
+row_calls (Some row) = call.CancelSelection ∷ calls_to (row, 0)
+
+-- to the line of the number in the prompt's text, if it is one
+pub record IsLineAsked (field : State) (calls : List Call) : Type 0 where
+  pub text : List ℕ
+  pub text_is : chars text ≡ prompt_line field
+  pub number : Option ℕ
+  pub number_is : IsLineNumber text number
+  pub calls_are : calls ≡ row_calls (row_of number)
+
+-- the prompt's text is taken
+abbrev pub IsPromptTaken : Asked → State → List Call → Type 0
+IsPromptTaken asks.Line field calls = IsLineAsked field calls
+IsPromptTaken asked field calls = calls ≡ []
+
+-- an input that changes the prompt's text
+pub record IsPromptInput (asked : Asked) (origin : Place) (field : State) (input : Input) (calls : List Call) : Type 0 where
+  pub changed : State
+  pub changed_is : IsAfterAction field (asked_by input) changed
+  pub edited : IsPromptEdited (action_flag field (asked_by input)) asked origin changed calls
+
+-- an input in the prompt, by what the key does
+abbrev pub IsKeyInPrompt : PromptKey → Asked → Place → State → Input → List Call → Type 0
+IsKeyInPrompt prompt.Leave asked origin field input calls = calls ≡ []
+IsKeyInPrompt prompt.Next asked origin field input calls = calls ≡ find_calls true
+IsKeyInPrompt prompt.Previous asked origin field input calls = calls ≡ find_calls false
+IsKeyInPrompt prompt.Accept asked origin field input calls = IsPromptTaken asked field calls
+IsKeyInPrompt prompt.Edit asked origin field input calls = IsPromptInput asked origin field input calls
+
+-- ---- inputs, pastes and the mouse
+
+abbrev pub IsInput : Focus → Editor → State → Input → List Call → Type 0
+IsInput focus.Text editor area input calls = IsKeyInText editor.modal editor.wraps editor.numbers (is_selecting area) input calls
+IsInput (focus.Prompt asked) editor area input calls = IsKeyInPrompt (prompt_key asked input) asked editor.origin editor.field input calls
+IsInput other editor area input calls = calls ≡ []
+
+-- a text is pasted into the text as one edit, with a line feed for each line end
+pub record IsPasteInText (text : List ℕ) (calls : List Call) : Type 0 where
+  pub inserted : List ℕ
+  pub inserted_is : chars inserted ≡ pasted (chars text)
+  pub calls_are : calls ≡ call.InsertStr (borrowed inserted) ∷ []
+
+-- the first line of a text is pasted into the prompt
+abbrev pub IsPasteInPrompt : Asked → Place → State → List ℕ → List Call → Type 0
+IsPasteInPrompt asked origin field text calls =
+    let line = fragment_symbols (first_line (chars text)) in
+    IsPromptEdited (inserts_text field line) asked origin (str_inserted field line) calls
+
+abbrev pub IsPaste : Focus → Editor → List ℕ → List Call → Type 0
+IsPaste focus.Text editor text calls = IsPasteInText text calls
+IsPaste (focus.Prompt asked) editor text calls = IsPasteInPrompt asked editor.origin editor.field text calls
+IsPaste other editor text calls = calls ≡ []
+
+-- whether the mouse moves the cursor, and then whether it selects up to there
+abbrev pub selects_by : MouseKind → Bool → Option Bool
+selects_by (Press Left) shift = Some shift
+selects_by (Drag Left) shift = Some true
+selects_by other shift = None
+
+-- the same, if the text has the focus and the mouse is in a row above the status row
+abbrev pub click_of : Focus → ℕ → Mouse → Option Bool
+click_of focus.Text rows mouse = if nat_lt mouse.row (rows - 1) then selects_by mouse.kind mouse.shift else None
+click_of other rows mouse = None
+
+-- a selection is opened, stays open, or is dropped; one is open before or not
+abbrev pub selection_calls : Bool → Bool → List Call
+selection_calls true true = []
+selection_calls true false = call.StartSelection ∷ []
+selection_calls false selecting = call.CancelSelection ∷ []
+
+-- to the position that a cell shows, if it shows one
+abbrev pub click_calls : Bool → Bool → Option Place → List Call
+click_calls selects selecting None = []
+click_calls selects selecting (Some place) = selection_calls selects selecting ++ calls_to place
+
+-- a click at a column and row
+pub record IsClick (selects selecting : Bool) (widget : WidgetState) (column row : ℕ) (calls : List Call) : Type 0 where
+  pub found : Option Place
+  pub found_is : IsHitTest widget column row found
+  pub calls_are : calls ≡ click_calls selects selecting found
+
+abbrev pub IsMouse : Option Bool → Bool → WidgetState → Mouse → List Call → Type 0
+IsMouse None selecting widget mouse calls = calls ≡ []
+IsMouse (Some selects) selecting widget mouse calls = IsClick selects selecting widget mouse.column mouse.row calls
+
+-- ---- events
+
+abbrev pub IsEvent : Editor → State → Event → List Call → Type 0
+IsEvent editor area (event.Input input) calls = IsInput editor.focus editor area input calls
+IsEvent editor area (event.Paste text) calls = IsPaste editor.focus editor (string_bytes text) calls
+IsEvent editor area (event.Mouse mouse) calls = IsMouse (click_of editor.focus editor.rows mouse) (is_selecting area) (widget_of area) mouse calls
+IsEvent editor area other calls = calls ≡ []

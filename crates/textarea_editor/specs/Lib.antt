@@ -1,0 +1,12 @@
+pub mod Arguments
+pub mod Draft
+pub mod Editor
+pub mod Effects
+pub mod EventCalls
+pub mod FileText
+pub mod LineNumber
+pub mod Moves
+pub mod Patterns
+pub mod PromptKeys
+pub mod Screen
+pub mod Steps

@@ -1,0 +1,32 @@
+-- What the keys do in the prompt.
+use Rattle.std.specs.Prelude.{◌==◌, ℕ, Bool, if◌then◌else◌}
+use Rattle.textarea_data.specs.declared.input.Input.{Input}
+use Rattle.textarea_data.specs.declared.input.Key.{Key}
+use Rattle.textarea_data.specs.declared.input.Key.TheVariants.{Down, Enter, Esc, F, Up}
+use Rattle.textarea_editor.specs.declared.focus.Asked.{Asked}
+use Rattle.textarea_editor.specs.declared.focus.Asked.TheVariants as asks
+use Rattle.textarea_editor.specs.declared.focus.PromptKey.{PromptKey}
+use Rattle.textarea_editor.specs.declared.focus.PromptKey.TheVariants.{Accept, Edit, Leave, Next, Previous}
+
+-- the third function key goes to the next match, with Shift to the one before; others type nothing
+abbrev pub function_key : ℕ → Bool → PromptKey
+function_key number shift = if number == 3 then (if shift then Previous else Next) else Edit
+
+-- a key in the prompt for a text to find, with Shift or without
+abbrev pub search_key : Key → Bool → PromptKey
+search_key Esc shift = Leave
+search_key Enter shift = Next
+search_key Down shift = Next
+search_key Up shift = Previous
+search_key (F number) shift = function_key number shift
+search_key key shift = Edit
+
+-- a key in the prompt for a line number or a name
+abbrev pub naming_key : Key → PromptKey
+naming_key Esc = Leave
+naming_key Enter = Accept
+naming_key key = Edit
+
+abbrev pub prompt_key : Asked → Input → PromptKey
+prompt_key asks.Text input = search_key input.key input.shift
+prompt_key asked input = naming_key input.key

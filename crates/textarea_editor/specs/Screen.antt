@@ -1,0 +1,18 @@
+-- The frames of an editor.
+use Rattle.std.specs.Prelude.{◌≡◌, ℕ}
+use Rattle.textarea_screen.specs.declared.screen.buffer.Buffer.{Buffer}
+use Rattle.textarea_screen.specs.declared.screen.rect.Rect.{Rect}
+use Rattle.tui_textarea.specs.Drawing.{IsRendered, widget_of}
+use Rattle.tui_textarea.specs.Rendered.{IsDrawn}
+use Rattle.tui_textarea.specs.State.{State}
+
+-- the cells of the first columns and rows are those that `render` draws of the text area
+pub record IsPainted (old new : State) (columns rows : ℕ) (buffer : Buffer) : Type 0 where
+  pub above : Rect
+  pub column : above.x ≡ 0
+  pub row : above.y ≡ 0
+  pub width : above.width ≡ columns
+  pub height : above.height ≡ rows
+  pub rendered : IsRendered old above new
+  pub before : Buffer
+  pub drawn : IsDrawn (widget_of new) above before buffer

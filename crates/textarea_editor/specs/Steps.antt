@@ -1,0 +1,65 @@
+-- Steps of an editor, one after another.
+use Rattle.std.specs.Prelude.{◌≡◌, ◌≢◌, ◌⊎◌, List, [], ◌∷◌, ◌++◌}
+use Rattle.std.specs.declared.time.Duration.{Duration}
+use Rattle.textarea_calls.specs.declared.call.Call.{Call}
+use Rattle.textarea_calls.specs.declared.call.Call.TheVariants.{SetNow}
+use Rattle.textarea_editor.specs.Draft.{FailsIn, FailsInAsked, Makes, MakesSome}
+use Rattle.textarea_editor.specs.Editor.{MayQuit}
+use Rattle.textarea_editor.specs.Effects.{Carries}
+use Rattle.textarea_editor.specs.EventCalls.{IsEvent}
+use Rattle.textarea_editor.specs.declared.editor.Editor.{Editor}
+use Rattle.textarea_editor.specs.declared.effect.Effect.{Effect}
+use Rattle.textarea_editor.specs.declared.effect.Effect.TheVariants.{Nothing}
+use Rattle.textarea_editor.specs.declared.message.Message.TheVariants.{Memory}
+use Rattle.textarea_terminal.specs.declared.input.event.Event.{Event}
+
+-- the calls of an event at a time: the time is set, and then come those of the table
+pub record IsTimed (old : Editor) (now : Duration) (event : Event) (calls : List Call) : Type 0 where
+  pub later : List Call
+  pub asked : IsEvent old old.draft.area event later
+  pub calls_are : calls ≡ SetNow now ∷ later
+
+-- memory ran out in the calls of an event, or after the first before the others were known: the
+-- status row shows it, and the program does nothing
+pub record FailsAt (old : Editor) (now : Duration) (event : Event) (effect : Effect) (new : Editor) : Type 0 where
+  pub fails : FailsIn old.draft (SetNow now ∷ []) new.draft ⊎ FailsInAsked (IsTimed old now event) old.draft new.draft
+  pub message : new.message ≡ Memory
+  pub silent : effect ≡ Nothing
+
+-- a step by an event: its calls, and its effect; the file's line end stays. The program ends without
+-- a question only if the text counted as unchanged
+pub record IsStep (old : Editor) (now : Duration) (event : Event) (effect : Effect) (new : Editor) : Type 0 where
+  pub led : MakesSome (IsTimed old now event) old.draft new.draft ⊎ FailsAt old now event effect new
+  pub carries : Carries (MayQuit old) new.draft.area new.line_end effect
+  pub end : new.line_end ≡ old.line_end
+
+-- an event at a time, its effect, and the editor after it
+pub record Moment : Type 0 where
+  pub now : Duration
+  pub event : Event
+  pub effect : Effect
+  pub after : Editor
+
+-- the events lead, one after another, from the old editor to the new one
+abbrev pub AreSteps : Editor → List Moment → Editor → Type 0
+AreSteps old [] new = new ≡ old
+AreSteps old (this ∷ later) new =
+    IsStep old this.now this.event this.effect this.after × AreSteps this.after later new
+
+-- the status row shows after none of the events that memory ran out
+abbrev pub NoneFails : List Moment → Type 0
+NoneFails [] = Unit {0}
+NoneFails (this ∷ later) = (this.after.message ≢ Memory) × NoneFails later
+
+-- the calls of the events, one after another, each in the state after those before it
+abbrev pub AreCallsOf : Editor → List Moment → List Call → Type 0
+AreCallsOf old [] calls = calls ≡ []
+AreCallsOf old (this ∷ later) calls =
+    (first : List Call) × (rest : List Call) × IsTimed old this.now this.event first
+    × AreCallsOf this.after later rest × (calls ≡ first ++ rest)
+
+-- calls of the events, one after another, lead from the old editor's draft to the new one's
+pub record MakesCallsOf (old : Editor) (moments : List Moment) (new : Editor) : Type 0 where
+  pub calls : List Call
+  pub are : AreCallsOf old moments calls
+  pub makes : Makes old.draft calls new.draft

@@ -1,0 +1,163 @@
+//! The editor's state, and its step from an event to an effect.
+
+ghost use Rattle.std.specs.Prelude.{◌≡◌, ◌≢◌, [], false, IfOk, IfSome, OnErr, OnOk, string_bytes};
+ghost use Rattle.textarea_editor.specs.Editor.{draft_of, end_of};
+ghost use Rattle.textarea_editor.specs.Effects.{IsWritten};
+ghost use Rattle.textarea_editor.specs.Steps.{IsStep};
+
+mod answers;
+mod commands;
+mod drawing;
+mod events;
+mod keys;
+mod mouse;
+mod parts;
+mod prompt;
+mod saving;
+mod status;
+
+use crate::draft::Draft;
+use crate::editor::parts::{file_draft, help_area, opened, plain_field, replace};
+use crate::effect::Effect;
+use crate::file_text::LineEnd;
+use crate::focus::Focus;
+use crate::message::Message;
+pub use drawing::Frame;
+use std::alloc::{AllocError, Global};
+use std::time::Duration;
+use textarea_data::scroll::Scrolling;
+use textarea_modal::Modal;
+use textarea_terminal::input::Event;
+use tui_textarea::TextArea;
+
+// The most bytes of a text whose long lines are wrapped when it is opened.
+const WRAPPED_BYTES: usize = 1 << 20;
+
+// A step of the wheel.
+const WHEEL_DOWN: Scrolling = Scrolling::Delta { rows: 3, cols: 0 };
+
+const WHEEL_UP: Scrolling = Scrolling::Delta { rows: -3, cols: 0 };
+
+/// An editor of one text.
+#[derive(Drop)]
+pub struct Editor {
+    /// The text.
+    draft: Draft,
+    /// The text of the prompt, of one line.
+    field: TextArea<'static>,
+    /// The help.
+    help: TextArea<'static>,
+    name: Option<String>,
+    line_end: LineEnd,
+    modal: Option<Modal>,
+    focus: Focus,
+    message: Message,
+    /// The cursor as the prompt for a text to find was opened.
+    origin: (usize, usize),
+    columns: u16,
+    rows: u16,
+    wraps: bool,
+    numbers: bool,
+    /// Whether the program ends once the file is saved.
+    ends_when_saved: bool,
+}
+
+impl Editor {
+    /// Returns an editor of an empty text without a name, on a screen of this size.
+    pub fn new(alloc: Global, columns: u16, rows: u16, is_modal: bool) -> Result<Editor, AllocError>
+        ensures unchanged { IfOk result (λ editor. (draft_of editor).is_changed ≡ false) }
+        ensures empty { IfOk result (λ editor. (draft_of editor).area.document.text ≡ []) }
+    {
+        let draft = opened(alloc, Vec::new(alloc), true)?;
+        let field = plain_field(alloc)?;
+        let help = help_area(alloc, is_modal)?;
+        Ok(Editor {
+            draft,
+            field,
+            help,
+            name: None,
+            line_end: LineEnd::LineFeed,
+            modal: if is_modal { Some(Modal::new()) } else { None },
+            focus: Focus::Text,
+            message: Message::Nothing,
+            origin: (0, 0),
+            columns,
+            rows,
+            wraps: true,
+            numbers: false,
+            ends_when_saved: false,
+        })
+    }
+
+    /// Replaces the text by that of a file with this name. A name without a text is that of a new
+    /// file. Until it is edited, the text is saved as it was.
+    ///
+    /// If memory runs out, the editor is as before.
+    pub fn open(&mut self, name: &str, text: Option<String>) -> Result<(), AllocError>
+        ensures written { OnOk result (IfSome text (λ text.
+            IsWritten (draft_of self.new).area (end_of self.new) (string_bytes text))) }
+        ensures unchanged { OnOk result (IfSome text (λ text.
+            (draft_of self.new).is_changed ≡ false)) }
+        ensures err { OnErr result (self.new ≡ self.old) }
+    {
+        let alloc = self.allocator();
+        let name = String::from_str(alloc, name)?;
+        match text {
+            Some(text) => self.take_text(text)?,
+            None => self.message = Message::NewFile,
+        }
+        self.name = Some(name);
+        Ok(())
+    }
+
+    // Replaces the text by that of a file.
+    fn take_text(&mut self, text: String) -> Result<(), AllocError>
+        ensures written { OnOk result
+            (IsWritten (draft_of self.new).area (end_of self.new) (string_bytes text)) }
+        ensures unchanged { OnOk result ((draft_of self.new).is_changed ≡ false) }
+        ensures err { OnErr result (self.new ≡ self.old) }
+    {
+        let wraps = text.len() <= WRAPPED_BYTES;
+        let (draft, line_end) = file_draft(self.allocator(), text, wraps)?;
+        replace(&mut self.draft, draft);
+        self.line_end = line_end;
+        self.wraps = wraps;
+        Ok(())
+    }
+
+    /// Shows a message until the next key.
+    pub fn show_message(&mut self, message: Message)
+        ensures draft { draft_of self.new ≡ draft_of self.old }
+        ensures end { end_of self.new ≡ end_of self.old }
+    {
+        self.message = message;
+    }
+
+    /// Returns the name of the file, if it has one.
+    pub fn name(&self) -> Option<&str> {
+        match &self.name {
+            Some(name) => Some(name.as_str()),
+            None => None,
+        }
+    }
+
+    /// Takes an event of the terminal, which came at this time since any start.
+    ///
+    /// If memory runs out, the calls of the event before one of them were made, the status row
+    /// shows it, and the program does nothing.
+    pub fn step(&mut self, now: Duration, event: &Event) -> Effect
+        ensures { IsStep self.old now event.now result self.new }
+    {
+        match self.try_step(now, event) {
+            Ok(effect) => effect,
+            Err(_) => {
+                self.message = Message::Memory;
+                Effect::Nothing
+            }
+        }
+    }
+
+    fn allocator(&self) -> Global {
+        self.draft.allocator()
+    }
+}

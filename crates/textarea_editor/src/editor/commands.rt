@@ -1,0 +1,193 @@
+// What the commands of the table do.
+ghost use Rattle.std.specs.Prelude.{◌≡◌, ◌∷◌, [], IfOk, IsTrue, OnErr, OnOk};
+ghost use Rattle.std.specs.List.{list_all};
+ghost use Rattle.textarea_calls.specs.declared.call.Call.TheVariants as call;
+ghost use Rattle.textarea_editor.specs.Draft.{FailsIn, Makes, leaves_text, may_edit, plain_calls};
+ghost use Rattle.textarea_editor.specs.Editor.{MayQuit};
+ghost use Rattle.textarea_editor.specs.Effects.{Carries};
+ghost use Rattle.textarea_editor.specs.EventCalls.{command_calls, find_calls, is_selecting, numbers_call, wrap_mode};
+
+use super::Editor;
+use crate::editor::parts::wrap_mode;
+use crate::effect::Effect;
+use crate::focus::{Asked, Focus};
+use crate::keys::Command;
+use crate::message::Message;
+use std::alloc::AllocError;
+use textarea_calls::Call;
+use textarea_screen::screen::{Color, Style};
+
+impl Editor {
+    // Does what a command says.
+    pub(super) fn command(&mut self, command: Command) -> Result<Effect, AllocError>
+        ensures ok { OnOk result (Makes self.old.draft (command_calls self.old.wraps
+            self.old.numbers (is_selecting self.old.draft.area) command) self.new.draft) }
+        ensures err { OnErr result (FailsIn self.old.draft (command_calls self.old.wraps
+            self.old.numbers (is_selecting self.old.draft.area) command) self.new.draft) }
+        ensures carries { IfOk result
+            (Carries (MayQuit self.old) self.new.draft.area self.new.line_end) }
+        ensures end { self.new.line_end ≡ self.old.line_end }
+    {
+        match command {
+            Command::Save => self.save(false),
+            Command::Quit => Ok(self.quit()),
+            Command::Find => self.open_prompt(Asked::Text),
+            Command::GoToLine => self.open_prompt(Asked::Line),
+            Command::FindNext => self.find(true),
+            Command::FindPrevious => self.find(false),
+            Command::Undo => self.edit(&[Call::Undo]),
+            Command::Redo => self.edit(&[Call::Redo]),
+            Command::Paste => self.edit(&[Call::Paste]),
+            Command::Cut => self.cut(),
+            Command::Copy => self.copy(),
+            Command::SelectAll => self.set(&[Call::SelectAll]),
+            Command::Cancel => self.set(&[Call::CancelSelection, Call::SetSearchPattern("")]),
+            Command::Wrap => self.set_wraps(!self.wraps),
+            Command::LineNumbers => self.set_numbers(!self.numbers),
+            Command::Help => {
+                self.focus = Focus::Help;
+                Ok(Effect::Nothing)
+            }
+        }
+    }
+
+    // Makes calls that leave the text as it is.
+    pub(super) fn set(&mut self, calls: &[Call<'_>]) -> Result<Effect, AllocError>
+        requires { IsTrue (list_all leaves_text calls.now) }
+        ensures ok { OnOk result (Makes self.old.draft (plain_calls calls.now) self.new.draft) }
+        ensures err { OnErr result (FailsIn self.old.draft (plain_calls calls.now) self.new.draft) }
+        ensures carries { IfOk result
+            (Carries (MayQuit self.old) self.new.draft.area self.new.line_end) }
+        ensures end { self.new.line_end ≡ self.old.line_end }
+    {
+        self.draft.set(calls)?;
+        Ok(Effect::Nothing)
+    }
+
+    // Makes calls that may edit the text.
+    pub(super) fn edit(&mut self, calls: &[Call<'_>]) -> Result<Effect, AllocError>
+        requires { IsTrue (list_all may_edit calls.now) }
+        ensures ok { OnOk result (Makes self.old.draft (plain_calls calls.now) self.new.draft) }
+        ensures err { OnErr result (FailsIn self.old.draft (plain_calls calls.now) self.new.draft) }
+        ensures carries { IfOk result
+            (Carries (MayQuit self.old) self.new.draft.area self.new.line_end) }
+        ensures end { self.new.line_end ≡ self.old.line_end }
+    {
+        self.draft.edit(calls)?;
+        Ok(Effect::Nothing)
+    }
+
+    fn open_prompt(&mut self, asked: Asked) -> Result<Effect, AllocError>
+        ensures draft { self.new.draft ≡ self.old.draft }
+        ensures carries { IfOk result
+            (Carries (MayQuit self.old) self.new.draft.area self.new.line_end) }
+        ensures end { self.new.line_end ≡ self.old.line_end }
+    {
+        self.ask(asked)?;
+        Ok(Effect::Nothing)
+    }
+
+    // Copies the selected text, if a selection is open, and gives it to the program.
+    fn copy(&mut self) -> Result<Effect, AllocError>
+        ensures ok { OnOk result (Makes self.old.draft (command_calls self.old.wraps
+            self.old.numbers (is_selecting self.old.draft.area) Command.Copy) self.new.draft) }
+        ensures err { OnErr result (FailsIn self.old.draft (command_calls self.old.wraps
+            self.old.numbers (is_selecting self.old.draft.area) Command.Copy) self.new.draft) }
+        ensures carries { IfOk result
+            (Carries (MayQuit self.old) self.new.draft.area self.new.line_end) }
+        ensures end { self.new.line_end ≡ self.old.line_end }
+    {
+        if !self.draft.area().is_selecting() {
+            return Ok(Effect::Nothing);
+        }
+        self.draft.set(&[Call::Copy])?;
+        Ok(self.clipboard())
+    }
+
+    // Removes the selected text, if a selection is open, and gives it to the program.
+    fn cut(&mut self) -> Result<Effect, AllocError>
+        ensures ok { OnOk result (Makes self.old.draft (command_calls self.old.wraps
+            self.old.numbers (is_selecting self.old.draft.area) Command.Cut) self.new.draft) }
+        ensures err { OnErr result (FailsIn self.old.draft (command_calls self.old.wraps
+            self.old.numbers (is_selecting self.old.draft.area) Command.Cut) self.new.draft) }
+        ensures carries { IfOk result
+            (Carries (MayQuit self.old) self.new.draft.area self.new.line_end) }
+        ensures end { self.new.line_end ≡ self.old.line_end }
+    {
+        if !self.draft.area().is_selecting() {
+            return Ok(Effect::Nothing);
+        }
+        self.draft.edit(&[Call::Cut])?;
+        Ok(self.clipboard())
+    }
+
+    // Gives the text that was yanked last to the program. If memory runs out, the terminal's
+    // clipboard stays as it is.
+    pub(super) fn clipboard(&self) -> Effect
+        ensures { Carries ⊥ self.now.draft.area self.now.line_end result }
+    {
+        match self.draft.area().yank_text() {
+            Ok(text) => Effect::Copy(text),
+            Err(_) => Effect::Nothing,
+        }
+    }
+
+    // Moves to the next or the previous match, and shows a message if there is none.
+    pub(super) fn find(&mut self, is_forward: bool) -> Result<Effect, AllocError>
+        ensures ok { OnOk result (Makes self.old.draft (find_calls is_forward) self.new.draft) }
+        ensures err { OnErr result (FailsIn self.old.draft (find_calls is_forward) self.new.draft) }
+        ensures carries { IfOk result
+            (Carries (MayQuit self.old) self.new.draft.area self.new.line_end) }
+        ensures end { self.new.line_end ≡ self.old.line_end }
+    {
+        let call = if is_forward {
+            Call::SearchForward(false)
+        } else {
+            Call::SearchBack(false)
+        };
+        if !self.draft.set(&[call])? {
+            self.message = Message::NoMatch;
+        }
+        Ok(Effect::Nothing)
+    }
+
+    // Wraps long lines, or no longer does.
+    fn set_wraps(&mut self, wraps: bool) -> Result<Effect, AllocError>
+        ensures ok { OnOk result
+            (Makes self.old.draft (call.SetWrapMode (wrap_mode wraps) ∷ []) self.new.draft) }
+        ensures err { OnErr result
+            (FailsIn self.old.draft (call.SetWrapMode (wrap_mode wraps) ∷ []) self.new.draft) }
+        ensures carries { IfOk result
+            (Carries (MayQuit self.old) self.new.draft.area self.new.line_end) }
+        ensures end { self.new.line_end ≡ self.old.line_end }
+    {
+        self.draft.set(&[Call::SetWrapMode(wrap_mode(wraps))])?;
+        self.wraps = wraps;
+        Ok(Effect::Nothing)
+    }
+
+    // Shows the line numbers, or hides them.
+    fn set_numbers(&mut self, numbers: bool) -> Result<Effect, AllocError>
+        ensures ok { OnOk result
+            (Makes self.old.draft (numbers_call numbers ∷ []) self.new.draft) }
+        ensures err { OnErr result
+            (FailsIn self.old.draft (numbers_call numbers ∷ []) self.new.draft) }
+        ensures carries { IfOk result
+            (Carries (MayQuit self.old) self.new.draft.area self.new.line_end) }
+        ensures end { self.new.line_end ≡ self.old.line_end }
+    {
+        self.draft.set(&[numbers_call(numbers)])?;
+        self.numbers = numbers;
+        Ok(Effect::Nothing)
+    }
+}
+
+fn numbers_call(numbers: bool) -> Call<'static>
+    ensures { result ≡ numbers_call numbers }
+{
+    if numbers {
+        Call::SetLineNumberStyle(Style::new().fg(Color::DarkGray))
+    } else {
+        Call::RemoveLineNumber
+    }
+}

@@ -1,0 +1,97 @@
+// The text areas of an editor.
+ghost use Rattle.std.specs.Prelude.{◌≡◌, false, IfOk, OnOk, string_bytes};
+ghost use Rattle.textarea_editor.specs.Effects.{IsWritten};
+ghost use Rattle.textarea_editor.specs.EventCalls.{wrap_mode};
+ghost use Rattle.textarea_text.specs.Text.{text_of};
+
+use crate::draft::Draft;
+use crate::file_text::{LineEnd, line_end_of, lines_of};
+use crate::help::help_lines;
+use std::alloc::{AllocError, Global};
+use textarea_calls::Call;
+use textarea_screen::screen::{Color, Modifier, Style};
+use textarea_view::look::CursorRenderMode;
+use textarea_wrap::wrap::WrapMode;
+use tui_textarea::TextArea;
+
+// The number of edits that undo takes back.
+const UNDOS: usize = 10_000;
+
+/// How lines are wrapped, if long ones are or not.
+pub fn wrap_mode(wraps: bool) -> WrapMode
+    ensures { result ≡ wrap_mode wraps }
+{
+    if wraps {
+        WrapMode::WordOrGlyph
+    } else {
+        WrapMode::None
+    }
+}
+
+/// Returns a draft of these lines, which is not changed.
+pub fn opened(alloc: Global, lines: Vec<String>, wraps: bool) -> Result<Draft, AllocError>
+    ensures text { IfOk result (λ draft. draft.area.document.text ≡ text_of lines.items) }
+    ensures unchanged { IfOk result (λ draft. draft.is_changed ≡ false) }
+{
+    let mut draft = Draft::new(alloc, TextArea::new(lines)?)?;
+    set_up(&mut draft, wraps)?;
+    Ok(draft)
+}
+
+// Sets up the draft of a new text area.
+fn set_up(draft: &mut Draft, wraps: bool) -> Result<(), AllocError>
+    ensures text { OnOk result (draft.old.is_changed ≡ false →
+        draft.new.area.document.text ≡ draft.old.area.document.text) }
+    ensures unchanged { OnOk result (draft.new.is_changed ≡ draft.old.is_changed) }
+{
+    let lit = Style::default().fg(Color::Black).bg(Color::Yellow);
+    let selected = Style::default().add_modifier(Modifier::REVERSED);
+    draft.set(&[
+        Call::SetUndoCoalescing(true),
+        Call::SetMaxHistories(UNDOS),
+        Call::SetHardTabIndent(true),
+        Call::SetCursorRenderMode(CursorRenderMode::Hidden),
+        Call::SetCursorLineStyle(Style::default()),
+        Call::SetSearchStyle(lit),
+        Call::SetSelectionStyle(selected),
+        Call::SetWrapMode(wrap_mode(wraps)),
+    ])?;
+    Ok(())
+}
+
+/// Returns the draft of a file's text, and its line end.
+pub fn file_draft(alloc: Global, text: String, wraps: bool) -> Result<(Draft, LineEnd), AllocError>
+    ensures written { IfOk result (λ made. IsWritten made.0.area made.1 (string_bytes text)) }
+    ensures unchanged { IfOk result (λ made. made.0.is_changed ≡ false) }
+{
+    let line_end = line_end_of(text.as_str());
+    let lines = lines_of(alloc, text.as_str(), line_end)?;
+    drop(text);
+    Ok((opened(alloc, lines, wraps)?, line_end))
+}
+
+/// Puts a draft in place of another.
+pub fn replace(draft: &mut Draft, by: Draft)
+    ensures { draft.new ≡ by }
+{
+    *draft = by;
+}
+
+/// Returns an empty field, as the prompt has it.
+pub fn plain_field(alloc: Global) -> Result<TextArea<'static>, AllocError> {
+    let mut field = TextArea::try_default(alloc)?;
+    hide_cursor(&mut field);
+    Ok(field)
+}
+
+/// Returns the text area of the help.
+pub fn help_area(alloc: Global, is_modal: bool) -> Result<TextArea<'static>, AllocError> {
+    let mut help = TextArea::new(help_lines(alloc, is_modal)?)?;
+    hide_cursor(&mut help);
+    Ok(help)
+}
+
+fn hide_cursor(area: &mut TextArea<'_>) {
+    area.set_cursor_render_mode(CursorRenderMode::Hidden);
+    area.set_cursor_line_style(Style::default());
+}

@@ -1,0 +1,198 @@
+// The prompt: a text area of one line in the status row.
+ghost use Rattle.std.specs.Prelude.{◌≡◌, IfOk, OnErr, OnOk};
+ghost use Rattle.textarea_editor.specs.Draft.{FailsIn, FailsInSome, Makes, MakesSome};
+ghost use Rattle.textarea_editor.specs.Editor.{MayQuit};
+ghost use Rattle.textarea_editor.specs.Effects.{Carries};
+ghost use Rattle.textarea_editor.specs.EventCalls.{IsKeyInPrompt, IsLineAsked, IsLookingFor, IsPasteInPrompt, IsPromptChanged, IsPromptInput, IsPromptTaken, row_calls};
+ghost use Rattle.textarea_editor.specs.PromptKeys.{prompt_key};
+
+use super::Editor;
+use crate::effect::Effect;
+use crate::focus::{Asked, Focus, PromptKey, prompt_key};
+use crate::line_number::{line_number, row_of};
+use crate::message::Message;
+use crate::pattern::{first_line, pattern_of};
+use std::alloc::AllocError;
+use textarea_data::input::Input;
+
+impl Editor {
+    // Opens the prompt with an empty text.
+    pub(super) fn ask(&mut self, asked: Asked) -> Result<(), AllocError>
+        ensures draft { self.new.draft ≡ self.old.draft }
+        ensures end { self.new.line_end ≡ self.old.line_end }
+    {
+        self.field.clear()?;
+        self.origin = self.draft.area().cursor();
+        self.focus = Focus::Prompt(asked);
+        Ok(())
+    }
+
+    // Takes a key in the prompt.
+    pub(super) fn take_prompt_key(
+        &mut self,
+        asked: Asked,
+        input: &Input,
+    ) -> Result<Effect, AllocError>
+        ensures ok { OnOk result (MakesSome (IsKeyInPrompt (prompt_key asked input.now) asked
+            self.old.origin self.old.field input.now) self.old.draft self.new.draft) }
+        ensures err { OnErr result (FailsInSome (IsKeyInPrompt (prompt_key asked input.now) asked
+            self.old.origin self.old.field input.now) self.old.draft self.new.draft) }
+        ensures carries { IfOk result
+            (Carries (MayQuit self.old) self.new.draft.area self.new.line_end) }
+        ensures end { self.new.line_end ≡ self.old.line_end }
+    {
+        match prompt_key(asked, input) {
+            PromptKey::Leave => {
+                self.focus = Focus::Text;
+                self.ends_when_saved = false;
+                Ok(Effect::Nothing)
+            }
+            PromptKey::Next => self.find(true),
+            PromptKey::Previous => self.find(false),
+            PromptKey::Accept => self.accept(asked),
+            PromptKey::Edit => self.edit_prompt(asked, input),
+        }
+    }
+
+    // Passes an input to the prompt's text area.
+    fn edit_prompt(&mut self, asked: Asked, input: &Input) -> Result<Effect, AllocError>
+        ensures ok { OnOk result
+            (MakesSome (IsPromptInput asked self.old.origin self.old.field input.now)
+            self.old.draft self.new.draft) }
+        ensures err { OnErr result
+            (FailsInSome (IsPromptInput asked self.old.origin self.old.field input.now)
+            self.old.draft self.new.draft) }
+        ensures carries { IfOk result
+            (Carries (MayQuit self.old) self.new.draft.area self.new.line_end) }
+        ensures end { self.new.line_end ≡ self.old.line_end }
+    {
+        let is_edited = self.field.input(*input)?;
+        if is_edited {
+            self.look(asked)
+        } else {
+            Ok(Effect::Nothing)
+        }
+    }
+
+    // Pastes the first line of a text into the prompt.
+    pub(super) fn paste_in_prompt(&mut self, asked: Asked, text: &str) -> Result<Effect, AllocError>
+        ensures ok { OnOk result
+            (MakesSome (IsPasteInPrompt asked self.old.origin self.old.field text.now)
+            self.old.draft self.new.draft) }
+        ensures err { OnErr result
+            (FailsInSome (IsPasteInPrompt asked self.old.origin self.old.field text.now)
+            self.old.draft self.new.draft) }
+        ensures carries { IfOk result
+            (Carries (MayQuit self.old) self.new.draft.area self.new.line_end) }
+        ensures end { self.new.line_end ≡ self.old.line_end }
+    {
+        let line = first_line(self.allocator(), text)?;
+        let is_edited = self.field.insert_str(line.as_str())?;
+        if is_edited {
+            self.look(asked)
+        } else {
+            Ok(Effect::Nothing)
+        }
+    }
+
+    // Looks for the prompt's text, if it is one to find.
+    fn look(&mut self, asked: Asked) -> Result<Effect, AllocError>
+        ensures ok { OnOk result (MakesSome (IsPromptChanged asked self.old.origin self.old.field)
+            self.old.draft self.new.draft) }
+        ensures err { OnErr result
+            (FailsInSome (IsPromptChanged asked self.old.origin self.old.field)
+            self.old.draft self.new.draft) }
+        ensures carries { IfOk result
+            (Carries (MayQuit self.old) self.new.draft.area self.new.line_end) }
+        ensures end { self.new.line_end ≡ self.old.line_end }
+    {
+        match asked {
+            Asked::Text => self.look_for(),
+            Asked::Line | Asked::Name => Ok(Effect::Nothing),
+        }
+    }
+
+    // Lights the matches of the prompt's text, and moves to the first one from where the prompt was
+    // opened.
+    fn look_for(&mut self) -> Result<Effect, AllocError>
+        ensures ok { OnOk result (MakesSome (IsLookingFor self.old.origin self.old.field)
+            self.old.draft self.new.draft) }
+        ensures err { OnErr result (FailsInSome (IsLookingFor self.old.origin self.old.field)
+            self.old.draft self.new.draft) }
+        ensures carries { IfOk result
+            (Carries (MayQuit self.old) self.new.draft.area self.new.line_end) }
+        ensures end { self.new.line_end ≡ self.old.line_end }
+    {
+        let pattern = pattern_of(self.allocator(), self.field.lines()[0].as_str())?;
+        let found = self.draft.look_for(self.origin, pattern.as_str())?;
+        if !found && !pattern.is_empty() {
+            self.message = Message::NoMatch;
+        }
+        Ok(Effect::Nothing)
+    }
+
+    // Takes the prompt's text.
+    fn accept(&mut self, asked: Asked) -> Result<Effect, AllocError>
+        ensures ok { OnOk result
+            (MakesSome (IsPromptTaken asked self.old.field) self.old.draft self.new.draft) }
+        ensures err { OnErr result
+            (FailsInSome (IsPromptTaken asked self.old.field) self.old.draft self.new.draft) }
+        ensures carries { IfOk result
+            (Carries (MayQuit self.old) self.new.draft.area self.new.line_end) }
+        ensures end { self.new.line_end ≡ self.old.line_end }
+    {
+        match asked {
+            // Enter moves on in a search, so its text is never taken.
+            Asked::Text => Ok(Effect::Nothing),
+            Asked::Line => self.go_to_line(),
+            Asked::Name => self.take_name(),
+        }
+    }
+
+    // Moves to the line of the number in the prompt, counted from 1.
+    fn go_to_line(&mut self) -> Result<Effect, AllocError>
+        ensures ok { OnOk result
+            (MakesSome (IsLineAsked self.old.field) self.old.draft self.new.draft) }
+        ensures err { OnErr result
+            (FailsInSome (IsLineAsked self.old.field) self.old.draft self.new.draft) }
+        ensures carries { IfOk result
+            (Carries (MayQuit self.old) self.new.draft.area self.new.line_end) }
+        ensures end { self.new.line_end ≡ self.old.line_end }
+    {
+        self.focus = Focus::Text;
+        match row_of(line_number(self.field.lines()[0].as_str())) {
+            Some(row) => self.go_to_row(row),
+            None => {
+                self.message = Message::NoLine;
+                Ok(Effect::Nothing)
+            }
+        }
+    }
+
+    // Drops the selection, and moves to the start of a line.
+    fn go_to_row(&mut self, row: usize) -> Result<Effect, AllocError>
+        ensures ok { OnOk result (Makes self.old.draft (row_calls (Some row)) self.new.draft) }
+        ensures err { OnErr result (FailsIn self.old.draft (row_calls (Some row)) self.new.draft) }
+        ensures carries { IfOk result
+            (Carries (MayQuit self.old) self.new.draft.area self.new.line_end) }
+        ensures end { self.new.line_end ≡ self.old.line_end }
+    {
+        self.draft.go_to(row)?;
+        Ok(Effect::Nothing)
+    }
+
+    // Takes the prompt's text as the file's name, and saves the file.
+    fn take_name(&mut self) -> Result<Effect, AllocError>
+        ensures draft { self.new.draft ≡ self.old.draft }
+        ensures carries { IfOk result
+            (Carries (MayQuit self.old) self.new.draft.area self.new.line_end) }
+        ensures end { self.new.line_end ≡ self.old.line_end }
+    {
+        self.focus = Focus::Text;
+        if self.field.is_empty() {
+            return Ok(Effect::Nothing);
+        }
+        self.name = Some(self.field.lines()[0].clone()?);
+        self.save(false)
+    }
+}

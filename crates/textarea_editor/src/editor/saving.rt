@@ -1,0 +1,72 @@
+// Saving the text, and ending the program.
+ghost use Rattle.std.specs.Prelude.{◌≡◌, ◌≢◌, false, IfOk};
+ghost use Rattle.textarea_editor.specs.Editor.{MayQuit, draft_of, end_of};
+ghost use Rattle.textarea_editor.specs.Effects.{Carries};
+
+use super::Editor;
+use crate::effect::{Effect, SaveEnd};
+use crate::file_text::joined;
+use crate::focus::{Asked, Focus, Question};
+use crate::message::Message;
+use std::alloc::AllocError;
+
+impl Editor {
+    // Asks the program to save the text, or first for a name if it has none.
+    pub(super) fn save(&mut self, overwrites: bool) -> Result<Effect, AllocError>
+        ensures draft { self.new.draft ≡ self.old.draft }
+        ensures carries { IfOk result
+            (Carries (MayQuit self.old) self.new.draft.area self.new.line_end) }
+        ensures end { self.new.line_end ≡ self.old.line_end }
+    {
+        if self.name.is_none() {
+            self.ask(Asked::Name)?;
+            return Ok(Effect::Nothing);
+        }
+        self.focus = Focus::Text;
+        let text = joined(self.allocator(), self.draft.area().lines(), self.line_end)?;
+        Ok(Effect::Save { text, overwrites })
+    }
+
+    /// Takes how a save ended. The text has to be the one that was saved.
+    ///
+    /// After a save that failed the text is as it was, and counts as changed if it did before; the
+    /// status row tells why.
+    pub fn saved(&mut self, end: SaveEnd) -> Effect
+        ensures saved { end ≡ SaveEnd.Saved
+            → draft_of self.new ≡ record (draft_of self.old) { is_changed = false } }
+        ensures failed { end ≢ SaveEnd.Saved → draft_of self.new ≡ draft_of self.old }
+        ensures carries { Carries (end ≡ SaveEnd.Saved) (draft_of self.new).area
+            (end_of self.new) result }
+        ensures same_end { end_of self.new ≡ end_of self.old }
+    {
+        match end {
+            SaveEnd::Saved => {
+                self.draft.set_saved();
+                self.message = Message::Saved;
+                if self.ends_when_saved {
+                    return Effect::Quit;
+                }
+            }
+            SaveEnd::ChangedOnDisk => self.focus = Focus::Question(Question::Overwrite),
+            SaveEnd::Failed(trouble) => {
+                self.message = Message::NotSaved(trouble);
+                self.ends_when_saved = false;
+            }
+        }
+        Effect::Nothing
+    }
+
+    // Ends the program, after a question if the text may have changed.
+    pub(super) fn quit(&mut self) -> Effect
+        ensures draft { self.new.draft ≡ self.old.draft }
+        ensures carries { Carries (self.old.draft.is_changed ≡ false) self.new.draft.area
+            self.new.line_end result }
+        ensures end { self.new.line_end ≡ self.old.line_end }
+    {
+        if !self.draft.is_changed() {
+            return Effect::Quit;
+        }
+        self.focus = Focus::Question(Question::SaveFirst);
+        Effect::Nothing
+    }
+}

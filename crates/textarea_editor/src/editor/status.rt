@@ -1,0 +1,76 @@
+// The status row.
+
+use super::Editor;
+use crate::focus::{Asked, Focus, Question};
+use std::alloc::{AllocError, Global};
+use textarea_modal::Mode;
+
+impl Editor {
+    // The text at the left of the status row: a question, or the file's name and a message.
+    pub(super) fn left_text(&self, alloc: Global) -> Result<String, AllocError> {
+        match self.focus {
+            Focus::Prompt(Asked::Text) => String::from_str(alloc, " Find: "),
+            Focus::Prompt(Asked::Line) => String::from_str(alloc, " Go to line: "),
+            Focus::Prompt(Asked::Name) => String::from_str(alloc, " Save as: "),
+            Focus::Question(Question::SaveFirst) => {
+                String::from_str(
+                    alloc,
+                    " Save the changes? y: yes  n: no  Esc: back to the text",
+                )
+            }
+            Focus::Question(Question::Overwrite) => {
+                String::from_str(
+                    alloc,
+                    " The file changed on disk. Overwrite it? y: yes  n: no",
+                )
+            }
+            Focus::Help => String::from_str(alloc, " Keys  (any key: back to the text)"),
+            Focus::Text => self.name_and_message(alloc),
+        }
+    }
+
+    fn name_and_message(&self, alloc: Global) -> Result<String, AllocError> {
+        let name = self.name().unwrap_or("(no name)");
+        let changed = if self.draft.is_changed() { " *" } else { "" };
+        let (message, reason) = self.message.components();
+        format!(in alloc; " {name}{changed}  {message}{reason}")
+    }
+
+    // The text at the right of the status row: the keys of the prompt and what it found, or mode,
+    // line and column. `room` is the number of columns for it.
+    pub(super) fn right_text(&self, alloc: Global, room: usize) -> Result<String, AllocError> {
+        match self.focus {
+            Focus::Text => self.place_text(alloc, room),
+            Focus::Prompt(Asked::Text) => {
+                let (message, _) = self.message.components();
+                format!(in alloc; "{message}  Enter: next  Esc: back ")
+            }
+            _ => Ok(String::new(alloc)),
+        }
+    }
+
+    fn place_text(&self, alloc: Global, room: usize) -> Result<String, AllocError> {
+        let (row, column) = self.draft.area().cursor();
+        let line = row.saturating_add(1);
+        let column = column.saturating_add(1);
+        let mode = self.mode_text();
+        let wrap = if self.wraps { "wrap  " } else { "" };
+        let whole = format!(in alloc; "{mode}{wrap}line {line}, column {column}  F1: keys ")?;
+        if whole.len() <= room {
+            return Ok(whole);
+        }
+        format!(in alloc; "{line}:{column} ")
+    }
+
+    fn mode_text(&self) -> &'static str {
+        match self.modal {
+            None => "",
+            Some(modal) => match modal.mode() {
+                Mode::Normal => "normal  ",
+                Mode::Insert => "insert  ",
+                Mode::Visual => "visual  ",
+                Mode::Operator(_) => "operator  ",
+            },
+        }
+    }
+}

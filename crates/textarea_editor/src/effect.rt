@@ -1,0 +1,33 @@
+//! What the editor asks its program to do, and how that ended.
+
+use crate::message::Trouble;
+
+/// What a step of the editor asks its program to do.
+#[derive(Debug, PartialEq, Eq, Drop)]
+pub enum Effect {
+    /// Nothing.
+    Nothing,
+    /// Save the file with this text, and tell the editor by
+    /// [`Editor::saved`](crate::Editor::saved).
+    Save {
+        /// The text of the whole file.
+        text: String,
+        /// Whether to overwrite a file that changed on disk.
+        overwrites: bool,
+    },
+    /// Give this text to the terminal's clipboard.
+    Copy(String),
+    /// End the program.
+    Quit,
+}
+
+/// How a save ended.
+#[derive(Clone, Copy, Debug, PartialEq, Eq)]
+pub enum SaveEnd {
+    /// The file has the new bytes.
+    Saved,
+    /// The file changed on disk since it was read or saved, and is as it was.
+    ChangedOnDisk,
+    /// It failed, and the file is as it was.
+    Failed(Trouble),
+}

@@ -1,0 +1,166 @@
+//! The keys of the editor, as one table. Help is made from it too.
+
+ghost use Rattle.std.specs.Prelude.{◌≡◌};
+ghost use Rattle.textarea_editor.specs.EventCalls.{IsCommandOf, binds, is_bound, is_same};
+
+use textarea_data::input::{Input, Key};
+
+/// What a key of the table does.
+#[derive(Clone, Copy, Debug, PartialEq, Eq)]
+pub enum Command {
+    /// Saves the file.
+    Save,
+    /// Ends the program, after a question if the text has changed.
+    Quit,
+    /// Opens the prompt for a text to find.
+    Find,
+    /// Moves to the next match.
+    FindNext,
+    /// Moves to the match before.
+    FindPrevious,
+    /// Opens the prompt for a line number.
+    GoToLine,
+    /// Undoes an edit.
+    Undo,
+    /// Redoes an edit.
+    Redo,
+    /// Removes the selected text, and copies it.
+    Cut,
+    /// Copies the selected text.
+    Copy,
+    /// Inserts the copied text.
+    Paste,
+    /// Selects the whole text.
+    SelectAll,
+    /// Wraps long lines, or no longer does.
+    Wrap,
+    /// Shows line numbers, or hides them.
+    LineNumbers,
+    /// Shows all keys.
+    Help,
+    /// Drops the selection and the search pattern.
+    Cancel,
+}
+
+/// A row of the table: an input, and what it does.
+#[derive(Clone, Copy)]
+pub struct Binding {
+    /// The key with its modifiers.
+    pub input: Input,
+    /// What it does.
+    pub command: Command,
+    /// Whether it does so with modal keys too.
+    pub with_modal: bool,
+}
+
+macro_rules! binding {
+    (plain $key:expr, $command:expr, $with_modal:expr) => {
+        binding!($key, false, false, false, $command, $with_modal)
+    };
+    (ctrl $key:expr, $command:expr, $with_modal:expr) => {
+        binding!($key, true, false, false, $command, $with_modal)
+    };
+    (alt $key:expr, $command:expr, $with_modal:expr) => {
+        binding!($key, false, true, false, $command, $with_modal)
+    };
+    (shift $key:expr, $command:expr, $with_modal:expr) => {
+        binding!($key, false, false, true, $command, $with_modal)
+    };
+    ($key:expr, $ctrl:expr, $alt:expr, $shift:expr, $command:expr, $with_modal:expr) => {
+        Binding {
+            input: Input {
+                key: $key,
+                ctrl: $ctrl,
+                alt: $alt,
+                shift: $shift,
+            },
+            command: $command,
+            with_modal: $with_modal,
+        }
+    };
+}
+
+/// The keys of the editor. Other keys are those of the text area, or of the modal editor.
+pub const BINDINGS: [Binding; 16] = [
+    binding!(ctrl Key::Char('s'), Command::Save, true),
+    binding!(ctrl Key::Char('q'), Command::Quit, true),
+    binding!(ctrl Key::Char('f'), Command::Find, true),
+    binding!(plain Key::F(3), Command::FindNext, true),
+    binding!(shift Key::F(3), Command::FindPrevious, true),
+    binding!(ctrl Key::Char('g'), Command::GoToLine, true),
+    binding!(ctrl Key::Char('z'), Command::Undo, false),
+    binding!(ctrl Key::Char('y'), Command::Redo, false),
+    binding!(ctrl Key::Char('x'), Command::Cut, false),
+    binding!(ctrl Key::Char('c'), Command::Copy, false),
+    binding!(ctrl Key::Char('v'), Command::Paste, false),
+    binding!(ctrl Key::Char('a'), Command::SelectAll, false),
+    binding!(alt Key::Char('z'), Command::Wrap, true),
+    binding!(alt Key::Char('l'), Command::LineNumbers, true),
+    binding!(plain Key::F(1), Command::Help, true),
+    binding!(plain Key::Esc, Command::Cancel, false),
+];
+
+impl Command {
+    /// Returns the name of its key, and what it does, in words.
+    pub fn texts(self) -> (&'static str, &'static str) {
+        match self {
+            Command::Save => ("Ctrl S", "save"),
+            Command::Quit => ("Ctrl Q", "quit"),
+            Command::Find => ("Ctrl F", "find as you type"),
+            Command::FindNext => ("F3", "next match"),
+            Command::FindPrevious => ("Shift F3", "match before"),
+            Command::GoToLine => ("Ctrl G", "go to a line"),
+            Command::Undo => ("Ctrl Z", "undo"),
+            Command::Redo => ("Ctrl Y", "redo"),
+            Command::Cut => ("Ctrl X", "cut"),
+            Command::Copy => ("Ctrl C", "copy"),
+            Command::Paste => ("Ctrl V", "paste"),
+            Command::SelectAll => ("Ctrl A", "select all"),
+            Command::Wrap => ("Alt Z", "wrap long lines or not"),
+            Command::LineNumbers => ("Alt L", "line numbers or none"),
+            Command::Help => ("F1", "these keys"),
+            Command::Cancel => ("Esc", "drop the selection and the matches"),
+        }
+    }
+}
+
+/// Returns what an input does by the table, if it is in it.
+pub fn command_of(input: &Input, is_modal: bool) -> Option<Command>
+    ensures { IsCommandOf input.now is_modal result }
+{
+    for binding in &BINDINGS {
+        if binds(binding, input, is_modal) {
+            return Some(binding.command);
+        }
+    }
+    None
+}
+
+// Returns whether a row of the table binds the input.
+fn binds(binding: &Binding, input: &Input, is_modal: bool) -> bool
+    ensures { result ≡ binds binding.now input.now is_modal }
+{
+    is_bound(binding.input.key, input.key)
+        && is_same(binding.input.ctrl, input.ctrl)
+        && is_same(binding.input.alt, input.alt)
+        && is_same(binding.input.shift, input.shift)
+        && (binding.with_modal || !is_modal)
+}
+
+// Returns whether a bound key, which is a character, a function key or Esc, is the pressed one.
+fn is_bound(bound: Key, pressed: Key) -> bool
+    ensures { result ≡ is_bound bound pressed }
+{
+    match (bound, pressed) {
+        (Key::Char(c), Key::Char(d)) => c == d,
+        (Key::F(m), Key::F(n)) => m == n,
+        (Key::Esc, Key::Esc) => true,
+        _ => false,
+    }
+}
+
+fn is_same(bound: bool, held: bool) -> bool
+    ensures { result ≡ is_same bound held }
+{
+    if bound { held } else { !held }
+}

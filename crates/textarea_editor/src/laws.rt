@@ -1,0 +1,32 @@
+//! Laws of runs of events. A run is a list of events, each with its time, its effect, and the
+//! editor after it.
+ghost use Rattle.std.specs.Prelude.{◌≡◌, ◌⊎◌, false, List};
+ghost use Rattle.std.specs.declared.time.Duration.{Duration};
+ghost use Rattle.textarea_editor.specs.Editor.{AsksToSave, draft_of};
+ghost use Rattle.textarea_editor.specs.Steps.{AreSteps, IsStep, MakesCallsOf, Moment, NoneFails};
+ghost use Rattle.textarea_editor.specs.declared.editor.Editor.{Editor};
+ghost use Rattle.textarea_editor.specs.declared.effect.Effect.TheVariants.{Quit};
+ghost use Rattle.textarea_terminal.specs.declared.input.event.Event.{Event};
+
+/// As long as memory suffices, the text area after any run is that of the calls that the events
+/// make.
+pub fn run_makes_the_calls_of_its_events()
+    ensures { (old new : Editor) (moments : List Moment) → AreSteps old moments new
+        → NoneFails moments → MakesCallsOf old moments new }
+{}
+
+/// After any run since the text was opened or saved: if it counts as unchanged, it is that text.
+pub fn unchanged_text_is_the_saved_one()
+    ensures { (saved now : Editor) (moments : List Moment) → AreSteps saved moments now
+        → (draft_of now).is_changed ≡ false
+        → (draft_of now).area.document.text ≡ (draft_of saved).area.document.text }
+{}
+
+/// After any run since the text was opened or saved: an event ends the program only after the
+/// question whether to save, or if the text is the saved one.
+pub fn quits_without_a_question_only_with_the_saved_text()
+    ensures { (saved old new : Editor) (moments : List Moment) (now : Duration) (event : Event)
+        → AreSteps saved moments old → IsStep old now event Quit new
+        → AsksToSave old
+        ⊎ ((draft_of old).area.document.text ≡ (draft_of saved).area.document.text) }
+{}

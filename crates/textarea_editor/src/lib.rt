@@ -1,0 +1,27 @@
+//! A text editor as values: a state, and a step from an event to a new state and an effect.
+//!
+//! [`Editor`] has the text area, the prompt, the status row and the settings. It does no input or
+//! output: a program gives it the events of a terminal, carries out the [`Effect`] of each, and
+//! shows the frame that it draws.
+#![tactic(auto)]
+
+pub mod arguments;
+pub mod disk;
+pub mod draft;
+pub mod editor;
+pub mod effect;
+pub mod file_text;
+pub mod focus;
+pub mod help;
+pub mod keys;
+pub mod laws;
+pub mod line_number;
+pub mod message;
+pub mod pattern;
+pub mod screen;
+
+pub use arguments::Arguments;
+pub use disk::DiskFile;
+pub use editor::Editor;
+pub use effect::{Effect, SaveEnd};
+pub use screen::Screen;

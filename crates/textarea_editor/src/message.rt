@@ -1,0 +1,78 @@
+//! Messages of the status row.
+
+/// Why a file can't be read or saved.
+#[derive(Clone, Copy, Debug, PartialEq, Eq)]
+pub enum Trouble {
+    /// The file is no UTF-8 text.
+    NotText,
+    /// The name is that of a folder.
+    Folder,
+    /// The name is that of a device, a pipe or a socket.
+    NotFile,
+    /// The file or its folder may not be read or written.
+    Rights,
+    /// The disk is full, or the quota is used up.
+    DiskFull,
+    /// The file's folder doesn't exist.
+    NoFolder,
+    /// The file system can only be read.
+    ReadOnly,
+    /// Out of memory.
+    Memory,
+    /// Another failure of the file system.
+    Other,
+}
+
+impl Trouble {
+    /// Returns the reason as a part of a sentence.
+    pub fn text(self) -> &'static str {
+        match self {
+            Trouble::NotText => "it is not UTF-8 text",
+            Trouble::Folder => "it is a folder",
+            Trouble::NotFile => "it is not a regular file",
+            Trouble::Rights => "permission denied",
+            Trouble::DiskFull => "the disk is full",
+            Trouble::NoFolder => "its folder does not exist",
+            Trouble::ReadOnly => "the file system is read-only",
+            Trouble::Memory => "out of memory",
+            Trouble::Other => "the file system reports an error",
+        }
+    }
+}
+
+/// A message of the status row.
+#[derive(Clone, Copy, Debug, PartialEq, Eq)]
+pub enum Message {
+    /// No message.
+    Nothing,
+    /// The file doesn't exist yet.
+    NewFile,
+    /// The file was saved.
+    Saved,
+    /// The file was not saved. The text is as it was.
+    NotSaved(Trouble),
+    /// The file was not opened. The text is empty, and has no name.
+    NotOpened(Trouble),
+    /// The searched text has no match.
+    NoMatch,
+    /// The prompt's text is no line number.
+    NoLine,
+    /// Out of memory. What was asked for was not done, or not all of it.
+    Memory,
+}
+
+impl Message {
+    /// Returns the message, and the reason that follows it, if there is one.
+    pub fn components(self) -> (&'static str, &'static str) {
+        match self {
+            Message::Nothing => ("", ""),
+            Message::NewFile => ("new file", ""),
+            Message::Saved => ("saved", ""),
+            Message::NotSaved(trouble) => ("not saved: ", trouble.text()),
+            Message::NotOpened(trouble) => ("not opened: ", trouble.text()),
+            Message::NoMatch => ("no match", ""),
+            Message::NoLine => ("not a line number", ""),
+            Message::Memory => ("out of memory", ""),
+        }
+    }
+}

@@ -1,0 +1,87 @@
+//! The terminal's side of an editor: its bytes as events, and frames as its bytes.
+
+ghost use Rattle.std.specs.Prelude.{◌≡◌, OnErr};
+
+use crate::editor::Editor;
+use base64::engine::general_purpose::STANDARD;
+use std::alloc::{AllocError, Global};
+use std::time::Duration;
+use textarea_screen::screen::Rect;
+use textarea_terminal::input::{Decoder, Event};
+use textarea_terminal::output::Painter;
+
+/// A terminal that shows frames of an editor.
+#[derive(Drop)]
+pub struct Screen {
+    alloc: Global,
+    decoder: Decoder,
+    painter: Painter,
+    area: Rect,
+    /// The number of reads without bytes or time, one after another.
+    empty_reads: u32,
+}
+
+// A read without bytes takes a tenth of a second. It takes fewer milliseconds than these only if
+// the terminal is gone.
+const LEAST_WAIT: u128 = 5;
+
+const MOST_EMPTY_READS: u32 = 100;
+
+impl Screen {
+    /// Returns a terminal of which nothing is known but its size.
+    pub fn new(alloc: Global, area: Rect) -> Result<Screen, AllocError> {
+        Ok(Screen {
+            alloc,
+            decoder: Decoder::new(alloc),
+            painter: Painter::new(alloc, area)?,
+            area,
+            empty_reads: 0,
+        })
+    }
+
+    /// Returns whether the terminal is gone, after a read of this number of bytes that took this
+    /// time.
+    pub fn is_gone(&mut self, count: usize, waited: Duration) -> bool {
+        self.empty_reads = if count > 0 || waited.as_millis() >= LEAST_WAIT {
+            0
+        } else {
+            self.empty_reads.saturating_add(1)
+        };
+        self.empty_reads > MOST_EMPTY_READS
+    }
+
+    /// Returns the events of the next bytes, or, if none came for a while, those of bytes that wait
+    /// for more.
+    pub fn read(&mut self, bytes: &[u8]) -> Result<Vec<Event>, AllocError> {
+        let mut events = Vec::new(self.alloc);
+        if bytes.is_empty() {
+            self.decoder.idle(&mut events)?;
+        } else {
+            self.decoder.feed(bytes, &mut events)?;
+        }
+        Ok(events)
+    }
+
+    /// Adds the bytes that show the editor's frame. If memory runs out, it adds none.
+    pub fn show(&mut self, editor: &mut Editor, out: &mut Vec<u8>) -> Result<(), AllocError>
+        ensures { OnErr result (out.new.items ≡ out.old.items) }
+    {
+        let area = editor.screen_area();
+        if area != self.area {
+            self.painter.resize(area)?;
+            self.area = area;
+        }
+        let frame = editor.draw()?;
+        self.painter.paint(&frame.buffer, frame.caret, out)
+    }
+
+    /// Adds the bytes that give a text to the terminal's clipboard (OSC 52). If memory runs out, it
+    /// adds none.
+    pub fn copy(&self, text: &str, out: &mut Vec<u8>) -> Result<(), AllocError>
+        ensures { OnErr result (out.new.items ≡ out.old.items) }
+    {
+        let encoded = STANDARD.encode(self.alloc, text.as_bytes())?;
+        let sequence = format!(in self.alloc; "\x1b]52;c;{encoded}\x07")?;
+        out.extend_from_slice(sequence.as_bytes())
+    }
+}
