@@ -23,6 +23,8 @@ pub enum Step<'a> {
     FromStrs,
     /// `TextArea::from_strings`, of copies of the lines.
     FromStrings,
+    /// `TextArea::from_text`, of the text.
+    FromText,
     /// A line with highlights, as spans.
     Spans,
     /// The matches of a pattern in a line.
@@ -36,6 +38,7 @@ impl Step<'_> {
             Step::Call(call) => match call {
                 Call::InsertChar(_)
                 | Call::InsertStr(_)
+                | Call::InsertPasted(_)
                 | Call::InsertNewline
                 | Call::InsertTab
                 | Call::Paste => true,
@@ -113,6 +116,7 @@ fn another<'a>(area: &TextArea<'a>, step: Step<'_>) -> Result<TextArea<'a>, Allo
             alloc,
             copy_fragment(alloc, lines)?.into_iter(),
         ),
+        Step::FromText => TextArea::from_text(alloc, area.text()?.as_str()),
         _ => TextArea::try_default(alloc),
     }
 }

@@ -45,6 +45,7 @@ pub fn step_of<'a>(words: &'a str, borrows: &'a Borrows) -> Option<Step<'a>> {
         "new" => Step::New,
         "from_strs" => Step::FromStrs,
         "from_strings" => Step::FromStrings,
+        "from_text" => Step::FromText,
         "spans" => Step::Spans,
         "matches" => Step::Matches,
         _ => Step::Call(call_of(words, borrows)?),

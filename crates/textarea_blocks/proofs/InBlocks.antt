@@ -8,7 +8,7 @@ use Rattle.std.proofs.Math.Seq.{take-add, take-append-add}
 use Rattle.textarea_wrap.specs.RowsView.{RowsView}
 use Rattle.textarea_util.specs.Replaced.{replaced}
 use Rattle.textarea_blocks.specs.Blocks.{IsBlockOf, IsEdge, all_rows, lines_before, rows_of_each, spare_of_each}
-use Rattle.textarea_blocks.specs.Sums.{ranges_at, row_total}
+use Rattle.textarea_blocks.specs.Sums.{marks_at, ranges_at, row_total}
 use Rattle.textarea_blocks.proofs.Numbers.{row_total-append}
 use Rattle.textarea_blocks.proofs.LineSums.{IsSum, Sum}
 
@@ -117,9 +117,13 @@ pub line_there : (blocks : List (List RowsView)) (block index : ℕ) → block <
 line_there blocks block index within inside =
     omega (arith, before_more length lines_sum blocks block within, before_within length lines_sum blocks (block + 1))
 
--- the ranges of a line, and the total before it
+-- the ranges and the marks of a line, and the total before it
 pub ranges_in_block : (blocks : List (List RowsView)) (block index line : ℕ) (rows : RowsView) → block < length blocks → index < length (get_or blocks block []) → lines_before blocks block + index ≡ line → rows ≡ get_or (get_or blocks block []) index rows → rows.ranges ≡ ranges_at (all_rows blocks) line
 ranges_in_block blocks block index line rows within inside at is =
+    grind (arith, common_steps, line_there blocks block index within inside, line_in_block blocks block index rows within inside, get_or-map)
+
+pub marks_in_block : (blocks : List (List RowsView)) (block index line : ℕ) (rows : RowsView) → block < length blocks → index < length (get_or blocks block []) → lines_before blocks block + index ≡ line → rows ≡ get_or (get_or blocks block []) index rows → rows.marks ≡ marks_at (all_rows blocks) line
+marks_in_block blocks block index line rows within inside at is =
     grind (arith, common_steps, line_there blocks block index within inside, line_in_block blocks block index rows within inside, get_or-map)
 
 pub total_in_block : (total : Sum) → IsSum total → (blocks : List (List RowsView)) (block index line : ℕ) → block < length blocks → index ≤ length (get_or blocks block []) → lines_before blocks block + index ≡ line → total (take line (all_rows blocks)) ≡ total_before total blocks block + total (take index (get_or blocks block []))

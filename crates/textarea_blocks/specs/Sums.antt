@@ -12,6 +12,10 @@ row_total (rows ∷ rest) = length rows.ranges + row_total rest
 abbrev pub ranges_at : List RowsView → ℕ → List (ℕ × ℕ)
 ranges_at rows line = get_or (map (λ (r : RowsView). r.ranges) rows) line []
 
+-- the marks of a line's rows; none if there is no such line
+abbrev pub marks_at : List RowsView → ℕ → List (ℕ × ℕ)
+marks_at rows line = get_or (map (λ (r : RowsView). r.marks) rows) line []
+
 -- the byte range of a row, given by its index in its line
 abbrev pub range_at : List (ℕ × ℕ) → ℕ → ℕ × ℕ
 range_at ranges row = get_or ranges row (0, 0)

@@ -70,6 +70,9 @@ signed_number text =
 abbrev pub two_short_numbers : List ℕ → Option (ℕ × ℕ)
 two_short_numbers = both short_number short_number
 
+abbrev pub two_numbers : List ℕ → Option (ℕ × ℕ)
+two_numbers = both number number
+
 -- an area: its left column, top row, width and height, clipped so that it ends at 65535 or before
 abbrev pub Sides : Type 0
 Sides = ℕ × ℕ × ℕ × ℕ

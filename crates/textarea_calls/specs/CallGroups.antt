@@ -43,6 +43,7 @@ call_of_write write.Copy = call.Copy
 
 abbrev pub call_of_attempt : Attempt → Call
 call_of_attempt (attempt.InsertStr text) = call.InsertStr text
+call_of_attempt (attempt.InsertPasted text) = call.InsertPasted text
 call_of_attempt (attempt.DeleteStr count) = call.DeleteStr count
 call_of_attempt (attempt.SearchForward match_cursor) = call.SearchForward match_cursor
 call_of_attempt (attempt.SearchBack match_cursor) = call.SearchBack match_cursor
@@ -64,6 +65,7 @@ call_of_change (change.CustomHighlight range style priority) = call.CustomHighli
 
 abbrev pub call_of_setting : Setting → Call
 call_of_setting (setting.Move cursor_move) = call.Move cursor_move
+call_of_setting (setting.GoTo place) = call.GoTo place
 call_of_setting (setting.Scroll scrolling) = call.Scroll scrolling
 call_of_setting setting.StartSelection = call.StartSelection
 call_of_setting setting.CancelSelection = call.CancelSelection
@@ -114,6 +116,7 @@ call_of_question question.CursorRenderMode = call.CursorRenderMode
 call_of_question question.Alignment = call.Alignment
 
 abbrev pub call_of_special : Special → Call
+call_of_special special.Text = call.Text
 call_of_special special.YankText = call.YankText
 call_of_special (special.TrySetAtomicRanges ranges) = call.TrySetAtomicRanges ranges
 call_of_special (special.NormalizeCursorAroundAtomicRanges bias) = call.NormalizeCursorAroundAtomicRanges bias

@@ -6,7 +6,7 @@ use Rattle.textarea_data.specs.declared.cursor.CursorMove.TheVariants as move
 use Rattle.textarea_data.specs.declared.input.Input.{Input}
 use Rattle.textarea_data.specs.declared.range.AtomicRange.{AtomicRange}
 use Rattle.textarea_screen.specs.Style.{empty_style}
-use Rattle.textarea_calls.specs.Arguments.{Sides, byte_number, has_space, is_separator, mode_named, move_named, named, number, page, split_first, scroll_amounts, short_number, sides, truth, two_short_numbers}
+use Rattle.textarea_calls.specs.Arguments.{Sides, byte_number, has_space, is_separator, mode_named, move_named, named, number, page, split_first, scroll_amounts, short_number, sides, truth, two_numbers, two_short_numbers}
 use Rattle.textarea_calls.specs.Escapes.{character, unescaped, unescaped_lines}
 use Rattle.textarea_calls.specs.Inputs.{input_named}
 use Rattle.textarea_calls.specs.Ranges.{ranges_after_space}
@@ -20,6 +20,7 @@ pub data Meaning : Type 0 where
   SetNow : ℕ → Meaning
   Render : Sides → Meaning
   InsertStr : List ℕ → Meaning
+  InsertPasted : List ℕ → Meaning
   SetYankText : List ℕ → Meaning
   TrySetAtomicRanges : List AtomicRange → Meaning
   SetSearchPattern : List ℕ → Meaning
@@ -79,6 +80,7 @@ acting_commands =
     ∷ (codes "hit", plain_command two_short_numbers (λ p. call.CursorAtPosition (record { x = p.0; y = p.1 })))
     ∷ (codes "move", plain_command move_named call.Move)
     ∷ (codes "jump", plain_command two_short_numbers (λ p. call.Move (move.Jump p.0 p.1)))
+    ∷ (codes "go_to", plain_command two_numbers call.GoTo)
     ∷ (codes "scroll", plain_command scroll_amounts call.Scroll)
     ∷ (codes "page", plain_command page call.Scroll)
     ∷ []
@@ -117,6 +119,7 @@ bare_commands =
     ∷ (codes "start_selection", without_arguments call.StartSelection)
     ∷ (codes "cancel_selection", without_arguments call.CancelSelection)
     ∷ (codes "select_all", without_arguments call.SelectAll)
+    ∷ (codes "text", without_arguments call.Text)
     ∷ (codes "yank_text", without_arguments call.YankText)
     ∷ (codes "clear_mask_char", without_arguments call.ClearMaskChar)
     ∷ []
@@ -129,6 +132,7 @@ plain_commands = acting_commands ++ (setting_commands ++ bare_commands)
 abbrev pub borrowing_commands : List (List ℕ × (Option (List ℕ) → Option Meaning))
 borrowing_commands =
     (codes "insert_str", with_text InsertStr)
+    ∷ (codes "insert_pasted", with_text InsertPasted)
     ∷ (codes "set_yank_text", with_text SetYankText)
     ∷ (codes "set_search_pattern", with_text SetSearchPattern)
     ∷ (codes "ranges", some_ranges)

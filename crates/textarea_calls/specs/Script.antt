@@ -11,7 +11,7 @@ use Rattle.textarea_calls.specs.declared.commands.CommandContent.{CommandContent
 use Rattle.textarea_calls.specs.Arguments.{sides_of_area}
 use Rattle.textarea_calls.specs.Commands as meaning
 use Rattle.textarea_calls.specs.Commands.{Meaning, line_meaning}
-use Rattle.textarea_calls.specs.declared.commands.CommandContent.TheVariants.{Plain, InsertStr, SetYankText, TrySetAtomicRanges, SetLines, SetSearchPattern, Input}
+use Rattle.textarea_calls.specs.declared.commands.CommandContent.TheVariants.{Plain, InsertStr, InsertPasted, SetYankText, TrySetAtomicRanges, SetLines, SetSearchPattern, Input}
 use Rattle.textarea_calls.specs.declared.commands.ReadError.{ReadError}
 use Rattle.textarea_calls.specs.declared.commands.ReadError.TheVariants.{Line, Memory}
 
@@ -59,6 +59,7 @@ IsAtLine number Memory = Unit {0}
 abbrev pub IsCallReady : CommandContent → Type 0
 IsCallReady (Plain call) = CanBeMade call
 IsCallReady (InsertStr text) = Unit {0}
+IsCallReady (InsertPasted text) = Unit {0}
 IsCallReady (SetYankText text) = Unit {0}
 IsCallReady (TrySetAtomicRanges ranges) = Unit {0}
 IsCallReady (SetSearchPattern text) = Unit {0}
@@ -68,6 +69,7 @@ IsCallReady (Input input) = Unit {0}
 pub IsReady-prop : (content : CommandContent) → IsProp (IsCallReady content)
 IsReady-prop (Plain call) = CanBeMade-prop call
 IsReady-prop (InsertStr text) = Unit-prop
+IsReady-prop (InsertPasted text) = Unit-prop
 IsReady-prop (SetYankText text) = Unit-prop
 IsReady-prop (TrySetAtomicRanges ranges) = Unit-prop
 IsReady-prop (SetSearchPattern text) = Unit-prop
@@ -80,6 +82,7 @@ meaning_of (Plain (call.SetNow time)) = meaning.SetNow (as_nanos time)
 meaning_of (Plain (call.Render area)) = meaning.Render (sides_of_area area)
 meaning_of (Plain plain) = meaning.Plain plain
 meaning_of (InsertStr text) = meaning.InsertStr (string_bytes text)
+meaning_of (InsertPasted text) = meaning.InsertPasted (string_bytes text)
 meaning_of (SetYankText text) = meaning.SetYankText (string_bytes text)
 meaning_of (TrySetAtomicRanges ranges) = meaning.TrySetAtomicRanges ranges.items
 meaning_of (SetSearchPattern text) = meaning.SetSearchPattern (string_bytes text)
@@ -100,6 +103,7 @@ IsCommandOf content_of one_meaning (Err error) = IsUnparsedLine one_meaning erro
 abbrev pub IsCallOf : CommandContent → Call → Type 0
 IsCallOf (Plain plain) made = made ≡ plain
 IsCallOf (InsertStr text) (call.InsertStr borrowed) = borrowed.now ≡ string_bytes text
+IsCallOf (InsertPasted text) (call.InsertPasted borrowed) = borrowed.now ≡ string_bytes text
 IsCallOf (SetYankText text) (call.SetYankText borrowed) = borrowed.now ≡ string_bytes text
 IsCallOf (TrySetAtomicRanges ranges) (call.TrySetAtomicRanges borrowed) = borrowed.now ≡ ranges.items
 IsCallOf (SetSearchPattern text) (call.SetSearchPattern borrowed) = borrowed.now ≡ string_bytes text

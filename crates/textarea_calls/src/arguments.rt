@@ -2,7 +2,7 @@
 ghost use Rattle.std.specs.Char.{is_ascii_digit, is_ascii_hexdigit};
 ghost use Rattle.std.specs.List.{list_all};
 ghost use Rattle.std.specs.Prelude.{◌≡◌, ◌<◌, ◌≤◌, ◌∷◌, length, map, option_copied, option_map, string_bytes, vec_len, IfOk, IfSome, MatchOption};
-ghost use Rattle.textarea_calls.specs.Arguments.{IsReadAs, byte_number, mode_named, move_named, number, page, split_first, scroll_amounts, short_number, sides, sides_of_area, signed_number, truth, two_short_numbers};
+ghost use Rattle.textarea_calls.specs.Arguments.{IsReadAs, byte_number, mode_named, move_named, number, page, split_first, scroll_amounts, short_number, sides, sides_of_area, signed_number, truth, two_numbers, two_short_numbers};
 ghost use Rattle.textarea_calls.specs.FirstLine.{IsFirstLineOf};
 ghost use Rattle.textarea_calls.specs.Escapes.{character, character_numbered, escape, first_character, numbered_escape, unescaped, unescaped_lines};
 ghost use Rattle.textarea_calls.specs.Inputs.{modifiers_named, input_named, key_without_arguments, key_named, key_with};
@@ -96,6 +96,14 @@ pub fn two_short_numbers(text: &str) -> Option<(u16, u16)>
 {
     let (first, second) = split_first(text)?;
     Some((short_number(first)?, short_number(second)?))
+}
+
+// Two numbers with one space between them.
+pub fn two_numbers(text: &str) -> Option<(usize, usize)>
+    ensures { result ≡ two_numbers text.now }
+{
+    let (first, second) = split_first(text)?;
+    Some((number(first)? as usize, number(second)? as usize))
 }
 
 // The area that the text names: its left column, its top row, its width and its height, separated

@@ -18,6 +18,8 @@ pub enum Call<'a> {
     InsertChar(char),
     /// `TextArea::insert_str`
     InsertStr(&'a str),
+    /// `TextArea::insert_pasted`
+    InsertPasted(&'a str),
     /// `TextArea::insert_tab`
     InsertTab,
     /// `TextArea::insert_newline`
@@ -72,6 +74,8 @@ pub enum Call<'a> {
     SetNow(Duration),
     /// `TextArea::move_cursor`
     Move(CursorMove),
+    /// `TextArea::go_to`
+    GoTo((usize, usize)),
     /// `TextArea::try_set_atomic_ranges`, with a copy of these ranges
     TrySetAtomicRanges(&'a [AtomicRange]),
     /// `TextArea::clear_atomic_ranges`
@@ -174,6 +178,8 @@ pub enum Call<'a> {
     Input(&'a Input),
     /// `TextArea::input_without_shortcuts`, of an input like this one
     InputWithoutShortcuts(&'a Input),
+    /// `TextArea::text`
+    Text,
     /// `TextArea::cursor`
     Cursor,
     /// `TextArea::is_empty`

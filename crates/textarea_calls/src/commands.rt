@@ -13,8 +13,8 @@ ghost use Rattle.textarea_calls.specs.declared.commands.CommandContent.TheVarian
 use crate::Call;
 use crate::arguments::{
     Unparsed, area, byte_number, input_named, mode_named, move_named, number, one_character,
-    page_named, ranges, scroll_amounts, short_number, split_first, truth, two_short_numbers,
-    unescape, unescaped_lines,
+    page_named, ranges, scroll_amounts, short_number, split_first, truth, two_numbers,
+    two_short_numbers, unescape, unescaped_lines,
 };
 use std::alloc::{AllocError, AllocFailed, Global};
 use std::str::from_utf8;
@@ -56,6 +56,7 @@ enum CommandContent {
     // The call itself, which borrows no text.
     Plain(Call<'static>),
     InsertStr(String),
+    InsertPasted(String),
     SetYankText(String),
     TrySetAtomicRanges(Vec<AtomicRange>),
     SetSearchPattern(String),
@@ -111,6 +112,7 @@ impl CommandContent {
     {
         match self {
             CommandContent::InsertStr(text) => Call::InsertStr(text.as_str()),
+            CommandContent::InsertPasted(text) => Call::InsertPasted(text.as_str()),
             CommandContent::SetYankText(text) => Call::SetYankText(text.as_str()),
             CommandContent::SetSearchPattern(text) => Call::SetSearchPattern(text.as_str()),
             _ => unreachable!(),
@@ -190,6 +192,7 @@ fn content_named(
 {
     match name {
         "insert_str" => text(alloc, arguments).map(CommandContent::InsertStr),
+        "insert_pasted" => text(alloc, arguments).map(CommandContent::InsertPasted),
         "set_yank_text" => text(alloc, arguments).map(CommandContent::SetYankText),
         "set_search_pattern" => text(alloc, arguments).map(CommandContent::SetSearchPattern),
         "ranges" => some_ranges(alloc, arguments).map(CommandContent::TrySetAtomicRanges),
@@ -281,6 +284,7 @@ fn call_without_arguments(name: &str) -> Option<Call<'static>>
         "start_selection" => Call::StartSelection,
         "cancel_selection" => Call::CancelSelection,
         "select_all" => Call::SelectAll,
+        "text" => Call::Text,
         "yank_text" => Call::YankText,
         "clear_mask_char" => Call::ClearMaskChar,
         _ => return None,
@@ -304,6 +308,7 @@ fn call_with(name: &str, arguments: &str) -> Option<Call<'static>>
         "hit" => Call::CursorAtPosition(position(arguments)?),
         "move" => Call::Move(move_named(arguments)?),
         "jump" => Call::Move(jump(arguments)?),
+        "go_to" => Call::GoTo(two_numbers(arguments)?),
         "scroll" => Call::Scroll(scroll_amounts(arguments)?),
         "page" => Call::Scroll(page_named(arguments)?),
         _ => return setting_with(name, arguments),

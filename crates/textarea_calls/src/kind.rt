@@ -57,6 +57,7 @@ pub enum Write {
 #[derive(Clone, Copy)]
 pub enum Attempt<'a> {
     InsertStr(&'a str),
+    InsertPasted(&'a str),
     DeleteStr(usize),
     SearchForward(bool),
     SearchBack(bool),
@@ -91,6 +92,7 @@ pub enum Change<'a> {
 #[derive(Clone, Copy)]
 pub enum Setting {
     Move(CursorMove),
+    GoTo((usize, usize)),
     Scroll(Scrolling),
     StartSelection,
     CancelSelection,
@@ -150,6 +152,7 @@ pub enum Question {
 /// Calls with results of their own forms.
 #[derive(Clone, Copy)]
 pub enum Special<'a> {
+    Text,
     YankText,
     TrySetAtomicRanges(&'a [AtomicRange]),
     NormalizeCursorAroundAtomicRanges(AtomicCursorBias),
@@ -183,6 +186,7 @@ pub fn kind_of(call: Call<'_>) -> Kind<'_>
         Call::InsertNewline => Kind::Write(Write::InsertNewline),
         Call::Copy => Kind::Write(Write::Copy),
         Call::InsertStr(text) => Kind::Attempt(Attempt::InsertStr(text)),
+        Call::InsertPasted(text) => Kind::Attempt(Attempt::InsertPasted(text)),
         Call::DeleteStr(count) => Kind::Attempt(Attempt::DeleteStr(count)),
         Call::SearchForward(match_cursor) => Kind::Attempt(Attempt::SearchForward(match_cursor)),
         Call::SearchBack(match_cursor) => Kind::Attempt(Attempt::SearchBack(match_cursor)),
@@ -208,6 +212,7 @@ pub fn kind_of(call: Call<'_>) -> Kind<'_>
             priority,
         }),
         Call::Move(cursor_move) => Kind::Setting(Setting::Move(cursor_move)),
+        Call::GoTo(place) => Kind::Setting(Setting::GoTo(place)),
         Call::Scroll(scrolling) => Kind::Setting(Setting::Scroll(scrolling)),
         Call::StartSelection => Kind::Setting(Setting::StartSelection),
         Call::CancelSelection => Kind::Setting(Setting::CancelSelection),
@@ -254,6 +259,7 @@ pub fn kind_of(call: Call<'_>) -> Kind<'_>
         Call::MaskChar => Kind::Question(Question::MaskChar),
         Call::CursorRenderMode => Kind::Question(Question::CursorRenderMode),
         Call::Alignment => Kind::Question(Question::Alignment),
+        Call::Text => Kind::Special(Special::Text),
         Call::YankText => Kind::Special(Special::YankText),
         Call::TrySetAtomicRanges(ranges) => Kind::Special(Special::TrySetAtomicRanges(ranges)),
         Call::NormalizeCursorAroundAtomicRanges(bias) => Kind::Special(

@@ -1,5 +1,8 @@
 //! Key inputs, independent of the terminal library.
 
+ghost use Rattle.std.specs.Prelude.{◌≡◌, true};
+ghost use Rattle.textarea_data.specs.Input.{input_of_key};
+
 use serde::{Deserialize, Serialize};
 
 /// A key.
@@ -61,4 +64,55 @@ pub struct Input {
     pub alt: bool,
     /// Whether Shift is pressed.
     pub shift: bool,
+}
+
+impl Input {
+    /// Returns the input with Control pressed.
+    pub fn ctrl(self) -> Input
+        ensures { result ≡ record self { ctrl = true } }
+    {
+        Input { ctrl: true, ..self }
+    }
+
+    /// Returns the input with Alt pressed.
+    pub fn alt(self) -> Input
+        ensures { result ≡ record self { alt = true } }
+    {
+        Input { alt: true, ..self }
+    }
+
+    /// Returns the input with Shift pressed.
+    pub fn shift(self) -> Input
+        ensures { result ≡ record self { shift = true } }
+    {
+        Input {
+            shift: true,
+            ..self
+        }
+    }
+}
+
+/// Converts to the input of this key without modifiers.
+impl From<Key> for Input {
+    ghost from_gives = { λ key input. input ≡ input_of_key key };
+
+    fn from(key: Key) -> Input {
+        Input {
+            key,
+            ctrl: false,
+            alt: false,
+            shift: false,
+        }
+    }
+}
+
+/// Converts to the input of the key that types this character, without modifiers.
+impl From<char> for Input {
+    ghost use Rattle.textarea_data.specs.declared.input.Key.TheVariants.{Char};
+
+    ghost from_gives = { λ character input. input ≡ input_of_key (Char character) };
+
+    fn from(character: char) -> Input {
+        Input::from(Key::Char(character))
+    }
 }

@@ -4,6 +4,8 @@ ghost use Rattle.std.specs.Prelude.{◌≡◌, IfOk};
 
 use serde::{Deserialize, Serialize};
 use std::alloc::AllocError;
+use std::error::Error;
+use std::fmt;
 
 /// Characters of a line that are edited as a whole: from `start_col` up to, but not including,
 /// `end_col`. Row and columns count from 0, columns in characters.
@@ -74,3 +76,31 @@ impl AtomicRangeError {
         })
     }
 }
+
+impl fmt::Display for AtomicRangeRejectReason {
+    /// Writes the reason as a part of a sentence, such as `it is empty`.
+    fn fmt<W: fmt::Write>(&self, f: &mut fmt::Formatter<W>) -> fmt::Result {
+        f.write_str(match self {
+            AtomicRangeRejectReason::Empty => "it is empty",
+            AtomicRangeRejectReason::RowOutOfBounds => "the text has no such row",
+            AtomicRangeRejectReason::ColumnOutOfBounds => "the row has no such columns",
+            AtomicRangeRejectReason::OverlapsPrevious => "it overlaps the range before it",
+        })
+    }
+}
+
+impl fmt::Display for AtomicRangeError {
+    /// Writes each rejected range and why it is rejected, in one line.
+    fn fmt<W: fmt::Write>(&self, f: &mut fmt::Formatter<W>) -> fmt::Result {
+        f.write_str("rejected atomic ranges")?;
+        for (index, rejected) in self.rejected.iter().enumerate() {
+            let RejectedAtomicRange { range, reason } = rejected;
+            let separator = if index == 0 { ":" } else { ";" };
+            write!(f, "{separator} row {}, columns ", range.row)?;
+            write!(f, "{}..{} ({reason})", range.start_col, range.end_col)?;
+        }
+        Ok(())
+    }
+}
+
+impl Error for AtomicRangeError {}

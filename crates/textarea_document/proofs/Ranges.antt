@@ -5,17 +5,22 @@ use Rattle.std.proofs.lemmas.Bool.Decides.{nat_tests}
 use Rattle.std.proofs.lemmas.List.{drop_more, map-id}
 use Rattle.std.proofs.lemmas.List.Elements.{All-contains}
 use Rattle.std.proofs.lemmas.Slice.Zip.{AllZip-map}
-use Rattle.textarea_document.specs.Prelude.{IfSome, AllZip, Symbol, Character, Break, lines, Place, IsPlace, IsSymbolBefore, IsUpTo, OccursAt, end, index_of, is_same_place, Fits, AtomicRange, AtomicDeleteDirection, SplitsNoRange, anchor_out, unless_empty, IsRangeAtPlace, IsInside, TakesWhole, range_at_place, moved_out, range_start, range_end, AreValid, IsRangeOfLine}
+use Rattle.textarea_document.specs.Prelude.{IfSome, AllZip, Symbol, Character, Break, lines, Place, IsPlace, IsSymbolBefore, IsUpTo, OccursAt, end, index_of, is_same_place, Fits, AtomicRange, AtomicDeleteDirection, SplitsNoRange, anchor_out, unless_empty, IsRangeAtPlace, IsInside, TakesWhole, range_at_place, moved_out, range_start, range_end, AreApart, AreInOrder, AreValid, IsRangeOfLine}
 use Rattle.textarea_text.proofs.Befores.{character_occurs}
 use Rattle.textarea_text.proofs.TextPlaces.{index_within, joined-lines}
 use Rattle.textarea_text.proofs.BetweenLemmas.{up_to_from_index as up_to_in_lines}
 use Rattle.textarea_data.specs.declared.range.AtomicCursorBias.TheVariants.{Backward}
 use Rattle.textarea_data.specs.declared.range.AtomicDeleteDirection.TheVariants.{Backward as DeleteBackward, Forward as DeleteForward}
 use Rattle.textarea_ranges.proofs.LookupLemmas.{IsPlaceOf-moved_out, MatchOption-at_place, removed_or_beside}
+use Rattle.textarea_ranges.proofs.Searching.{AreApart-valid}
 
 -- an empty list of ranges is valid for all lines
 pub valid_none : (rows : List (List ℕ)) → AreValid rows []
 valid_none rows = record { components = λ k d within. absurd (omega arith); disjoint = λ j k d before within. absurd (omega arith) }
+
+-- ranges that are stored can be searched
+pub apart_slice : (rows : List (List ℕ)) (stored slice : List AtomicRange) → AreValid rows stored → AreInOrder stored → slice ≡ stored → AreApart slice
+apart_slice rows stored slice valid ordered same = subst AreApart (sym same) (AreApart-valid rows stored valid ordered)
 
 -- ---- the order of positions and of indices
 

@@ -26,7 +26,7 @@ pub use Rattle.textarea_data.specs.declared.cursor.CursorMove.TheVariants.{Back,
 pub use Rattle.textarea_data.specs.declared.range.AtomicDeleteDirection.{AtomicDeleteDirection}
 pub use Rattle.textarea_data.specs.declared.range.AtomicDeleteDirection.TheVariants.{Backward, Forward}
 pub use Rattle.textarea_data.specs.declared.range.AtomicRange.{AtomicRange}
-pub use Rattle.textarea_ranges.specs.Lookup.{IsBeside, IsRangeAtPlace, IsInside, TakesRange, Overlaps, TakesWhole, range_at_place, range_around, moved_out, range_end, range_start, widened}
+pub use Rattle.textarea_ranges.specs.Lookup.{AreApart, IsBeside, IsRangeAtPlace, IsInside, TakesRange, Overlaps, TakesWhole, range_at_place, range_around, moved_out, range_end, range_start, widened}
 pub use Rattle.textarea_ranges.specs.Moved.{CoversTheSame, DisturbsBy, IsMovable, moved_by, moved_range}
 unfoldable pub use Rattle.textarea_ranges.specs.Moved.{moved_ranges}
 pub use Rattle.textarea_ranges.specs.Order.{AreInOrder}

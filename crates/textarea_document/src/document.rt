@@ -8,7 +8,7 @@ mod rows;
 mod selection;
 
 ghost use Rattle.std.specs.Prelude.{◌≡◌, ◌<◌, ◌≤◌, ◌+◌, ◌↔◌, length, OnOk, OnErr, IsOk, IfOk, IfSome, None, IsTrue, is_some, [], vec_len};
-ghost use Rattle.textarea_document.specs.Prelude.{as_nanos, size_limit, lines, lines_of, text_of, IsPlace, size_of, Fits, place_after, IsWellFormed, empty_log, newest, next, clip, new_document, fresh_document, after_edit, after_move, after_redo, run_ended, after_undo, applied_to, moved_ranges, AreValid, SplitsNoRange};
+ghost use Rattle.textarea_document.specs.Prelude.{as_nanos, size_limit, lines, lines_of, text_of, IsPlace, size_of, Fits, place_after, IsWellFormed, empty_log, newest, next, clip, new_document, fresh_document, after_edit, after_move, after_redo, run_ended, after_undo, applied_to, moved_ranges, AreInOrder, AreValid, SplitsNoRange};
 
 use std::alloc::{AllocError, Global};
 use std::marker::Model;
@@ -268,6 +268,7 @@ fn make_change(
 ) -> Result<(usize, usize), AllocError>
     requires fits { Fits text_layout.old.text change }
     requires valid { AreValid (lines text_layout.old.text) ranges.old.items }
+    requires in_order { AreInOrder ranges.old.items }
     ensures cursor { IfOk result (λ cursor. cursor ≡ place_after change.entry) }
     ensures text_layout { OnOk result (text_layout.new ≡ applied_to text_layout.old change.entry) }
     ensures ranges { OnOk result

@@ -4,6 +4,11 @@ pub mod CharacterLemmas
 pub mod SplitLemmas
 pub mod DisplayLemmas
 pub mod SpaceLemmas
+pub mod TabLemmas
 pub mod OneRowLemmas
 pub mod WholeLemmas
 pub mod RowLemmas
+pub mod WholeRowLemmas
+pub mod SpanLemmas
+pub mod PartLemmas
+pub mod SeamLemmas

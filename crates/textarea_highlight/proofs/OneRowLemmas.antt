@@ -132,7 +132,7 @@ module _ (row : List ℕ) (borders : List Border) (base : Style) (tab_len : ℕ)
 
   -- ---- the row has one list of spans
 
-  rises : (from : ℕ) (spans : List SpanView) (to : ℕ) → IsSplit row borders base tab_len mask from spans to → from ≤ to
+  pub rises : (from : ℕ) (spans : List SpanView) (to : ℕ) → IsSplit row borders base tab_len mask from spans to → from ≤ to
   rises from [] to split = omega (arith, split)
   rises from (span ∷ spans) to split = omega (arith, split.1.not_empty, rises split.0 spans to split.2)
 
@@ -149,7 +149,7 @@ module _ (row : List ℕ) (borders : List Border) (base : Style) (tab_len : ℕ)
   one_end from to other span next h k within within' =
       omega (arith, not_after from to other span next h k within', not_after from other to next span k h within)
 
-  one_split : (from : ℕ) (spans others : List SpanView) → IsSplit row borders base tab_len mask from spans (length row) →
+  pub one_split : (from : ℕ) (spans others : List SpanView) → IsSplit row borders base tab_len mask from spans (length row) →
       IsSplit row borders base tab_len mask from others (length row) → spans ≡ others
   one_split from [] [] split split' = refl
   one_split from [] (other ∷ others) split split' =

@@ -14,7 +14,7 @@ use Rattle.textarea_highlight.specs.Display.{with_spaces, display_text}
 use Rattle.textarea_highlight.specs.Split.{segment_of, IsSplit, text_of_spans}
 use Rattle.textarea_highlight.proofs.SplitLemmas.{IsEdge, column_to}
 
-with_spaces-append : (tab_len column : ℕ) (xs ys : List ℕ) →
+pub with_spaces-append : (tab_len column : ℕ) (xs ys : List ℕ) →
     with_spaces tab_len column (xs ++ ys) ≡ with_spaces tab_len column xs ++ with_spaces tab_len (end_column tab_len column xs) ys
 with_spaces-append tab_len column [] ys = refl
 with_spaces-append tab_len column (x ∷ xs) ys = rw (with_spaces-append tab_len (column_after tab_len column x) xs ys) (simp append_assoc)
@@ -22,7 +22,7 @@ with_spaces-append tab_len column (x ∷ xs) ys = rw (with_spaces-append tab_len
 stops : (tab_len : ℕ) → 0 < tab_len → (tab_len == 0) ≡ false
 stops tab_len h = grind (arith, nat_tests)
 
-display_text-append : (mask : Option ℕ) (tab_len column : ℕ) (xs ys : List ℕ) → 0 < tab_len →
+pub display_text-append : (mask : Option ℕ) (tab_len column : ℕ) (xs ys : List ℕ) → 0 < tab_len →
     display_text mask tab_len column (xs ++ ys) ≡ display_text mask tab_len column xs ++ display_text mask tab_len (end_column tab_len column xs) ys
 display_text-append (Some mask) tab_len column xs ys h = map-append (λ _. mask) xs ys
 display_text-append None tab_len column xs ys h = rw (stops tab_len h) (with_spaces-append tab_len column xs ys)

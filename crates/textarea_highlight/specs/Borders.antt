@@ -50,6 +50,10 @@ border_key border = (border.offset, border.rank)
 abbrev pub ArePlaced : List ℕ → List Border → Type 0
 ArePlaced row borders = All (λ border. IsCharBoundary row border.offset) borders
 
+-- the same of only those up to the row's end
+abbrev pub ArePlacedWithin : List ℕ → List Border → Type 0
+ArePlacedWithin row borders = All (λ border. border.offset ≤ length row → IsCharBoundary row border.offset) borders
+
 -- by offset, then by rank
 abbrev pub border_cmp : ℕ × ℕ → ℕ × ℕ → Ordering
 border_cmp a b = ordering_then (nat_cmp a.0 b.0) (nat_cmp a.1 b.1)

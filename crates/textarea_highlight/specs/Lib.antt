@@ -2,8 +2,11 @@ pub mod Texts
 pub mod Borders
 pub mod Brackets
 pub mod OpenStyles
+pub mod Columns
 pub mod Display
 pub mod Split
 pub mod Numbers
 pub mod Highlights
 pub mod Row
+pub mod Seams
+pub mod Seen

@@ -5,6 +5,7 @@ mod brackets;
 mod display;
 mod highlighter;
 mod numbers;
+mod seams;
 mod split;
 
-pub use highlighter::{CursorCellRender, LineHighlighter};
+pub use highlighter::{CursorCellRender, LineHighlighter, RowPart};

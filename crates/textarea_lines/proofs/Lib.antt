@@ -5,6 +5,7 @@ mod Preparing
 mod Changes
 mod Measuring
 mod WholeLines
+mod Fronts
 mod OneList
 mod Steps
 mod Widths

@@ -52,9 +52,9 @@ keeps_others one w text splice count before after s h k ticks =
     let middle : ticks_of (touched_rows splice after) ≡ ticks_after count coming =
     sym (take-map tick_of coming (drop row after)) ∙ ap (take coming) (sym (drop-map tick_of row after) ∙ ap (drop row) ticks) ∙ middle-replaced (ticks_of before) (ticks_after count coming) row removed_lines coming first numbers in
     record {
-      above = rows_same (take row after) (take row before) (one w (take row old) (take row after) (take row before) above (AreRowsOf-take w row old before h))
+      above = rows_same w (take row old) (take row after) (take row before) above (AreRowsOf-take w row old before h) (one w (take row old) (take row after) (take row before) above (AreRowsOf-take w row old before h))
           (sym (take-map tick_of row after) ∙ ap (take row) ticks ∙ take-replaced (ticks_of before) (ticks_after count coming) row removed_lines first ∙ take-map tick_of row before);
-      below = rows_same (drop (row + coming) after) (drop (row + removed_lines) before) (one w (drop (row + removed_lines) old) (drop (row + coming) after) (drop (row + removed_lines) before) below (AreRowsOf-drop w (row + removed_lines) old before h))
+      below = rows_same w (drop (row + removed_lines) old) (drop (row + coming) after) (drop (row + removed_lines) before) below (AreRowsOf-drop w (row + removed_lines) old before h) (one w (drop (row + removed_lines) old) (drop (row + coming) after) (drop (row + removed_lines) before) below (AreRowsOf-drop w (row + removed_lines) old before h))
           (sym (drop-map tick_of (row + coming) after) ∙ ap (drop (row + coming)) ticks ∙ drop-replaced (ticks_of before) (ticks_after count coming) row removed_lines coming first numbers ∙ drop-map tick_of (row + removed_lines) before);
       touched = middle;
       newer = above_all count (count + 1) coming (touched_rows splice after) (omega arith) middle;

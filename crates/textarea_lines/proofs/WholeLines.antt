@@ -153,7 +153,7 @@ holds_inside settings old now borrowed_lines size after map new splice row tick 
     let line = inside_line settings old now borrowed_lines size after map splice row h in
     let right = inside_rows settings old now borrowed_lines size after map splice row h in
     let wrapped : AreRowsOfLine (whole_lines settings) line.line k.wrapped =
-    rw (← (line_borrowed settings old now borrowed_lines size after map splice row h), ← (tab_len_unchanged settings old size map h.holds)) (record { characters = k.characters; short = k.short; wrapped = k.right }) in
+    rw (← (line_borrowed settings old now borrowed_lines size after map splice row h), ← (tab_len_unchanged settings old size map h.holds)) (record { characters = k.characters; short = k.short; wrapped = k.right; marked = k.marked }) in
     let wrapping : new.wrapping ≡ wrapping_for settings (length now) =
     same ∙ h.holds.wrapping_is ∙ ap (wrapping_for settings) (sym (as_many settings old now borrowed_lines size after map splice row h)) in
     record {

@@ -12,6 +12,7 @@ use Rattle.textarea_lines.specs.declared.rewrap.WrappedRows.{WrappedRows}
 use Rattle.textarea_lines.specs.declared.settings.LayoutSettings.{LayoutSettings}
 use Rattle.textarea_lines.specs.declared.rewrap.Measured.{Measured}
 use Rattle.textarea_lines.specs.Wrappings.{wrapping_for}
+use Rattle.textarea_screen_map.specs.LineMarks.{AreMarksOf, MarkedLine}
 use Rattle.textarea_screen_map.specs.Map.{IsRowCount, MapView}
 
 -- there is a line; the stored size is the bytes and the number of the lines, and at most 2^48
@@ -42,9 +43,11 @@ pub record IsNextWrap {Z : Type 0} (count : ℕ) (lines : List (String Z)) (wrap
   pub count_is : wraps.count ≡ count + length lines
 
 -- The rows are stored. If there is a last measurement, it is true of the current lines. If there
--- are cached rows, they have the next ticks. The stored position is one of the lines.
-pub record KeepsRows {Z : Type 0} (settings : LayoutSettings) (lines : List (String Z)) (size : ℕ) (map : MapView) (last : Option Measured) (count : ℕ) (next : Option WrappedRows) (found : Pos) : Type 0 where
+-- are cached rows, they have the next ticks. The stored position is one of the lines, and the marks
+-- are those of one of the lines.
+pub record KeepsRows {Z : Type 0} (settings : LayoutSettings) (lines : List (String Z)) (size : ℕ) (map : MapView) (last : Option Measured) (count : ℕ) (next : Option WrappedRows) (found : Pos) (marks : MarkedLine) : Type 0 where
   pub contents : HoldsRows settings lines size map
   pub measured : IfSome last (λ measured. IsRowCount measured.wrapping (lines_of lines) measured.rows)
   pub cached : IfSome next (IsNextWrap count lines)
   pub place : IsPlaceAtByte lines found
+  pub marked : AreMarksOf (lines_of lines) marks

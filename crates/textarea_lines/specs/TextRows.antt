@@ -5,6 +5,7 @@ use Rattle.textarea_util.specs.Limit.{size_limit}
 use Rattle.textarea_text.specs.Place.{Place}
 use Rattle.textarea_util.specs.Replaced.{replaced}
 use Rattle.textarea_text.specs.Text.{lines, lines_of}
+use Rattle.textarea_wrap.specs.Marks.{marks_of}
 use Rattle.textarea_wrap.specs.RowsView.{RowsView}
 use Rattle.textarea_wrap.specs.WrapResult.{IsWrapped}
 use Rattle.textarea_wrap.specs.declared.wrap.WrapMode.TheVariants as mode
@@ -61,3 +62,4 @@ pub record HasWholeLine (tab_len : ℕ) (line : List ℕ) (row tick : ℕ) (old 
   pub characters : all_scalars line ≡ true
   pub short : length (encode_utf8_all line) < size_limit
   pub right : IsWrapped mode.None tab_len 1 (encode_utf8_all line) wrapped.ranges
+  pub marked : wrapped.marks ≡ marks_of (encode_utf8_all line) wrapped.ranges

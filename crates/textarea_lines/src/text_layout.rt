@@ -10,8 +10,9 @@ use std::alloc::{AllocError, Global};
 use std::marker::Model;
 use textarea_history::edit::Change;
 use textarea_screen_map::layout::{VisualPosition, Wrapping, rows_in};
+use textarea_screen_map::line_marks::LineMarks;
 use textarea_screen_map::screen_map::ScreenMap;
-use textarea_text::rows::{Replacement, byte_offset, byte_offset_from, size_within_limit};
+use textarea_text::rows::{Replacement, byte_offset_from, size_within_limit};
 use textarea_text::util::Pos;
 use textarea_util::limit::within_limit;
 use textarea_wrap::wrap::WrapCount;
@@ -30,6 +31,7 @@ pub struct TextLayout {
     measured: Option<Measured>,
     cached: Option<WrappedRows>,
     found: Pos,
+    marks: LineMarks,
 }
 
 impl Model for TextLayout {
@@ -48,7 +50,7 @@ impl Model for TextLayout {
     ghost invariant = { λ text_layout.
         KeepsRows text_layout.settings text_layout.lines.items text_layout.size text_layout.map
         text_layout.measured
-        text_layout.count text_layout.cached text_layout.found };
+        text_layout.count text_layout.cached text_layout.found text_layout.marks };
 }
 
 impl Clone for TextLayout {
@@ -65,6 +67,7 @@ impl Clone for TextLayout {
             measured: self.measured,
             cached: None,
             found: Pos::new(self.found.row, self.found.col, self.found.offset),
+            marks: LineMarks::new(*self.lines.allocator()),
         })
     }
 }
@@ -110,6 +113,7 @@ impl TextLayout {
             measured: None,
             cached: None,
             found: Pos::new(0, 0, 0),
+            marks: LineMarks::new(alloc),
         })
     }
 
@@ -192,7 +196,8 @@ impl TextLayout {
         ensures { OfRows self.now (λ rows. IsVisualPosition
             self.now.layout.settings.tab_len (lines self.now.text) rows place result) }
     {
-        self.map.visual_position(self.lines.as_slice(), place)
+        self.map
+            .visual_position_with(self.lines.as_slice(), &self.marks, place)
     }
 
     /// Returns where a cursor moves one visual row up; `None` in the first visual row.
@@ -201,7 +206,8 @@ impl TextLayout {
         ensures place { IfSome result (IsPlace self.now.text) }
         ensures above { IsFoundAbove self.now place result }
     {
-        self.map.above(self.lines.as_slice(), place)
+        self.map
+            .above_with(self.lines.as_slice(), &self.marks, place)
     }
 
     /// Returns where a cursor moves one visual row down; `None` in the last visual row.
@@ -210,7 +216,8 @@ impl TextLayout {
         ensures place { IfSome result (IsPlace self.now.text) }
         ensures below { IsFoundBelow self.now place result }
     {
-        self.map.below(self.lines.as_slice(), place)
+        self.map
+            .below_with(self.lines.as_slice(), &self.marks, place)
     }
 
     /// Returns the number of visual rows in an inner area of this width, in columns. Allocates
@@ -254,17 +261,36 @@ impl TextLayout {
         }
     }
 
-    /// Returns the bytes before a position in its line. Near the last in-place change, only the
-    /// text between the two positions is read, however long the line is.
+    /// Returns the bytes before a position in its line. Only the text from the nearest known
+    /// position on is read: the last in-place change, or one that `mark` added.
     pub fn offset_of(&self, place: (usize, usize)) -> usize
         requires { IsPlace self.now.text place }
         ensures { result ≡ offset_at (lines self.now.text) place }
     {
         let line = self.lines[place.0].as_str();
-        if self.found.row == place.0 {
+        let mark = self
+            .marks
+            .at_column(place.0, self.settings.tab_len, place.1);
+        let far = place.1 - mark.column;
+        if self.found.row == place.0 && place.1.abs_diff(self.found.col) < far {
             return byte_offset_from(line, (self.found.col, self.found.offset), place.1);
         }
-        byte_offset(line, place.1)
+        byte_offset_from(line, (mark.column, mark.offset), place.1)
+    }
+
+    /// Makes positions of a line known, up to a position in it, so that look-ups near that position
+    /// don't read the line from its start. Does nothing if lines are wrapped. If memory runs out,
+    /// look-ups read more. Callers see no other change.
+    pub fn mark(&mut self, place: (usize, usize))
+        requires { IsPlace self.old.text place }
+        ensures { self.new ≡ self.old }
+    {
+        if is_wrapped(self.settings) {
+            return;
+        }
+        let tab_len = self.settings.tab_len;
+        self.marks
+            .extend(self.lines.as_slice(), place.0, tab_len, place.1);
     }
 
     /// Makes a change that fits the text.
@@ -315,6 +341,7 @@ impl TextLayout {
         self.measured = None;
         drop_measured(&mut self.cached);
         self.found = Pos::new(row, column, offset);
+        self.marks.cut(row, column);
         Ok(())
     }
 
@@ -341,6 +368,7 @@ impl TextLayout {
         self.measured = None;
         drop_measured(&mut self.cached);
         self.found = Pos::new(0, 0, 0);
+        self.marks.clear();
         self.count = count;
         Ok(())
     }

@@ -1,13 +1,14 @@
 -- The cells of a row, drawn cluster by cluster.
-use Rattle.std.proofs.Common.{◌≡◌, ℕ, ◌+◌, ◌-◌, ◌<◌, ◌≤◌, min, max, Bool, true, false, cond, eqb, ◌&&◌, List, [], ◌∷◌, Option, None, Some, refl, ap, ◌∙◌, arith}
+use Rattle.std.proofs.Common.{◌≡◌, ℕ, ◌+◌, ◌-◌, ◌<◌, ◌≤◌, min, Bool, true, false, cond, eqb, ◌&&◌, List, [], ◌∷◌, Option, None, Some, refl, ap, ◌∙◌, arith}
 use Rattle.std.specs.List.{find}
 use Rattle.std.proofs.lemmas.Bool.Decides.{nat_tests}
 use Rattle.std.proofs.lemmas.Bool.{cond-true, cond-false}
+use Rattle.textarea_screen.specs.Buffer.{is_between}
 use Rattle.textarea_screen.specs.Cell.{CellView, with_symbol}
 use Rattle.textarea_screen.specs.Rect.{contains}
 use Rattle.textarea_screen.specs.declared.screen.rect.Rect.{Rect}
 use Rattle.textarea_screen.specs.declared.screen.style.Style.{Style}
-use Rattle.textarea_paint.specs.Cells.{Placed, placed_at, place_from, covers, is_between, is_in_cells, is_whole, symbol_of, symbol_in_column, covered_cell, row_change, IsPenAt}
+use Rattle.textarea_paint.specs.Cells.{Placed, placed_at, place_from, covers, is_in_cells, is_whole, symbol_of, symbol_in_column, covered_cell, row_change, IsPenAt}
 use Rattle.textarea_paint.specs.Clusters.{Cluster}
 use Rattle.textarea_paint.specs.Columns.{columns_of}
 use Rattle.textarea_paint.specs.declared.paint.cells.Pen.{Pen}
@@ -30,7 +31,7 @@ covers_bounds column placed h = (grind (arith, nat_tests), grind (arith, nat_tes
 -- ---- one cluster before others
 
 -- no cluster takes a column before the first cluster
-find-before : (column start : ℕ) (clusters : List Cluster) → column < start → find (covers column) (place_from start clusters) ≡ None
+pub find-before : (column start : ℕ) (clusters : List Cluster) → column < start → find (covers column) (place_from start clusters) ≡ None
 find-before column start [] before = refl
 find-before column start (cluster ∷ clusters) before = grind (arith, nat_tests, find-before column (start + columns_of cluster.text) clusters (omega arith))
 
@@ -65,7 +66,7 @@ pub row_change-nil : (cells : RowCells) (left x y : ℕ) (cell : CellView) → r
 unfolding row_change
 row_change-nil cells left x y cell = elim (is_in_cells cells x y) as (λ inside. cond inside cell cell ≡ cell) [ true ↦ refl | false ↦ refl ]
 
-cond-none : (cells : RowCells) (left column : ℕ) (inside : Bool) (found : Option Placed) (cell : CellView) → (inside ≡ true → found ≡ None) →
+pub cond-none : (cells : RowCells) (left column : ℕ) (inside : Bool) (found : Option Placed) (cell : CellView) → (inside ≡ true → found ≡ None) →
     cond inside (covered_cell cells left column found cell) cell ≡ cell
 cond-none cells left column true found cell none = rw (none refl) refl
 cond-none cells left column false found cell none = refl
@@ -136,11 +137,6 @@ pub between_more : (row first from at : ℕ) (whole : Bool) (text symbol : List 
     (cond (is_between row from at x y) (with_symbol (symbol_of whole (eqb x first) text) style cell) cell)
     ≡ cond (is_between row from (at + 1) x y) (with_symbol (symbol_of whole (eqb x first) text) style cell) cell
 between_more row first from at whole text symbol style x y cell begun is = grind (arith, nat_tests)
-
--- those cells between two columns that an area has
-pub between_clipped : (area : Rect) (row from to first last at x y : ℕ) → first ≡ max from area.x → last ≡ min to (area.x + area.width) → first ≤ at → last ≤ at → at ≤ max first last →
-    contains area x y ≡ true → is_between row first at x y ≡ is_between row from to x y
-between_clipped area row from to first last at x y is_first is_last begun ended exact inside = grind (arith, nat_tests)
 
 -- the cells before a column between two others are between those two
 pub between_narrower : (row from to first at x y : ℕ) → from ≤ first → at ≤ to → is_between row from to x y ≡ false → is_between row first at x y ≡ false

@@ -4,5 +4,9 @@ mod ClusterLemmas
 mod ColumnLemmas
 mod RowAreaLemmas
 mod FrontLemmas
-mod PlainLemmas
+pub mod PartLemmas
+pub mod PlainLemmas
+mod PlainRowLemmas
 mod RowLemmas
+pub mod SeamLemmas
+pub mod WidthLemmas

@@ -1,9 +1,10 @@
 -- A row that is drawn cluster by cluster, and the grapheme clusters that fit it.
 use Rattle.std.proofs.lemmas.Grind.{common_steps}
-use Rattle.std.proofs.Common.{◌≡◌, ℕ, ◌+◌, ◌-◌, ◌<◌, ◌≤◌, min, List, [], ◌∷◌, filter, refl, sym, ap, ◌∙◌, arith}
+use Rattle.std.proofs.Common.{◌≡◌, ℕ, ◌+◌, ◌-◌, ◌<◌, ◌≤◌, min, List, [], ◌∷◌, ◌++◌, filter, refl, sym, ap, ap₂, ◌∙◌, arith}
 use Rattle.std.proofs.lemmas.Bool.Decides.{nat_tests}
 use Rattle.std.proofs.lemmas.List.Sums.{sum_by-cons}
 use Rattle.textarea_screen.specs.Buffer.{area_of, Changes, KeepsOutside}
+use Rattle.textarea_screen.specs.Cell.{CellView}
 use Rattle.textarea_screen.proofs.ChangeLemmas.{Changes-inside, Changes-none, Changes-then, KeepsOutside-from_changes, KeepsOutside-then, KeepsOutside-same}
 use Rattle.textarea_screen.specs.declared.screen.buffer.Buffer.{Buffer}
 use Rattle.textarea_paint.specs.Cells.{Placed, placed_at, place_from, is_in_cells, row_change, IsPenAt}
@@ -44,6 +45,35 @@ drawing_next {cells} {left} {row} {old} {now} {next} {pen} {moved} {ahead} {afte
       (λ x y cell. row_change-cons cells left d.column cluster after x y cell)));
   unchanged = KeepsOutside-then d.unchanged (KeepsOutside-from_changes (is_in_cells cells) drawn
       (λ x y cell outside. row_change-outside cells left (placed_at d.column cluster ∷ []) x y cell outside));
+}
+
+-- a row is its first clusters and then the others
+pub row_change-append : (cells : RowCells) (left start : ℕ) (run clusters : List Cluster) (x y : ℕ) (cell : CellView) →
+    row_change cells left (place_from (start + clusters_width run) clusters) x y (row_change cells left (place_from start run) x y cell)
+    ≡ row_change cells left (place_from start (run ++ clusters)) x y cell
+row_change-append cells left start [] clusters x y cell =
+    let same : start + clusters_width [] ≡ start = omega arith in
+    ap₂ (λ (n : ℕ) (c : CellView). row_change cells left (place_from n clusters) x y c) same (row_change-nil cells left x y cell)
+row_change-append cells left start (cluster ∷ run) clusters x y cell =
+    let next = start + columns_of cluster.text in
+    let first = row_change cells left (placed_at start cluster ∷ []) x y cell in
+    let same : start + clusters_width (cluster ∷ run) ≡ next + clusters_width run = omega (arith, sum_by-cons (λ (c : Cluster). columns_of c.text) cluster run) in
+    ap₂ (λ (n : ℕ) (c : CellView). row_change cells left (place_from n clusters) x y c) same (sym (row_change-cons cells left start cluster run x y cell))
+    ∙ row_change-append cells left next run clusters x y first
+    ∙ row_change-cons cells left start cluster (run ++ clusters) x y cell
+
+-- clusters that follow each other are drawn
+pub drawing_run : {cells : RowCells} {left : ℕ} {row : List Placed} {old now next : Buffer} {pen moved : Pen} {ahead after : List Cluster} (run : List Cluster) →
+    (d : IsDrawing cells left row old now pen ahead) → ahead ≡ run ++ after → IsPenAt cells left (d.column + clusters_width run) moved →
+    Changes now next (row_change cells left (place_from d.column run)) → IsDrawing cells left row old next moved after
+drawing_run {cells} {left} {row} {old} {now} {next} {pen} {moved} {ahead} {after} run d fitting_clusters at drawn = record {
+  column = d.column + clusters_width run;
+  at = at;
+  rest = λ new others.
+      d.rest new (rw fitting_clusters (Changes-then (row_change cells left (place_from d.column (run ++ after))) drawn others
+      (λ x y cell. row_change-append cells left d.column run after x y cell)));
+  unchanged = KeepsOutside-then d.unchanged (KeepsOutside-from_changes (is_in_cells cells) drawn
+      (λ x y cell outside. row_change-outside cells left (place_from d.column run) x y cell outside));
 }
 
 -- a cluster is left out, and the clusters still to be drawn are the same

@@ -1,7 +1,7 @@
 -- Grapheme clusters in a row, and the cells that show the row from one of its columns on.
 use Rattle.std.specs.Prelude.{◌≡◌, ℕ, ◌≤◌, ◌+◌, ◌-◌, min, Bool, ◌&&◌, ◌==◌, nat_lt, nat_le, List, [], ◌∷◌, Option, None, Some, if◌then◌else◌}
 use Rattle.std.specs.List.{find}
-use Rattle.textarea_screen.specs.Buffer.{Change}
+use Rattle.textarea_screen.specs.Buffer.{Change, is_between}
 use Rattle.textarea_screen.specs.Cell.{CellView, with_symbol}
 use Rattle.textarea_screen.specs.declared.screen.style.Style.{Style}
 use Rattle.textarea_paint.specs.Clusters.{Cluster}
@@ -31,11 +31,7 @@ covers column placed = nat_le placed.start column && nat_lt column (placed.start
 
 -- ---- the cells
 
--- whether the cell in column x and row y is in this row, from column `from` up to column `to`
-abbrev pub is_between : ℕ → ℕ → ℕ → ℕ → ℕ → Bool
-is_between row from to x y = (y == row) && (nat_le from x && nat_lt x to)
-
--- whether it is one of these cells
+-- whether the cell in column x and row y is one of these cells
 abbrev pub is_in_cells : RowCells → ℕ → ℕ → Bool
 is_in_cells cells = is_between cells.y cells.x (cells.x + cells.width)
 

@@ -2,7 +2,9 @@ pub mod Block
 pub mod Cells
 pub mod Clusters
 pub mod Columns
+pub mod DrawnText
 pub mod LineClusters
+pub mod Part
 pub mod Plain
 pub mod Row
 pub mod Prelude

@@ -5,6 +5,8 @@ mod cells;
 mod clusters;
 pub mod columns;
 pub mod row;
+pub mod text;
 
 pub use block::draw_block;
 pub use row::{RowArea, draw_row, row_start};
+pub use text::DrawText;

@@ -7,3 +7,4 @@ pub mod Moving
 pub mod Sorts
 pub mod OrderLemmas
 pub mod RejectedLemmas
+pub mod Searching

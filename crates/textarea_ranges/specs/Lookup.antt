@@ -1,6 +1,7 @@
 -- Searches in atomic ranges: which one contains a position, which is at it, what a removal takes.
-use Rattle.std.specs.Prelude.{◌≡◌, ◌<◌, ◌≤◌, ◌==◌, nat_lt, nat_le, ◌&&◌, ◌⊎◌, Bool, List, find, All, Option, Some, None}
+use Rattle.std.specs.Prelude.{◌≡◌, ◌<◌, ◌≤◌, ◌==◌, nat_lt, nat_le, ◌&&◌, ◌⊎◌, not, Bool, true, false, List, find, All, AllPairs, Option, Some, None}
 use Rattle.textarea_text.specs.Place.{Place, IsBefore, IsUpTo}
+use Rattle.textarea_text.specs.PlacesAfterSplice.{is_up_to}
 use Rattle.textarea_data.specs.declared.range.AtomicRange.{AtomicRange}
 use Rattle.textarea_data.specs.declared.range.AtomicCursorBias.{AtomicCursorBias}
 use Rattle.textarea_data.specs.declared.range.AtomicCursorBias.TheVariants.{Backward, Forward}
@@ -14,6 +15,19 @@ range_start range = (range.row, range.start_col)
 -- the position after the range's last character
 abbrev pub range_end : AtomicRange → Place
 range_end range = (range.row, range.end_col)
+
+-- ---- ranges in which a position is looked up
+
+-- each range starts at or before its end, and ends at or before the start of each later one: so do
+-- ranges that are valid for some lines, in order
+pub record AreApart (ranges : List AtomicRange) : Type 0 where
+  pub ordered : All (λ range. range.start_col ≤ range.end_col) ranges
+  pub apart : AllPairs (λ one other. IsUpTo (range_end one) (range_start other)) ranges
+
+-- whether the range ends before the position or, with `at_place`, at it
+abbrev pub has_ended : Place → Bool → AtomicRange → Bool
+has_ended place true range = is_up_to (range_end range) place
+has_ended place false range = not (is_up_to place (range_end range))
 
 -- ---- the range that strictly contains a position
 
@@ -61,6 +75,11 @@ is_range_at_place place DeleteBackward range =
     range.row == place.0 && nat_lt range.start_col place.1 && nat_le place.1 range.end_col
 is_range_at_place place DeleteForward range =
     range.row == place.0 && nat_le range.start_col place.1 && nat_lt place.1 range.end_col
+
+-- whether a range that ends at the position isn't at it
+abbrev pub passes_end : AtomicDeleteDirection → Bool
+passes_end DeleteBackward = false
+passes_end DeleteForward = true
 
 -- the first range at the position; a valid list has no other
 abbrev pub range_at_place : List AtomicRange → Place → AtomicDeleteDirection → Option AtomicRange

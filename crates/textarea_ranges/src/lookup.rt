@@ -1,18 +1,60 @@
-//! Searches in ranges: which one contains a position, which one is at it, and what a removal takes.
+//! Binary searches in ranges that are valid and in order: which one contains a position, which one
+//! is at it, and what a removal takes.
 //! A position is a row and a column, both from 0, the column in characters.
-ghost use Rattle.std.specs.Prelude.{◌≡◌, ℕ, List, All};
-ghost use Rattle.textarea_ranges.specs.Prelude.{IsPlaceOf, IsUpTo, IsInside, IsWidened, range_edge, range_at_place, range_around, is_range_at_place, is_inside, moved_out, widened, AreValid};
+ghost use Rattle.std.specs.Prelude.{◌≡◌, ◌≤◌, ℕ, List, All, find, length, not, true, false};
+ghost use Rattle.std.specs.List.Sorted.{IsPartitionPoint};
+ghost use Rattle.textarea_ranges.specs.Prelude.{AreApart, IsPlaceOf, IsUpTo, IsInside, IsWidened, has_ended, range_edge, range_at_place, range_around, is_range_at_place, is_inside, moved_out, passes_end, widened, AreValid};
 
 use textarea_data::range::{AtomicCursorBias, AtomicDeleteDirection, AtomicRange};
+use textarea_text::place_shift::is_up_to;
+
+/// Returns the number of ranges that end before the position or, with `at_place`, at it. These are
+/// the first ones.
+pub(crate) fn ended_count(ranges: &[AtomicRange], place: (usize, usize), at_place: bool) -> usize
+    requires { AreApart ranges.now }
+    ensures within { result ≤ length ranges.now }
+    ensures point { IsPartitionPoint (λ range. has_ended place at_place range ≡ true)
+        (λ range. has_ended place at_place range ≡ false) ranges.now result }
+{
+    ranges.partition_point(|range| has_ended(*range, place, at_place))
+}
+
+// Whether the range ends before the position or, with `at_place`, at it.
+fn has_ended(range: AtomicRange, place: (usize, usize), at_place: bool) -> bool
+    ensures { result ≡ has_ended place at_place range }
+{
+    let end = (range.row, range.end_col);
+    if at_place {
+        is_up_to(end, place)
+    } else {
+        !is_up_to(place, end)
+    }
+}
+
+// Returns the first range that ends after the position or, without `at_place`, at it.
+fn first_left(ranges: &[AtomicRange], place: (usize, usize), at_place: bool) -> Option<AtomicRange>
+    requires { AreApart ranges.now }
+    ensures { result ≡ find (λ range. not (has_ended place at_place range)) ranges.now }
+{
+    let index = ended_count(ranges, place, at_place);
+    if index < ranges.len() {
+        Some(ranges[index])
+    } else {
+        None
+    }
+}
 
 /// Returns the range that strictly contains the position: it starts before it and ends after it.
 pub fn range_around(ranges: &[AtomicRange], place: (usize, usize)) -> Option<AtomicRange>
+    requires { AreApart ranges.now }
     ensures { result ≡ range_around ranges.now place }
 {
-    ranges
-        .iter()
-        .copied()
-        .find(|range| is_inside(*range, place))
+    let range = first_left(ranges, place, true)?;
+    if is_inside(range, place) {
+        Some(range)
+    } else {
+        None
+    }
 }
 
 fn is_inside(range: AtomicRange, place: (usize, usize)) -> bool
@@ -29,6 +71,7 @@ pub fn move_out(
     place: (usize, usize),
     bias: AtomicCursorBias,
 ) -> (usize, usize)
+    requires { AreApart ranges.now }
     ensures value { result ≡ moved_out ranges.now place bias }
     ensures outside { (rows : List (List ℕ)) → AreValid rows ranges.now →
         All (λ range. ¬ IsInside result range) ranges.now }
@@ -58,12 +101,25 @@ pub fn range_at_place(
     place: (usize, usize),
     direction: AtomicDeleteDirection,
 ) -> Option<AtomicRange>
+    requires { AreApart ranges.now }
     ensures { result ≡ range_at_place ranges.now place direction }
 {
-    ranges
-        .iter()
-        .copied()
-        .find(|range| is_range_at_place(*range, place, direction))
+    let range = first_left(ranges, place, passes_end(direction))?;
+    if is_range_at_place(range, place, direction) {
+        Some(range)
+    } else {
+        None
+    }
+}
+
+// Whether a range that ends at the position isn't at it in this direction.
+fn passes_end(direction: AtomicDeleteDirection) -> bool
+    ensures { result ≡ passes_end direction }
+{
+    match direction {
+        AtomicDeleteDirection::Backward => false,
+        AtomicDeleteDirection::Forward => true,
+    }
 }
 
 // Whether the range is at the position in this direction.
@@ -91,6 +147,7 @@ pub fn widen(
     from: (usize, usize),
     to: (usize, usize),
 ) -> ((usize, usize), (usize, usize))
+    requires { AreApart ranges.now }
     ensures value { result ≡ widened ranges.now from to }
     ensures whole { (rows : List (List ℕ)) → AreValid rows ranges.now →
         IsUpTo from to → IsWidened ranges.now from to result }

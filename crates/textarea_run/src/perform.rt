@@ -72,6 +72,7 @@ fn attempt(area: &mut TextArea<'_>, call: Attempt<'_>) -> Result<bool, AllocErro
 {
     match call {
         Attempt::InsertStr(text) => area.insert_str(text),
+        Attempt::InsertPasted(text) => area.insert_pasted(text),
         Attempt::DeleteStr(count) => area.delete_str(count),
         Attempt::SearchForward(match_cursor) => area.search_forward(match_cursor),
         Attempt::SearchBack(match_cursor) => area.search_back(match_cursor),

@@ -85,6 +85,7 @@ pub fn set(area: &mut TextArea<'_>, call: Setting)
 {
     match call {
         Setting::Move(cursor_move) => area.move_cursor(cursor_move),
+        Setting::GoTo(place) => area.go_to(place),
         Setting::Scroll(scrolling) => area.scroll(scrolling),
         Setting::StartSelection => area.start_selection(),
         Setting::CancelSelection => area.cancel_selection(),

@@ -1,4 +1,4 @@
-// Calls with results of their own forms: on atomic ranges, patterns, heights, hit tests and yanks.
+// Calls with results of their own forms: on texts, atomic ranges, patterns, heights and hit tests.
 ghost use Rattle.std.specs.Prelude.{◌≡◌, IfOk, OnErr, OnOk};
 ghost use Rattle.textarea_calls.specs.CallGroups.{call_of_special};
 ghost use Rattle.tui_textarea.specs.Calls.{ranges_result, rejected_ranges, with_ranges_if};
@@ -24,6 +24,7 @@ pub fn perform_special(area: &mut TextArea<'_>, call: Special<'_>) -> Result<Ans
     ensures err { OnErr result (RanOutOfMemory area.old (call_of_special call.entry) area.new) }
 {
     match call {
+        Special::Text => area.text().map(Answer::Text),
         Special::YankText => area.yank_text().map(Answer::Text),
         Special::TrySetAtomicRanges(ranges) => copy_and_set_ranges(area, ranges),
         Special::NormalizeCursorAroundAtomicRanges(bias) => {

@@ -1,20 +1,22 @@
 -- The indices of a rectangle's cells in the list of all of them, and the effect of a write.
 use Rattle.std.proofs.lemmas.Grind.{common_steps}
-use Rattle.std.proofs.Common.{◌≡◌, ◌≢◌, ℕ, zero, suc, ◌+◌, ◌-◌, ◌*◌, ◌/◌, ◌%◌, ◌<◌, ◌≤◌, Bool, true, false, cond, eqb, leb, ltb, ◌&&◌, ◌||◌, List, [], ◌∷◌, length, get_or, set, Option, None, Some, refl, sym, ap, ap₂, ◌∙◌, ⊎_elim, arith}
+use Rattle.std.proofs.Common.{◌≡◌, ◌≢◌, ℕ, zero, suc, ◌+◌, ◌-◌, ◌*◌, ◌/◌, ◌%◌, ◌<◌, ◌≤◌, min, max, Bool, true, false, cond, eqb, leb, ltb, ◌&&◌, ◌||◌, List, [], ◌∷◌, length, get_or, set, take, slice_range, Option, None, Some, refl, sym, ap, ap₂, ◌∙◌, arith}
 use Rattle.std.specs.List.{slice_get, All}
 use Rattle.std.specs.Option.{option_map}
 use Rattle.std.proofs.lemmas.Bool.{cases_Bool, cond-true}
 use Rattle.std.proofs.lemmas.Bool.Decides.{nat_tests}
 use Rattle.std.proofs.lemmas.Iterator.Adapters.{option_map_id}
+use Rattle.std.proofs.lemmas.List.{drop_more}
 use Rattle.std.proofs.lemmas.List.Elements.{All-tail}
 use Rattle.std.proofs.lemmas.Nat.{mul-add-lt, div-mul-add, mod-mul-add}
 use Rattle.std.proofs.lemmas.Option.{slice_get-get_or}
-use Rattle.textarea_screen.specs.Buffer.{place_in, cell_at, Changes}
-use Rattle.textarea_screen.specs.Cell.{CellView, cell_view, fresh_cell}
+use Rattle.textarea_screen.specs.Buffer.{place_in, cell_at, Changes, is_between}
+use Rattle.textarea_screen.specs.Cell.{CellView, cell_view, fresh_cell, with_symbol}
 use Rattle.textarea_screen.specs.Rect.{contains, is_in_row}
 use Rattle.textarea_screen.specs.declared.screen.buffer.Buffer.{Buffer}
 use Rattle.textarea_screen.specs.declared.screen.cell.Cell.{Cell}
 use Rattle.textarea_screen.specs.declared.screen.rect.Rect.{Rect}
+use Rattle.textarea_screen.specs.declared.screen.style.Style.{Style}
 
 -- ---- indices in the list of all cells
 
@@ -30,6 +32,14 @@ place_in-same area x y u v h k e =
     let rows : v - area.y ≡ y - area.y = sym (div-mul-add (v - area.y) area.width (u - area.x) b') ∙ ap (λ n. n / area.width) e ∙ div-mul-add (y - area.y) area.width (x - area.x) b in
     let columns : u - area.x ≡ x - area.x = sym (mod-mul-add (v - area.y) area.width (u - area.x) b') ∙ ap (λ n. n % area.width) e ∙ mod-mul-add (y - area.y) area.width (x - area.x) b in
     (grind (arith, nat_tests), grind (arith, nat_tests))
+
+-- the cells to the right of one in the rectangle are next to it in the list
+pub place_in-right : (area : Rect) (first column y : ℕ) → contains area first y ≡ true → first ≤ column →
+    place_in area first y + (column - first) ≡ place_in area column y
+place_in-right area first column y inside right = let start : area.x ≤ first = grind (arith, nat_tests) in omega arith
+
+pub contains-right : (area : Rect) (first column y : ℕ) → contains area first y ≡ true → first ≤ column → column < area.x + area.width → contains area column y ≡ true
+contains-right area first column y inside right left = grind (arith, nat_tests)
 
 -- ---- one cell is written
 
@@ -93,6 +103,36 @@ cell_at-inside buffer x y place cell in_area at within is =
     ∙ ap (λ n. option_map cell_view (slice_get buffer.cells.items n)) at
     ∙ sym (cond-true (contains buffer.area x y) _ _ in_area)
 
+-- the cell at (x, y) by the list of all cells
+pub cell_at-listed : (buffer : Buffer) (cells : List Cell) (x y : ℕ) → contains buffer.area x y ≡ true → cells ≡ buffer.cells.items →
+    option_map cell_view (slice_get cells (place_in buffer.area x y)) ≡ cell_at buffer x y
+unfolding cell_at
+cell_at-listed buffer cells x y inside is =
+    ap (λ all. option_map cell_view (slice_get all (place_in buffer.area x y))) is ∙ sym (cond-true (contains buffer.area x y) _ _ inside)
+
+-- ---- an ASCII text is written
+
+-- one character of a text
+pub slice_one : (text : List ℕ) (at : ℕ) → at < length text → slice_range text at (at + 1) ≡ get_or text at 0 ∷ []
+slice_one text at below = let one : (at + 1) - at ≡ 1 = omega arith in ap₂ (λ (n : ℕ) (rest : List ℕ). take n rest) one (drop_more text at 0 below)
+
+-- the cells up to a column, and then the cell of that column
+pub ascii_more : (row first at x : ℕ) (text : List ℕ) (style : Style) (u v : ℕ) (cell : CellView) → first ≤ at →
+    cond (eqb u at && eqb v row) (with_symbol (get_or text (at - x) 0 ∷ []) style (cond (is_between row first at u v) (with_symbol (get_or text (u - x) 0 ∷ []) style cell) cell))
+    (cond (is_between row first at u v) (with_symbol (get_or text (u - x) 0 ∷ []) style cell) cell)
+    ≡ cond (is_between row first (at + 1) u v) (with_symbol (get_or text (u - x) 0 ∷ []) style cell) cell
+ascii_more row first at x text style u v cell begun = grind (arith, nat_tests)
+
+-- the text begins in no cell that the area has, or in a row that it does not have
+pub ascii_outside : (area : Rect) (row x end first u v : ℕ) → first ≡ max x area.x → contains area first row ≡ false → contains area u v ≡ true →
+    is_between row x end u v ≡ false
+ascii_outside area row x end first u v is_first outside inside = grind (arith, nat_tests)
+
+-- those cells between two columns that an area has
+pub between_clipped : (area : Rect) (row from to first last at x y : ℕ) → first ≡ max from area.x → last ≡ min to (area.x + area.width) → first ≤ at → last ≤ at → at ≤ max first last →
+    contains area x y ≡ true → is_between row first at x y ≡ is_between row from to x y
+between_clipped area row from to first last at x y is_first is_last begun ended exact inside = grind (arith, nat_tests)
+
 -- ---- fresh cells
 
 slice_get-fresh : (cells : List Cell) (n : ℕ) → n < length cells → All (λ cell. cell_view cell ≡ fresh_cell) cells → option_map cell_view (slice_get cells n) ≡ Some fresh_cell
@@ -124,6 +164,15 @@ is_before_column-apart left row column x y here = grind (arith, nat_tests)
 pub is_before_column-next : (left row column x y : ℕ) → left ≤ column →
     (is_before_column left row column x y || (eqb x column && eqb y row)) ≡ is_before_column left row (column + 1) x y
 is_before_column-next left row column x y h = grind (arith, nat_tests)
+
+pub is_in_row-narrow : (area : Rect) (row x y : ℕ) → area.width ≤ 0 → is_in_row area row x y ≡ false
+is_in_row-narrow area row x y narrow = grind (arith, nat_tests)
+
+pub first_in_row : (area : Rect) (row : ℕ) → 0 < area.width → area.y ≤ row → row < area.y + area.height → contains area area.x row ≡ true
+first_in_row area row some top bottom = grind (arith, nat_tests)
+
+pub in_row : (area : Rect) (row x : ℕ) → area.y ≤ row → row < area.y + area.height → area.x ≤ x → x < area.x + area.width → contains area x row ≡ true
+in_row area row x top bottom left right = grind (arith, nat_tests)
 
 pub is_before_column-end : (area : Rect) (row x y : ℕ) → area.y ≤ row → row < area.y + area.height →
     is_before_column area.x row (area.x + area.width) x y ≡ is_in_row area row x y

@@ -1,3 +1,4 @@
 pub mod BufferLemmas
 pub mod ChangeLemmas
 pub mod Copies
+pub mod FreshLemmas

@@ -20,6 +20,10 @@ plain_block = record {
   border_style = empty_style;
 }
 
+-- the same with a border at each of the four sides
+abbrev pub bordered_block : Block
+bordered_block = record plain_block { borders = record { 0 = 15 } }
+
 -- the bits of the four sides
 abbrev pub top_side : ℕ
 top_side = 1

@@ -1,11 +1,12 @@
 -- A buffer as contracts see it: its area, and the cell at each position. A call's effect is one of
 -- two facts: each new cell is a function of its position and old cell, or some cells are unchanged.
-use Rattle.std.specs.Prelude.{◌≡◌, ℕ, ◌+◌, ◌-◌, ◌*◌, Bool, true, false, slice_get, Option, None, if◌then◌else◌}
+use Rattle.std.specs.Prelude.{◌≡◌, ℕ, ◌+◌, ◌-◌, ◌*◌, Bool, true, false, ◌&&◌, ◌==◌, nat_lt, nat_le, List, [], ◌∷◌, length, slice_get, slice_index, Option, None, if◌then◌else◌}
 use Rattle.std.specs.Option.{option_map}
-use Rattle.textarea_screen.specs.Cell.{CellView, cell_view}
+use Rattle.textarea_screen.specs.Cell.{CellView, cell_view, with_symbol}
 use Rattle.textarea_screen.specs.Rect.{contains}
 use Rattle.textarea_screen.specs.declared.screen.buffer.Buffer.{Buffer}
 use Rattle.textarea_screen.specs.declared.screen.rect.Rect.{Rect}
+use Rattle.textarea_screen.specs.declared.screen.style.Style.{Style}
 
 -- the rectangle whose cells the buffer has
 abbrev pub area_of : Buffer → Rect
@@ -23,6 +24,15 @@ cell_at buffer x y = if contains (area_of buffer) x y
 -- a change of cells: the new cell by its column, its row and the old cell
 abbrev pub Change : Type 0
 Change = ℕ → ℕ → CellView → CellView
+
+-- whether the cell in column x and row y is in this row, from column `from` up to column `to`
+abbrev pub is_between : ℕ → ℕ → ℕ → ℕ → ℕ → Bool
+is_between row from to x y = (y == row) && (nat_le from x && nat_lt x to)
+
+-- an ASCII text in a style, written into a row from column `from` on: one character in each cell
+abbrev pub ascii_change : ℕ → ℕ → List ℕ → Style → Change
+ascii_change from row text style x y cell =
+    if is_between row from (from + length text) x y then with_symbol (slice_index text (x - from) ∷ []) style cell else cell
 
 -- the buffer has the same area, and each of its cells is changed by the change
 pub record Changes (old new : Buffer) (change : Change) : Type 0 where

@@ -2,6 +2,7 @@
 use Rattle.std.specs.Prelude.{None}
 use Rattle.std.specs.Option.{option_or}
 use Rattle.textarea_screen.specs.Modifier.{union_of, difference_of}
+use Rattle.textarea_screen.specs.declared.screen.modifier.Modifier.{Modifier}
 use Rattle.textarea_screen.specs.declared.screen.style.Style.{Style}
 
 -- the style that sets no colour and neither adds nor removes a modifier
@@ -16,4 +17,11 @@ patched style over = record {
   bg = option_or over.bg style.bg;
   add_modifier = union_of (difference_of style.add_modifier over.sub_modifier) over.add_modifier;
   sub_modifier = union_of (difference_of style.sub_modifier over.add_modifier) over.sub_modifier;
+}
+
+-- the style that also adds these modifiers and no longer removes them
+abbrev pub with_modifier : Style → Modifier → Style
+with_modifier style modifier = record style {
+  add_modifier = union_of style.add_modifier modifier;
+  sub_modifier = difference_of style.sub_modifier modifier;
 }

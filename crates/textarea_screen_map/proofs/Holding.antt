@@ -84,14 +84,14 @@ holds_offset mode tab_len width line ranges row offset h inside within from next
     }
 
 -- one line of some
-pub rows_at : (w : Wrapping) (lines : List (List ℕ)) (rows : List RowsView) (i : ℕ) → AreRowsOf w lines rows → i < length lines → AreRowsOfLine w (get_or lines i []) (get_or rows i (record { ranges = []; tick = 0 }))
+pub rows_at : (w : Wrapping) (lines : List (List ℕ)) (rows : List RowsView) (i : ℕ) → AreRowsOf w lines rows → i < length lines → AreRowsOfLine w (get_or lines i []) (get_or rows i (record { ranges = []; marks = []; tick = 0 }))
 rows_at w [] rows i h within = absurd (omega arith)
 rows_at w (line ∷ lines) [] i h within = absurd h
 rows_at w (line ∷ lines) (r ∷ rows) zero h within = h.0
 rows_at w (line ∷ lines) (r ∷ rows) (suc i) h within = rows_at w lines rows i h.1 (omega arith)
 
 pub wrapped_at : (w : Wrapping) (lines : List (List ℕ)) (rows : List RowsView) (i : ℕ) → AreRowsOf w lines rows → i < length lines → IsWrapped w.mode w.tab_len (max w.width 1) (encode_utf8_all (get_or lines i [])) (ranges_at rows i)
-wrapped_at w lines rows i h within = rw (get_or-map (λ (r : RowsView). r.ranges) rows i (record { ranges = []; tick = 0 })) (rows_at w lines rows i h within).wrapped
+wrapped_at w lines rows i h within = rw (get_or-map (λ (r : RowsView). r.ranges) rows i (record { ranges = []; marks = []; tick = 0 })) (rows_at w lines rows i h within).wrapped
 
 pub all_at : {X : Type 0} (P : X → Type 0) (items : List X) (i : ℕ) (d : X) → AllByRecursion P items → i < length items → P (get_or items i d)
 all_at P [] i d h within = absurd (omega arith)

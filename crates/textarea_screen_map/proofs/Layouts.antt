@@ -8,6 +8,7 @@ use Rattle.std.specs.Str.{all_scalars}
 use Rattle.textarea_util.specs.Limit.{size_limit}
 use Rattle.textarea_text.specs.Text.{characters_of, lines_of}
 use Rattle.textarea_text.proofs.StringRows.{line_at}
+use Rattle.textarea_wrap.specs.Marks.{marks_of}
 use Rattle.textarea_wrap.specs.RowsView.{RowsView}
 use Rattle.textarea_wrap.specs.WrapResult.{IsWrapped}
 use Rattle.textarea_wrap.specs.declared.wrap.WrapMode.TheVariants as mode
@@ -49,14 +50,15 @@ AreRowsOf-replaced w lines new rows others start count h k =
     (AreRowsOf-append w new (drop (start + count) lines) others (drop (start + count) rows) k (AreRowsOf-drop w (start + count) lines rows h))
 
 -- one line more
-pub AreRowsOf-more : {Z : Type 0} (w : Wrapping) (before : List (List ℕ)) (items : List (String Z)) (i : ℕ) (line : String Z) (text : List ℕ) (rows : List RowsView) (wrapped : RowsView) → i < length items → line ≡ get_or items i line → text ≡ string_bytes line → AreRowsOf w (before ++ take i (lines_of items)) rows → IsWrapped w.mode w.tab_len (max w.width 1) text wrapped.ranges → length text < size_limit → AreRowsOf w (before ++ take (i + 1) (lines_of items)) (rows ++ wrapped ∷ [])
-AreRowsOf-more w before items i line text rows wrapped within read same h k short =
+pub AreRowsOf-more : {Z : Type 0} (w : Wrapping) (before : List (List ℕ)) (items : List (String Z)) (i : ℕ) (line : String Z) (text : List ℕ) (rows : List RowsView) (wrapped : RowsView) → i < length items → line ≡ get_or items i line → text ≡ string_bytes line → AreRowsOf w (before ++ take i (lines_of items)) rows → IsWrapped w.mode w.tab_len (max w.width 1) text wrapped.ranges → wrapped.marks ≡ marks_of text wrapped.ranges → length text < size_limit → AreRowsOf w (before ++ take (i + 1) (lines_of items)) (rows ++ wrapped ∷ [])
+AreRowsOf-more w before items i line text rows wrapped within read same h k marked short =
     let bytes = bytes_of_line items i line text within read same in
     let here : AreRowsOfLine w (get_or (lines_of items) i []) wrapped =
     record {
       characters = ap all_scalars (line_at items i line within read) ∙ scalars-chars (string_bytes line) (IsUtf8-string_bytes line);
       short = omega (arith, short, ap length bytes);
       wrapped = rw bytes at k;
+      marked = marked ∙ ap (λ t. marks_of t wrapped.ranges) bytes;
     } in
     rw (take_more (lines_of items) i [] (omega (arith, length-map items characters_of)), ← append_assoc)
     (AreRowsOf-append w (before ++ take i (lines_of items)) (get_or (lines_of items) i [] ∷ []) rows (wrapped ∷ []) h (here, tt))
@@ -100,6 +102,6 @@ whole_anywhere w v [] [] e e' h = tt
 whole_anywhere w v [] (r ∷ rows) e e' h = absurd h
 whole_anywhere w v (line ∷ lines) [] e e' h = absurd h
 whole_anywhere w v (line ∷ lines) (r ∷ rows) e e' h = (
-  record { characters = h.0.characters; short = h.0.short; wrapped = rw e' (whole_anyhow w.tab_len (max w.width 1) v.tab_len (max v.width 1) (encode_utf8_all line) r.ranges (rw e at h.0.wrapped)) },
+  record { characters = h.0.characters; short = h.0.short; wrapped = rw e' (whole_anyhow w.tab_len (max w.width 1) v.tab_len (max v.width 1) (encode_utf8_all line) r.ranges (rw e at h.0.wrapped)); marked = h.0.marked },
   whole_anywhere w v lines rows e e' h.1,
 )

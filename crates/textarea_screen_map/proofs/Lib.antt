@@ -1,3 +1,4 @@
+pub mod KnownColumns
 pub mod RowColumns
 pub mod Layouts
 pub mod RowSlices
@@ -7,3 +8,4 @@ pub mod ThereAndBack
 pub mod Once
 pub mod RowSizes
 pub mod FittingRows
+pub mod MarkLemmas

@@ -1,14 +1,17 @@
 -- The display columns of the positions in a row.
 use Rattle.std.proofs.lemmas.Grind.{common_steps}
-use Rattle.std.proofs.Common.{◌≡◌, ℕ, ◌+◌, ◌-◌, ◌<◌, ◌≤◌, ◌⊎◌, inl, inr, max, cond, nat_eq, true, false, List, [], ◌∷◌, length, take, drop, get_or, sym, ap, subst, ◌∙◌, arith}
-use Rattle.std.proofs.Math.Seq.{take-add}
+use Rattle.std.proofs.Common.{◌≡◌, ℕ, ◌+◌, ◌-◌, ◌<◌, ◌≤◌, ◌⊎◌, inl, inr, max, min, Bool, cond, nat_eq, true, false, List, [], ◌∷◌, ◌++◌, Option, Some, None, MatchOption, length, take, drop, get_or, sym, ap, ap₂, subst, ◌∙◌, arith, encode_utf8, encode_utf8_all, if◌then◌else◌}
+use Rattle.std.proofs.Math.Seq.{take-add, take-length}
 use Rattle.std.proofs.lemmas.Bool.Decides.{nat_tests}
 use Rattle.std.proofs.lemmas.Bool.{cases_lt}
-use Rattle.std.proofs.lemmas.List.{drop_more, length-drop, take_more}
+use Rattle.std.proofs.lemmas.List.{append-nil, drop_more, length-append, length-drop, length-take-le, nil_from_length, take_at, take_more, take-take}
+use Rattle.std.proofs.lemmas.Str.{chars-nil, encodes-append, encodes-chars}
+use Rattle.std.specs.Str.{IsUtf8, chars}
+use Rattle.textarea_text.proofs.Columns.{chars_from_bytes}
 use Rattle.std.proofs.lemmas.Nat.{mod_below}
-use Rattle.textarea_wrap.specs.Columns.{plain_width, next_stop, column_after, end_column}
+use Rattle.textarea_wrap.specs.Columns.{plain_width, next_stop, column_after, display_end_column, end_column}
 use Rattle.textarea_wrap.proofs.ColumnLemmas.{end_column-append, end_column-after}
-use Rattle.textarea_screen_map.specs.VisualRows.{column_at}
+use Rattle.textarea_screen_map.specs.VisualRows.{column_at, reachable_text}
 use Rattle.textarea_screen_map.specs.VisualPositions.{HasNoZeroWidth, LeadsTo}
 use Rattle.textarea_screen_map.proofs.Holding.{all_at}
 
@@ -57,3 +60,52 @@ leads_to_end t text column index at end is reached before =
       | inl less ↦ inr (inr (end, omega (arith, is, less)))
       | inr more ↦ leads_to_first t text column index at (omega (arith, end)) is (omega (arith, reached, more)) before
     ]
+
+-- ---- up to a column that the characters reach
+
+width_is : (t : ℕ) (text : List ℕ) → column_at t text (length text) ≡ display_end_column t 0 text
+width_is t text = ap (end_column (max t 1) 0) (take-length text)
+
+-- the column is at most that of a position
+pub leads_to_least : (t : ℕ) (text : List ℕ) (column index i : ℕ) → i ≤ length text → column ≤ column_at t text i → LeadsTo t text column index → LeadsTo t text (min column (display_end_column t 0 text)) index
+leads_to_least t text column index i within below leads =
+    let least : min column (display_end_column t 0 text) ≡ column = omega (arith, below, column_at-le t text i (length text) within, width_is t text) in
+    rw least leads
+
+-- the column is at or past the end, whose column is first that of another position
+pub leads_to_width : (t : ℕ) (text : List ℕ) (column index at first : ℕ) → index ≡ length text → at ≡ column_at t text index → at ≤ column → first ≤ index → column_at t text first ≡ at → ((k : ℕ) → k < first → column_at t text k < at) → LeadsTo t text (min column (display_end_column t 0 text)) first
+leads_to_width t text column index at first end is reached within first_at before =
+    let width : display_end_column t 0 text ≡ at = sym (width_is t text) ∙ ap (column_at t text) (sym end) ∙ sym is in
+    let least : min column (display_end_column t 0 text) ≡ at = omega (arith, width, reached) in
+    rw least (inl (omega (arith, within, end), first_at, λ k below e. absurd (omega (arith, before k below, e))))
+
+-- a column that some first characters reach leads to the same position in all of them
+pub leads_before : (t n column index : ℕ) (text : List ℕ) → n ≤ length text → column ≤ column_at t text n → LeadsTo t (take n text) column index → LeadsTo t text column index
+leads_before t n column index text within reached leads =
+    let size : length (take n text) ≡ n = length-take-le n text within in
+    let same : (k : ℕ) → k ≤ n → column_at t (take n text) k ≡ column_at t text k =
+    λ k inside. ap (end_column (max t 1) 0) (take-take k n text inside) in
+    elim leads [
+      | inl h ↦ inl (omega (arith, h.0, size, within), sym (same index (omega (arith, h.0, size))) ∙ h.1, λ k below e. h.2 k below (same k (omega (arith, h.0, size, below)) ∙ e))
+      | inr (inl h) ↦ inr (inl (omega (arith, h.0, size, within), omega (arith, h.1, same index (omega (arith, h.0, size))), omega (arith, h.2, same (index + 1) (omega (arith, h.0, size)))))
+      | inr (inr h) ↦ absurd (omega (arith, h.1, reached, same index (omega (arith, h.0, size)), ap (column_at t text) (h.0 ∙ size)))
+    ]
+
+pub leads_in_row : (t column index : ℕ) (text reachable : List ℕ) (is_last : Bool) → reachable ≡ reachable_text text is_last → LeadsTo t reachable (min column (display_end_column t 0 reachable)) index → LeadsTo t text (min column (if is_last then display_end_column t 0 text else column_at t text (length text - 1))) index
+leads_in_row t column index text reachable true is leads = subst (λ (r : List ℕ). LeadsTo t r (min column (display_end_column t 0 r)) index) is leads
+leads_in_row t column index text reachable false is leads =
+    leads_before t (length text - 1) (min column (column_at t text (length text - 1))) index text (omega arith) (omega arith)
+    (subst (λ (r : List ℕ). LeadsTo t r (min column (display_end_column t 0 r)) index) is leads)
+
+-- ---- the characters before the last
+
+pub without_last : (Same : Type 0) (text rest : List ℕ) (found : Option ℕ) → (Same → rest ≡ text) → IsUtf8 text → IsUtf8 rest → MatchOption found ((length text ≡ 0) × Same) (λ c. text ≡ rest ++ encode_utf8 c) → chars rest ≡ take (length (chars text) - 1) (chars text)
+without_last Same text rest None same valid valid' h =
+    let none : chars text ≡ [] = ap chars (nil_from_length text h.0) ∙ chars-nil in
+    ap chars (same h.1) ∙ none ∙ sym (ap (λ (t : List ℕ). take (length t - 1) t) none)
+without_last Same text rest (Some c) same valid valid' h =
+    let bytes : text ≡ encode_utf8_all (chars rest ++ c ∷ []) =
+    h ∙ ap₂ ◌++◌ (sym (encodes-chars rest valid')) (sym (append-nil (encode_utf8 c))) ∙ sym (encodes-append (chars rest) (c ∷ [])) in
+    let spelled : chars text ≡ chars rest ++ c ∷ [] = chars_from_bytes text (chars rest ++ c ∷ []) valid bytes in
+    let size : length (chars rest) ≡ length (chars text) - 1 = omega (arith, ap length spelled, length-append (chars rest) (c ∷ [])) in
+    sym (ap (take (length (chars text) - 1)) spelled ∙ take_at (chars rest) (c ∷ []) (length (chars text) - 1) size)

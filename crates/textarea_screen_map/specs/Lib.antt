@@ -1,8 +1,10 @@
+pub mod KnownColumns
 pub mod LineRows
 pub mod BorrowedLines
 pub mod Map
 pub mod Prepared
 pub mod VisualRows
 pub mod VisualPositions
+pub mod LineMarks
 pub mod RowTexts
 pub mod Prelude

@@ -51,6 +51,11 @@ column_at tab_len text index = display_end_column tab_len 0 (take index text)
 abbrev pub row_width : ℕ → VisualRow → ℕ
 row_width tab_len row = display_end_column tab_len 0 row.text
 
+-- the characters of a row up to its greatest cursor column: of a row that isn't its line's last, all
+-- but the last one, since the row's end is in the next row
+abbrev pub reachable_text : List ℕ → Bool → List ℕ
+reachable_text text is_last = if is_last then text else take (length text - 1) text
+
 -- The greatest display column of a row at which a cursor can be: in the last row of a line the
 -- row's width, otherwise where its last character begins, since the row's end is in the next row.
 abbrev pub greatest_column : ℕ → VisualRow → ℕ

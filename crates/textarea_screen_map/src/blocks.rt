@@ -8,9 +8,9 @@ pub use textarea_blocks::blocks::RowBlocks;
 use textarea_wrap::wrap::WrapCount;
 
 /// The number of lines in each block of newly wrapped lines, except for the last block.
-pub const BLOCK: usize = 768;
+pub const BLOCK: usize = 384;
 
-/// Wraps the lines and appends their rows, in blocks of 768 lines and a last one. Each line adds
+/// Wraps the lines and appends their rows, in blocks of 384 lines and a last one. Each line adds
 /// one to `count`. More than 2^48 lines or rows are out of memory.
 pub fn push_lines(
     alloc: Global,

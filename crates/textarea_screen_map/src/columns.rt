@@ -1,17 +1,22 @@
 //! The display columns of the characters of one visual row.
-ghost use Rattle.std.specs.Prelude.{◌≡◌, ◌-◌, ◌<◌, chars, length, if◌then◌else◌};
-ghost use Rattle.textarea_screen_map.specs.Prelude.{size_limit, display_end_column, column_at, LeadsTo};
+ghost use Rattle.std.specs.Prelude.{◌≡◌, ◌-◌, ◌<◌, ◌≤◌, chars, drop, length, min, take, if◌then◌else◌};
+ghost use Rattle.std.specs.Str.{IsCharBoundary, IsUtf8};
+ghost use Rattle.textarea_screen_map.specs.Prelude.{size_limit, display_end_column, column_at, reachable_text, IsMark, LeadsTo};
 
-use textarea_text::rows::{byte_offset, column_count};
+use crate::line_marks::Mark;
 use textarea_wrap::wrap::columns::{display_column_after, display_column_after_text};
 
-/// Returns the display column at which the last character of a row begins; 0 for an empty row.
-pub fn last_character_column(text: &str, tab_len: u8) -> usize
-    requires { length text.now < size_limit }
-    ensures { result ≡ column_at tab_len (chars text.now) (length (chars text.now) - 1) }
+/// Returns the text of a row up to the greatest cursor column: all of it in the last row of its
+/// line, else all but the last character.
+pub fn reachable_text(text: &str, is_last: bool) -> &str
+    ensures characters { chars result.now ≡ reachable_text (chars text.now) is_last }
+    ensures short { length result.now ≤ length text.now }
 {
-    let last = column_count(text).saturating_sub(1);
-    display_column_after_text(&text[..byte_offset(text, last)], 0, tab_len)
+    let mut rest = text.chars();
+    if !is_last {
+        rest.next_back();
+    }
+    rest.as_str()
 }
 
 /// Returns the greatest display column of a row at which a cursor can be: the row's width in the
@@ -21,11 +26,7 @@ pub fn greatest_cursor_column(text: &str, is_last: bool, tab_len: u8) -> usize
     ensures { result ≡ (if is_last then display_end_column tab_len 0 (chars text.now)
         else column_at tab_len (chars text.now) (length (chars text.now) - 1)) }
 {
-    if is_last {
-        display_column_after_text(text, 0, tab_len)
-    } else {
-        last_character_column(text, tab_len)
-    }
+    display_column_after_text(reachable_text(text, is_last), 0, tab_len)
 }
 
 /// Returns the number of characters of a row before the position for a display column: the first
@@ -45,4 +46,46 @@ pub fn character_at_column(text: &str, column: usize, tab_len: u8) -> usize
         at = next;
     }
     index
+}
+
+/// Returns the width of the text between two byte offsets of a line. If that text begins the line,
+/// only what follows the known position of the line is read.
+pub fn width_between(line: &str, start: usize, end: usize, known: Mark, tab_len: u8) -> usize
+    requires short { length line.now < size_limit }
+    requires ordered { start ≤ end }
+    requires start { IsCharBoundary line.now start }
+    requires end { IsCharBoundary line.now end }
+    requires known { IsMark tab_len (chars line.now) known }
+    ensures value { result
+        ≡ display_end_column tab_len 0 (chars (take (end - start) (drop start line.now))) }
+    ensures text { IsUtf8 (take (end - start) (drop start line.now)) }
+{
+    if start == 0 && known.offset <= end {
+        return display_column_after_text(&line[known.offset..end], known.display, tab_len);
+    }
+    display_column_after_text(&line[start..end], 0, tab_len)
+}
+
+/// Returns the number of characters of a text before the position for a display column, or for the
+/// text's width if that is less. Reads the text from a known position on.
+pub fn character_near_column(text: &str, known: Mark, column: usize, tab_len: u8) -> usize
+    requires short { length text.now < size_limit }
+    requires known { IsMark tab_len (chars text.now) known }
+    requires before { known.display ≤ column }
+    ensures { LeadsTo tab_len (chars text.now)
+        (min column (display_end_column tab_len 0 (chars text.now))) result }
+{
+    let mut index = known.column;
+    let mut at = known.display;
+    let mut first = known.column; // the first position at the column `at`
+    for c in text[known.offset..].chars() {
+        let next = display_column_after(c, at, tab_len);
+        if column <= at || column < next {
+            return index;
+        }
+        index += 1;
+        first = if at < next { index } else { first };
+        at = next;
+    }
+    first
 }

@@ -5,5 +5,7 @@ pub mod blocks;
 mod columns;
 pub mod laws;
 pub mod layout;
+pub mod line_marks;
+mod marks;
 pub mod screen_map;
 pub mod view;

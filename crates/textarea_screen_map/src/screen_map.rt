@@ -1,6 +1,6 @@
 //! The visual rows of each line of a text, in blocks of lines. They count from 0 over all lines.
 ghost use Rattle.std.specs.Prelude.{◌≡◌, ◌+◌, ◌*◌, ◌<◌, ◌≤◌, ◌↔◌, ◌∷◌, [], ℕ, List, length, min, take, IfOk, IsOk, OnOk};
-ghost use Rattle.textarea_screen_map.specs.Prelude.{size_limit, replaced, size_of, lines_of, AreRowsOf, ticks_after, ticks_of, with_tab_len, IsEdge, all_rows, IsWithinLimit, ranges_at, row_total, size_total, HasRoom, CanPutRows, rows_in, rows_with};
+ghost use Rattle.textarea_screen_map.specs.Prelude.{size_limit, replaced, size_of, lines_of, AreRowsOf, ticks_after, ticks_of, with_tab_len, IsEdge, all_rows, IsWithinLimit, marks_at, ranges_at, row_total, size_total, HasRoom, CanPutRows, rows_in, rows_with};
 ghost use Rattle.textarea_wrap.specs.declared.wrap.WrapMode.TheVariants as mode;
 
 use crate::blocks::{BLOCK, push_lines};
@@ -77,7 +77,7 @@ impl Clone for ScreenMap {
     }
 }
 
-/// Returns the rows of all these lines, in blocks if they are more than 768 lines. Each line adds
+/// Returns the rows of all these lines, in blocks if they are more than 384 lines. Each line adds
 /// one to `count`. More than 2^48 lines or rows are out of memory.
 pub fn new_rows(
     alloc: Global,
@@ -365,6 +365,13 @@ impl ScreenMap {
         ensures { result.now ≡ ranges_at self.now.rows line }
     {
         self.blocks.rows_of(line)
+    }
+
+    fn marks_of(&self, line: usize) -> &[(usize, usize)]
+        requires { line < length self.now.rows }
+        ensures { result.now ≡ marks_at self.now.rows line }
+    {
+        self.blocks.marks_of(line)
     }
 }
 

@@ -1,8 +1,10 @@
 //! Read access to lines with their visual rows.
 ghost use Rattle.std.specs.Prelude.{◌≡◌, ◌+◌, ◌<◌, ◌≤◌, length, take};
-ghost use Rattle.textarea_screen_map.specs.Prelude.{size_limit, IsPlaceOf, size_of, lines_of, AreRowsOf, row_total, greatest_column, row_at, IsPlaceNear, IsVisualPosition, HasFrontOfLine, row_of_texts, AreRowsRight, borrowed_rows};
+ghost use Rattle.textarea_text.specs.Offset.{offset_at};
+ghost use Rattle.textarea_screen_map.specs.Prelude.{size_limit, AreMarksOf, IsMark, IsPlaceOf, size_of, lines_of, AreRowsOf, row_total, greatest_column, row_at, IsPlaceNear, IsVisualPosition, HasFrontOfLine, row_of_texts, AreRowsRight, borrowed_rows};
 
 use crate::layout::VisualPosition;
+use crate::line_marks::{LineMarks, Mark};
 use crate::screen_map::{RowText, ScreenMap};
 use std::marker::Model;
 
@@ -12,25 +14,30 @@ use std::marker::Model;
 pub struct TextLayoutView<'a> {
     lines: &'a [String],
     map: &'a ScreenMap,
+    marks: &'a LineMarks,
 }
 
 impl<'a> Model for TextLayoutView<'a> {
+    ghost use Rattle.textarea_text.specs.Text.{lines_of};
     ghost use Rattle.textarea_screen_map.specs.BorrowedLines.{AreRowsRight, BorrowedRows, borrowed_rows};
+    ghost use Rattle.textarea_screen_map.specs.LineMarks.{AreMarksOf};
 
     ghost Value = { BorrowedRows };
 
     ghost view = { λ view. borrowed_rows view.lines.now view.map.now };
 
-    ghost invariant = { λ view. AreRowsRight view.lines.now view.map.now };
+    ghost invariant = { λ view. AreRowsRight view.lines.now view.map.now
+        × AreMarksOf (lines_of view.lines.now) view.marks.now };
 }
 
 impl<'a> TextLayoutView<'a> {
-    /// Borrows the lines, at least one, with a map of these lines.
-    pub fn new(lines: &'a [String], map: &'a ScreenMap) -> TextLayoutView<'a>
-        requires { AreRowsRight lines.now map.now }
+    /// Borrows the lines, at least one, with a map of these lines and marks in them.
+    pub fn new(lines: &'a [String], map: &'a ScreenMap, marks: &'a LineMarks) -> TextLayoutView<'a>
+        requires rows { AreRowsRight lines.now map.now }
+        requires marks { AreMarksOf (lines_of lines.now) marks.now }
         ensures { result ≡ borrowed_rows lines.now map.now }
     {
-        TextLayoutView { lines, map }
+        TextLayoutView { lines, map, marks }
     }
 
     /// Returns the lines, at least one. Their bytes and their number together are at most 2^48.
@@ -79,7 +86,16 @@ impl<'a> TextLayoutView<'a> {
         ensures visual { IsVisualPosition self.now.wrapping.tab_len self.now.lines self.now.rows
             place result }
     {
-        self.map.visual_position(self.lines, place)
+        self.map.visual_position_with(self.lines, self.marks, place)
+    }
+
+    /// Returns the bytes before a position in its line. Only the text from the nearest known
+    /// position on is read.
+    pub fn offset_of(&self, place: (usize, usize)) -> usize
+        requires { IsPlaceOf self.now.lines place }
+        ensures { result ≡ offset_at self.now.lines place }
+    {
+        self.map.offset_of(self.lines, self.marks, place)
     }
 
     /// Returns the greatest display column of a visual row at which a cursor can be: the row's
@@ -100,6 +116,17 @@ impl<'a> TextLayoutView<'a> {
         ensures near { IsPlaceNear self.now.wrapping.tab_len self.now.lines self.now.rows
             visual result }
     {
-        self.map.place_near(self.lines, visual)
+        self.map.place_near_with(self.lines, self.marks, visual)
+    }
+    /// Returns the last known position of a visual row's text at or before a display column: its
+    /// column and byte offset in the row, and its display column. So a long row needn't be read
+    /// from its start.
+    pub fn mark_before(&self, row: usize, display: usize) -> Mark
+        requires { row < row_total self.now.rows }
+        ensures mark { IsMark self.now.wrapping.tab_len
+            (row_at self.now.lines self.now.rows row).text result }
+        ensures before { result.display ≤ display }
+    {
+        self.map.mark_before(self.lines, self.marks, row, display)
     }
 }

@@ -6,7 +6,7 @@ use crate::paint::Drawing::*;
 use std::alloc::{AllocError, Global};
 use std::process::Abort;
 use std::test::Fail;
-use textarea_paint::paint::{RowArea, draw_block, draw_row};
+use textarea_paint::paint::{DrawText, RowArea, draw_block, draw_row};
 use textarea_screen::screen::Alignment::{Center, Left, Right};
 use textarea_screen::screen::{
     Alignment, Block, Borders, Buffer, Color, Line, Modifier, Rect, Style,
@@ -32,13 +32,18 @@ type Case = (Drawing, &'static str);
 
 const UNTOUCHED: &str = " | | | |\n | | | |\n | | | |\n";
 
-static CASES: [Case; 35] = [
+static CASES: [Case; 37] = [
     (Row(("a犬b", ""), Left, 0, 2), " |a| | | | |\n"),
     (Row(("a犬b", ""), Left, 0, 5), " |a|犬||b| |\n"),
     (Row(("a犬b", ""), Left, 1, 4), " |犬||b| | |\n"),
     (Row(("a犬b", ""), Left, 2, 4), " | |b| | | |\n"),
     (Row(("犬犬犬", ""), Left, 1, 4), " | |犬|| | |\n"),
     (Row(("ab", ""), Left, usize::MAX, 4), " | | | | | |\n"),
+    (Row(("abcdefgh", ""), Left, 2, 4), " |c|d|e|f| |\n"),
+    (
+        Row(("abe\u{301}c", "de"), Left, 1, 4),
+        " |b|e\u{301}|c|d| |\n",
+    ),
     (Row(("👩\u{200d}🚀", "x"), Left, 0, 5), " |👩\u{200d}🚀||||x|\n"),
     (Row(("🇩🇪", "x"), Left, 0, 5), " |🇩🇪||x| | |\n"),
     (
@@ -214,4 +219,22 @@ fn frames(rt: HostRuntime) -> Result<(), Fail> {
     let mut buffer = Buffer::empty(rt.alloc(), Rect::new(0, 0, 3, 3))?;
     check_frame(&rt, &mut buffer)?;
     check_frame(&rt, &mut buffer)
+}
+
+// A buffer with a text from its second column on.
+fn buffer_with(alloc: Global, text: &str) -> Result<Buffer, AllocError> {
+    let mut buffer = Buffer::empty(alloc, Rect::new(2, 1, 4, 2))?;
+    buffer.set_string(3, 2, text, Style::new().red())?;
+    Ok(buffer)
+}
+
+#[test]
+fn printed(rt: HostRuntime) -> Result<(), Fail> {
+    let mut buffer = buffer_with(rt.alloc(), "犬!?")?;
+    assert!(rt; format!(in rt.alloc(); "{buffer}")?.as_str() == "    \n 犬!");
+    assert!(rt; buffer == buffer_with(rt.alloc(), "犬!")?);
+    assert!(rt; buffer != buffer_with(rt.alloc(), "犬")?);
+    buffer.reset();
+    assert!(rt; format!(in rt.alloc(); "{buffer}")?.as_str() == "    \n    ");
+    Ok(())
 }

@@ -77,7 +77,12 @@ const REJECTED_TWICE_FORM: &str = "{\"rejected\":[\
     {\"range\":{\"row\":1,\"start_col\":2,\"end_col\":5},\"reason\":\"RowOutOfBounds\"},\
     {\"range\":{\"row\":1,\"start_col\":2,\"end_col\":5},\"reason\":\"RowOutOfBounds\"}]}";
 
-/// Checks the forms of these tables, and of errors with no range and with two.
+const PRINTED: &str = "rejected atomic ranges: row 1, columns 2..5 (it is empty); \
+    row 1, columns 2..5 (the text has no such row); \
+    row 1, columns 2..5 (the row has no such columns); \
+    row 1, columns 2..5 (it overlaps the range before it)";
+
+/// Checks the forms of these tables, the texts of errors, and of errors with no range and with two.
 pub fn check(rt: &(impl Abort + AllocGlobal)) -> Result<(), Fail> {
     check_forms(rt, &RANGES, &NO_RANGES);
     check_forms(rt, &BIASES, &NO_SIDES);
@@ -86,7 +91,21 @@ pub fn check(rt: &(impl Abort + AllocGlobal)) -> Result<(), Fail> {
     check_forms(rt, &REJECTED_RANGES, &NO_REJECTED);
     check_rejected::<AtomicRangeError>(rt, &NO_ERRORS);
     check_error(rt, &[], r#"{"rejected":[]}"#)?;
-    check_error(rt, &[REJECTED, REJECTED], REJECTED_TWICE_FORM)
+    check_error(rt, &[REJECTED, REJECTED], REJECTED_TWICE_FORM)?;
+    check_printed(rt)
+}
+
+// Checks the text of an error that has each reason.
+fn check_printed(rt: &(impl Abort + AllocGlobal)) -> Result<(), Fail> {
+    let mut rejected = Vec::new(rt.alloc());
+    for (reason, _) in &REASONS {
+        let range = RANGE;
+        let reason = *reason;
+        rejected.push(RejectedAtomicRange { range, reason })?;
+    }
+    let error = AtomicRangeError { rejected };
+    assert!(rt; format!(in rt.alloc(); "{error}")?.as_str() == PRINTED);
+    Ok(())
 }
 
 // Checks that the error has this form and that a copy is equal to it.

@@ -1,15 +1,17 @@
 -- Byte offsets of a line and their columns.
 use Rattle.std.proofs.lemmas.Grind.{common_steps}
-use Rattle.std.proofs.Common.{◌≡◌, ℕ, zero, suc, ◌+◌, ◌<◌, ◌≤◌, Bool, true, List, [], ◌∷◌, ◌++◌, map, length, take, drop, option_map, refl, sym, ap, ◌∙◌, ⊎_elim, arith, IsUtf8, IsCharBoundary, encode_utf8_all, encode_utf8, true≢false}
+use Rattle.std.proofs.Common.{◌≡◌, ℕ, zero, suc, ◌+◌, ◌-◌, ◌<◌, ◌≤◌, Bool, true, List, [], ◌∷◌, ◌++◌, map, length, take, drop, option_map, refl, sym, ap, ◌∙◌, ⊎_elim, arith, IsUtf8, IsCharBoundary, encode_utf8_all, encode_utf8, true≢false}
 use Rattle.std.specs.Prelude.{All}
 use Rattle.std.specs.List.{find, slice_get}
 use Rattle.std.specs.Str.{chars}
+use Rattle.std.proofs.Math.Seq.{take-add}
 use Rattle.std.proofs.lemmas.Bool.{cases_lt}
 use Rattle.std.proofs.lemmas.Bool.Decides.{nat_tests}
 use Rattle.std.proofs.lemmas.List.{take-append-drop, take_at, length-append, length-take-le}
 use Rattle.std.proofs.lemmas.List.Elements.{All-weaker}
 use Rattle.std.proofs.lemmas.Option.{slice_get-map}
 use Rattle.std.proofs.lemmas.Str.{chars-append, encodes-chars, IsUtf8-take, length-encode, len_utf8_bounds}
+use Rattle.textarea_text.proofs.Columns.{length-offset, length_split}
 use Rattle.textarea_search.specs.Columns.{column_of_byte}
 use Rattle.textarea_search.specs.Starts.{along, is_ahead_in_line}
 use Rattle.textarea_search.specs.declared.search.direction.Direction.{Direction}
@@ -33,6 +35,30 @@ column_at_boundary line byte text boundary =
     let all : length (chars line) ≡ length (chars front) + length (chars (drop byte line)) = ap length components ∙ length-append (chars front) (chars (drop byte line)) in
     let same : take (length (chars front)) (chars line) ≡ chars front = ap (take (length (chars front))) components ∙ take_at (chars front) (chars (drop byte line)) (length (chars front)) refl in
     (omega arith, ap (λ cs. length (encode_utf8_all cs)) same ∙ ap length (encodes-chars front is_text) ∙ length-take-le byte line boundary.0)
+
+-- the column of a later byte offset, by the characters between
+pub column_later : (line : List ℕ) (from to : ℕ) → IsUtf8 line → IsCharBoundary line from → from ≤ to → to ≤ length line →
+    column_of_byte line to ≡ column_of_byte line from + length (chars (take (to - from) (drop from line)))
+column_later line from to text boundary le within =
+    let front = take from line in
+    let between = take (to - from) (drop from line) in
+    let is_text : IsUtf8 front = IsUtf8-take line from text boundary in
+    let sum : from + (to - from) ≡ to = omega arith in
+    let parts : take to line ≡ front ++ between = ap (λ n. take n line) (sym sum) ∙ take-add from (to - from) line in
+    ap (λ bs. length (chars bs)) parts ∙ ap length (chars-append front between is_text) ∙ length-append (chars front) (chars between)
+
+-- there are at most as many characters as bytes
+pub chars_fit : (line : List ℕ) → IsUtf8 line → length (chars line) ≤ length line
+chars_fit line text = omega (arith, length-offset line (length (chars line)) text (omega arith), length_split line (length (chars line)) text)
+
+-- the same as the code counts it
+pub column_sum : (line between : List ℕ) (from to column count : ℕ) → IsUtf8 line → IsCharBoundary line from → IsCharBoundary line to → from ≤ to →
+    column ≡ column_of_byte line from → between ≡ take (to - from) (drop from line) → count ≡ length (chars between) →
+    (column + count ≡ column_of_byte line to) × (column + count ≤ length (chars line))
+column_sum line between from to column count text boundary end le known part counted =
+    let sum : column + count ≡ column_of_byte line to =
+    omega (arith, column_later line from to text boundary le end.0, known, counted, ap (λ bs. length (chars bs)) part) in
+    (sum, omega (arith, (column_at_boundary line to text end).0))
 
 -- columns and their byte offsets are in the same order
 byte_at-below : (cs : List ℕ) (i j : ℕ) → i < j → j ≤ length cs → byte_at cs i < byte_at cs j
@@ -75,7 +101,7 @@ same_ahead : (direction : Direction) (x y m n : ℕ) (at : Bool) → SameOrder x
 same_ahead Forward x y m n at o = grind (arith, common_steps, nat_tests)
 same_ahead Back x y m n at o = grind (arith, common_steps, nat_tests)
 
-All-along : {X : Type 0} (P : X → Type 0) (direction : Direction) (xs : List X) → All P xs → All P (along direction xs)
+pub All-along : {X : Type 0} (P : X → Type 0) (direction : Direction) (xs : List X) → All P xs → All P (along direction xs)
 All-along P Forward xs h = h
 All-along P Back xs h = All-reverse P xs h
 

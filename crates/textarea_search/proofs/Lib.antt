@@ -1,5 +1,6 @@
 mod FailureLemmas
 mod PatternLemmas
+mod AscendingLemmas
 mod ColumnLemmas
 mod ListedLemmas
 mod PlaceLemmas

@@ -1,20 +1,27 @@
 -- From a compiled pattern to its text.
 use Rattle.std.proofs.lemmas.Grind.{common_steps}
-use Rattle.std.proofs.Common.{◌≡◌, ℕ, zero, suc, ◌+◌, ◌<◌, ◌≤◌, true, ◌∷◌, ◌++◌, List, [], map, length, get_or, Option, None, Some, IsSomeAnd, refl, ap, ◌∙◌, subst, arith, IsUtf8, string_bytes, Global}
+use Rattle.std.proofs.Common.{◌≡◌, ℕ, zero, suc, ◌+◌, ◌<◌, ◌≤◌, Bool, true, false, cond, ◌∷◌, ◌++◌, List, [], map, length, drop, get_or, Option, None, Some, IfSome, IsSomeAnd, refl, sym, ap, ◌∙◌, subst, inl, inr, arith, zero-le, IsUtf8, string_bytes, Global}
 use Rattle.std.specs.Prelude.{All, String}
 use Rattle.std.specs.Coded.{coded_ℕ, coded_list, coded×, Coded-set}
 use Rattle.std.specs.Option.{option_map_or}
 use Rattle.std.proofs.Math.Logic.{∥∥₁_elim}
 use Rattle.std.proofs.Math.Utf8.{encode, encodes, scalar, scalars}
-use Rattle.std.proofs.lemmas.Bool.{and_parts}
+use Rattle.std.specs.List.{slice_get}
+use Rattle.std.proofs.lemmas.Bool.{and_parts, cases_Bool, cond-false}
+use Rattle.std.proofs.lemmas.List.{get_or_append_left, get_or-drop}
 use Rattle.std.proofs.lemmas.Bool.Decides.{nat_tests}
 use Rattle.std.proofs.lemmas.List.Elements.{All-nil, All-append}
-use Rattle.std.proofs.lemmas.Str.{IsUtf8-string_bytes}
-use Rattle.regex_hir.specs.Re.{Re}
+use Rattle.std.proofs.lemmas.Str.{IsUtf8-nil, IsUtf8-string_bytes}
+use Rattle.memchr.specs.Find.{Nowhere, OccursAt}
+use Rattle.regex_hir.specs.Find.{Match, find_str, matches_from}
+use Rattle.regex_hir.specs.Re.{Re, accept, attempt, literal}
+use Rattle.regex_hir.specs.Text.{has_bytes_at, is_boundary}
+use Rattle.regex_hir.proofs.FindLemmas.{first_between_none}
+use Rattle.regex_hir.proofs.TextLemmas.{has_bytes_at_fits, has_bytes_at_parts}
 use Rattle.regex_syntax.specs.Brackets.{Nested}
 use Rattle.regex_syntax.specs.Captures.{SameCaptures}
 use Rattle.regex_syntax.specs.Grammar.{Names, group_count}
-use Rattle.regex_syntax.specs.Verdict.{Reads}
+use Rattle.regex_syntax.specs.Verdict.{Reads, ReadsAsText}
 use Rattle.regex.specs.Patterns.{span, find_all_str, default_config}
 use Rattle.regex.specs.Strings.{regex_pattern, regex_source, regex_config, IsReadFromSource}
 use Rattle.regex.specs.declared.string.regex.Regex.{Regex}
@@ -22,8 +29,10 @@ use Rattle.regex.proofs.ForCallers.{spans_alike}
 use Rattle.regex.proofs.SearchLemmas.{matches_after_text}
 use Rattle.textarea_search.specs.Columns.{column_of_byte}
 use Rattle.textarea_search.specs.Matches.{match_spans, match_columns}
-use Rattle.textarea_search.specs.Spans.{columns_in, spans_after}
-use Rattle.textarea_search.specs.Starts.{starts_from}
+use Rattle.textarea_search.specs.Spans.{IsNeedleOf, ListsMatchesOf, columns_in, spans_after}
+use Rattle.textarea_search.specs.Starts.{along, bytes_at, starts_from}
+use Rattle.textarea_search.specs.declared.search.direction.Direction.{Direction}
+use Rattle.textarea_search.specs.declared.search.direction.Direction.TheVariants.{Forward, Back}
 
 -- ---- the bytes of a text
 
@@ -80,3 +89,75 @@ module _ (r : Regex) (by_default : regex_config r ≡ default_config) (is_read :
   starts_as_written lines =
       starts_same (columns_in (regex_pattern r)) (match_columns (regex_source r)) 0 lines
       (λ line. columns_as_written (string_bytes line) (bytes_of_text _ (IsUtf8-string_bytes line)))
+
+-- a line of strings is a text, also one past them, which is empty
+text_of_line : (lines : List (String Global)) (row : ℕ) → IsUtf8 (bytes_at lines row)
+text_of_line [] row = IsUtf8-nil
+text_of_line (line ∷ lines) zero = IsUtf8-string_bytes line
+text_of_line (line ∷ lines) (suc row) = text_of_line lines row
+
+-- the columns that the tree lists in a line are those of the pattern
+pub columns_listed : (pattern : List ℕ) (tree : Re) (lines : List (String Global)) (row : ℕ) → ListsMatchesOf pattern tree →
+    columns_in tree (bytes_at lines row) ≡ match_columns pattern (bytes_at lines row)
+columns_listed pattern tree lines row lists =
+    ap (map (λ (s : ℕ × ℕ). column_of_byte (bytes_at lines row) s.0)) (lists (bytes_at lines row) (text_of_line lines row))
+
+-- ---- a pattern without syntax, and a line that lacks its text
+
+occurs : (line word : List ℕ) (i : ℕ) → i ≤ length line → has_bytes_at line i word ≡ true → OccursAt line word i
+occurs line word i within e = record {
+  fits = omega (arith, has_bytes_at_fits line i word e);
+  reads = λ j lt.
+      sym (get_or-drop i line j 0) ∙ ap (λ bs. get_or bs j 0) (has_bytes_at_parts line i word e)
+      ∙ get_or_append_left word (drop (i + length word) line) 0 j lt;
+}
+
+none_if_false : {A : Type 0} (b : Bool) (o : Option A) → o ≡ None → cond b o None ≡ None
+none_if_false true o e = e
+none_if_false false o e = refl
+
+none_follow : (search : ℕ → Option Match) (n : ℕ) → matches_from search n None ≡ []
+unfolding matches_from
+none_follow search zero = refl
+none_follow search (suc n) = refl
+
+module _ (line word : List ℕ) (missing : Nowhere (OccursAt line word) 0 (length line + 1)) where
+  none_here : (i : ℕ) → i ≤ length line → attempt line (literal word) accept i ≡ None
+  unfolding attempt
+  none_here i within =
+      elim (cases_Bool (has_bytes_at line i word)) [
+        | inl here ↦ absurd (missing i zero-le (omega arith) (occurs line word i within here))
+        | inr elsewhere ↦ cond-false (has_bytes_at line i word) _ None elsewhere
+      ]
+
+  none_found : find_str (literal word) line 0 ≡ None
+  unfolding find_str
+  none_found = first_between_none _ 0 (length line) (λ i low high. none_if_false (is_boundary line i) _ (none_here i high))
+
+  none_listed : map span (find_all_str (literal word) line) ≡ []
+  none_listed =
+      ap (λ o. map span (matches_from (find_str (literal word) line) (length line + 1) o)) none_found
+      ∙ ap (map span) (none_follow (find_str (literal word) line) (length line + 1))
+
+  none_read : (o : Option (Nested Re × Names)) → AreBytes line →
+      IsSomeAnd o (λ (re, names). (re.depth ≤ 1) × SameCaptures re.value (literal word) × (names ≡ None ∷ [])) →
+      option_map_or (λ (found, _). map span (find_all_str found.value line)) o [] ≡ []
+  none_read None bytes h = refl
+  none_read (Some found) bytes h = spans_alike h.1 line (each_byte line bytes) true ∙ none_listed
+
+-- the pattern is the needle
+pub needle_of_plain : (pattern : List ℕ) → ReadsAsText pattern pattern → (tree : Re) → ListsMatchesOf pattern tree → IsNeedleOf pattern tree
+unfolding match_spans ReadsAsText
+needle_of_plain pattern plain tree lists line text missing =
+    lists line text ∙ none_read line pattern missing _ (bytes_of_text line text) (plain default_config refl refl)
+
+-- a line without listed matches has no start
+pub no_columns : (tree : Re) (line : List ℕ) (direction : Direction) → spans_after tree line 0 ≡ [] → None ≡ slice_get (along direction (columns_in tree line)) 0
+no_columns tree line Forward e = rw e refl
+no_columns tree line Back e = rw e refl
+
+-- a needle of the pattern is one of each of its trees
+pub needle_for : (pattern : List ℕ) (tree : Re) (needle : Option (List ℕ)) → ListsMatchesOf pattern tree →
+    IfSome needle (λ text. (t : Re) → ListsMatchesOf pattern t → IsNeedleOf text t) → IfSome needle (λ text. IsNeedleOf text tree)
+needle_for pattern tree None lists h = tt
+needle_for pattern tree (Some text) lists h = h tree lists

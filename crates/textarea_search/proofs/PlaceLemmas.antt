@@ -1,10 +1,10 @@
 -- Positions of a text and of some of its lines.
 use Rattle.std.proofs.lemmas.Grind.{common_steps}
-use Rattle.std.proofs.Common.{◌≡◌, ℕ, ◌+◌, ◌-◌, ◌<◌, ◌≤◌, List, [], map, length, get_or, take, drop, sym, ap, ◌∙◌, subst, arith, string_bytes, Global, Option, None, Some, IfSome}
+use Rattle.std.proofs.Common.{◌≡◌, ℕ, zero, suc, ◌+◌, ◌-◌, ◌<◌, ◌≤◌, List, [], ◌∷◌, map, length, get_or, take, drop, refl, sym, le_of_suc-le-suc, ap, ◌∙◌, subst, arith, string_bytes, Global, Option, None, Some, IfSome}
 use Rattle.std.specs.Prelude.{String}
 use Rattle.std.specs.Str.{chars}
 use Rattle.std.proofs.lemmas.List.{get_or-map, get_or-take, get_or-drop, take-map, drop-map, length-take-le, length-drop, take_rest}
-use Rattle.textarea_search.specs.Starts.{IsPlaceFrom, IsPlaceIn}
+use Rattle.textarea_search.specs.Starts.{IsPlaceFrom, IsPlaceIn, bytes_at}
 
 abbrev texts_of : List (String Global) → List (List ℕ)
 texts_of = map (λ line. chars (string_bytes line))
@@ -21,6 +21,15 @@ place_here lines row i column line within is fits = grind (arith, common_steps, 
 pub place_at : (lines : List (String Global)) (row column : ℕ) (line : String Global) → row < length lines → line ≡ get_or lines row line →
     column ≤ length (chars (string_bytes line)) → IsPlaceIn lines (row, column)
 place_at lines row column line within is fits = (within, subst (λ cs. column ≤ length cs) (sym (text_of_line lines row line within is)) fits)
+
+-- the same by the bytes of the line
+texts_at : (lines : List (String Global)) (row : ℕ) → row < length lines → get_or (texts_of lines) row [] ≡ chars (bytes_at lines row)
+texts_at [] row within = absurd (omega arith)
+texts_at (line ∷ lines) zero within = refl
+texts_at (line ∷ lines) (suc row) within = texts_at lines row (le_of_suc-le-suc within)
+
+pub place_at_bytes : (lines : List (String Global)) (row column : ℕ) → row < length lines → column ≤ length (chars (bytes_at lines row)) → IsPlaceIn lines (row, column)
+place_at_bytes lines row column within fits = (within, subst (λ (cs : List ℕ). column ≤ length cs) (sym (texts_at lines row within)) fits)
 
 -- a position in the lines before a row
 pub place_in_front : (lines : List (String Global)) (n : ℕ) (p : ℕ × ℕ) → n ≤ length lines → IsPlaceFrom 0 (take n lines) p → IsPlaceIn lines p

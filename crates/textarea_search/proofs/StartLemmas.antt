@@ -10,7 +10,7 @@ use Rattle.std.proofs.lemmas.List.{drop_more, take_more, append-nil, append_asso
 use Rattle.std.proofs.lemmas.List.Elements.{All-nil, All-head, All-tail, All-append, All-map, All-weaker}
 use Rattle.std.proofs.lemmas.List.Folds.{find-append}
 use Rattle.std.proofs.lemmas.Option.{slice_get-map}
-use Rattle.textarea_search.specs.Starts.{along, found_start, starts_from, is_ahead_in_line, is_past, is_later, find_or_first}
+use Rattle.textarea_search.specs.Starts.{along, bytes_at, found_start, starts_from, is_ahead_in_line, is_past, is_later, find_or_first}
 use Rattle.textarea_search.specs.declared.search.direction.Direction.{Direction}
 use Rattle.textarea_search.specs.declared.search.direction.Direction.TheVariants.{Forward, Back}
 
@@ -215,45 +215,59 @@ module _ (columns : List ℕ → List ℕ) (lines : List (List ℕ)) (row column
 
 -- ---- the same as the code reads it: a line of strings, those after it, and those up to it
 
-module _ (columns : List ℕ → List ℕ) (lines : List (String Global)) (row column : ℕ) (at : Bool) (line : String Global)
-    (within : row < length lines) (is_line : line ≡ get_or lines row line) where
+pub bytes_of_line : (lines : List (String Global)) (i : ℕ) (line : String Global) → i < length lines → line ≡ get_or lines i line → bytes_at lines i ≡ string_bytes line
+bytes_of_line lines i line within e = get_or-map string_bytes lines i line [] within ∙ ap string_bytes (sym e)
+
+module _ (columns : List ℕ → List ℕ) (lines : List (String Global)) (row column : ℕ) (at : Bool) (within : row < length lines) where
   forward_segments : found_start Forward (starts_from columns 0 (map string_bytes lines)) (row, column) at
-      ≡ option_or (option_map (λ c. (row, c)) (find (is_past column at) (columns (string_bytes line))))
+      ≡ option_or (option_map (λ c. (row, c)) (find (is_past column at) (columns (bytes_at lines row))))
       (option_or (slice_get (starts_from columns (row + 1) (map string_bytes (take (length lines - (row + 1)) (drop (row + 1) lines)))) 0)
       (slice_get (starts_from columns 0 (map string_bytes (take (row + 1) lines))) 0))
   forward_segments =
       let within' : row < length (map string_bytes lines) = rw length-map within in
-      rw (take_rest lines (row + 1), ← drop-map string_bytes (row + 1) lines, ← take-map string_bytes (row + 1) lines, ← text_at lines row line within is_line)
-      (next_start_in_segments columns (map string_bytes lines) row column at (string_bytes line) within')
+      rw (take_rest lines (row + 1), ← drop-map string_bytes (row + 1) lines, ← take-map string_bytes (row + 1) lines)
+      (next_start_in_segments columns (map string_bytes lines) row column at [] within')
 
-  pub forward_from : (beyond : Option (ℕ × ℕ)) → find (is_past column at) (columns (string_bytes line)) ≡ None →
+  forward_from : (beyond : Option (ℕ × ℕ)) → find (is_past column at) (columns (bytes_at lines row)) ≡ None →
       slice_get (starts_from columns (row + 1) (map string_bytes (take (length lines - (row + 1)) (drop (row + 1) lines)))) 0 ≡ beyond →
       found_start Forward (starts_from columns 0 (map string_bytes lines)) (row, column) at
       ≡ option_or beyond (slice_get (starts_from columns 0 (map string_bytes (take (row + 1) lines))) 0)
   forward_from beyond none e = forward_segments ∙ rw (none, e) refl
 
   back_segments : found_start Back (starts_from columns 0 (map string_bytes lines)) (row, column) at
-      ≡ option_or (option_map (λ c. (row, c)) (find (λ c. is_past c at column) (reverse (columns (string_bytes line)))))
+      ≡ option_or (option_map (λ c. (row, c)) (find (λ c. is_past c at column) (reverse (columns (bytes_at lines row)))))
       (option_or (slice_get (reverse (starts_from columns 0 (map string_bytes (take row lines)))) 0)
       (slice_get (reverse (starts_from columns row (map string_bytes (take (length lines - row) (drop row lines))))) 0))
   back_segments =
       let within' : row < length (map string_bytes lines) = rw length-map within in
-      rw (take_rest lines row, ← drop-map string_bytes row lines, ← take-map string_bytes row lines, ← text_at lines row line within is_line)
-      (previous_start_in_segments columns (map string_bytes lines) row column at (string_bytes line) within')
+      rw (take_rest lines row, ← drop-map string_bytes row lines, ← take-map string_bytes row lines)
+      (previous_start_in_segments columns (map string_bytes lines) row column at [] within')
 
   pub found_here : (direction : Direction) (start : ℕ) →
-      find (is_ahead_in_line direction column at) (along direction (columns (string_bytes line))) ≡ Some start →
+      find (is_ahead_in_line direction column at) (along direction (columns (bytes_at lines row))) ≡ Some start →
       found_start direction (starts_from columns 0 (map string_bytes lines)) (row, column) at ≡ Some (row, start)
   found_here Forward start found = forward_segments ∙ rw found refl
   found_here Back start found = back_segments ∙ rw found refl
 
-  pub back_from : (before : Option (ℕ × ℕ)) → find (λ c. is_past c at column) (reverse (columns (string_bytes line))) ≡ None →
+  back_from : (before : Option (ℕ × ℕ)) → find (λ c. is_past c at column) (reverse (columns (bytes_at lines row))) ≡ None →
       slice_get (reverse (starts_from columns 0 (map string_bytes (take row lines)))) 0 ≡ before →
       found_start Back (starts_from columns 0 (map string_bytes lines)) (row, column) at
       ≡ option_or before (slice_get (reverse (starts_from columns row (map string_bytes (take (length lines - row) (drop row lines))))) 0)
   back_from before none e = back_segments ∙ rw (none, e) refl
 
--- no start is ahead, in the direction that is known
-pub none_ahead : (direction known : Direction) (columns : List ℕ → List ℕ) (text line : List ℕ) (column : ℕ) (at : Bool) → direction ≡ known → text ≡ line →
-    None ≡ find (is_ahead_in_line direction column at) (along direction (columns text)) → find (is_ahead_in_line known column at) (along known (columns line)) ≡ None
-none_ahead direction known columns text line column at e same none = rw (← e, ← same) (sym none)
+  -- the first start beyond the line, or from the text's other end, if none is ahead in the line
+  pub forward_beyond : (direction : Direction) (beyond : Option (ℕ × ℕ)) → direction ≡ Forward →
+      find (is_ahead_in_line direction column at) (along direction (columns (bytes_at lines row))) ≡ None →
+      slice_get (starts_from columns (row + 1) (map string_bytes (take (length lines - (row + 1)) (drop (row + 1) lines)))) 0 ≡ beyond →
+      found_start direction (starts_from columns 0 (map string_bytes lines)) (row, column) at
+      ≡ option_or beyond (slice_get (starts_from columns 0 (map string_bytes (take (row + 1) lines))) 0)
+  forward_beyond Forward beyond is none e = forward_from beyond none e
+  forward_beyond Back beyond is none e = absurd cc
+
+  pub back_beyond : (direction : Direction) (before : Option (ℕ × ℕ)) → direction ≡ Back →
+      find (is_ahead_in_line direction column at) (along direction (columns (bytes_at lines row))) ≡ None →
+      slice_get (reverse (starts_from columns 0 (map string_bytes (take row lines)))) 0 ≡ before →
+      found_start direction (starts_from columns 0 (map string_bytes lines)) (row, column) at
+      ≡ option_or before (slice_get (reverse (starts_from columns row (map string_bytes (take (length lines - row) (drop row lines))))) 0)
+  back_beyond Forward before is none e = absurd cc
+  back_beyond Back before is none e = back_from before none e

@@ -1,5 +1,6 @@
 -- The matches of a line, listed by the syntax tree of a compiled pattern.
-use Rattle.std.specs.Prelude.{◌≡◌, ℕ, true, IsUtf8, List, map}
+use Rattle.std.specs.Prelude.{◌≡◌, ℕ, ◌+◌, true, [], IsUtf8, List, length, map}
+use Rattle.memchr.specs.Find.{Nowhere, OccursAt}
 use Rattle.regex.specs.Patterns.{Re, span}
 use Rattle.regex.specs.Search.{matches_after}
 use Rattle.textarea_search.specs.Columns.{column_of_byte}
@@ -16,3 +17,8 @@ columns_in tree line = map (λ s. column_of_byte line s.0) (spans_after tree lin
 -- the tree lists the matches of this pattern for each line
 abbrev pub ListsMatchesOf : List ℕ → Re → Type 0
 ListsMatchesOf pattern tree = (line : List ℕ) → IsUtf8 line → spans_after tree line 0 ≡ match_spans pattern line
+
+-- the tree has no match in a line that lacks the text
+abbrev pub IsNeedleOf : List ℕ → Re → Type 0
+IsNeedleOf needle tree =
+    (line : List ℕ) → IsUtf8 line → Nowhere (OccursAt line needle) 0 (length line + 1) → spans_after tree line 0 ≡ []

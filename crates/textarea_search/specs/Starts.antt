@@ -16,6 +16,10 @@ starts_from columns row [] = []
 starts_from columns row (line ∷ lines) =
     map (λ column. (row, column)) (columns line) ++ starts_from columns (row + 1) lines
 
+-- the bytes of a line
+abbrev pub bytes_at : List (String Global) → ℕ → List ℕ
+bytes_at lines row = slice_index_or (map string_bytes lines) row []
+
 -- the match starts of a pattern's tree in these lines, the first of which has the given row
 abbrev pub starts_by : Re → ℕ → List (String Global) → List (ℕ × ℕ)
 starts_by tree row lines = starts_from (columns_in tree) row (map string_bytes lines)

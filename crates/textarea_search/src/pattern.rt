@@ -1,11 +1,13 @@
-ghost use Rattle.std.specs.Prelude.{◌≡◌, IfOk, IfErr, alloc_error};
+ghost use Rattle.std.specs.Prelude.{◌≡◌, IfOk, IfErr, IfSome, alloc_error, true};
+ghost use Rattle.regex.specs.Patterns.{Re, ReadsAsText};
 ghost use Rattle.regex.specs.Strings.{matcher_pattern, regex_source};
 ghost use Rattle.textarea_search.specs.PatternErrors.{IsPatternFailure, IsErrorFor, IsOwnFailure, IsBuiltByDefault};
-ghost use Rattle.textarea_search.specs.Spans.{ListsMatchesOf};
+ghost use Rattle.textarea_search.specs.Spans.{IsNeedleOf, ListsMatchesOf};
 ghost use Rattle.textarea_search.specs.Starts.{IsTreeOf};
 
 use crate::error::SearchError;
-use regex::{Matcher, Regex};
+use memchr::memmem::Finder;
+use regex::{Matcher, Regex, escape};
 use std::alloc::{AllocError, Global};
 use std::marker::Model;
 use std::rc::Rc;
@@ -15,19 +17,22 @@ use std::rc::Rc;
 pub struct Pattern {
     regex: Rc<Regex>,
     alloc: Global,
+    // Whether the pattern has no syntax, and so matches its own text.
+    plain: bool,
 }
 
 impl Model for Pattern {
-    ghost use Rattle.std.specs.Prelude.{◌≡◌, ℕ, List};
+    ghost use Rattle.std.specs.Prelude.{◌≡◌, ℕ, List, true};
     ghost use Rattle.regex.specs.Strings.{regex_source, regex_config, IsReadFromSource};
-    ghost use Rattle.regex.specs.Patterns.{default_config};
+    ghost use Rattle.regex.specs.Patterns.{ReadsAsText, default_config};
 
     ghost Value = { List ℕ };
 
     ghost view = { λ p. regex_source p.regex.value };
 
     ghost invariant = { λ p. (regex_config p.regex.value ≡ default_config)
-        × ∥ IsReadFromSource p.regex.value ∥₁ };
+        × ∥ IsReadFromSource p.regex.value ∥₁
+        × (p.plain ≡ true → ReadsAsText (regex_source p.regex.value) (regex_source p.regex.value)) };
 }
 
 impl Pattern {
@@ -38,20 +43,31 @@ impl Pattern {
         ensures carried { IfErr result (IsErrorFor pattern.now) }
         ensures own { IfErr result (IsOwnFailure pattern.now) }
     {
-        Pattern::of_built(alloc, Regex::new(alloc, pattern))
+        let plain = is_plain(alloc, pattern);
+        Pattern::of_built(alloc, Regex::new(alloc, pattern), plain)
     }
 
     // Moves a compiled pattern into memory that can be shared. An error of `regex` is passed on
     // unchanged; out of memory for sharing is an error of its own.
-    fn of_built(alloc: Global, built: Result<Regex, regex::Error>) -> Result<Pattern, SearchError>
-        requires { IfOk built IsBuiltByDefault }
+    fn of_built(
+        alloc: Global,
+        built: Result<Regex, regex::Error>,
+        plain: bool,
+    ) -> Result<Pattern, SearchError>
+        requires built { IfOk built IsBuiltByDefault }
+        requires plain { plain ≡ true →
+            IfOk built (λ regex. ReadsAsText (regex_source regex) (regex_source regex)) }
         ensures shared { IfOk built (λ regex. IfOk result (λ shared. shared ≡ regex_source regex)) }
         ensures memory { IfOk built (λ _. IfErr result (λ e. e ≡ SearchError.Memory alloc_error)) }
         ensures carried { IfErr built (λ error. result ≡ Err (SearchError.Pattern error)) }
     {
         match built {
             Ok(regex) => match Rc::new(alloc, regex) {
-                Ok(regex) => Ok(Pattern { regex, alloc }),
+                Ok(regex) => Ok(Pattern {
+                    regex,
+                    alloc,
+                    plain,
+                }),
                 Err(_) => Err(SearchError::Memory(AllocError)),
             },
             Err(error) => Err(SearchError::Pattern(error)),
@@ -77,7 +93,20 @@ impl Pattern {
         Ok(Pattern {
             regex: self.regex.clone()?,
             alloc: self.alloc,
+            plain: self.plain,
         })
+    }
+
+    /// Returns a finder of a text that each match has: the pattern itself, if it has no syntax.
+    pub(crate) fn finder(&self) -> Option<Finder<'_>>
+        ensures { IfSome result (λ needle. (tree : Re) → ListsMatchesOf self.now tree →
+            IsNeedleOf needle tree) }
+    {
+        if self.plain {
+            Some(Finder::new(self.text().as_bytes()))
+        } else {
+            None
+        }
     }
 
     /// Returns a matcher for the matches of many lines.
@@ -86,5 +115,15 @@ impl Pattern {
         ensures lists { IfOk result (λ m. ListsMatchesOf self.now (matcher_pattern m)) }
     {
         self.regex.matcher(self.alloc)
+    }
+}
+
+// Returns whether the pattern has no syntax. Also returns false if there is no memory to see that.
+fn is_plain(alloc: Global, pattern: &str) -> bool
+    ensures { result ≡ true → ReadsAsText pattern.now pattern.now }
+{
+    match escape(alloc, pattern) {
+        Ok(escaped) => escaped.as_str() == pattern,
+        Err(_) => false,
     }
 }

@@ -6,6 +6,16 @@ use std::process::Abort;
 use std::test::Fail;
 use tui_textarea::TextArea;
 
+// The texts of files, with their lines.
+static FILES: [(&str, &[&str]); 6] = [
+    ("", &[""]),
+    ("\n", &[""]),
+    ("a", &["a"]),
+    ("a\r\nb\n", &["a", "b"]),
+    ("\na\n\n", &["", "a", ""]),
+    ("a\r", &["a\r"]),
+];
+
 // Returns whether the text area has these lines, and returns them as `into_lines`.
 fn has_lines(made: Result<TextArea<'_>, AllocError>, wanted: &[&str]) -> Result<bool, AllocError> {
     let area = made?;
@@ -47,6 +57,14 @@ fn check_of_strings(
 ) -> Result<(), Fail> {
     let lines = strings(rt.alloc(), texts)?.into_iter();
     assert!(rt; has_lines(TextArea::from_strings(rt.alloc(), lines), wanted)?);
+    Ok(())
+}
+
+#[test]
+fn text_areas_of_files(rt: HostRuntime) -> Result<(), Fail> {
+    for (text, wanted) in &FILES {
+        assert!(rt; has_lines(TextArea::from_text(rt.alloc(), text), wanted)?);
+    }
     Ok(())
 }
 

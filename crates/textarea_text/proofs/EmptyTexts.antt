@@ -1,7 +1,8 @@
 -- When the text of lines is empty.
-use Rattle.std.proofs.Common.{◌≡◌, ◌≢◌, ◌<◌, List, [], ◌∷◌, ◌++◌, length, sym, ap, refl, ◌∙◌, arith, get_or, String, string_bytes, encode_utf8_all}
+use Rattle.std.proofs.Common.{◌≡◌, ◌≢◌, ◌<◌, ◌==◌, Bool, true, false, eqb-true, List, [], ◌∷◌, ◌++◌, length, sym, ap, refl, ◌∙◌, arith, get_or, String, string_bytes, encode_utf8_all}
 use Rattle.std.proofs.lemmas.Grind.{common_steps}
 use Rattle.std.specs.String.{string_len}
+use Rattle.std.proofs.lemmas.Bool.{false≢true}
 use Rattle.std.specs.Str.{chars}
 use Rattle.std.proofs.lemmas.Str.{IsUtf8-string_bytes, encodes-chars, chars-nil}
 use Rattle.std.proofs.lemmas.List.{append-nil, length-append, nil_from_length}
@@ -14,6 +15,13 @@ characters_of-nil s e = ap chars e ∙ chars-nil
 
 string_len-nil : {Z : Type 0} (s : String Z) → characters_of s ≡ [] → string_len s ≡ 0
 string_len-nil s e = omega (arith, s.bytes.ok.0, ap length (sym (encodes-chars (string_bytes s) (IsUtf8-string_bytes s)) ∙ ap encode_utf8_all e))
+
+-- the same by what `is_empty` returns
+pub empty-string : {Z : Type 0} (s : String Z) (empty : Bool) → empty ≡ (string_len s == 0) → empty ≡ true → characters_of s ≡ []
+empty-string s empty e h = characters_of-nil s (nil_from_length (string_bytes s) (omega (arith, s.bytes.ok.0, eqb-true (string_len s) 0 (sym e ∙ h))))
+
+pub filled-string : {Z : Type 0} (s : String Z) (empty : Bool) → empty ≡ (string_len s == 0) → empty ≡ false → characters_of s ≢ []
+filled-string s empty e h none = false≢true (sym h ∙ e ∙ ap (λ n. n == 0) (string_len-nil s none))
 
 text_of-one : {Z : Type 0} (s : String Z) → characters_of s ≡ [] → text_of (s ∷ []) ≡ []
 text_of-one s e = append-nil (characters (characters_of s)) ∙ ap characters e

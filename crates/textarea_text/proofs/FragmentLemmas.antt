@@ -1,5 +1,5 @@
 -- Texts that are split at their first line feed, and fragments that are joined to one text.
-use Rattle.std.proofs.Common.{◌≡◌, ◌≢◌, ℕ, ◌+◌, ◌<◌, false, nat_eq, List, [], ◌∷◌, ◌++◌, length, take, drop, get_or, refl, sym, ap, subst, ◌∙◌, arith, Option, Some, None, MatchOption, String}
+use Rattle.std.proofs.Common.{◌≡◌, ◌≢◌, ℕ, ◌+◌, ◌-◌, ◌<◌, ◌≤◌, ◌==◌, Bool, true, false, nat_eq, encode_utf8_all, List, [], ◌∷◌, ◌++◌, length, take, drop, get_or, refl, sym, ap, subst, ◌∙◌, arith, Option, Some, None, MatchOption, String}
 use denote.Ref.{Bor}
 use Rattle.std.specs.Option.{unwrap_or}
 use Rattle.std.specs.Prelude.{encode_utf8}
@@ -7,11 +7,11 @@ use Rattle.std.specs.Str.{chars, IsUtf8, NonePass, NoCharPasses}
 use Rattle.std.specs.Str.Pattern.{HasCharAt}
 use Rattle.std.proofs.lemmas.Grind.{common_steps}
 use Rattle.std.proofs.lemmas.Bool.Decides.{nat_tests}
-use Rattle.std.proofs.lemmas.List.{length-map, append-nil, append_assoc, take-append-drop, map-append, take_more}
-use Rattle.std.proofs.lemmas.Str.{chars-append, encodes-append, encodes-chars, encodes_same, IsUtf8-take, IsUtf8-drop, IsCharBoundary-before_ascii, chars_past_char, encode_ascii}
-use Rattle.textarea_text.specs.Text.{Symbol, Character, Break, characters, characters_of, following, leading, lines_of, text_of}
+use Rattle.std.proofs.lemmas.List.{length-map, append-nil, append_assoc, take-append-drop, length-take-le, map-append, take_all, take_more, drop_more}
+use Rattle.std.proofs.lemmas.Str.{chars-append, encodes-append, encodes-chars, encodes_same, IsUtf8-take, IsUtf8-drop, IsUtf8-past_char, IsCharBoundary-before_ascii, chars_past_char, encode_ascii}
+use Rattle.textarea_text.specs.Text.{Symbol, Character, Break, characters, characters_of, following, joined, leading, lines_of, text_of}
 use Rattle.textarea_text.proofs.Splices.{joined-append, following-append}
-use Rattle.textarea_text.specs.Fragment.{fragment_symbols, fragment_text, symbols_for, begins_with_line_feed}
+use Rattle.textarea_text.specs.Fragment.{fragment_symbols, fragment_text, symbols_for, begins_with_line_feed, unified, unified_after, without_last_break}
 
 -- ---- a text with line feeds, from its first line on
 
@@ -123,3 +123,115 @@ written_done first fragment_lines rest begins text number h all e is = rw (h, al
 
 pub copied_more : {Z : Type 0} (fragment_lines copy more : List (String Z)) (fragment_line : String Z) (number : ℕ) → lines_of copy ≡ take number (lines_of fragment_lines) → more ≡ copy ++ fragment_line ∷ [] → number < length fragment_lines → characters_of fragment_line ≡ get_or (lines_of fragment_lines) number [] → lines_of more ≡ take (number + 1) (lines_of fragment_lines)
 copied_more fragment_lines copy more fragment_line number h is within e = grind (arith, common_steps)
+
+-- ---- line ends of pasted texts
+
+-- no carriage return, 13, is among the characters
+abbrev HasNoReturn : List ℕ → Type 0
+HasNoReturn cs = NonePass (λ d. nat_eq d 13) cs
+
+unified-append : (line rest : List ℕ) → HasNoReturn line → unified (line ++ 13 ∷ rest) ≡ line ++ 10 ∷ unified_after true rest
+unified-append [] rest none = refl
+unified-append (c ∷ cs) rest none = rw none.0 (ap (λ t. c ∷ t) (unified-append cs rest none.1))
+
+unified-last : (line : List ℕ) → HasNoReturn line → unified line ≡ line
+unified-last [] none = refl
+unified-last (c ∷ cs) none = rw none.0 (ap (λ t. c ∷ t) (unified-last cs none.1))
+
+-- what follows a carriage return, if it is no line feed
+unified-behind : (rest : List ℕ) → ((after : List ℕ) → rest ≢ 10 ∷ after) → unified_after true rest ≡ unified rest
+unified-behind [] other = refl
+unified-behind (c ∷ cs) other = rw (differs c (λ e. other cs (ap (λ d. d ∷ cs) e))) refl
+  where
+    differs : (d : ℕ) → d ≢ 10 → nat_eq d 10 ≡ false
+    differs d h = grind (arith, nat_tests)
+
+no_return : (bs : List ℕ) → IsUtf8 bs → NoCharPasses (λ d. nat_eq d 13) bs → HasNoReturn (chars bs)
+no_return bs text none = subst HasNoReturn (encodes_same none.0 (chars bs) (none.1 ∙ sym (encodes-chars bs text))) none.2
+
+pub unified-last_text : (bs : List ℕ) → IsUtf8 bs → NoCharPasses (λ d. nat_eq d 13) bs → unified (chars bs) ≡ chars bs
+unified-last_text bs text none = unified-last (chars bs) (no_return bs text none)
+
+-- what follows a carriage return, without the line feed at its start, if it has one
+unified-stripped : (whole : Bor (List ℕ)) (stripped : Option (Bor (List ℕ))) → IsUtf8 whole.now → MatchOption stripped ((after : List ℕ) → whole.now ≢ 10 ∷ after) (λ x. whole.now ≡ 10 ∷ x.now) → unified_after true (chars whole.now) ≡ unified (chars (unwrap_or stripped whole).now)
+unified-stripped whole None text other =
+    unified-behind (chars whole.now) (λ after e. other (encode_utf8_all after) (sym (encodes-chars whole.now text) ∙ ap encode_utf8_all e ∙ ap (λ t. t ++ encode_utf8_all after) (encode_ascii 10 (omega arith))))
+unified-stripped whole (Some rest) text is =
+    ap (unified_after true) (chars_past_char whole.now rest.now 10 text (is ∙ ap (λ t. t ++ rest.now) (sym (encode_ascii 10 (omega arith)))))
+
+-- a text, split at its first carriage return
+pub unified-split_text : (bs : List ℕ) (i j : ℕ) (front after : Bor (List ℕ)) (stripped : Option (Bor (List ℕ))) → IsUtf8 bs → NoCharPasses (λ d. nat_eq d 13) (take i bs) → HasCharAt 13 bs i j → front.now ≡ take i bs → after.now ≡ drop j bs → MatchOption stripped ((rest : List ℕ) → after.now ≢ 10 ∷ rest) (λ x. after.now ≡ 10 ∷ x.now) → unified (chars bs) ≡ chars front.now ++ (10 ∷ unified (chars (unwrap_or stripped after).now))
+unified-split_text bs i j front after stripped text none at front_is after_is h =
+    let within : i < length bs = omega (arith, at.after.0) in
+    let boundary = IsCharBoundary-before_ascii bs i within (omega (arith, at.byte (omega arith))) in
+    let front_text : IsUtf8 front.now = subst IsUtf8 (sym front_is) (IsUtf8-take bs i text boundary) in
+    let after_text : IsUtf8 after.now = subst IsUtf8 (sym after_is) (IsUtf8-past_char (drop i bs) (drop j bs) 13 (IsUtf8-drop bs i text boundary) at.split) in
+    let parts : chars bs ≡ chars front.now ++ 13 ∷ chars after.now =
+    ap chars (sym (take-append-drop i bs) ∙ ap (λ t. t ++ drop i bs) (sym front_is)) ∙ chars-append front.now (drop i bs) front_text
+    ∙ ap (λ t. chars front.now ++ t) (chars_past_char (drop i bs) (drop j bs) 13 (IsUtf8-drop bs i text boundary) at.split)
+    ∙ ap (λ t. chars front.now ++ 13 ∷ chars t) (sym after_is) in
+    ap unified parts
+    ∙ unified-append (chars front.now) (chars after.now) (no_return front.now front_text (subst (NoCharPasses (λ d. nat_eq d 13)) (sym front_is) none))
+    ∙ ap (λ t. chars front.now ++ 10 ∷ t) (unified-stripped after stripped after_text h)
+
+-- ---- the break at the end of a file
+
+pub last_break-removed : (symbols : List Symbol) → without_last_break (symbols ++ Break ∷ []) ≡ symbols
+last_break-removed [] = refl
+last_break-removed (Character c ∷ symbols) = ap (λ t. Character c ∷ t) (last_break-removed symbols)
+last_break-removed (Break ∷ []) = refl
+last_break-removed (Break ∷ symbol ∷ symbols) = ap (λ t. Break ∷ t) (last_break-removed (symbol ∷ symbols))
+
+without_break : (cs : List ℕ) → without_last_break (characters cs) ≡ characters cs
+without_break [] = refl
+without_break (c ∷ cs) = ap (λ t. Character c ∷ t) (without_break cs)
+
+-- a text that ends in a character
+pub last_line-stays : (symbols : List Symbol) (c : ℕ) (cs : List ℕ) → without_last_break (symbols ++ characters (c ∷ cs)) ≡ symbols ++ characters (c ∷ cs)
+last_line-stays [] c cs = without_break (c ∷ cs)
+last_line-stays (Character d ∷ symbols) c cs = ap (λ t. Character d ∷ t) (last_line-stays symbols c cs)
+last_line-stays (Break ∷ []) c cs = ap (λ t. Break ∷ t) (last_line-stays [] c cs)
+last_line-stays (Break ∷ symbol ∷ symbols) c cs = ap (λ t. Break ∷ t) (last_line-stays (symbol ∷ symbols) c cs)
+
+leading-joined : (rows : List (List ℕ)) → 0 < length rows → leading rows ≡ joined rows ++ Break ∷ []
+leading-joined [] some = absurd (omega arith)
+leading-joined (row ∷ []) some = ap (λ t. t ++ Break ∷ []) (sym (append-nil (characters row)))
+leading-joined (row ∷ next ∷ rows) some =
+    ap (λ t. characters row ++ (Break ∷ t)) (leading-joined (next ∷ rows) (omega arith)) ∙ sym (append_assoc (characters row) (Break ∷ joined (next ∷ rows)) (Break ∷ []))
+
+-- the lines before the last one, and the last one
+module _ {Z : Type 0} (items : List (String Z)) (d : String Z) (some : 0 < length items) where
+  abbrev front : List (String Z)
+  front = take (length items - 1) items
+
+  abbrev last : String Z
+  last = get_or items (length items - 1) d
+
+  whole : items ≡ front ++ last ∷ []
+  whole =
+      sym (take_all (length items - 1 + 1) items (omega arith))
+      ∙ take_more items (length items - 1) d (omega (arith, some))
+
+  split_text : text_of items ≡ leading (lines_of front) ++ characters (characters_of last)
+  split_text =
+      ap text_of whole ∙ ap joined (map-append characters_of front (last ∷ [])) ∙ joined-append (lines_of front) (characters_of last ∷ []) (omega arith)
+      ∙ ap (λ t. leading (lines_of front) ++ t) (append-nil (characters (characters_of last)))
+
+  pub text_of-without_end : 1 < length items → characters_of last ≡ [] → text_of front ≡ without_last_break (text_of items)
+  text_of-without_end several none =
+      sym (last_break-removed (text_of front))
+      ∙ ap without_last_break (sym (split_text ∙ ap (λ cs. leading (lines_of front) ++ characters cs) none ∙ append-nil (leading (lines_of front))
+      ∙ leading-joined (lines_of front) (omega (arith, several, length-map front characters_of, length-take-le (length items - 1) items (omega arith)))))
+
+  pub text_of-full_end : characters_of last ≢ [] → text_of items ≡ without_last_break (text_of items)
+  text_of-full_end full = full_end (characters_of last) split_text full
+    where
+      full_end : (cs : List ℕ) → text_of items ≡ leading (lines_of front) ++ characters cs → cs ≢ [] → text_of items ≡ without_last_break (text_of items)
+      full_end [] e full = absurd (full refl)
+      full_end (c ∷ cs) e full = e ∙ sym (last_line-stays (leading (lines_of front)) c cs) ∙ ap without_last_break (sym e)
+
+pub text_of-one_line : {Z : Type 0} (items : List (String Z)) → length items ≤ 1 → text_of items ≡ without_last_break (text_of items)
+text_of-one_line [] few = refl
+text_of-one_line (line ∷ []) few =
+    append-nil (characters (characters_of line)) ∙ sym (without_break (characters_of line)) ∙ ap without_last_break (sym (append-nil (characters (characters_of line))))
+text_of-one_line (line ∷ next ∷ items) few = absurd (omega (arith, few))

@@ -10,6 +10,7 @@ pub mod Touching
 pub mod EmptyTexts
 pub mod Copies
 pub mod PlacesAfterSplice
+pub mod CharCounts
 pub mod FragmentLemmas
 pub mod BetweenLemmas
 pub mod PlaceLemmas

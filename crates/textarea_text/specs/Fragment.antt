@@ -20,6 +20,31 @@ abbrev pub fragment_symbols : List ℕ → List Symbol
 fragment_symbols [] = []
 fragment_symbols (c ∷ cs) = symbols_for c cs ++ fragment_symbols cs
 
+-- the line feed or character for a character, given whether a carriage return is directly before
+-- it: a line feed for a carriage return, and none for a line feed directly after one
+abbrev pub unified_character : Bool → ℕ → List ℕ
+unified_character returned c =
+    if returned && c == 10 then [] else (if c == 13 then 10 else c) ∷ []
+
+-- the text with a line feed for each line end, given whether a carriage return is directly before it
+abbrev pub unified_after : Bool → List ℕ → List ℕ
+unified_after returned [] = []
+unified_after returned (c ∷ cs) = unified_character returned c ++ unified_after (c == 13) cs
+
+-- the text with a line feed for each line end: a carriage return, a line feed, or both in this order
+abbrev pub unified : List ℕ → List ℕ
+unified text = unified_after false text
+
+-- the symbols of a pasted text: each line end is a break, and every other character stays
+abbrev pub pasted_symbols : List ℕ → List Symbol
+pasted_symbols text = fragment_symbols (unified text)
+
+-- the symbols without the break at their end, if there is one
+abbrev pub without_last_break : List Symbol → List Symbol
+without_last_break [] = []
+without_last_break (Break ∷ []) = []
+without_last_break (symbol ∷ symbols) = symbol ∷ without_last_break symbols
+
 -- a text as it is written, with a line feed for each break
 abbrev pub fragment_text : List Symbol → List ℕ
 fragment_text [] = []

@@ -1,8 +1,8 @@
 //! Fragments: texts with line feeds, split into one string for each line.
-ghost use Rattle.std.specs.Prelude.{◌≡◌, ◌<◌, ◌++◌, ◌∷◌, length, vec_len, string_bytes, IfOk, MatchOption};
+ghost use Rattle.std.specs.Prelude.{◌≡◌, ◌<◌, ◌++◌, ◌∷◌, [], length, vec_len, string_bytes, IfOk, OnOk, MatchOption};
 ghost use Rattle.std.specs.Str.{chars};
 ghost use Rattle.textarea_text.specs.Text.{Break, characters, lines_of, text_of};
-ghost use Rattle.textarea_text.specs.Fragment.{fragment_symbols, fragment_text};
+ghost use Rattle.textarea_text.specs.Fragment.{fragment_symbols, fragment_text, unified, without_last_break};
 
 use std::alloc::{AllocError, Global};
 
@@ -34,6 +34,66 @@ fn first_line(text: &str) -> Option<(&str, &str)>
 {
     let (line, after) = text.split_once('\n')?;
     Some((line.strip_suffix('\r').unwrap_or(line), after))
+}
+
+/// Splits the text of a file into its lines, as `fragment_of` does, but a line feed at the text's
+/// end begins no line.
+pub fn lines_of_file(alloc: Global, text: &str) -> Result<Vec<String>, AllocError>
+    ensures some { IfOk result (λ lines. 0 < vec_len lines) }
+    ensures text { IfOk result (λ lines.
+        text_of lines.items ≡ without_last_break (fragment_symbols (chars text.now))) }
+{
+    let mut lines = fragment_of(alloc, text)?;
+    drop_empty_end(&mut lines);
+    Ok(lines)
+}
+
+// Removes the last line if it is empty and not the only one.
+fn drop_empty_end(lines: &mut Vec<String>)
+    requires some { 0 < vec_len lines.old }
+    ensures some { 0 < vec_len lines.new }
+    ensures text { text_of lines.new.items ≡ without_last_break (text_of lines.old.items) }
+{
+    if 1 < lines.len() && lines[lines.len() - 1].is_empty() {
+        lines.pop();
+    }
+}
+
+/// Returns the text with a line feed for each line end: a carriage return, a line feed, or a
+/// carriage return and a line feed.
+pub fn unify_line_ends(alloc: Global, text: &str) -> Result<String, AllocError>
+    ensures { IfOk result (λ s. chars (string_bytes s) ≡ unified (chars text.now)) }
+{
+    let mut unified = String::with_capacity(alloc, text.len())?;
+    let mut rest = text;
+    while let Some((before, after)) = first_returned(rest) {
+        push_ended_line(&mut unified, before)?;
+        rest = after;
+    }
+    unified.push_str(rest)?;
+    Ok(unified)
+}
+
+// The text before its first carriage return, and the text after that and after a line feed directly
+// behind it.
+fn first_returned(text: &str) -> Option<(&str, &str)>
+    ensures parts { MatchOption result (unified (chars text.now) ≡ chars text.now)
+        (λ x. unified (chars text.now) ≡ chars x.0.now ++ (10 ∷ unified (chars x.1.now))) }
+    ensures shorter { MatchOption result (length text.now ≡ length text.now)
+        (λ x. length x.1.now < length text.now) }
+{
+    let (before, after) = text.split_once('\r')?;
+    Some((before, after.strip_prefix('\n').unwrap_or(after)))
+}
+
+// Appends a line and a line feed.
+fn push_ended_line(text: &mut String, line: &str) -> Result<(), AllocError>
+    ensures { OnOk result (chars (string_bytes text.new)
+        ≡ chars (string_bytes text.old) ++ (chars line.now ++ (10 ∷ []))) }
+{
+    text.push_str(line)?;
+    text.push('\n')?;
+    Ok(())
 }
 
 /// Joins the lines of a fragment by line feeds; without lines it returns the empty text.

@@ -1,6 +1,7 @@
 //! Lines that replace others: built beside the old lines, then put in without allocating.
 ghost use Rattle.std.specs.Prelude.{◌≡◌, ◌+◌, ◌-◌, ◌<◌, ◌≤◌, ◌++◌, ◌∷◌, ◌↔◌, [], length, string_bytes, take, drop, MatchOption, encode_utf8_all, vec_len, vec_capacity, min, IfOk, IsOk, OnOk, OnErr};
 ghost use Rattle.std.specs.Str.{chars};
+ghost use Rattle.std.specs.Fmt.{char_count, is_char_start};
 ghost use Rattle.textarea_util.specs.Limit.{size_limit};
 ghost use Rattle.textarea_text.specs.Text.{characters, following, joined, lines_of, symbol_in, text_of};
 ghost use Rattle.textarea_text.specs.Offset.{offset_at};
@@ -70,12 +71,39 @@ fn offset_back(line: &str, from: usize, offset: usize, column: usize) -> usize
     bytes
 }
 
-/// Returns the number of characters in the line.
-#[tactic(auto, using(std::proofs::lemmas::Str::chars_from_encodes))]
+/// Returns the number of characters in the line. They aren't decoded.
 pub fn column_count(line: &str) -> usize
     ensures { result ≡ length (chars line.now) }
 {
-    line.chars().count()
+    let mut count = 0;
+    let mut rest = line.as_bytes();
+    'counting: while COUNTED_AT_ONCE < rest.len() {
+        let (front, after) = rest.split_at(COUNTED_AT_ONCE);
+        count += usize::from(count_of_starts(front));
+        rest = after;
+    }
+    count + usize::from(count_of_starts(rest))
+}
+
+// The number of bytes whose count is a byte. A processor adds many of them at once.
+const COUNTED_AT_ONCE: usize = 192;
+
+// The number of bytes that begin a character.
+fn count_of_starts(bytes: &[u8]) -> u8
+    requires { length bytes.now ≤ COUNTED_AT_ONCE }
+    ensures { result ≡ char_count bytes.now }
+{
+    let mut count = 0;
+    for byte in bytes {
+        count += u8::from(begins_character(*byte));
+    }
+    count
+}
+
+fn begins_character(byte: u8) -> bool
+    ensures { result ≡ is_char_start byte }
+{
+    byte < 0x80 || 0xc0 <= byte
 }
 
 // The character that ends at the column, whose byte offset is `offset`.

@@ -2,8 +2,8 @@
 use Rattle.std.proofs.Common.{◌≡◌, ℕ, ◌+◌, ◌==◌, ◌&&◌, Bool, true, false, List, [], ◌∷◌, ◌++◌, length, refl, sym, ap, ◌∙◌, subst, arith}
 use Rattle.std.proofs.lemmas.Bool.{cond-false}
 use Rattle.std.proofs.lemmas.List.{length-append}
-use Rattle.textarea_view.specs.Prelude.{ShowsRow, row_cell, RowArea, Changes, KeepsOutside, CellView, contains, is_in_row, LineView, Buffer, Rect, AreDisplayed, DrawnTo, lines_change, VisualRow, row_at, highlights_of, row_highlights, SceneState}
-use Rattle.textarea_screen.proofs.ChangeLemmas.{Changes-none, Changes-then, KeepsOutside-from_changes, KeepsOutside-then, KeepsOutside-wider}
+use Rattle.textarea_view.specs.Prelude.{ShowsRow, row_cell, RowArea, Changes, KeepsOutside, CellView, contains, is_in_row, LineView, Buffer, Rect, AreDisplayed, DrawnTo, IsDrawnAs, lines_change, VisualRow, row_at, highlights_of, row_highlights, SceneState}
+use Rattle.textarea_screen.proofs.ChangeLemmas.{Changes-as, Changes-none, Changes-then, KeepsOutside-from_changes, KeepsOutside-then, KeepsOutside-wider}
 
 -- the highlights of a row's text are those of the row
 pub highlights_are : (scene : SceneState) (number : ℕ) (row : VisualRow) → row ≡ row_at scene.rows.lines scene.rows.rows number → highlights_of scene row ≡ row_highlights scene number
@@ -33,6 +33,13 @@ drawn_more scene top rows old now new count line h shows change = record {
       (subst (λ n. Changes now new (row_cell rows (rows.area.y + n) line)) (sym h.many) change)
       (λ x y cell. lines_change-push rows rows.area.y h.lines line x y cell);
 }
+
+-- the same by a line that has the cells of the row's line
+pub drawn_more_as : (scene : SceneState) (top : ℕ) (rows : RowArea) (old now new : Buffer) (count left : ℕ) (line : LineView) → DrawnTo scene top rows old now count →
+    IsDrawnAs (row_highlights scene (top + count)) rows left line → Changes now new (row_cell (record rows { left = left }) (rows.area.y + count) line) → DrawnTo scene top rows old new (count + 1)
+drawn_more_as scene top rows old now new count left line h drawn change =
+    drawn_more scene top rows old now new count drawn.whole h drawn.shows
+    (Changes-as (row_cell rows (rows.area.y + count) drawn.whole) change (λ x y cell. sym (drawn.same (rows.area.y + count) x y cell)))
 
 -- ---- cells outside of the area
 

@@ -51,7 +51,7 @@ pub use Rattle.textarea_view.specs.Placeholder.{AreLinesInline, after_cursor, bl
 pub use Rattle.textarea_view.specs.SceneRows.{AreMatchesOf, KnownMatches, byte_place, byte_range, cursor_cell, from_in, highlights_of, holds_place, matches_in, number_digits, with_row_number, segment_in, searched_lines, to_in, with_cursor, with_custom, with_customs, with_search_matches, with_line_number, with_match, with_range_segment, with_selected, with_selected_segment}
 unfoldable pub use Rattle.textarea_view.specs.SceneRows.{row_highlights}
 pub use Rattle.textarea_view.specs.Scene.{HasPlaces, SceneState}
-pub use Rattle.textarea_view.specs.SceneDrawn.{AreDisplayed, DrawnTo, FillsArea, IsRowStart, lines_change, rows_above_end}
+pub use Rattle.textarea_view.specs.SceneDrawn.{AreDisplayed, AreNumbers, DrawnTo, FillsArea, IsDrawnAs, IsRowStart, lines_change, rows_above_end}
 pub use Rattle.textarea_view.specs.Scrolled.{scrolled, scrolled_by, scrolled_viewport}
 pub use Rattle.textarea_view.specs.Showing.{at_start, column_to_show, first_visible, showing_row, showing_row_and_column}
 pub use Rattle.textarea_view.specs.SurroundState.{AreBounds, first_bytes, new_surround, style_with_lines}

@@ -1,12 +1,15 @@
 -- The lines that show visual rows, and their effect on the cells of an area.
-use Rattle.std.specs.Prelude.{◌≡◌, ℕ, ◌+◌, ◌-◌, min, List, [], ◌∷◌, length}
+use Rattle.std.specs.Prelude.{◌≡◌, ℕ, ◌+◌, ◌-◌, min, List, [], ◌∷◌, All, length}
+use Rattle.textarea_highlight.specs.Highlights.{Highlights}
 use Rattle.textarea_highlight.specs.Row.{ShowsRow}
+use Rattle.textarea_highlight.specs.Seen.{IsText, spans_columns}
 use Rattle.textarea_blocks.specs.Sums.{row_total}
 use Rattle.textarea_paint.specs.Clusters.{row_clusters}
 use Rattle.textarea_paint.specs.Row.{row_cell, line_offset}
 use Rattle.textarea_paint.specs.declared.paint.row.RowArea.{RowArea}
 use Rattle.textarea_screen.specs.Buffer.{Change, Changes}
-use Rattle.textarea_screen.specs.Text.{LineView}
+use Rattle.textarea_screen.specs.Cell.{CellView}
+use Rattle.textarea_screen.specs.Text.{LineView, SpanView}
 use Rattle.textarea_screen.specs.declared.screen.buffer.Buffer.{Buffer}
 use Rattle.textarea_screen.specs.declared.screen.rect.Rect.{Rect}
 use Rattle.textarea_view.specs.SceneRows.{row_highlights}
@@ -43,3 +46,16 @@ abbrev pub IsRowStart : SceneState → RowArea → ℕ → ℕ → Type 0
 IsRowStart scene rows row start = (line : LineView)
     × ShowsRow (row_highlights scene row) line
     × (start ≡ line_offset rows.alignment rows.area.width (row_clusters rows.style line))
+
+-- ---- rows of which only a part is drawn
+
+-- the spans are texts, and together they take these columns
+pub record AreNumbers (spans : List SpanView) (count : ℕ) : Type 0 where
+  pub texts : All IsText spans
+  pub columns : spans_columns spans ≡ count
+
+-- a line that is drawn from the column `left` on has the cells of the line that shows the row
+pub record IsDrawnAs (h : Highlights) (rows : RowArea) (left : ℕ) (line : LineView) : Type 0 where
+  pub whole : LineView
+  pub shows : ShowsRow h whole
+  pub same : (y column row : ℕ) (cell : CellView) → row_cell rows y whole column row cell ≡ row_cell (record rows { left = left }) y line column row cell

@@ -1,6 +1,8 @@
 //! The position in the text that a cell of the screen shows.
-ghost use Rattle.std.specs.Prelude.{◌≡◌, ◌-◌, ◌<◌, IfOk, IfSome, IsOk, Some};
-ghost use Rattle.textarea_view.specs.Prelude.{IsHitInRows, IsHitOf, row_total, HasPlaces, Left, IsPlaceOf, hit_row};
+ghost use Rattle.std.specs.Prelude.{◌≡◌, ◌-◌, ◌<◌, ◌≤◌, chars, length, IfOk, IfSome, IsOk, Some};
+ghost use Rattle.textarea_util.specs.Limit.{size_limit};
+ghost use Rattle.textarea_screen_map.specs.VisualRows.{greatest_column};
+ghost use Rattle.textarea_view.specs.Prelude.{VisualRow, IsHitInRows, IsHitOf, row_total, HasPlaces, Left, IsPlaceOf, hit_row};
 
 use crate::Viewport;
 use crate::frame::Frame;
@@ -56,6 +58,17 @@ fn hit_in_row(
     ensures left { scene.now.look.alignment ≡ Left → IsOk result }
 {
     let view = row_view(alloc, scene, viewport, inner, row)?;
-    let column = view.hit_column(position, scene.rows.greatest_column(row));
+    let displayed = scene.rows.row_at(row);
+    let most = most_columns(displayed.text, scene.rows.tab_len());
+    let column = view.hit_column(position, most);
     Ok(scene.rows.place_near(VisualPosition { row, column }))
+}
+
+// Returns a column that is not before the greatest cursor column of a row of this text, without a
+// walk: no byte takes more than 255 columns.
+fn most_columns(text: &str, tab_len: u8) -> usize
+    requires { length text.now < size_limit }
+    ensures { (row : VisualRow) → row.text ≡ chars text.now → greatest_column tab_len row ≤ result }
+{
+    text.len() * 255
 }

@@ -140,8 +140,8 @@ fn draw_rows<'a>(
     let mut highlighter = frame.highlighter(alloc);
     let mut line = Line::from_spans(Vec::new(alloc));
     for i in 0..count {
-        frame.show_in(&mut line, top + i, matches, &mut highlighter)?;
-        draw_below(buffer, rows, i, &line)?;
+        let left = frame.show_visible_in(&mut line, rows, top + i, matches, &mut highlighter)?;
+        draw_below(buffer, RowArea { left, ..rows }, i, &line)?;
     }
     Ok(())
 }

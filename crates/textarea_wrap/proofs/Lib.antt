@@ -7,6 +7,7 @@ pub mod FewestRowLemmas
 pub mod FewestWordLemmas
 pub mod FittingLemmas
 pub mod GlyphLemmas
+pub mod MarkLemmas
 pub mod OneWrappingLemmas
 pub mod OneRowLemmas
 pub mod RestLemmas

@@ -13,6 +13,7 @@ use Rattle.textarea_wrap.specs.declared.wrap.WrapMode.{WrapMode}
 use Rattle.textarea_wrap.specs.declared.wrap.WrapMode.TheVariants as mode
 use Rattle.textarea_wrap.specs.WrapResult.{IsWrapped, TakesOneRow}
 use Rattle.textarea_wrap.proofs.GlyphLemmas.{nonempty_from_bytes}
+use Rattle.textarea_wrap.proofs.OneWrappingLemmas.{one_wrapping}
 use Rattle.textarea_wrap.proofs.RowLemmas.{AreSegments, AreSegments-segments, AreSegments-line_units, concat-line_units, IsWrapped-empty, IsWrapped-whole, IsWrapped-glyphs, IsWrapped-units}
 
 pub chars-word_segments : (xs : Stretch) → AreSegments xs → flat_map chars xs ≡ chars (concat xs)
@@ -74,6 +75,11 @@ pub IsWrapped-one_row : (kind : WrapMode) (t w : ℕ) (line : List ℕ) (ranges 
     → ranges ≡ (0, length line) ∷ [] → IsWrapped kind t w line ranges
 IsWrapped-one_row kind t w [] ranges u one ranges_are = IsWrapped-empty kind t w [] ranges refl ranges_are
 IsWrapped-one_row kind t w (byte ∷ line) ranges u one ranges_are = grind (arith, common_steps, IsWrapped-whole, one_row_within)
+
+-- so it has no other rows
+pub length-one_row : (kind : WrapMode) (t w : ℕ) (line : List ℕ) (ranges : List (ℕ × ℕ)) → IsUtf8 line → TakesOneRow kind t w line → IsWrapped kind t w line ranges → length ranges ≡ 1
+length-one_row kind t w line ranges u one wrapped =
+    ap length (one_wrapping kind t w line ranges ((0, length line) ∷ []) wrapped (IsWrapped-one_row kind t w line ((0, length line) ∷ []) u one refl))
 
 -- only a line that isn't empty is wider than a width
 pub nonempty_unless_fits : (t w : ℕ) (line : List ℕ) → (end_column t 0 (chars line) ≤ w → ⊥) → 0 < length line

@@ -1,6 +1,7 @@
 pub mod Columns
 pub mod WrapRules
 pub mod Fitting
+pub mod Marks
 pub mod Metrics
 pub mod Units
 pub mod WordWalk

@@ -1,28 +1,45 @@
 //! The byte ranges of a line's visual rows, with the number of the call that wrapped the line.
-ghost use Rattle.std.specs.Prelude.{◌≡◌, ◌+◌, ◌≤◌, ◌↔◌, length, IfOk, IsOk};
+ghost use Rattle.std.specs.Prelude.{◌≡◌, ◌+◌, ◌≤◌, ◌↔◌, length, take, drop, IfOk, IsOk};
+ghost use Rattle.textarea_wrap.specs.Marks.{range_count};
 
 use crate::count::WrapCount;
 use smallvec::SmallVec;
 use std::alloc::AllocError;
 use std::marker::Model;
 
-/// Byte ranges of visual rows. A single range is stored inline, and only more need an allocation.
+/// Byte ranges of visual rows, and then marks of them. A single range is stored inline, and only
+/// more need an allocation.
 pub type Ranges = SmallVec<(usize, usize), 1>;
 
-/// The byte ranges of a line's visual rows, and the counter's number after the call that wrapped
-/// the line. Only `line_ranges` and `clone` return one.
+/// The byte ranges of a line's visual rows, marks of every eighth row, and the counter's number
+/// after the call that wrapped the line. Only `line_ranges` and `clone` return one.
 #[derive(Drop)]
 pub struct Rows {
-    ranges: Ranges,
+    // The ranges, and after them the marks, one for each eight rows. So a line of fewer rows takes
+    // no memory for marks.
+    items: Ranges,
     tick: WrapCount,
 }
 
 impl Model for Rows {
+    ghost use Rattle.std.specs.Prelude.{drop, length, take};
+    ghost use Rattle.textarea_wrap.specs.Marks.{range_count};
     ghost use Rattle.textarea_wrap.specs.RowsView.{RowsView};
 
     ghost Value = { RowsView };
 
-    ghost view = { λ rows. record { ranges = rows.ranges.items; tick = rows.tick } };
+    ghost view = { λ rows. record {
+      ranges = take (range_count (length rows.items.items)) rows.items.items;
+      marks = drop (range_count (length rows.items.items)) rows.items.items;
+      tick = rows.tick;
+    } };
+}
+
+// Returns how many of this number of ranges and marks are ranges.
+fn range_count(count: usize) -> usize
+    ensures { result ≡ range_count count }
+{
+    count - count / 9
 }
 
 impl Rows {
@@ -35,13 +52,15 @@ impl Rows {
     ) -> Result<Rows, AllocError>
         ensures counted { count.new ≡ count.old + 1 }
         ensures tick { IfOk result (λ rows. rows.tick ≡ count.new) }
-        ensures ranges { IfOk wrapped (λ ranges.
-            IfOk result (λ rows. rows.ranges ≡ ranges.items)) }
+        ensures ranges { IfOk wrapped (λ items. IfOk result (λ rows. rows.ranges
+            ≡ take (range_count (length items.items)) items.items)) }
+        ensures marks { IfOk wrapped (λ items. IfOk result (λ rows. rows.marks
+            ≡ drop (range_count (length items.items)) items.items)) }
         ensures out_of_memory { IsOk result ↔ IsOk wrapped }
     {
         count.tick();
         Ok(Rows {
-            ranges: wrapped?,
+            items: wrapped?,
             tick: count.clone()?,
         })
     }
@@ -50,7 +69,17 @@ impl Rows {
     pub fn as_slice(&self) -> &[(usize, usize)]
         ensures { result.now ≡ self.now.ranges }
     {
-        self.ranges.as_slice()
+        let items = self.items.as_slice();
+        &items[..range_count(items.len())]
+    }
+
+    /// Returns the marks: for every eighth row, the number of the line's characters before it and
+    /// the offset of its first byte.
+    pub fn marks(&self) -> &[(usize, usize)]
+        ensures { result.now ≡ self.now.marks }
+    {
+        let items = self.items.as_slice();
+        &items[range_count(items.len())..]
     }
 }
 
@@ -62,7 +91,7 @@ impl Clone for Rows {
     /// Returns the same rows with the same `tick`. A single row needs no allocation.
     fn clone(&self) -> Result<Rows, AllocError> {
         Ok(Rows {
-            ranges: self.ranges.clone()?,
+            items: self.items.clone()?,
             tick: self.tick.clone()?,
         })
     }

@@ -1,10 +1,12 @@
 //! Wrapping of one line into visual rows.
-ghost use Rattle.std.specs.Prelude.{◌≡◌, ◌+◌, ◌<◌, ◌≤◌, ◌↔◌, max, length, IsTrue, IsOk, IfOk, OnOk};
+ghost use Rattle.std.specs.Prelude.{◌≡◌, ◌+◌, ◌<◌, ◌≤◌, ◌↔◌, ◌++◌, ℕ, List, max, length, IsTrue, IsOk, IfOk, OnOk};
 ghost use Rattle.textarea_util.specs.Limit.{size_limit};
+ghost use Rattle.textarea_wrap.specs.Marks.{marks_of};
 ghost use Rattle.textarea_wrap.specs.WrapResult.{HasFewestRows, IsWrapped, TakesOneRow};
 
 use self::columns::fits_width;
 use self::glyphs::push_glyph_rows;
+use self::marks::push_marks;
 use self::units::collect_units;
 use self::words::push_word_rows;
 pub use crate::count::WrapCount;
@@ -16,6 +18,7 @@ use textarea_util::limit::MAX_SIZE;
 
 pub mod columns;
 mod glyphs;
+mod marks;
 mod units;
 mod words;
 
@@ -30,6 +33,17 @@ pub enum WrapMode {
     Glyph,
     /// The same as `Word`.
     WordOrGlyph,
+}
+
+impl Default for WrapMode {
+    ghost use Rattle.textarea_wrap.specs.declared.wrap.WrapMode.TheVariants.{None};
+
+    ghost is_default = { λ mode. mode ≡ None };
+
+    /// Returns `None`: each line is one row.
+    fn default() -> WrapMode {
+        WrapMode::None
+    }
 }
 
 /// Returns whether a line is short enough to be wrapped and drawn: less than 2^48 bytes.
@@ -56,6 +70,7 @@ pub fn line_ranges(
     ensures counted { count.new ≡ count.old + 1 }
     ensures tick { IfOk result (λ rows. rows.tick ≡ count.new) }
     ensures rows { IfOk result (λ rows. IsWrapped mode tab_len (max width 1) line.now rows.ranges) }
+    ensures marks { IfOk result (λ rows. rows.marks ≡ marks_of line.now rows.ranges) }
     ensures fewest { 0 < length line.now
         → IfOk result
         (λ rows. HasFewestRows mode tab_len (max width 1) line.now (length rows.ranges)) }
@@ -63,8 +78,28 @@ pub fn line_ranges(
     ensures one_row { length line.now < size_limit → TakesOneRow mode tab_len (max width 1) line.now
         → IsOk result }
 {
-    let wrapped = wrap_line(alloc, line, mode, width.max(1), tab_len);
+    let wrapped = wrap_and_mark(alloc, line, mode, width.max(1), tab_len);
     Rows::counted(wrapped, count)
+}
+
+// Returns the ranges of the line's rows, and after them the marks.
+fn wrap_and_mark(
+    alloc: Global,
+    line: &str,
+    mode: WrapMode,
+    width: usize,
+    tab_len: u8,
+) -> Result<Ranges, AllocError>
+    ensures rows { IfOk result (λ items. (ranges : List (ℕ × ℕ))
+        × IsWrapped mode tab_len width line.now ranges
+        × (items.items ≡ ranges ++ marks_of line.now ranges)) }
+    ensures short { OnOk result (length line.now < size_limit) }
+    ensures one_row { length line.now < size_limit → TakesOneRow mode tab_len width line.now
+        → IsOk result }
+{
+    let mut ranges = wrap_line(alloc, line, mode, width, tab_len)?;
+    push_marks(&mut ranges, line)?;
+    Ok(ranges)
 }
 
 fn wrap_line(

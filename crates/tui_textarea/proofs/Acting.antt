@@ -3,7 +3,7 @@ use Rattle.std.proofs.Common.{◌≡◌, ℕ, List, [], Option, None, Some, ap, 
 use Rattle.std.specs.Str.{chars}
 use Rattle.textarea_calls.specs.declared.call.Call.{Call}
 use Rattle.textarea_calls.specs.declared.call.Call.TheVariants as call
-use Rattle.textarea_text.specs.Fragment.{fragment_symbols}
+use Rattle.textarea_text.specs.Fragment.{fragment_symbols, pasted_symbols}
 use Rattle.textarea_text.specs.Place.{Place}
 use Rattle.textarea_document.specs.Splices.{selected_splices}
 use Rattle.tui_textarea.specs.CallSplices.{OfSplicesOutOfMemory, splices_of}
@@ -113,6 +113,7 @@ module _ (By Own : Fact) (by : Reckoning By) (past : Past Own) where
   pub calls_by : (old new : State) (made : Call) (returned : CallResult) → IsSound old.document → IsAfterCall old made returned new → ByCall By Own made old.document (splices_of old made) new.document
   calls_by old new (call.InsertChar c) returned h k = act_by old new (action.Write (write.InsertChar c)) h k
   calls_by old new (call.InsertStr text) returned h k = as_outcome By old new _ _ k (str_by By by old (fragment_symbols (chars text.now)) h)
+  calls_by old new (call.InsertPasted text) returned h k = as_outcome By old new _ _ k (str_by By by old (pasted_symbols (chars text.now)) h)
   calls_by old new call.InsertTab returned h k = act_by old new (action.Edit edit.InsertTab) h k
   calls_by old new call.InsertNewline returned h k = act_by old new (action.Write write.InsertNewline) h k
   calls_by old new call.Paste returned h k = act_by old new (action.Edit edit.Paste) h k
@@ -170,6 +171,7 @@ module _ (By Own : Fact) (by : Reckoning By) (past : Past Own) where
   pub calls_left : (old new : State) (made : Call) → IsSound old.document → IsAfterOutOfMemory old made new → OfSplicesOutOfMemory old (λ splices. By old.document splices new.document)
   calls_left old new (call.InsertChar c) h k = left_by old new h k
   calls_left old new (call.InsertStr text) h k = left_by old new h k
+  calls_left old new (call.InsertPasted text) h k = left_by old new h k
   calls_left old new call.InsertTab h k = left_by old new h k
   calls_left old new call.InsertNewline h k = left_by old new h k
   calls_left old new call.Paste h k = left_by old new h k

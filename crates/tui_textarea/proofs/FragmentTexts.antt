@@ -6,7 +6,7 @@ use Rattle.std.proofs.lemmas.Str.{IsUtf8-string_bytes, chars-nil, encode_ascii, 
 use Rattle.std.proofs.lemmas.Bool.{eqb-true}
 use Rattle.textarea_text.specs.Text.{Symbol, Character, Break, characters, characters_of, text_of}
 use Rattle.textarea_text.proofs.Columns.{chars_from_bytes}
-use Rattle.textarea_text.specs.Fragment.{begins_with_line_feed, fragment_symbols}
+use Rattle.textarea_text.specs.Fragment.{begins_with_line_feed, fragment_symbols, pasted_symbols, unified_after}
 use Rattle.textarea_document.specs.Edits.{has_symbols}
 use Rattle.textarea_history.proofs.Joins.{right_of}
 
@@ -33,6 +33,16 @@ fragment_none text e = ap (λ t. has_symbols (fragment_symbols (chars t))) (nil_
 pub has_text_is : (text : List ℕ) (empty : Bool) → IsUtf8 text → empty ≡ (length text == 0) → not empty ≡ has_symbols (fragment_symbols (chars text))
 has_text_is text true utf8 e = sym (fragment_none text (sym e))
 has_text_is text false utf8 e = sym (fragment_filled text utf8 (sym e))
+
+-- the same of a pasted text, whose first character gives one character or line feed
+pasted_filled : (cs text : List ℕ) → encode_utf8_all cs ≡ text → (length text == 0) ≡ false → has_symbols (pasted_symbols cs) ≡ true
+pasted_filled [] text e' e = let empty : true ≡ (length text == 0) = ap (λ (t : List ℕ). length t == 0) e' in cc
+pasted_filled (c ∷ cs) text e' e = fragment_some (cond (c == 13) 10 c) (unified_after (c == 13) cs)
+
+pub has_pasted_text_is : (text : List ℕ) (empty : Bool) → IsUtf8 text → empty ≡ (length text == 0) → not empty ≡ has_symbols (pasted_symbols (chars text))
+has_pasted_text_is text true utf8 e =
+    sym (ap (λ t. has_symbols (pasted_symbols (chars t))) (nil_from_length text (eqb-true (length text) 0 (sym e))) ∙ ap (λ t. has_symbols (pasted_symbols t)) chars-nil)
+has_pasted_text_is text false utf8 e = sym (pasted_filled (chars text) text (encodes-chars text utf8) (sym e))
 
 -- spaces as a fragment of one line
 replicate_bytes : (n : ℕ) → replicate n 32 ≡ encode_utf8_all (replicate n 32)

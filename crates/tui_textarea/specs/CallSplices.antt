@@ -2,7 +2,7 @@
 use Rattle.std.specs.Prelude.{◌≡◌, ◌⊎◌, List, [], ◌∷◌, ◌++◌}
 use Rattle.std.specs.Str.{chars}
 use Rattle.textarea_text.specs.Splice.{Splice}
-use Rattle.textarea_text.specs.Fragment.{fragment_symbols}
+use Rattle.textarea_text.specs.Fragment.{fragment_symbols, pasted_symbols}
 use Rattle.textarea_text.specs.Text.{Break}
 use Rattle.textarea_calls.specs.declared.action.Action.TheVariants as action
 use Rattle.textarea_screen.specs.declared.screen.buffer.Buffer.{Buffer}
@@ -15,7 +15,7 @@ use Rattle.tui_textarea.specs.State.{State}
 use Rattle.tui_textarea.specs.Run.{CallLeads}
 use Rattle.tui_textarea.specs.CallResults.{CallResult}
 use Rattle.textarea_calls.specs.declared.call.Call.{Call}
-use Rattle.textarea_calls.specs.declared.call.Call.TheVariants.{InsertChar, InsertStr, InsertTab, InsertNewline, DeleteStr, DeleteNewline, DeleteChar, DeleteNextChar, DeleteLineByEnd, DeleteLineByHead, DeleteWord, DeleteNextWord, Clear, Cut, Paste, Undo, Redo, DeleteAtomicRangeAtCursor, Input, InputWithoutShortcuts}
+use Rattle.textarea_calls.specs.declared.call.Call.TheVariants.{InsertChar, InsertStr, InsertPasted, InsertTab, InsertNewline, DeleteStr, DeleteNewline, DeleteChar, DeleteNextChar, DeleteLineByEnd, DeleteLineByHead, DeleteWord, DeleteNextWord, Clear, Cut, Paste, Undo, Redo, DeleteAtomicRangeAtCursor, Input, InputWithoutShortcuts}
 
 -- The splices of the call in this state, one after another. An insertion over selected text has
 -- two, first the removal of that text; any other edit, undo or redo has one; a call that changes
@@ -24,6 +24,7 @@ use Rattle.textarea_calls.specs.declared.call.Call.TheVariants.{InsertChar, Inse
 abbrev pub call_splices : State → Call → List Splice
 call_splices state (InsertChar c) = char_splices state c
 call_splices state (InsertStr text) = str_splices state (fragment_symbols (chars text.now))
+call_splices state (InsertPasted text) = str_splices state (pasted_symbols (chars text.now))
 call_splices state InsertTab = tab_splices state
 call_splices state InsertNewline = str_splices state (Break ∷ [])
 call_splices state Paste = str_splices state state.yank

@@ -11,7 +11,7 @@ use Rattle.textarea_ranges.specs.Lookup.{range_around}
 use Rattle.textarea_ranges.specs.Order.{in_order}
 use Rattle.textarea_ranges.specs.Rejected.{rejected_of}
 use Rattle.textarea_history.specs.Log.{empty_log, newest, next}
-use Rattle.textarea_text.specs.Fragment.{fragment_symbols, fragment_text}
+use Rattle.textarea_text.specs.Fragment.{fragment_symbols, fragment_text, pasted_symbols}
 use Rattle.textarea_text.specs.Between.{clip}
 use Rattle.textarea_document.specs.DocumentState.{fresh_document}
 use Rattle.textarea_document.specs.Edits.{range_at_cursor, has_symbols}
@@ -30,6 +30,7 @@ use Rattle.textarea_view.specs.Outcomes.{with_max_rows, with_min_rows, with_plac
 use Rattle.textarea_screen.specs.declared.screen.alignment.Alignment.TheVariants.{Left}
 use Rattle.tui_textarea.specs.Drawing.{highlighted, unhighlighted, with_look_set}
 use Rattle.tui_textarea.specs.LayoutCalls.{alignment_set, mode_set, number_style, line_numbers_set, keeps_layout, tab_length, tab_length_set, with_alignment, with_line_numbers, with_tab_length, with_wrap_mode, without_line_numbers}
+use Rattle.tui_textarea.specs.Moves.{gone_to}
 use Rattle.tui_textarea.specs.Measure.{reads_rows, with_surround}
 use Rattle.tui_textarea.specs.Search.{next_match, previous_match, after_search, with_pattern}
 use Rattle.tui_textarea.specs.Patterns.{IsNewPattern}
@@ -37,7 +38,8 @@ use Rattle.tui_textarea.specs.Ranges.{cursor_normalized, atomic_range_removed, r
 use Rattle.tui_textarea.specs.CallResults as reported
 use Rattle.tui_textarea.specs.CallResults.{CallResult, Done, Flag, Range, Rejected, Text}
 use Rattle.textarea_calls.specs.declared.call.Call.{Call}
-use Rattle.textarea_calls.specs.declared.call.Call.TheVariants.{InsertChar, InsertStr, InsertTab, InsertNewline, DeleteStr, DeleteNewline, DeleteChar, DeleteNextChar, DeleteLineByEnd, DeleteLineByHead, DeleteWord, DeleteNextWord, Clear, Cut, Copy, Paste, Undo, Redo, StartSelection, CancelSelection, SelectAll, SetYankText, YankText, SetTabLength, SetHardTabIndent, SetMaxHistories, SetUndoCoalescing, SetNow, SetLines, TrySetAtomicRanges, ClearAtomicRanges, NormalizeCursorAroundAtomicRanges, AtomicRangeAtCursor, DeleteAtomicRangeAtCursor, SetSearchPattern, SearchForward, SearchBack, SetWrapMode, SetLineNumberStyle, RemoveLineNumber, Measure, SetBlock, RemoveBlock, SetPlaceholderText, SetStyledPlaceholder, SetPlaceholderStyle, SetMinRows, SetMaxRows, SetStyle, Style, SetCursorStyle, CursorStyle, SetCursorLineStyle, CursorLineStyle, SetSelectionStyle, SelectionStyle, SetSearchStyle, SearchStyle, SetMaskChar, ClearMaskChar, MaskChar, SetCursorRenderMode, CursorRenderMode, SetAlignment, Alignment, CustomHighlight, ClearCustomHighlight, Render, RenderedCursorPosition, CursorAtPosition, Cursor, IsEmpty, IsSelecting, SelectionRange, TabLength, HardTabIndent, MaxHistories, UndoCoalescing, WrapMode, LineNumberStyle, PlaceholderStyle, MinRows, MaxRows}
+use Rattle.textarea_calls.specs.declared.call.Call.TheVariants as call
+use Rattle.textarea_calls.specs.declared.call.Call.TheVariants.{InsertChar, InsertStr, InsertPasted, GoTo, InsertTab, InsertNewline, DeleteStr, DeleteNewline, DeleteChar, DeleteNextChar, DeleteLineByEnd, DeleteLineByHead, DeleteWord, DeleteNextWord, Clear, Cut, Copy, Paste, Undo, Redo, StartSelection, CancelSelection, SelectAll, SetYankText, YankText, SetTabLength, SetHardTabIndent, SetMaxHistories, SetUndoCoalescing, SetNow, SetLines, TrySetAtomicRanges, ClearAtomicRanges, NormalizeCursorAroundAtomicRanges, AtomicRangeAtCursor, DeleteAtomicRangeAtCursor, SetSearchPattern, SearchForward, SearchBack, SetWrapMode, SetLineNumberStyle, RemoveLineNumber, Measure, SetBlock, RemoveBlock, SetPlaceholderText, SetStyledPlaceholder, SetPlaceholderStyle, SetMinRows, SetMaxRows, SetStyle, Style, SetCursorStyle, CursorStyle, SetCursorLineStyle, CursorLineStyle, SetSelectionStyle, SelectionStyle, SetSearchStyle, SearchStyle, SetMaskChar, ClearMaskChar, MaskChar, SetCursorRenderMode, CursorRenderMode, SetAlignment, Alignment, CustomHighlight, ClearCustomHighlight, Render, RenderedCursorPosition, CursorAtPosition, Cursor, IsEmpty, IsSelecting, SelectionRange, TabLength, HardTabIndent, MaxHistories, UndoCoalescing, WrapMode, LineNumberStyle, PlaceholderStyle, MinRows, MaxRows}
 
 -- those of the ranges that are rejected, in their order, each with its reason
 abbrev pub rejected_ranges : State → List AtomicRange → List RejectedAtomicRange
@@ -57,6 +59,7 @@ with_ranges_if (range ∷ rejected) state ranges = state
 -- measure, a hit test and an input are defined elsewhere
 abbrev pub result_of_call : State → Call → CallResult
 result_of_call state (InsertStr text) = Flag (inserts_text state (fragment_symbols (chars text.now)))
+result_of_call state (InsertPasted text) = Flag (inserts_text state (pasted_symbols (chars text.now)))
 result_of_call state InsertTab = Flag (inserts_tab state)
 result_of_call state (DeleteStr count) = Flag (removes_or state (has_ahead state count))
 result_of_call state DeleteNewline = Flag (removes_or state (has_break_before state))
@@ -71,6 +74,7 @@ result_of_call state Cut = Flag (is_selected state.document)
 result_of_call state Paste = Flag (has_symbols state.yank)
 result_of_call state Undo = Flag (is_some (newest state.document.log))
 result_of_call state Redo = Flag (is_some (next state.document.log))
+result_of_call state call.Text = Text (fragment_text state.document.text)
 result_of_call state YankText = Text (fragment_text state.yank)
 result_of_call state (TrySetAtomicRanges ranges) = ranges_result (rejected_ranges state ranges.now)
 result_of_call state (NormalizeCursorAroundAtomicRanges bias) = Flag (is_some (range_around state.document.ranges state.document.cursor))
@@ -113,6 +117,7 @@ with_lines state lines cursor =
 abbrev pub state_after : State → Call → State
 state_after state (InsertChar c) = char_inserted state c
 state_after state (InsertStr text) = str_inserted state (fragment_symbols (chars text.now))
+state_after state (InsertPasted text) = str_inserted state (pasted_symbols (chars text.now))
 state_after state InsertTab = tab_inserted state
 state_after state InsertNewline = newline_inserted state
 state_after state (DeleteStr count) = unselected_or state (symbols_ahead_removed state count)
@@ -139,6 +144,7 @@ state_after state (SetLines lines cursor) = with_lines state lines.now cursor
 state_after state (SetSearchPattern text) = with_pattern state text.now
 state_after state (SearchForward at_cursor) = after_search state (next_match state at_cursor)
 state_after state (SearchBack at_cursor) = after_search state (previous_match state at_cursor)
+state_after state (GoTo place) = gone_to state place
 state_after state StartSelection = selection_started state
 state_after state CancelSelection = selection_cancelled state
 state_after state SelectAll = all_selected state
@@ -180,6 +186,7 @@ state_after state call = state
 abbrev pub NeedsMemory : State → Call → Type 0
 NeedsMemory state (InsertChar c) = Unit {0}
 NeedsMemory state (InsertStr text) = inserts_text state (fragment_symbols (chars text.now)) ≢ false
+NeedsMemory state (InsertPasted text) = inserts_text state (pasted_symbols (chars text.now)) ≢ false
 NeedsMemory state InsertTab = inserts_tab state ≢ false
 NeedsMemory state InsertNewline = Unit {0}
 NeedsMemory state (DeleteStr count) = removes_or state (has_ahead state count) ≢ false
@@ -197,6 +204,7 @@ NeedsMemory state Paste = inserts_text state state.yank ≢ false
 NeedsMemory state Undo = newest state.document.log ≢ None
 NeedsMemory state Redo = next state.document.log ≢ None
 NeedsMemory state (SetYankText text) = Unit {0}
+NeedsMemory state call.Text = Unit {0}
 NeedsMemory state YankText = Unit {0}
 NeedsMemory state (TrySetAtomicRanges ranges) = Unit {0}
 NeedsMemory state (DeleteAtomicRangeAtCursor direction) = range_at_cursor state.document direction ≢ None
@@ -223,6 +231,7 @@ NeedsMemory state call = ⊥
 abbrev pub StateOutOfMemory : State → Call → State → Type 0
 StateOutOfMemory old (InsertChar c) new = selection.IsInsertOutOfMemory old new
 StateOutOfMemory old (InsertStr text) new = selection.IsInsertOutOfMemory old new
+StateOutOfMemory old (InsertPasted text) new = selection.IsInsertOutOfMemory old new
 StateOutOfMemory old InsertTab new = selection.IsInsertOutOfMemory old new
 StateOutOfMemory old InsertNewline new = selection.IsInsertOutOfMemory old new
 StateOutOfMemory old Paste new = selection.IsInsertOutOfMemory old new

@@ -31,6 +31,7 @@ pub use Rattle.textarea_lines.specs.View.{IsPrepared, IsViewOf}
 pub use Rattle.textarea_lines.specs.Wrappings.{is_wrapped, wrapping_for}
 pub use Rattle.textarea_lines.specs.declared.settings.LayoutSettings.{LayoutSettings}
 pub use Rattle.textarea_paint.specs.declared.paint.row.RowArea.{RowArea}
+pub use Rattle.textarea_search.specs.Starts.{IsFound}
 pub use Rattle.textarea_document.specs.Edits.{has_symbols}
 pub use Rattle.textarea_document.specs.DocumentRows.{text_and_layout, with_inner_width}
 pub use Rattle.textarea_document.specs.Selection.{selection, selection_by}

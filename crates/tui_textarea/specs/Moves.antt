@@ -1,6 +1,8 @@
 -- The states after moves.
 use Rattle.std.specs.Prelude.{◌≡◌, Bool, true, false, List, Option, Some, None, is_some, option_map, unwrap_or}
 use Rattle.textarea_text.specs.Place.{Place}
+use Rattle.textarea_text.specs.Text.{lines}
+use Rattle.textarea_text.specs.Between.{clip}
 use Rattle.textarea_data.specs.declared.cursor.CursorMove.{CursorMove}
 use Rattle.textarea_data.specs.declared.cursor.CursorMove.TheVariants as move
 use Rattle.textarea_data.specs.declared.scroll.Scrolling.{Scrolling}
@@ -56,6 +58,12 @@ pub record IsMovedWith (old : State) (shift : Bool) (cursor_move : CursorMove) (
   pub found : Option Place
   pub target_is : IsTarget old cursor_move found
   pub new_is : new ≡ after_move_by old shift (pushed old.document.ranges cursor_move found)
+
+-- the state after the call that goes to a position: the cursor is at the nearest position of the
+-- text, or at the end of the atomic range that strictly contains it
+abbrev pub gone_to : State → Place → State
+gone_to state place =
+    after_move_by state (is_some state.document.anchor) (Some (moved_out state.document.ranges (clip (lines state.document.text) place) Forward))
 
 -- the state after a scroll, with or without Shift, with the cursor at the nearest visible position
 abbrev pub IsScrolledWith : State → Bool → Scrolling → State → Type 0

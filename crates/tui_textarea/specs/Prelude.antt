@@ -1,7 +1,7 @@
 -- The names that contracts of this crate use, re-exported. It declares nothing.
 pub use Rattle.textarea_util.specs.Limit.{size_limit}
 pub use Rattle.textarea_text.specs.Between.{clip}
-pub use Rattle.textarea_text.specs.Fragment.{fragment_symbols, fragment_text}
+pub use Rattle.textarea_text.specs.Fragment.{fragment_symbols, pasted_symbols, fragment_text, without_last_break}
 pub use Rattle.textarea_text.specs.Place.{IsPlace, index_of, place_of}
 pub use Rattle.textarea_text.specs.Size.{size_of, weight}
 pub use Rattle.textarea_text.specs.Splice.{CanApply, Fits, Splice}
@@ -58,7 +58,7 @@ pub use Rattle.tui_textarea.specs.Hit.{IsHitTest}
 pub use Rattle.tui_textarea.specs.Input.{ActMayRunOutOfMemory, IsAfterAction, IsInputOutOfMemory, action_flag, asked_by, asked_without_shortcuts}
 pub use Rattle.tui_textarea.specs.LayoutCalls.{indent_of}
 pub use Rattle.tui_textarea.specs.Measure.{IsMeasured, IsMeasuredAround, reads_rows, with_surround}
-pub use Rattle.tui_textarea.specs.Moves.{IsMoved, IsMovedWith, IsScrolled, IsScrolledWith, IsTarget, anchor_with, bias_of}
+pub use Rattle.tui_textarea.specs.Moves.{IsMoved, gone_to, IsMovedWith, IsScrolled, IsScrolledWith, IsTarget, anchor_with, bias_of}
 pub use Rattle.tui_textarea.specs.Outcomes.{IsAfterCall, IsAfterOutOfMemory, IsResultOf, RanOutOfMemory}
 pub use Rattle.tui_textarea.specs.Ranges.{atomic_range_removed, cursor_normalized, ranges_accepted, ranges_cleared}
 pub use Rattle.tui_textarea.specs.RangesOverCalls.{IsUndoOrRedo, RangesFollowCall}

@@ -4,6 +4,7 @@ mod frame;
 mod hit;
 pub mod laws;
 mod render;
+mod search;
 
 ghost use Rattle.std.specs.Prelude.{◌≡◌, [], ◌∷◌, ◌++◌, OnErr, OnOk};
 ghost use Rattle.tui_textarea.specs.DrawingPrelude.{option_map, for_other_lines, new_drawing, with_look, with_viewport, cell_of_position, scrolled_by};
@@ -17,7 +18,7 @@ use textarea_view::Viewport;
 use textarea_view::look::{CustomHighlight, Look};
 
 /// A look, custom highlights, the viewport, and where the last drawing was. It caches the matches
-/// in the lines that were drawn last; contracts don't see this cache.
+/// in the lines that were drawn or searched last; contracts don't see this cache.
 #[derive(Drop)]
 pub struct Drawing {
     look: Look,

@@ -16,6 +16,7 @@ pub use textarea_data::range::{
     AtomicRangeRejectReason, RejectedAtomicRange,
 };
 pub use textarea_data::scroll::Scrolling;
+pub use textarea_paint::paint::DrawText;
 pub use textarea_screen::screen::{
     Alignment, Block, Borders, Buffer, Cell, Color, Line, Modifier, Padding, Position, Rect, Span,
     SpanText, Style, Text,

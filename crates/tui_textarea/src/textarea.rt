@@ -17,8 +17,9 @@ mod selection;
 pub mod settings;
 mod surround;
 
-ghost use Rattle.std.specs.Prelude.{◌≡◌, ◌<◌, ◌≤◌, ◌↔◌, length, OnErr, OnOk, IfOk, IsTrue, [], vec_len};
-ghost use Rattle.tui_textarea.specs.Prelude.{size_limit, lines, lines_of, text_of, IsPlace, size_of, fresh_document, clip, new_state, with_other_lines};
+ghost use Rattle.std.specs.Prelude.{◌≡◌, ◌<◌, ◌≤◌, ◌↔◌, length, OnErr, OnOk, IfOk, IsTrue, [], string_bytes, vec_len};
+ghost use Rattle.std.specs.Str.{chars};
+ghost use Rattle.tui_textarea.specs.Prelude.{fragment_text, size_limit, lines, lines_of, text_of, IsPlace, size_of, fresh_document, clip, new_state, with_other_lines};
 
 use crate::drawing::Drawing;
 use crate::textarea::settings::Settings;
@@ -28,6 +29,7 @@ use std::time::Duration;
 use textarea_document::Document;
 use textarea_lines::settings::LayoutSettings;
 use textarea_search::search::Search;
+use textarea_text::fragment::join_with_line_feeds;
 use textarea_view::surround::Surround;
 use textarea_wrap::wrap::WrapMode;
 
@@ -170,6 +172,14 @@ impl<'a> TextArea<'a> {
         ensures limit { size_of result.now ≤ size_limit }
     {
         self.document.lines()
+    }
+
+    /// Returns the text: the lines, with a line feed between two.
+    pub fn text(&self) -> Result<String, AllocError>
+        ensures { IfOk result
+            (λ text. chars (string_bytes text) ≡ fragment_text self.now.document.text) }
+    {
+        join_with_line_feeds(self.allocator(), self.lines())
     }
 
     /// Drops everything but the lines, and returns these.

@@ -14,7 +14,7 @@ use textarea_util::replace::replace_items;
 use textarea_wrap::rows::Rows;
 
 /// The number of lines above which a block is halved before lines are added to it.
-const FULL: usize = 1024;
+const FULL: usize = 512;
 
 impl RowBlocks {
     // Replaces the rows of `count` lines of one block. Allocates nothing.
@@ -131,7 +131,7 @@ impl RowBlocks {
     }
 
     /// Reserves room for `replace_few` to replace the `count` lines from `row` on by `come` lines.
-    /// A block that would get more than 1,024 lines is halved first.
+    /// A block that would get more than 512 lines is halved first.
     pub fn reserve_lines(&mut self, row: usize, count: usize, come: usize) -> Result<(), AllocError>
         requires { row < length (all_rows self.old.blocks) }
         ensures same { all_rows self.new.blocks ≡ all_rows self.old.blocks }
@@ -143,7 +143,7 @@ impl RowBlocks {
         self.blocks[block].reserve(come.saturating_sub(shared))
     }
 
-    // Halves the block of a line if `come` lines more would make it longer than 1,024 lines.
+    // Halves the block of a line if `come` lines more would make it longer than 512 lines.
     fn halve_full(&mut self, line: usize, come: usize) -> Result<(), AllocError>
         requires { line < length (all_rows self.old.blocks) }
         ensures { all_rows self.new.blocks ≡ all_rows self.old.blocks }

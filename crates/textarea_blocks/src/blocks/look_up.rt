@@ -1,7 +1,7 @@
 //! Look-ups in blocks: the line at an index, its visual rows, and the totals before it.
 ghost use Rattle.std.specs.Prelude.{◌≡◌, ◌+◌, ◌<◌, ◌≤◌, [], length, take, drop, get_or, min};
 ghost use Rattle.textarea_blocks.specs.Blocks.{IsBlockOf, IsEdge, all_rows, lines_before};
-ghost use Rattle.textarea_blocks.specs.Sums.{ranges_at, row_total, size_total};
+ghost use Rattle.textarea_blocks.specs.Sums.{marks_at, ranges_at, row_total, size_total};
 
 use super::RowBlocks;
 use crate::sums::{count_rows, size_of_rows};
@@ -61,6 +61,15 @@ impl RowBlocks {
     {
         let (block, index) = self.place_of(line);
         self.blocks[block][index].as_slice()
+    }
+
+    /// Returns the marks of the line's rows, as `Rows::marks` does.
+    pub fn marks_of(&self, line: usize) -> &[(usize, usize)]
+        requires { line < length (all_rows self.now.blocks) }
+        ensures { result.now ≡ marks_at (all_rows self.now.blocks) line }
+    {
+        let (block, index) = self.place_of(line);
+        self.blocks[block][index].marks()
     }
 
     /// Returns the first visual row of the line.

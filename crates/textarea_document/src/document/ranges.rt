@@ -1,6 +1,6 @@
 //! Atomic ranges: spans of characters in a line that are edited as a whole.
 ghost use Rattle.std.specs.Prelude.{◌≡◌, ◌<◌, IfOk, IfSome, IsOk, MatchResult, None, OnErr, OnOk, false, is_some};
-ghost use Rattle.textarea_document.specs.Prelude.{as_nanos, lines, IsPlace, index_of, range_around, range_start, range_end, AreInOrder, AreRejected, AreValid, Backward, Forward, range_at_cursor, is_at_end, is_at_start, accepted, anchor_out, anchored, with_ranges, normalized, unless_empty, range_removed, ranges_forgotten};
+ghost use Rattle.textarea_document.specs.Prelude.{as_nanos, lines, IsPlace, index_of, range_around, range_start, range_end, AreApart, AreInOrder, AreRejected, AreValid, Backward, Forward, range_at_cursor, is_at_end, is_at_start, accepted, anchor_out, anchored, with_ranges, normalized, unless_empty, range_removed, ranges_forgotten};
 
 use crate::document::Document;
 use std::alloc::AllocError;
@@ -19,6 +19,7 @@ impl Document {
         ensures value { result.now ≡ self.now.ranges }
         ensures valid { AreValid (lines self.now.text) result.now }
         ensures in_order { AreInOrder result.now }
+        ensures apart { AreApart result.now }
     {
         self.ranges.as_slice()
     }
@@ -128,6 +129,7 @@ impl Document {
 
 // Returns the selection's beginning; if it is strictly inside a range, that range's start.
 fn anchor_out(ranges: &[AtomicRange], anchor: Option<(usize, usize)>) -> Option<(usize, usize)>
+    requires { AreApart ranges.now }
     ensures { result ≡ anchor_out ranges.now anchor }
 {
     let place = anchor?;

@@ -61,7 +61,8 @@ impl Document {
 
     /// Prepares the visual rows for an inner width, in columns. If it changes how lines wrap, all
     /// are wrapped, each once; only then memory is needed. Lines that were last measured at this
-    /// width are not wrapped again. The document does not change for its callers.
+    /// width are not wrapped again. If lines aren't wrapped, positions up to the cursor are made
+    /// known, for faster look-ups. The document does not change for its callers.
     pub fn prepare_width(&mut self, inner_width: u16) -> Result<PreparedWidth, AllocError>
         ensures same { self.new ≡ self.old }
         ensures prepared { IfOk result (IsPrepared (text_and_layout self.old)) }
@@ -69,6 +70,7 @@ impl Document {
         ensures no_memory { let text_layout = text_and_layout self.old in
             keeps_wrapping text_layout (at_width text_layout inner_width) ≡ true → IsOk result }
     {
+        self.text_layout.mark(self.cursor);
         self.text_layout.prepare_width(inner_width)
     }
 

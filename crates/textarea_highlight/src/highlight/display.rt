@@ -1,11 +1,13 @@
 //! The text on the screen for the segments of a row.
-ghost use Rattle.std.specs.Prelude.{◌≡◌, ◌+◌, ◌*◌, ◌^◌, ◌<◌, ◌≤◌, ◌↔◌, ◌++◌, map, length, drop, None, IfOk, OnOk, chars, encode_utf8_all, string_bytes};
+ghost use Rattle.std.specs.Prelude.{◌≡◌, ◌+◌, ◌*◌, ◌^◌, ◌<◌, ◌≤◌, ◌↔◌, ◌++◌, map, length, drop, slice_range, None, IfOk, OnOk, IsCharBoundary, chars, encode_utf8_all, string_bytes};
 ghost use Rattle.std.specs.List.{list_any};
 ghost use Rattle.textarea_screen.specs.Text.{content_view};
 ghost use Rattle.textarea_highlight.specs.Texts.{text_bytes_of, IsUncopied};
-ghost use Rattle.textarea_wrap.specs.Columns.{column_after, end_column};
+ghost use Rattle.textarea_wrap.specs.Columns.{column_after};
+ghost use Rattle.textarea_highlight.specs.Columns.{IsColumnKnown, column_of};
 ghost use Rattle.textarea_highlight.specs.Display.{is_tab, display_char, with_spaces, without_tabs, display_text, display_bytes, IsDisplayedAsItIs};
 
+use memchr::memchr;
 use std::alloc::{AllocError, Global};
 use textarea_screen::screen::SpanText;
 use textarea_text::util::spaces;
@@ -17,62 +19,99 @@ pub struct Display {
     pub alloc: Global,
     pub tab_len: u8,
     pub mask: Option<char>,
-    /// The column at which the next segment begins.
+    /// An offset in the row, at or before the next segment. Only a segment with tabs moves it on.
+    pub at: usize,
+    /// The column of that offset.
     pub column: usize,
 }
 
 impl Display {
-    /// Returns the text on the screen for the next segment: the segment itself if there is no mask
-    /// and it is shown unchanged, otherwise a new text.
-    pub fn show<'a>(&mut self, segment: &'a str) -> Result<SpanText<'a>, AllocError>
-        requires { self.old.column + 255 * length segment.now < 2 ^ 63 }
+    /// Returns the text on the screen for the segment of the row between two offsets: the segment
+    /// itself if there is no mask and it is shown unchanged, otherwise a new text.
+    pub fn show<'a>(
+        &mut self,
+        row: &'a str,
+        from: usize,
+        to: usize,
+    ) -> Result<SpanText<'a>, AllocError>
+        requires order { from ≤ to }
+        requires from_boundary { IsCharBoundary row.now from }
+        requires to_boundary { IsCharBoundary row.now to }
+        requires known { IsColumnKnown row.now self.old from }
+        requires room { 255 * length row.now < 2 ^ 63 }
         ensures text { IfOk result (λ content. text_bytes_of (content_view content)
-            ≡ display_bytes self.old.mask self.old.tab_len self.old.column segment.now) }
+            ≡ display_bytes self.old.mask self.old.tab_len
+            (column_of row.now self.old.tab_len from) (slice_range row.now from to)) }
         ensures borrowed { IfOk result (λ content. IsUncopied (content_view content)
-            ↔ IsDisplayedAsItIs self.old.mask self.old.tab_len self.old.column segment.now) }
-        ensures column { OnOk result (self.new ≡ record self.old {
-          column = end_column self.old.tab_len self.old.column (chars segment.now);
-        }) }
-        ensures bound { OnOk result (self.new.column ≤ self.old.column + 255 * length segment.now) }
+            ↔ IsDisplayedAsItIs self.old.mask self.old.tab_len
+            (column_of row.now self.old.tab_len from) (slice_range row.now from to)) }
+        ensures known { IsColumnKnown row.now self.new from }
+        ensures tab { self.new.tab_len ≡ self.old.tab_len }
+        ensures masked { self.new.mask ≡ self.old.mask }
     {
-        let content = match self.mask {
-            Some(mask) => SpanText::Owned(mask_text(self.alloc, segment, mask)?),
-            None => show_tabs(self.alloc, segment, self.tab_len, self.column)?,
-        };
-        self.column = column_after_text(segment, self.column, self.tab_len);
-        Ok(content)
+        let segment = &row[from..to];
+        match self.mask {
+            Some(mask) => Ok(SpanText::Owned(mask_text(self.alloc, segment, mask)?)),
+            None => self.show_tabs(row, from, segment),
+        }
     }
-}
 
-fn show_tabs<'a>(
-    alloc: Global,
-    segment: &'a str,
-    tab_len: u8,
-    column: usize,
-) -> Result<SpanText<'a>, AllocError>
-    requires { column + 255 * length segment.now < 2 ^ 63 }
-    ensures text { IfOk result (λ content. text_bytes_of (content_view content)
-        ≡ display_bytes None tab_len column segment.now) }
-    ensures borrowed { IfOk result (λ content. IsUncopied (content_view content)
-        ↔ (display_text None tab_len column (chars segment.now) ≡ chars segment.now)) }
-{
-    if tab_len == 0 {
-        if has_tab_after_start(segment) {
-            Ok(SpanText::Owned(drop_tabs(alloc, segment)?))
+    // Returns the text on the screen for a segment that begins at an offset, if there is no mask.
+    fn show_tabs<'a>(
+        &mut self,
+        row: &str,
+        from: usize,
+        segment: &'a str,
+    ) -> Result<SpanText<'a>, AllocError>
+        requires boundary { IsCharBoundary row.now from }
+        requires known { IsColumnKnown row.now self.old from }
+        requires room { 255 * (from + length segment.now) < 2 ^ 63 }
+        ensures text { IfOk result (λ content. text_bytes_of (content_view content)
+            ≡ display_bytes None self.old.tab_len
+            (column_of row.now self.old.tab_len from) segment.now) }
+        ensures borrowed { IfOk result (λ content. IsUncopied (content_view content)
+            ↔ (display_text None self.old.tab_len
+            (column_of row.now self.old.tab_len from) (chars segment.now) ≡ chars segment.now)) }
+        ensures known { IsColumnKnown row.now self.new from }
+        ensures tab { self.new.tab_len ≡ self.old.tab_len }
+        ensures masked { self.new.mask ≡ self.old.mask }
+    {
+        if self.tab_len == 0 {
+            if has_tab_after_start(segment) {
+                Ok(SpanText::Owned(drop_tabs(self.alloc, segment)?))
+            } else {
+                Ok(SpanText::Borrowed(segment))
+            }
+        } else if has_tab(segment) {
+            self.move_to(row, from);
+            let text = expand_tabs(self.alloc, segment, self.tab_len, self.column)?;
+            Ok(SpanText::Owned(text))
         } else {
             Ok(SpanText::Borrowed(segment))
         }
-    } else if has_tab(segment) {
-        Ok(SpanText::Owned(expand_tabs(alloc, segment, tab_len, column)?))
-    } else {
-        Ok(SpanText::Borrowed(segment))
+    }
+
+    // Moves on to an offset of the row.
+    fn move_to(&mut self, row: &str, to: usize)
+        requires boundary { IsCharBoundary row.now to }
+        requires known { IsColumnKnown row.now self.old to }
+        requires room { 255 * to < 2 ^ 63 }
+        ensures value { self.new ≡ record self.old {
+          at = to;
+          column = column_of row.now self.old.tab_len to;
+        } }
+        ensures near { self.new.column ≤ 255 * to }
+    {
+        self.column = column_after_text(&row[self.at..to], self.column, self.tab_len);
+        self.at = to;
     }
 }
 
-fn has_tab(segment: &str) -> bool
-    ensures { result ≡ list_any is_tab (chars segment.now) }
+/// Returns whether the text has a tab. A tab is one byte, and no other character has this byte.
+fn has_tab(text: &str) -> bool
+    ensures { result ≡ list_any is_tab (chars text.now) }
 {
-    segment.chars().any(|c| c == '\t')
+    memchr(b'\t', text.as_bytes()).is_some()
 }
 
 fn has_tab_after_start(segment: &str) -> bool

@@ -1,18 +1,21 @@
 //! The highlights of a row, and its spans.
-ghost use Rattle.std.specs.Prelude.{◌≡◌, ◌+◌, ◌^◌, ◌<◌, ◌≤◌, ℕ, None, List, [], map, length, chars, IfOk, IfNone, IfSome, OnOk, OnErr, IsErr, IsOk};
+ghost use Rattle.std.specs.Prelude.{◌≡◌, ◌+◌, ◌^◌, ◌<◌, ◌≤◌, ℕ, None, List, [], map, length, chars, IfOk, IfNone, IfSome, OnOk, OnErr, IsErr, IsOk, IsUtf8};
 ghost use Rattle.std.specs.Fmt.{decimal};
 ghost use Rattle.std.specs.Iterator.{IsFinite, Drains};
 ghost use Rattle.textarea_util.specs.Limit.{size_limit};
 ghost use Rattle.textarea_screen.specs.Text.{line_view, span_view};
 ghost use Rattle.textarea_highlight.specs.Split.{IsAscending};
-ghost use Rattle.textarea_highlight.specs.Borders.{IsEmptyAt, MarkNothing};
+ghost use Rattle.textarea_highlight.specs.Borders.{ArePlaced, IsEmptyAt, MarkNothing};
 ghost use Rattle.textarea_highlight.specs.Highlights.{AddsNoCursor, AddsNoRange, byte_of, plain_row, with_number, with_placeholder, with_base, with_cursor_line, with_matches, with_range, with_selection, with_segment, end_style};
-ghost use Rattle.textarea_highlight.specs.Row.{AddsRow, ShowsNothing, ShowsRow};
+ghost use Rattle.textarea_highlight.specs.Seen.{IsPartBetween, ShowsBetween};
+ghost use Rattle.textarea_highlight.specs.Row.{AddsPart, IsPartOf, ShowsNothing, ShowsPart, ShowsRow, part_end, whole_row};
 
 use super::borders::{Border, borders_of_matches, push_highlight, sort};
 use super::brackets::OpenStyles;
+use super::display::Display;
 use super::numbers::number_text;
-use super::split::{RowStyle, push_end_cell, split};
+use super::seams::part_between;
+use super::split::{push_end_cell, split};
 use std::alloc::{AllocError, Global};
 use std::marker::Model;
 use std::mem;
@@ -38,6 +41,16 @@ impl From<Style> for CursorCellRender {
     fn from(style: Style) -> CursorCellRender {
         CursorCellRender::Draw(style)
     }
+}
+
+/// A part of a row, from one byte offset up to another one. A character begins at each of them, or
+/// the row ends there.
+#[derive(Clone, Copy, Debug, PartialEq, Eq)]
+pub struct RowPart {
+    pub from: usize,
+    pub to: usize,
+    /// The column at which the part begins, counted from the start of the row.
+    pub column: usize,
 }
 
 const CURSOR_RANK: u8 = 30;
@@ -321,34 +334,100 @@ impl<'a> LineHighlighter<'a> {
         ensures too_long { size_limit ≤ length self.old.row → IsErr result }
         ensures nothing { ShowsNothing self.old → IsOk result }
     {
+        let row = self.row;
+        let whole = whole_row(row);
+        self.show_part_in(line, whole)
+    }
+
+    /// Replaces the spans of a line as `show_in` does, by those of only a part of the row. What is
+    /// in front of the row comes with a part that begins where the row begins, and the cell after
+    /// the row with a part that ends where the row ends.
+    pub fn show_part_in(&mut self, line: &mut Line<'a>, part: RowPart) -> Result<(), AllocError>
+        requires { IsPartOf self.old part }
+        ensures displayed { OnOk result (ShowsPart self.old part (line_view line.new)) }
+        ensures too_long { size_limit ≤ length self.old.row → IsErr result }
+        ensures nothing { ShowsNothing self.old → IsOk result }
+    {
         if !is_short(self.row) {
             return Err(AllocError);
         }
         sort(&mut self.borders)?;
         mem::swap(&mut line.spans, &mut self.spans);
+        if 0 < part.from {
+            line.spans.clear();
+        }
         line.style = Style::new();
-        self.push_row(&mut line.spans)
+        self.push_part(&mut line.spans, part)
     }
 
-    // Appends the row's segments, and a blank for the cell after the row if that is drawn.
-    fn push_row(&mut self, spans: &mut Vec<Span<'a>>) -> Result<(), AllocError>
+    /// Replaces the spans of a line as `show_in` does, but leaves out parts of the row that are
+    /// before the column `left` or after the column `right`, and returns the part that the line
+    /// shows. The line's cells in between are the row's. With a mask or without tab stops the part
+    /// is the whole row.
+    pub fn show_between_in(
+        &mut self,
+        line: &mut Line<'a>,
+        left: usize,
+        right: usize,
+    ) -> Result<RowPart, AllocError>
+        ensures displayed { IfOk result
+            (λ part. ShowsBetween self.old left right part (line_view line.new)) }
+        ensures too_long { size_limit ≤ length self.old.row → IsErr result }
+        ensures nothing { ShowsNothing self.old → IsOk result }
+    {
+        let part = self.part_between(left, right);
+        self.show_part_in(line, part)?;
+        Ok(part)
+    }
+
+    // Returns the part of the row to show between two columns.
+    fn part_between(&self, left: usize, right: usize) -> RowPart
+        ensures part { IsPartBetween self.now left right result }
+        ensures text { IsUtf8 self.now.row }
+        ensures placed { ArePlaced self.now.row self.now.borders }
+    {
+        let row = self.row;
+        if self.mask.is_some() || self.tab_len == 0 || !is_short(row) {
+            whole_row(row)
+        } else {
+            part_between(row, self.tab_len, left, right)
+        }
+    }
+
+    // Appends the part's segments, and a blank for the cell after the row if that is drawn.
+    fn push_part(&mut self, spans: &mut Vec<Span<'a>>, part: RowPart) -> Result<(), AllocError>
         requires short { length self.old.row < size_limit }
         requires ordered { IsAscending self.old.borders }
-        ensures added { OnOk result (AddsRow self.old
+        requires part { IsPartOf self.old part }
+        ensures added { OnOk result (AddsPart self.old part
             (map span_view spans.old.items) (map span_view spans.new.items)) }
         ensures nothing { self.old.row ≡ [] → self.old.borders ≡ [] → end_style self.old ≡ None
             → IsOk result }
     {
-        let end_style = self.end_style();
-        let row_style = RowStyle {
-            base: self.base,
+        let end_style = self.part_end(part);
+        let display = Display {
+            alloc: self.alloc,
             tab_len: self.tab_len,
             mask: self.mask,
+            at: part.from,
+            column: part.column,
         };
         let borders = self.borders.as_slice();
         let styles = &mut self.styles;
-        split(self.alloc, spans, styles, self.row, borders, row_style)?;
+        let row = &self.row[..part.to];
+        split(display, spans, styles, row, part.from, borders, self.base)?;
         push_end_cell(spans, end_style)
+    }
+
+    /// Returns the style of the cell after the row, if the part ends there and the cell is drawn.
+    fn part_end(&self, part: RowPart) -> Option<Style>
+        ensures { result ≡ part_end self.now part }
+    {
+        if part.to == self.row.len() {
+            self.end_style()
+        } else {
+            None
+        }
     }
 
     /// Returns the style of the cell after the row, if it is drawn.
@@ -361,6 +440,18 @@ impl<'a> LineHighlighter<'a> {
             _ if self.cursor_at_end => Some(self.base),
             _ => None,
         }
+    }
+}
+
+/// Returns the part that is the whole row.
+fn whole_row(row: &str) -> RowPart
+    ensures part { result ≡ whole_row row.now }
+    ensures text { IsUtf8 row.now }
+{
+    RowPart {
+        from: 0,
+        to: row.len(),
+        column: 0,
     }
 }
 

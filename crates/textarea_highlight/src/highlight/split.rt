@@ -1,55 +1,49 @@
 //! Splitting a row into spans at its borders.
-ghost use Rattle.std.specs.Prelude.{◌≡◌, ◌+◌, ◌-◌, ◌*◌, ◌^◌, ◌<◌, ◌≤◌, [], ◌++◌, map, length, None, IsOk, OnOk, IsCharBoundary};
+ghost use Rattle.std.specs.Prelude.{◌≡◌, ◌*◌, ◌^◌, ◌<◌, ◌≤◌, [], ◌++◌, map, length, None, IsOk, OnOk, IsCharBoundary};
 ghost use Rattle.textarea_screen.specs.Text.{span_view};
-ghost use Rattle.textarea_wrap.specs.Columns.{end_column};
-ghost use Rattle.textarea_highlight.specs.Borders.{ArePlaced};
+ghost use Rattle.textarea_highlight.specs.Borders.{ArePlacedWithin};
+ghost use Rattle.textarea_highlight.specs.Columns.{IsColumnKnown};
 ghost use Rattle.textarea_highlight.specs.Highlights.{end_cell};
-ghost use Rattle.textarea_highlight.specs.Split.{IsAscending, AddsSegments, AddsSegment, segment_of};
+ghost use Rattle.textarea_highlight.specs.Split.{IsAscending, AddsSegments, AddsSegment};
 
 use super::borders::Border;
 use super::brackets::OpenStyles;
 use super::display::Display;
-use std::alloc::{AllocError, Global};
+use std::alloc::AllocError;
 use textarea_screen::screen::{Span, SpanText, Style};
 
-/// The settings for all segments of a row.
-#[derive(Clone, Copy)]
-pub struct RowStyle {
-    pub base: Style,
-    pub tab_len: u8,
-    pub mask: Option<char>,
-}
-
-/// Splits a row at each border and appends the segments to the spans, each in the style after the
-/// borders before it. `styles` tracks the open styles.
+/// Splits a row at each border from one of its offsets on and appends the segments to the spans,
+/// each in the style after the borders before it. `styles` tracks the open styles.
 pub fn split<'a>(
-    alloc: Global,
+    display: Display,
     spans: &mut Vec<Span<'a>>,
     styles: &mut OpenStyles,
     row: &'a str,
+    from: usize,
     borders: &[Border],
-    row_style: RowStyle,
+    base: Style,
 ) -> Result<(), AllocError>
     requires room { 255 * length row.now < 2 ^ 63 }
-    requires placed { ArePlaced row.now borders.now }
+    requires placed { ArePlacedWithin row.now borders.now }
     requires ordered { IsAscending borders.now }
+    requires from { IsCharBoundary row.now from }
+    requires known { IsColumnKnown row.now display from }
     ensures added { OnOk result (AddsSegments row.now borders.now
-        row_style.base row_style.tab_len row_style.mask
+        base display.tab_len display.mask from
         (map span_view spans.old.items) (map span_view spans.new.items)) }
     ensures nothing { row.now ≡ [] → borders.now ≡ [] → IsOk result }
 {
-    let mut display = Display {
-        alloc,
-        tab_len: row_style.tab_len,
-        mask: row_style.mask,
-        column: 0,
-    };
-    styles.restart(row_style.base);
-    let mut start = 0;
+    let mut display = display;
+    styles.restart(base);
+    let mut start = from;
     for border in borders {
-        split_to(row, &mut display, styles, spans, start, border.offset)?;
+        if row.len() < border.offset {
+            break;
+        }
+        let end = border.offset.max(start);
+        split_to(row, &mut display, styles, spans, start, end)?;
         styles.pass(border.mark)?;
-        start = border.offset;
+        start = end;
     }
     split_to(row, &mut display, styles, spans, start, row.len())?;
     Ok(())
@@ -67,17 +61,17 @@ fn split_to<'a>(
     requires order { from ≤ to }
     requires from_boundary { IsCharBoundary row.now from }
     requires to_boundary { IsCharBoundary row.now to }
-    requires room { display.old.column + 255 * (to - from) < 2 ^ 63 }
-    ensures added { OnOk result (AddsSegment row.now display.old styles.now from to
-        (map span_view spans.old.items) (map span_view spans.new.items)) }
-    ensures displayed { OnOk result (display.new ≡ record display.old {
-      column = end_column display.old.tab_len display.old.column (segment_of row.now from to);
-    }) }
-    ensures bound { OnOk result (display.new.column ≤ display.old.column + 255 * (to - from)) }
+    requires known { IsColumnKnown row.now display.old from }
+    requires room { 255 * length row.now < 2 ^ 63 }
+    ensures added { OnOk result (AddsSegment row.now display.old.tab_len display.old.mask
+        styles.now from to (map span_view spans.old.items) (map span_view spans.new.items)) }
+    ensures known { IsColumnKnown row.now display.new from }
+    ensures tab { display.new.tab_len ≡ display.old.tab_len }
+    ensures masked { display.new.mask ≡ display.old.mask }
     ensures nothing { from ≡ to → IsOk result }
 {
     if from < to {
-        let content = display.show(&row[from..to])?;
+        let content = display.show(row, from, to)?;
         let style = styles.style();
         spans.push(Span { content, style })?;
     }

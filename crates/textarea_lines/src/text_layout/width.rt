@@ -34,7 +34,7 @@ impl TextLayout {
     pub fn view(&self) -> TextLayoutView<'_>
         ensures { IsViewOf self.now result }
     {
-        TextLayoutView::new(self.lines.as_slice(), &self.map)
+        TextLayoutView::new(self.lines.as_slice(), &self.map, &self.marks)
     }
 
     // Returns all lines wrapped for these settings, if the settings change how lines are wrapped,
@@ -128,7 +128,7 @@ impl TextLayout {
             Some(wraps) => &wraps.map,
             None => &self.map,
         };
-        TextLayoutView::new(self.lines.as_slice(), map)
+        TextLayoutView::new(self.lines.as_slice(), map, &self.marks)
     }
 
     /// Sets the prepared inner width. Allocates nothing and wraps no line.

@@ -1,8 +1,8 @@
 //! Grapheme clusters in the cells of a row, from left to right.
-ghost use Rattle.std.specs.Prelude.{◌≡◌, ◌+◌, ◌≤◌, ◌==◌, ℕ, max, length, [], ◌∷◌, IfOk, IsOk, OnOk, OnErr, if◌then◌else◌};
-ghost use Rattle.textarea_paint.specs.Prelude.{Changes, KeepsOutside, with_symbol, INLINE_BYTES, IsPenAt, IsColumnWithin, row_change, is_in_cells, is_between, placed_at, symbol_of, columns_of, styled_cluster};
+ghost use Rattle.std.specs.Prelude.{◌≡◌, ◌+◌, ◌≤◌, ◌==◌, ℕ, max, length, [], ◌∷◌, All, IfOk, IsOk, IsTrue, OnOk, OnErr, if◌then◌else◌};
+ghost use Rattle.textarea_paint.specs.Prelude.{AreInline, Changes, KeepsOutside, with_symbol, INLINE_BYTES, IsPenAt, IsColumnWithin, IsPrintable, row_change, is_in_cells, is_between, place_from, placed_at, symbol_of, clusters_width, columns_of, plain_clusters, run_clusters, styled_cluster};
 
-use super::clusters::StyledCluster;
+use super::clusters::{ClusterRun, StyledCluster};
 use super::columns::cluster_columns;
 use std::alloc::AllocError;
 use textarea_screen::screen::{Buffer, Style};
@@ -21,6 +21,60 @@ pub(crate) struct RowCells {
 pub(crate) struct Pen {
     pub(crate) hidden: usize,
     pub(crate) x: u16,
+}
+
+/// Draws clusters at the pen, and moves the pen after them, at most to the end of the cells.
+pub(crate) fn draw_run(
+    buffer: &mut Buffer,
+    cells: RowCells,
+    pen: Pen,
+    run: ClusterRun,
+) -> Result<Pen, AllocError>
+    requires edge { cells.x + cells.width ≤ 65535 }
+    requires within { IsColumnWithin cells pen.x }
+    requires plain { IsTrue run.is_plain → All IsPrintable run.text.now }
+    ensures moved { (left column : ℕ) → IsPenAt cells left column pen
+        → IfOk result (IsPenAt cells left (column + clusters_width (run_clusters run.entry))) }
+    ensures drawn { (left column : ℕ) → IsPenAt cells left column pen
+        → OnOk result (Changes buffer.old buffer.new
+        (row_change cells left (place_from column (run_clusters run.entry)))) }
+    ensures within { IfOk result (λ moved. IsColumnWithin cells moved.x) }
+    ensures inline { AreInline (run_clusters run.entry) → IsOk result }
+    ensures err { OnErr result (KeepsOutside (is_in_cells cells) buffer.old buffer.new) }
+{
+    if run.is_plain {
+        Ok(draw_plain(buffer, cells, pen, run.text, run.style))
+    } else {
+        let cluster = StyledCluster {
+            text: run.text,
+            style: run.style,
+        };
+        draw_cluster(buffer, cells, pen, cluster)
+    }
+}
+
+/// Draws characters of printable ASCII at the pen, one in each cell, and moves the pen after them,
+/// at most to the end of the cells.
+fn draw_plain(buffer: &mut Buffer, cells: RowCells, pen: Pen, text: &str, style: Style) -> Pen
+    requires edge { cells.x + cells.width ≤ 65535 }
+    requires within { IsColumnWithin cells pen.x }
+    requires printable { All IsPrintable text.now }
+    ensures moved { (left column : ℕ) → IsPenAt cells left column pen
+        → IsPenAt cells left (column + length text.now) result }
+    ensures drawn { (left column : ℕ) → IsPenAt cells left column pen
+        → Changes buffer.old buffer.new
+        (row_change cells left (place_from column (plain_clusters style text.now))) }
+    ensures within { IsColumnWithin cells result.x }
+{
+    let hidden = text.len().min(pen.hidden);
+    let room = usize::from(cells.x + cells.width - pen.x);
+    let displayed = (text.len() - hidden).min(room);
+    let part = &text[hidden..hidden + displayed];
+    buffer.put_ascii(pen.x, cells.y, part, style);
+    Pen {
+        hidden: pen.hidden - hidden,
+        x: pen.x + displayed as u16,
+    }
 }
 
 /// Draws a cluster at the pen, and moves the pen after it, at most to the end of the cells.

@@ -1,6 +1,6 @@
 //! The grapheme clusters of a line.
-ghost use Rattle.std.specs.Prelude.{◌≡◌, ◌<◌, ◌≤◌, ◌↔◌, true, length, ◌∷◌, IsTrue, IfSome};
-ghost use Rattle.textarea_paint.specs.Prelude.{graphemes, line_view, row_clusters, BeginsPlain, IsPrintable};
+ghost use Rattle.std.specs.Prelude.{◌≡◌, ◌<◌, ◌≤◌, ◌++◌, [], length, true, All, IsTrue, IfSome, MatchOption, ◌↔◌, map, ◌∷◌};
+ghost use Rattle.textarea_paint.specs.Prelude.{graphemes, line_view, row_clusters, IsPrintable, is_printable, plain_count, singles};
 ghost use Rattle.std.specs.Iterator.{YieldsFirstBy, item_count};
 
 use std::slice;
@@ -12,6 +12,15 @@ use unicode_segmentation::{Graphemes, UnicodeSegmentation};
 pub(crate) struct StyledCluster<'a> {
     pub(crate) text: &'a str,
     pub(crate) style: Style,
+}
+
+/// Clusters of a line that follow each other in one style: one cluster or, if `is_plain`,
+/// characters of printable ASCII of which each is a cluster.
+#[derive(Clone, Copy)]
+pub(crate) struct ClusterRun<'a> {
+    pub(crate) text: &'a str,
+    pub(crate) style: Style,
+    pub(crate) is_plain: bool,
 }
 
 /// An iterator over the clusters of a line, span after span.
@@ -26,7 +35,9 @@ pub(crate) struct LineClusters<'a, 'b> {
 }
 
 impl<'a, 'b> LineClusters<'a, 'b> {
-    ghost use Rattle.textarea_paint.specs.LineClusters.{clusters_left};
+    ghost use Rattle.textarea_paint.specs.LineClusters.{clusters_left, run_clusters};
+    ghost use Rattle.textarea_paint.specs.DrawnText.{spans_clusters};
+    ghost use Rattle.textarea_screen.specs.Text.{span_view};
 
     /// Returns an iterator over the clusters of a line, whose style is patched over `style`.
     pub(crate) fn new(line: &'a Line<'b>, style: Style) -> LineClusters<'a, 'b>
@@ -41,30 +52,45 @@ impl<'a, 'b> LineClusters<'a, 'b> {
             spans: line.spans.iter(),
         }
     }
-}
 
-impl<'a, 'b> Iterator for LineClusters<'a, 'b> {
-    ghost use Rattle.textarea_paint.specs.LineClusters.{clusters_left, styled_cluster};
+    /// Returns an iterator over the clusters of spans, whose styles are patched over `style`.
+    pub(crate) fn of_spans(spans: &'a [Span<'b>], style: Style) -> LineClusters<'a, 'b>
+        ensures { clusters_left result ≡ spans_clusters style (map span_view spans.now) }
+    {
+        LineClusters {
+            base: style,
+            style,
+            texts: "".graphemes(true),
+            after: "",
+            spans: spans.iter(),
+        }
+    }
 
-    type Item = StyledCluster<'a>;
-
-    ghost next_gives = { YieldsFirstBy styled_cluster clusters_left };
-
-    ghost remaining = { item_count clusters_left };
-
-    fn next(&mut self) -> Option<StyledCluster<'a>> {
+    /// Returns the next clusters, or `None` at the end: one, or at most `most` plain ones.
+    pub(crate) fn next_run(&mut self, most: usize) -> Option<ClusterRun<'a>>
+        requires { 0 < most }
+        ensures steps { MatchOption result
+            ((clusters_left self.old ≡ []) × (clusters_left self.new ≡ []))
+            (λ run. clusters_left self.old ≡ run_clusters run ++ clusters_left self.new) }
+        ensures plain { IfSome result (λ run.
+            IsTrue run.is_plain → All IsPrintable run.text.now) }
+        ensures some { IfSome result (λ run. 0 < length (run_clusters run)) }
+        ensures most { IfSome result (λ run. length (run_clusters run) ≤ most) }
+    {
         loop {
             if let Some(text) = self.texts.next() {
-                return Some(StyledCluster {
+                return Some(ClusterRun {
                     text,
                     style: self.style,
+                    is_plain: false,
                 });
             }
-            if let Some((text, after)) = split_plain(self.after) {
+            if let Some((text, after)) = split_plain(self.after, most) {
                 self.after = after;
-                return Some(StyledCluster {
+                return Some(ClusterRun {
                     text,
                     style: self.style,
+                    is_plain: true,
                 });
             }
             if self.after.is_empty() {
@@ -79,34 +105,61 @@ impl<'a, 'b> Iterator for LineClusters<'a, 'b> {
     }
 }
 
-/// Splits the first character off a text that begins with printable ASCII. The character is a
-/// cluster by itself and is found without a table.
-fn split_plain<'a>(text: &'a str) -> Option<(&'a str, &'a str)>
-    ensures first { IfSome result (λ components.
-        graphemes true text.now ≡ components.0.now ∷ graphemes true components.1.now) }
-    ensures shorter { IfSome result (λ components. length components.1.now < length text.now) }
-{
-    if begins_plain(text.as_bytes()) {
-        text.split_at_checked(1)
-    } else {
-        None
+impl<'a, 'b> Iterator for LineClusters<'a, 'b> {
+    ghost use Rattle.textarea_paint.specs.LineClusters.{clusters_left, styled_cluster};
+
+    type Item = StyledCluster<'a>;
+
+    ghost next_gives = { YieldsFirstBy styled_cluster clusters_left };
+
+    ghost remaining = { item_count clusters_left };
+
+    fn next(&mut self) -> Option<StyledCluster<'a>> {
+        let run = self.next_run(1)?;
+        Some(StyledCluster {
+            text: run.text,
+            style: run.style,
+        })
     }
 }
 
-/// Returns whether a text of these bytes begins with printable ASCII: its first two characters are
-/// printable ASCII, or its only one is.
-fn begins_plain(bytes: &[u8]) -> bool
-    ensures { IsTrue result ↔ BeginsPlain bytes.now }
+/// Splits printable ASCII off the start of a text, at most `most` characters. Each of them is a
+/// cluster by itself, and they are found without a table.
+fn split_plain<'a>(text: &'a str, most: usize) -> Option<(&'a str, &'a str)>
+    ensures clusters { IfSome result (λ parts.
+        graphemes true text.now ≡ singles parts.0.now ++ graphemes true parts.1.now) }
+    ensures printable { IfSome result (λ parts. All IsPrintable parts.0.now) }
+    ensures some { IfSome result (λ parts. 0 < length parts.0.now) }
+    ensures most { IfSome result (λ parts. length parts.0.now ≤ most) }
+    ensures shorter { IfSome result (λ parts. length parts.1.now < length text.now) }
 {
-    match bytes {
-        [] => false,
-        [only] => is_printable(*only),
-        [first, second, ..] => is_printable(*first) && is_printable(*second),
+    let count = plain_count(text.as_bytes(), most);
+    if count == 0 {
+        None
+    } else {
+        text.split_at_checked(count)
     }
+}
+
+/// Returns the number of characters, at most `most`, with which a text of these bytes begins and of
+/// which each is printable ASCII with no other character after it than printable ASCII.
+fn plain_count(bytes: &[u8], most: usize) -> usize
+    ensures { result ≡ plain_count most bytes.now }
+{
+    let end = bytes.len().min(most);
+    for at in 0..end {
+        if !is_printable(bytes[at]) {
+            return at.saturating_sub(1);
+        }
+    }
+    if end < bytes.len() && !is_printable(bytes[end]) {
+        return end.saturating_sub(1);
+    }
+    end
 }
 
 fn is_printable(byte: u8) -> bool
-    ensures { IsTrue result ↔ IsPrintable byte }
+    ensures { result ≡ is_printable byte }
 {
     32 <= byte && byte < 127
 }

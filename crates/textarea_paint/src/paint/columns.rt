@@ -11,11 +11,26 @@ use unicode_width::UnicodeWidthChar;
 pub fn cluster_columns(cluster: &str) -> usize
     ensures { result ≡ columns_of cluster.now }
 {
+    let mut characters = cluster.chars();
+    // Most clusters are one character.
+    if let (Some(c), None) = (characters.next(), characters.next()) {
+        return if c.is_control() {
+            0
+        } else {
+            columns_of_char(c)
+        };
+    }
     if has_control(cluster) {
         0
     } else {
         sum_of_columns(cluster)
     }
+}
+
+fn columns_of_char(c: char) -> usize
+    ensures { result ≡ char_columns c }
+{
+    c.width().unwrap_or(0)
 }
 
 fn has_control(text: &str) -> bool

@@ -2,7 +2,7 @@
 ghost use Rattle.std.specs.Prelude.{◌≡◌, ◌+◌, ◌≤◌, min, IsOk, OnOk, OnErr};
 ghost use Rattle.textarea_paint.specs.Prelude.{area_of, Changes, HasNone, KeepsOutside, is_in_row, line_view, is_in_cells, place_from, row_change, row_clusters, AreInline, fitting, clusters_width, line_offset, row_cell};
 
-use super::cells::{Pen, RowCells, draw_cluster};
+use super::cells::{Pen, RowCells, draw_cluster, draw_run};
 use super::clusters::LineClusters;
 use super::columns::cluster_columns;
 use std::alloc::AllocError;
@@ -82,11 +82,13 @@ pub(super) fn draw_left(
         hidden: left,
         x: cells.x,
     };
-    for cluster in LineClusters::new(line, style) {
-        if end <= pen.x {
+    let mut clusters = LineClusters::new(line, style);
+    while pen.x < end {
+        let columns = pen.hidden.saturating_add(usize::from(end - pen.x));
+        let Some(run) = clusters.next_run(columns) else {
             break;
-        }
-        pen = draw_cluster(buffer, cells, pen, cluster)?;
+        };
+        pen = draw_run(buffer, cells, pen, run)?;
     }
     Ok(())
 }
@@ -149,7 +151,7 @@ fn draw_fitting(
 }
 
 /// Returns the column after the last of the cells that the buffer may have, where drawing ends.
-fn visible_end(buffer: &Buffer, cells: RowCells) -> u16
+pub(super) fn visible_end(buffer: &Buffer, cells: RowCells) -> u16
     requires edge { cells.x + cells.width ≤ 65535 }
     ensures { result ≡ min (cells.x + cells.width)
         ((area_of buffer.now).x + (area_of buffer.now).width) }

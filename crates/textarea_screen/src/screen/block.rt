@@ -77,6 +77,7 @@ pub struct Block<'a> {
 impl<'a> Block<'a> {
     ghost use Rattle.textarea_screen.specs.Block.{
       plain_block,
+      bordered_block,
       block_view,
       left_inset,
       top_inset,
@@ -96,6 +97,13 @@ impl<'a> Block<'a> {
             style: Style::new(),
             border_style: Style::new(),
         }
+    }
+
+    /// Returns a block with a border at each side, no padding and no title, in empty styles.
+    pub fn bordered() -> Block<'a>
+        ensures { result ≡ bordered_block }
+    {
+        Block::new().borders(Borders::ALL)
     }
 
     /// Returns the block with borders at these sides.

@@ -1,11 +1,13 @@
-ghost use Rattle.std.specs.Prelude.{◌≡◌, ◌+◌, ◌*◌, ◌<◌, ◌≤◌, ◌==◌, ◌&&◌, ◌↔◌, ℕ, length, IsTrue, IsSome, IsOk, None, Some, IfOk, OnOk, OnErr, if◌then◌else◌, vec_len};
+ghost use Rattle.std.specs.Prelude.{◌≡◌, ◌+◌, ◌*◌, ◌<◌, ◌≤◌, ◌==◌, ◌&&◌, ◌↔◌, ℕ, length, IsTrue, IsSome, IsOk, None, Some, IfOk, OnOk, OnErr, if◌then◌else◌, vec_len, slice_get, IsAscii, All};
 ghost use Rattle.std.specs.Option.{option_map};
+ghost use Rattle.textarea_screen.specs.Cell.{cell_view, fresh_cell};
 ghost use Rattle.textarea_screen.specs.declared.screen.cell.TheConstants.{INLINE_BYTES};
 
 use super::cell::Cell;
 use super::rect::{Position, Rect};
 use super::style::Style;
 use std::alloc::{AllocError, Global};
+use std::fmt;
 
 /// The cells of a rectangle, row after row.
 #[derive(Drop)]
@@ -18,7 +20,7 @@ pub struct Buffer {
 impl Buffer {
     ghost use Rattle.textarea_screen.specs.Rect.{contains, is_in_row};
     ghost use Rattle.textarea_screen.specs.Cell.{cell_view, fresh_cell, styled, with_symbol};
-    ghost use Rattle.textarea_screen.specs.Buffer.{area_of, cell_at, place_in, Changes};
+    ghost use Rattle.textarea_screen.specs.Buffer.{area_of, ascii_change, cell_at, place_in, Changes};
 
     /// Returns a buffer of fresh cells, in one allocation.
     pub fn empty(alloc: Global, area: Rect) -> Result<Buffer, AllocError>
@@ -53,6 +55,18 @@ impl Buffer {
         }
     }
 
+    /// Returns the cells of the buffer's area: those of its first row from left to right, then those
+    /// of the next row, and so on.
+    pub fn cells(&self) -> &[Cell]
+        ensures count { length result.now
+            ≡ (area_of self.now).height * (area_of self.now).width }
+        ensures cells { (x y : ℕ) → IsTrue (contains (area_of self.now) x y)
+            → option_map cell_view (slice_get result.now (place_in (area_of self.now) x y))
+            ≡ cell_at self.now x y }
+    {
+        &self.cells
+    }
+
     /// Replaces the text of the cell at column `x` and row `y` and applies a style to it. Does
     /// nothing outside of the buffer's area. If it runs out of memory, which needs a text of more
     /// than `INLINE_BYTES` bytes, the buffer is unchanged.
@@ -72,6 +86,34 @@ impl Buffer {
         Ok(())
     }
 
+    /// Puts an ASCII text into the cells of row `y` from column `x` on, one character in each cell,
+    /// and applies a style to these cells. Leaves out those that the buffer doesn't have.
+    pub fn put_ascii(&mut self, x: u16, y: u16, text: &str, style: Style)
+        requires ascii { IsAscii text.now }
+        requires end { x + length text.now ≤ 65535 }
+        ensures { Changes self.old self.new (ascii_change x y text.now style) }
+    {
+        let area = self.area;
+        let first = x.max(area.x);
+        let end = (x + text.len() as u16).min(area.x + area.width);
+        if area.contains(Position { x: first, y }) {
+            let place = self.place(first, y);
+            for column in first..end {
+                let at = usize::from(column - x);
+                let right = usize::from(column - first);
+                let cell = &mut self.cells[place + right];
+                cell.put_inline(&text[at..at + 1], style);
+            }
+        }
+    }
+
+    /// Makes each cell fresh: a blank in the terminal's own colours, without modifiers.
+    pub fn reset(&mut self)
+        ensures { Changes self.old self.new (λ x y cell. fresh_cell) }
+    {
+        make_fresh(&mut self.cells);
+    }
+
     /// Applies a style to those cells of an area that the buffer has.
     pub fn set_style(&mut self, area: Rect, style: Style)
         ensures { Changes self.old self.new (λ x y cell.
@@ -83,24 +125,19 @@ impl Buffer {
         }
     }
 
-    /// Applies a style to the cells of one row of an area.
+    /// Applies a style to the cells of one row of an area that is within the buffer's.
     fn style_row(&mut self, area: Rect, row: u16, style: Style)
-        requires { (area.y ≤ row) × (row < area.y + area.height) }
+        requires row { (area.y ≤ row) × (row < area.y + area.height) }
+        requires inside { (x y : ℕ) → IsTrue (contains area x y)
+            → IsTrue (contains self.old.area x y) }
         ensures { Changes self.old self.new (λ x y cell.
             if is_in_row area row x y then styled style cell else cell) }
     {
-        for x in area.x..area.x + area.width {
-            self.style_cell(x, row, style);
-        }
-    }
-
-    fn style_cell(&mut self, x: u16, y: u16, style: Style)
-        ensures { Changes self.old self.new (λ column row cell.
-            if (column == x) && (row == y) then styled style cell else cell) }
-    {
-        if self.area.contains(Position { x, y }) {
-            let place = self.place(x, y);
-            self.cells[place].set_style(style);
+        if area.width > 0 {
+            let place = self.place(area.x, row);
+            for x in area.x..area.x + area.width {
+                self.cells[place + usize::from(x - area.x)].set_style(style);
+            }
         }
     }
 
@@ -111,5 +148,52 @@ impl Buffer {
         ensures bound { result < vec_len self.now.cells }
     {
         usize::from(y - self.area.y) * usize::from(self.area.width) + usize::from(x - self.area.x)
+    }
+}
+
+/// Makes each of the cells fresh.
+fn make_fresh(cells: &mut Vec<Cell>)
+    ensures len { vec_len cells.new ≡ vec_len cells.old }
+    ensures fresh { All (λ cell. cell_view cell ≡ fresh_cell) cells.new.items }
+{
+    for index in 0..cells.len() {
+        cells[index] = Cell::fresh();
+    }
+}
+
+/// Buffers are equal if they have the same area and equal cells.
+impl PartialEq for Buffer {
+    ghost use Rattle.std.specs.Cmp.{partial_equiv_from_equiv};
+    ghost use Rattle.textarea_screen.specs.Equal.{buffer_eq, buffer_eq_equiv};
+
+    ghost eq = { buffer_eq };
+
+    ghost laws = { partial_equiv_from_equiv buffer_eq_equiv };
+
+    fn eq(&self, other: &Buffer) -> bool {
+        self.area == other.area && self.cells.as_slice() == other.cells.as_slice()
+    }
+}
+
+impl Eq for Buffer {
+    ghost use Rattle.textarea_screen.specs.Equal.{buffer_eq_equiv};
+
+    ghost laws = { buffer_eq_equiv };
+}
+
+impl fmt::Display for Buffer {
+    /// Writes the texts of the cells, one row in a line. Styles are not written.
+    fn fmt<W: fmt::Write>(&self, f: &mut fmt::Formatter<W>) -> fmt::Result {
+        for y in self.area.y..self.area.bottom() {
+            if y > self.area.y {
+                f.write_str("\n")?;
+            }
+            for x in self.area.x..self.area.right() {
+                if let Some(cell) = self.cell(x, y) {
+                    f.write_str(cell.symbol())?;
+                }
+            }
+        }
+        Ok(())
     }
 }

@@ -1,4 +1,4 @@
-ghost use Rattle.std.specs.Prelude.{◌≡◌, ◌≤◌, length, IfOk, IsOk, OnOk, OnErr};
+ghost use Rattle.std.specs.Prelude.{◌≡◌, ◌≤◌, length, IsOk, OnOk, OnErr};
 
 use super::color::Color;
 use super::modifier::Modifier;
@@ -19,31 +19,36 @@ enum CellText {
 impl CellText {
     ghost use Rattle.textarea_screen.specs.Cell.{cell_text};
 
-    /// Returns a cell's text. Takes memory if it is longer than `INLINE_BYTES`.
-    fn new(alloc: Global, text: &str) -> Result<CellText, AllocError>
-        ensures value { IfOk result (λ retained. cell_text retained ≡ text.now) }
-        ensures inline { length text.now ≤ INLINE_BYTES → IsOk result }
-    {
-        match ArrayString::from(text) {
-            Ok(inline) => Ok(CellText::Inline(inline)),
-            Err(_) => Ok(CellText::Owned(String::from_str(alloc, text)?)),
-        }
-    }
-
     /// Replaces the text. If a text longer than `INLINE_BYTES` runs out of memory, nothing changes.
     fn replace(&mut self, alloc: Global, text: &str) -> Result<(), AllocError>
         ensures value { OnOk result (cell_text self.new ≡ text.now) }
         ensures inline { length text.now ≤ INLINE_BYTES → IsOk result }
         ensures err { OnErr result (self.new ≡ self.old) }
     {
+        if text.len() <= INLINE_BYTES {
+            self.replace_inline(text);
+        } else {
+            *self = CellText::Owned(String::from_str(alloc, text)?);
+        }
+        Ok(())
+    }
+
+    /// Replaces the text by one of at most `INLINE_BYTES` bytes, without allocation.
+    fn replace_inline(&mut self, text: &str)
+        requires { length text.now ≤ INLINE_BYTES }
+        ensures { cell_text self.new ≡ text.now }
+    {
         match self {
-            CellText::Inline(retained) if text.len() <= INLINE_BYTES => {
+            CellText::Inline(retained) => {
                 retained.clear();
                 retained.push_str(text);
             }
-            _ => *self = CellText::new(alloc, text)?,
+            _ => {
+                let mut inline = ArrayString::new();
+                inline.push_str(text);
+                *self = CellText::Inline(inline);
+            }
         }
-        Ok(())
     }
 
     fn as_str(&self) -> &str
@@ -68,7 +73,7 @@ pub struct Cell {
 }
 
 impl Cell {
-    ghost use Rattle.textarea_screen.specs.Cell.{cell_view, styled, style_of, fresh_cell};
+    ghost use Rattle.textarea_screen.specs.Cell.{cell_view, styled, style_of, fresh_cell, with_symbol};
 
     /// Returns a fresh cell: a blank in the terminal's own colours, without modifiers.
     pub fn fresh() -> Cell
@@ -100,6 +105,16 @@ impl Cell {
         ensures err { OnErr result (self.new ≡ self.old) }
     {
         self.text.replace(alloc, text)
+    }
+
+    /// Replaces the text by one of at most `INLINE_BYTES` bytes and applies a style, without
+    /// allocation.
+    pub fn put_inline(&mut self, text: &str, style: Style)
+        requires { length text.now ≤ INLINE_BYTES }
+        ensures { cell_view self.new ≡ with_symbol text.now style (cell_view self.old) }
+    {
+        self.text.replace_inline(text);
+        self.set_style(style);
     }
 
     /// Returns the style that sets these colours and adds these modifiers.
@@ -135,4 +150,27 @@ impl Default for Cell {
     fn default() -> Cell {
         Cell::fresh()
     }
+}
+
+/// Cells are equal if they have the same text, colours and modifiers.
+impl PartialEq for Cell {
+    ghost use Rattle.std.specs.Cmp.{partial_equiv_from_equiv};
+    ghost use Rattle.textarea_screen.specs.Equal.{cell_eq, cell_eq_equiv};
+
+    ghost eq = { cell_eq };
+
+    ghost laws = { partial_equiv_from_equiv cell_eq_equiv };
+
+    fn eq(&self, other: &Cell) -> bool {
+        self.symbol() == other.symbol()
+            && self.fg == other.fg
+            && self.bg == other.bg
+            && self.modifier.0 == other.modifier.0
+    }
+}
+
+impl Eq for Cell {
+    ghost use Rattle.textarea_screen.specs.Equal.{cell_eq_equiv};
+
+    ghost laws = { cell_eq_equiv };
 }

@@ -1,10 +1,19 @@
-ghost use Rattle.std.specs.Prelude.{◌≡◌, ◌+◌, ◌-◌, ◌≤◌, ◌⊎◌, ◌↔◌, ◌&&◌, ℕ, false, IsTrue, min};
+ghost use Rattle.std.specs.Prelude.{◌≡◌, ◌+◌, ◌-◌, ◌*◌, ◌≤◌, ◌⊎◌, ◌↔◌, ◌&&◌, ℕ, false, IsTrue, min};
 
 /// The position of a cell, counted from 0: `x` columns from the left and `y` rows from the top.
 #[derive(Clone, Copy, Debug, Default, PartialEq, Eq)]
 pub struct Position {
     pub x: u16,
     pub y: u16,
+}
+
+impl Position {
+    /// Returns the position of column `x` and row `y`.
+    pub const fn new(x: u16, y: u16) -> Position
+        ensures { result ≡ record { x = x; y = y } }
+    {
+        Position { x, y }
+    }
 }
 
 /// The numbers of free columns and rows at the four sides of a rectangle.
@@ -92,6 +101,27 @@ impl Rect {
         ensures { result ≡ self.now.height }
     {
         self.height
+    }
+
+    /// Returns the column after the last one.
+    pub fn right(&self) -> u16
+        ensures { result ≡ self.now.x + self.now.width }
+    {
+        self.x + self.width
+    }
+
+    /// Returns the row after the last one.
+    pub fn bottom(&self) -> u16
+        ensures { result ≡ self.now.y + self.now.height }
+    {
+        self.y + self.height
+    }
+
+    /// Returns the number of cells.
+    pub fn area(&self) -> u32
+        ensures { result ≡ self.now.width * self.now.height }
+    {
+        u32::from(self.width) * u32::from(self.height)
     }
 
     /// Returns whether the rectangle has no cell.

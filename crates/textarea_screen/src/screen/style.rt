@@ -1,3 +1,5 @@
+mod names;
+
 ghost use Rattle.std.specs.Prelude.{◌≡◌, Some};
 
 use super::color::Color;

@@ -76,6 +76,19 @@ impl<'a> Span<'a> {
     }
 }
 
+/// Converts to a span of the borrowed text in the empty style. It allocates nothing.
+impl<'a> From<&'a str> for Span<'a> {
+    ghost use Rattle.textarea_screen.specs.declared.screen.text.SpanText.TheVariants.{Borrowed};
+    ghost use Rattle.textarea_screen.specs.Style.{empty_style};
+
+    ghost from_gives = { λ text span.
+        span ≡ record { content = Borrowed text; style = empty_style } };
+
+    fn from(text: &'a str) -> Span<'a> {
+        Span::raw(text)
+    }
+}
+
 /// Spans one after another. The style of the line is under theirs.
 #[derive(Debug, Drop)]
 pub struct Line<'a> {
@@ -84,7 +97,7 @@ pub struct Line<'a> {
 }
 
 impl<'a> Line<'a> {
-    ghost use Rattle.textarea_screen.specs.declared.screen.text.SpanText.TheVariants.{Owned};
+    ghost use Rattle.textarea_screen.specs.declared.screen.text.SpanText.TheVariants.{Borrowed, Owned};
     ghost use Rattle.textarea_screen.specs.Style.{empty_style};
     ghost use Rattle.textarea_screen.specs.Text.{line_view};
 
@@ -103,6 +116,18 @@ impl<'a> Line<'a> {
             spans,
             style: Style::new(),
         }
+    }
+
+    /// Returns a line of one span that borrows this text, all in the empty style. It allocates the
+    /// list of spans and copies no text. A `\n` in the text stays.
+    pub fn from_str(alloc: Global, text: &'a str) -> Result<Line<'a>, AllocError>
+        ensures spans { IfOk result (λ line. line.spans.items
+            ≡ record { content = Borrowed text.entry; style = empty_style } ∷ []) }
+        ensures style { IfOk result (λ line. line.style ≡ empty_style) }
+    {
+        let mut spans = Vec::new(alloc);
+        spans.push(Span::raw(text))?;
+        Ok(Line::from_spans(spans))
     }
 
     /// Returns a line of one span with this text, all in the empty style. A `\n` in the text stays.

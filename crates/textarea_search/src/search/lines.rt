@@ -1,26 +1,30 @@
 //! The search from a cursor to a match start in a text, with one matcher for all lines.
-ghost use Rattle.std.specs.Prelude.{◌≡◌, ◌+◌, ◌^◌, ◌<◌, length, reverse, slice_get, IfSome};
+ghost use Rattle.std.specs.Prelude.{◌≡◌, ◌+◌, ◌^◌, ◌<◌, ℕ, Bool, None, find, length, reverse, slice_get, IfSome};
 ghost use Rattle.regex.specs.Strings.{matcher_pattern};
-ghost use Rattle.textarea_search.specs.Starts.{starts_by, found_start, IsPlaceFrom, IsPlaceIn};
+ghost use Rattle.textarea_search.specs.Spans.{IsNeedleOf, columns_in};
+ghost use Rattle.textarea_search.specs.Starts.{along, bytes_at, is_ahead_in_line, starts_by, found_start, IsPlaceFrom, IsPlaceIn};
 
 use crate::search::direction::Direction;
-use crate::search::listed::{column_ahead, end_column};
+use crate::search::listed::{column_ahead, end_column_with};
+use memchr::memmem::Finder;
 use regex::Matcher;
 
 /// Returns the first position in these lines at which a match starts.
 fn first_start(
     matcher: &mut Matcher<'_>,
+    needle: &Option<Finder<'_>>,
     lines: &[String],
     first_row: usize,
 ) -> Option<(usize, usize)>
-    requires { first_row + length lines.now < 2 ^ 64 }
+    requires rows { first_row + length lines.now < 2 ^ 64 }
+    requires needle { IfSome needle.now (λ finder. IsNeedleOf finder (matcher_pattern matcher.old)) }
     ensures found { result
         ≡ slice_get (starts_by (matcher_pattern matcher.old) first_row lines.now) 0 }
     ensures within { IfSome result (IsPlaceFrom first_row lines.now) }
     ensures same { matcher_pattern matcher.new ≡ matcher_pattern matcher.old }
 {
     for (i, line) in lines.iter().enumerate() {
-        if let Some(column) = end_column(matcher, line, Direction::Forward) {
+        if let Some(column) = end_column_with(matcher, needle, line, Direction::Forward) {
             return Some((first_row + i, column));
         }
     }
@@ -30,10 +34,12 @@ fn first_start(
 /// Returns the last position in these lines at which a match starts.
 fn last_start(
     matcher: &mut Matcher<'_>,
+    needle: &Option<Finder<'_>>,
     lines: &[String],
     first_row: usize,
 ) -> Option<(usize, usize)>
-    requires { first_row + length lines.now < 2 ^ 64 }
+    requires rows { first_row + length lines.now < 2 ^ 64 }
+    requires needle { IfSome needle.now (λ finder. IsNeedleOf finder (matcher_pattern matcher.old)) }
     ensures found { result
         ≡ slice_get (reverse (starts_by (matcher_pattern matcher.old) first_row lines.now)) 0 }
     ensures within { IfSome result (IsPlaceFrom first_row lines.now) }
@@ -42,7 +48,7 @@ fn last_start(
     let mut i = lines.len();
     while i > 0 {
         i -= 1;
-        if let Some(column) = end_column(matcher, &lines[i], Direction::Back) {
+        if let Some(column) = end_column_with(matcher, needle, &lines[i], Direction::Back) {
             return Some((first_row + i, column));
         }
     }
@@ -53,12 +59,14 @@ fn last_start(
 /// at it. It wraps around at either end of the text.
 pub(crate) fn found_start(
     matcher: &mut Matcher<'_>,
+    needle: &Option<Finder<'_>>,
     direction: Direction,
     lines: &[String],
     cursor: (usize, usize),
     match_cursor: bool,
 ) -> Option<(usize, usize)>
-    requires { cursor.0 < length lines.now }
+    requires row { cursor.0 < length lines.now }
+    requires needle { IfSome needle.now (λ finder. IsNeedleOf finder (matcher_pattern matcher.old)) }
     ensures found { result ≡ found_start direction
         (starts_by (matcher_pattern matcher.old) 0 lines.now) cursor match_cursor }
     ensures within { IfSome result (IsPlaceIn lines.now) }
@@ -67,14 +75,34 @@ pub(crate) fn found_start(
     if let Some(start) = column_ahead(matcher, &lines[row], direction, column, match_cursor) {
         return Some((row, start));
     }
+    start_beyond(matcher, needle, direction, lines, row)
+}
+
+/// Returns what `found_start` returns for a cursor in this row, if no match of its line starts in
+/// the search's direction from it.
+pub(crate) fn start_beyond(
+    matcher: &mut Matcher<'_>,
+    needle: &Option<Finder<'_>>,
+    direction: Direction,
+    lines: &[String],
+    row: usize,
+) -> Option<(usize, usize)>
+    requires row { row < length lines.now }
+    requires needle { IfSome needle.now (λ finder. IsNeedleOf finder (matcher_pattern matcher.old)) }
+    ensures found { (column : ℕ) (at_column : Bool) → find (is_ahead_in_line direction column at_column)
+        (along direction (columns_in (matcher_pattern matcher.old) (bytes_at lines.now row))) ≡ None
+        → result ≡ found_start direction
+        (starts_by (matcher_pattern matcher.old) 0 lines.now) (row, column) at_column }
+    ensures within { IfSome result (IsPlaceIn lines.now) }
+{
     match direction {
-        Direction::Forward => match first_start(matcher, &lines[row + 1..], row + 1) {
+        Direction::Forward => match first_start(matcher, needle, &lines[row + 1..], row + 1) {
             Some(place) => Some(place),
-            None => first_start(matcher, &lines[..row + 1], 0),
+            None => first_start(matcher, needle, &lines[..row + 1], 0),
         },
-        Direction::Back => match last_start(matcher, &lines[..row], 0) {
+        Direction::Back => match last_start(matcher, needle, &lines[..row], 0) {
             Some(place) => Some(place),
-            None => last_start(matcher, &lines[row..], row),
+            None => last_start(matcher, needle, &lines[row..], row),
         },
     }
 }

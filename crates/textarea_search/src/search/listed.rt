@@ -1,12 +1,14 @@
 //! The matches that `regex` lists for a line, one after another. A matcher serves for many lines.
-ghost use Rattle.std.specs.Prelude.{◌≡◌, ◌+◌, ◌≤◌, ◌<◌, [], ◌∷◌, length, take, find, reverse, slice_get, option_map, encode_utf8_all, IsCharBoundary, IsUtf8, IfSome, MatchOption, OnOk};
+ghost use Rattle.std.specs.Prelude.{◌≡◌, ◌+◌, ◌≤◌, ◌<◌, [], ◌∷◌, All, length, take, find, reverse, slice_get, option_map, encode_utf8_all, IsCharBoundary, IsUtf8, IfSome, MatchOption, OnOk};
+ghost use Rattle.std.specs.List.Sorted.{IsNonDecreasingBy};
 ghost use Rattle.std.specs.Str.{chars};
 ghost use Rattle.regex.specs.Strings.{matcher_pattern, match_span, match_haystack};
 ghost use Rattle.textarea_search.specs.Columns.{column_of_byte};
-ghost use Rattle.textarea_search.specs.Spans.{spans_after, columns_in};
+ghost use Rattle.textarea_search.specs.Spans.{IsNeedleOf, spans_after, columns_in};
 ghost use Rattle.textarea_search.specs.Starts.{along, is_ahead_in_line, is_past};
 
 use crate::search::direction::Direction;
+use memchr::memmem::Finder;
 use regex::{Match, Matcher};
 use std::alloc::AllocError;
 use textarea_text::rows::{byte_offset, column_count};
@@ -49,8 +51,46 @@ pub(crate) fn list_spans(
     Ok(())
 }
 
+/// Replaces the content of a vector by the columns at which the listed matches of a line start.
+pub(crate) fn list_columns(
+    matcher: &mut Matcher<'_>,
+    line: &str,
+    columns: &mut Vec<usize>,
+) -> Result<(), AllocError>
+    ensures found { OnOk result
+        (columns.new.items ≡ columns_in (matcher_pattern matcher.old) line.now) }
+    ensures within { OnOk result
+        (All (λ column. column ≤ length (chars line.now)) columns.new.items) }
+    ensures ascending { OnOk result (IsNonDecreasingBy (λ column. column) columns.new.items) }
+    ensures same { matcher_pattern matcher.new ≡ matcher_pattern matcher.old }
+{
+    columns.clear();
+    let mut after = 0;
+    let mut last = (0, 0);
+    while let Some(found) = next_listed(matcher, line, after) {
+        let start = found.start();
+        last = (start, column_from(line, last, start));
+        columns.push(last.1)?;
+        after = found.end() + 1;
+    }
+    Ok(())
+}
+
+// Returns the column of a byte offset, given an offset at or before it with its column.
+fn column_from(line: &str, known: (usize, usize), byte: usize) -> usize
+    requires boundary { IsCharBoundary line.now byte }
+    requires known_boundary { IsCharBoundary line.now known.0 }
+    requires ordered { known.0 ≤ byte }
+    requires column { known.1 ≡ column_of_byte line.now known.0 }
+    ensures column { result ≡ column_of_byte line.now byte }
+    ensures least { known.1 ≤ result }
+    ensures within { result ≤ length (chars line.now) }
+{
+    known.1 + line[known.0..byte].chars().count()
+}
+
 /// Returns whether an offset or column is past the mark or, with `at_mark`, at it.
-fn is_past(mark: usize, at_mark: bool, place: usize) -> bool
+pub(crate) fn is_past(mark: usize, at_mark: bool, place: usize) -> bool
     ensures { result ≡ is_past mark at_mark place }
 {
     place > mark || (at_mark && place == mark)
@@ -176,12 +216,29 @@ pub(crate) fn column_ahead(
     start_column(line, nearest(matcher, line, direction, byte, at_column))
 }
 
-/// Returns the first column of a line, in the search's direction, at which a listed match starts.
-pub(crate) fn end_column(
+/// Does the same as `end_column`, but passes over a line that lacks a text that each match has.
+pub(crate) fn end_column_with(
     matcher: &mut Matcher<'_>,
+    needle: &Option<Finder<'_>>,
     line: &str,
     direction: Direction,
 ) -> Option<usize>
+    requires { IfSome needle.now (λ finder. IsNeedleOf finder (matcher_pattern matcher.old)) }
+    ensures found { result
+        ≡ slice_get (along direction (columns_in (matcher_pattern matcher.old) line.now)) 0 }
+    ensures within { IfSome result (λ start. start ≤ length (chars line.now)) }
+    ensures same { matcher_pattern matcher.new ≡ matcher_pattern matcher.old }
+{
+    if let Some(finder) = needle {
+        let Some(_) = finder.find(line.as_bytes()) else {
+            return None;
+        };
+    }
+    end_column(matcher, line, direction)
+}
+
+/// Returns the first column of a line, in the search's direction, at which a listed match starts.
+fn end_column(matcher: &mut Matcher<'_>, line: &str, direction: Direction) -> Option<usize>
     ensures found { result
         ≡ slice_get (along direction (columns_in (matcher_pattern matcher.old) line.now)) 0 }
     ensures within { IfSome result (λ start. start ≤ length (chars line.now)) }

@@ -2,6 +2,7 @@
 mod caching_matcher;
 mod direction;
 mod line_matcher;
+mod line_starts;
 mod lines;
 mod listed;
 mod match_cache;

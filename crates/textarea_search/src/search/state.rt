@@ -1,8 +1,9 @@
-ghost use Rattle.std.specs.Prelude.{◌≡◌, ◌≢◌, ◌<◌, [], length, option_map, IsNone, IsOk, IfOk, IfErr, OnOk, OnErr};
+ghost use Rattle.std.specs.Prelude.{◌≡◌, ◌≢◌, ◌<◌, ◌≤◌, ℕ, Bool, [], Some, find, length, option_map, IsNone, IsOk, IfOk, IfErr, IfSome, OnOk, OnErr};
 ghost use Rattle.std.specs.Option.{option_copied};
+ghost use Rattle.std.specs.Str.{chars};
 ghost use Rattle.textarea_search.specs.PatternErrors.{IsPatternFailure, IsErrorFor, IsOwnFailure};
-ghost use Rattle.textarea_search.specs.Matches.{match_spans};
-ghost use Rattle.textarea_search.specs.Starts.{IsFound};
+ghost use Rattle.textarea_search.specs.Matches.{match_columns, match_spans};
+ghost use Rattle.textarea_search.specs.Starts.{IsFound, along, bytes_at, is_ahead_in_line};
 ghost use Rattle.textarea_search.specs.declared.search.direction.Direction.TheVariants.{Forward, Back};
 
 use crate::error::SearchError;
@@ -10,7 +11,7 @@ use crate::pattern::Pattern;
 use crate::search::caching_matcher::CachingMatcher;
 use crate::search::direction::Direction;
 use crate::search::line_matcher::LineMatcher;
-use crate::search::lines::found_start;
+use crate::search::lines::{found_start, start_beyond};
 use crate::search::match_cache::MatchCache;
 use crate::search::matches::Matches;
 use std::alloc::{AllocError, Global};
@@ -147,7 +148,39 @@ impl Search {
             return Ok(None);
         };
         let mut matcher = pattern.matcher()?;
-        Ok(found_start(&mut matcher, direction, lines, cursor, match_cursor))
+        let finder = pattern.finder();
+        Ok(found_start(
+            &mut matcher,
+            &finder,
+            direction,
+            lines,
+            cursor,
+            match_cursor,
+        ))
+    }
+
+    /// Does the same, but from the second search in a line on it looks the matches of that line up,
+    /// which it stores in `cached` if there is memory for that.
+    pub fn find_cached(
+        &self,
+        cached: &mut MatchCache,
+        direction: Direction,
+        lines: &[String],
+        cursor: (usize, usize),
+        match_cursor: bool,
+    ) -> Result<Option<(usize, usize)>, AllocError>
+        requires { cursor.0 < length lines.now }
+        ensures { IsFound direction self.now lines.now cursor match_cursor result }
+    {
+        let Some(pattern) = &self.pattern else {
+            return Ok(None);
+        };
+        let (row, column) = cursor;
+        let line = lines[row].as_str();
+        match cached.start_ahead(pattern.text(), line, direction, column, match_cursor) {
+            Some(here) => find_known(pattern, direction, lines, row, here),
+            None => find_and_store(pattern, cached, direction, lines, cursor, match_cursor),
+        }
     }
 
     /// Returns a search for the same pattern; the two share it.
@@ -162,6 +195,56 @@ impl Search {
             None => Ok(Search { pattern: None }),
         }
     }
+}
+
+// Returns the match start in the row's line that is known to be the first ahead, if there is one,
+// and else the first one beyond the line.
+fn find_known(
+    pattern: &Pattern,
+    direction: Direction,
+    lines: &[String],
+    row: usize,
+    here: Option<usize>,
+) -> Result<Option<(usize, usize)>, AllocError>
+    requires row { row < length lines.now }
+    requires within { IfSome here (λ start. start ≤ length (chars (bytes_at lines.now row))) }
+    ensures { (column : ℕ) (at_column : Bool) →
+        here ≡ find (is_ahead_in_line direction column at_column)
+        (along direction (match_columns pattern.now (bytes_at lines.now row)))
+        → IsFound direction (Some pattern.now) lines.now (row, column) at_column result }
+{
+    if let Some(start) = here {
+        return Ok(Some((row, start)));
+    }
+    let mut matcher = pattern.matcher()?;
+    let finder = pattern.finder();
+    Ok(start_beyond(&mut matcher, &finder, direction, lines, row))
+}
+
+// Searches in the lines, after the starts in the cursor's line are stored if they can be.
+fn find_and_store(
+    pattern: &Pattern,
+    cached: &mut MatchCache,
+    direction: Direction,
+    lines: &[String],
+    cursor: (usize, usize),
+    match_cursor: bool,
+) -> Result<Option<(usize, usize)>, AllocError>
+    requires { cursor.0 < length lines.now }
+    ensures { IsFound direction (Some pattern.now) lines.now cursor match_cursor result }
+{
+    let mut matcher = pattern.matcher()?;
+    let line = lines[cursor.0].as_str();
+    let _ = cached.put_starts(cursor.0, &mut matcher, pattern.text(), line);
+    let finder = pattern.finder();
+    Ok(found_start(
+        &mut matcher,
+        &finder,
+        direction,
+        lines,
+        cursor,
+        match_cursor,
+    ))
 }
 
 impl Default for Search {

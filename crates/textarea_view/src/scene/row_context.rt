@@ -1,6 +1,6 @@
 //! Visual rows that are split into styled spans, one after another.
-ghost use Rattle.std.specs.Prelude.{◌≡◌, ◌<◌, chars, encode_utf8_all, length, IfOk, OnOk};
-ghost use Rattle.textarea_view.specs.Prelude.{plain_row, ShowsRow, row_total, row_at, row_of_texts, line_view, cursor_cell, matches_in, row_highlights, searched_lines, HasPlaces};
+ghost use Rattle.std.specs.Prelude.{◌≡◌, ◌+◌, ◌<◌, chars, encode_utf8_all, length, IfOk, IfSome, OnOk};
+ghost use Rattle.textarea_view.specs.Prelude.{AreNumbers, IsDrawnAs, Left, VisualRow, highlights_of, plain_row, ShowsRow, row_total, row_at, row_of_texts, line_view, cursor_cell, matches_in, row_highlights, searched_lines, HasPlaces};
 
 use super::Scene;
 use super::highlighting::{Range, byte_place};
@@ -8,8 +8,10 @@ use super::matches::LineMatches;
 use std::alloc::{AllocError, Global};
 use std::marker::Model;
 use textarea_highlight::highlight::LineHighlighter;
-use textarea_screen::screen::Line;
+use textarea_paint::paint::row::RowArea;
+use textarea_screen::screen::{Alignment, Line};
 use textarea_screen_map::screen_map::RowText;
+use textarea_wrap::layout::num_digits;
 
 /// A scene with the data that each of its rows needs: the visual row of the cursor, and the byte
 /// offsets in their lines at which the selection starts and ends.
@@ -80,6 +82,27 @@ impl<'f, 'a> RowContext<'f, 'a> {
         highlighter.show_in(line)
     }
 
+    /// Replaces the content of a line by spans that have the cells of a visual row in these rows of
+    /// an area, and returns the first column of the line to draw. With left alignment these are the
+    /// spans of only the part that is in view, and a little more.
+    pub(super) fn show_visible_in(
+        &self,
+        line: &mut Line<'a>,
+        rows: RowArea,
+        row: usize,
+        matches: &mut LineMatches<'_, '_>,
+        highlighter: &mut LineHighlighter<'a>,
+    ) -> Result<usize, AllocError>
+        requires row { row < row_total self.now.rows.rows }
+        requires matches { matches.old.searched ≡ searched_lines self.now }
+        ensures displayed { IfOk result (λ left.
+            IsDrawnAs (row_highlights self.now row) rows left (line_view line.new)) }
+        ensures same { matches.new.searched ≡ matches.old.searched }
+    {
+        let number_columns = self.set_row_at(highlighter, row, matches)?;
+        show_visible(line, rows, number_columns, highlighter)
+    }
+
     /// Returns a new line with the spans of a visual row.
     pub(super) fn row_line(
         &self,
@@ -98,15 +121,18 @@ impl<'f, 'a> RowContext<'f, 'a> {
     }
 
     // Restarts the highlighter with the visual row of this number, and adds all its highlights.
+    // Returns the number of columns in front of the row.
     fn set_row_at(
         &self,
         highlighter: &mut LineHighlighter<'a>,
         row: usize,
         matches: &mut LineMatches<'_, '_>,
-    ) -> Result<(), AllocError>
+    ) -> Result<usize, AllocError>
         requires row { row < row_total self.now.rows.rows }
         requires matches { matches.old.searched ≡ searched_lines self.now }
         ensures highlights_are { OnOk result (highlighter.new ≡ row_highlights self.now row) }
+        ensures numbers { IfOk result (λ columns.
+            AreNumbers (row_highlights self.now row).numbers columns) }
         ensures same { matches.new.searched ≡ matches.old.searched }
     {
         let scene = self.scene;
@@ -115,27 +141,44 @@ impl<'f, 'a> RowContext<'f, 'a> {
         self.set_row(highlighter, row, displayed, matches.as_slice())
     }
 
-    // Restarts the highlighter with this visual row, and adds all highlights of the row.
+    // Returns the number of columns in front of the rows of a line, 0 without line numbers.
+    fn number_columns(&self, line: usize) -> usize
+        requires { line < length self.now.rows.lines }
+        ensures { (row : VisualRow) → row.line ≡ line →
+            AreNumbers (highlights_of self.now row).numbers result }
+    {
+        let scene = self.scene;
+        if !scene.line_numbers {
+            return 0;
+        }
+        usize::from(num_digits(scene.rows.lines().len())) + 2
+    }
+
+    // Restarts the highlighter with this visual row, and adds all highlights of the row. Returns
+    // the number of columns in front of the row.
     fn set_row<'t>(
         &self,
         highlighter: &mut LineHighlighter<'t>,
         row: usize,
         displayed: RowText<'t>,
         matches: &[(usize, usize)],
-    ) -> Result<(), AllocError>
+    ) -> Result<usize, AllocError>
         requires row { row < row_total self.now.rows.rows }
         requires displayed { row_of_texts displayed ≡ row_at self.now.rows.lines self.now.rows.rows
             row }
         requires line { displayed.line < length self.now.rows.lines }
         requires matches { matches.now ≡ matches_in (searched_lines self.now) displayed.line }
-        ensures { OnOk result (highlighter.new ≡ row_highlights self.now row) }
+        ensures highlights_are { OnOk result (highlighter.new ≡ row_highlights self.now row) }
+        ensures numbers { IfOk result (λ columns.
+            AreNumbers (row_highlights self.now row).numbers columns) }
     {
         self.begin(highlighter, displayed.text);
         self.add_number(highlighter, displayed)?;
         self.add_cursor(highlighter, row, displayed)?;
         self.add_matches(highlighter, displayed, matches)?;
         self.add_selection(highlighter, displayed)?; // over the matches
-        self.add_customs(highlighter, displayed)
+        self.add_customs(highlighter, displayed)?;
+        Ok(self.number_columns(displayed.line))
     }
 
     // Restarts the highlighter with a row of this text, without highlights.
@@ -152,5 +195,41 @@ impl<'f, 'a> RowContext<'f, 'a> {
             scene.look.mask,
             scene.look.selection_style,
         )
+    }
+}
+
+// Replaces the content of a line by the spans of the highlighter's row, or of the part that is in
+// view, and returns the first column of the line to draw.
+fn show_visible<'a>(
+    line: &mut Line<'a>,
+    rows: RowArea,
+    number_columns: usize,
+    highlighter: &mut LineHighlighter<'a>,
+) -> Result<usize, AllocError>
+    requires { AreNumbers highlighter.old.numbers number_columns }
+    ensures { IfOk result (λ left. IsDrawnAs highlighter.old rows left (line_view line.new)) }
+{
+    let Some(right) = right_column(rows) else {
+        highlighter.show_in(line)?;
+        return Ok(rows.left);
+    };
+    let left = rows.left.saturating_sub(number_columns);
+    let right = right.saturating_sub(number_columns);
+    let part = highlighter.show_between_in(line, left, right)?;
+    if part.from == 0 {
+        Ok(rows.left)
+    } else {
+        Ok(left - part.column)
+    }
+}
+
+// Returns the first column of a row that is right of the area, if the row begins at its left.
+fn right_column(rows: RowArea) -> Option<usize>
+    ensures left { IfSome result (λ _. rows.alignment ≡ Left) }
+    ensures right { IfSome result (λ right. right ≡ rows.left + rows.area.width) }
+{
+    match rows.alignment {
+        Alignment::Left => rows.left.checked_add(usize::from(rows.area.width())),
+        _ => None,
     }
 }

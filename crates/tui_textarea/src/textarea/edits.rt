@@ -2,12 +2,12 @@
 //! is strictly inside an atomic range to the range's end.
 ghost use Rattle.std.specs.Prelude.{◌≡◌, ◌<◌, OnOk, OnErr, IsOk, IfOk, false, [], replicate, vec_len};
 ghost use Rattle.std.specs.Str.{chars};
-ghost use Rattle.tui_textarea.specs.Prelude.{Character, text_of, has_symbols, is_selected, fragment_symbols, inserts_tab, inserts_text, symbols_or_none_inserted, spaces_to_stop, char_inserted, char_or_break_inserted, newline_inserted, tab_inserted, tab_or_spaces_inserted, str_inserted, IsInsertOutOfMemory, selection_cancelled, unselected};
+ghost use Rattle.tui_textarea.specs.Prelude.{Character, text_of, has_symbols, is_selected, fragment_symbols, pasted_symbols, inserts_tab, inserts_text, symbols_or_none_inserted, spaces_to_stop, char_inserted, char_or_break_inserted, newline_inserted, tab_inserted, tab_or_spaces_inserted, str_inserted, IsInsertOutOfMemory, selection_cancelled, unselected};
 
 use crate::textarea::TextArea;
 use std::alloc::{AllocError, Global};
 use textarea_document::document::insertions::has_symbol;
-use textarea_text::fragment::{copy_fragment, fragment_of};
+use textarea_text::fragment::{copy_fragment, fragment_of, unify_line_ends};
 use textarea_text::tab::spaces_to_stop;
 use textarea_text::util::spaces;
 
@@ -61,6 +61,25 @@ impl TextArea<'_> {
         let fragment_lines = fragment_of(self.allocator(), text)?;
         self.insert_over_selection(fragment_lines)?;
         Ok(true)
+    }
+
+    /// Inserts a text that was pasted from outside, where `insert_str` inserts, and returns whether
+    /// it inserted something or removed a selection. Each line end breaks the line: a line feed, a
+    /// carriage return, or a carriage return and a line feed.
+    pub fn insert_pasted(&mut self, text: &str) -> Result<bool, AllocError>
+        ensures inserted { IfOk result
+            (λ inserted. inserted ≡ inserts_text self.old (pasted_symbols (chars text.now))) }
+        ensures ok { OnOk result
+            (self.new ≡ str_inserted self.old (pasted_symbols (chars text.now))) }
+        ensures err { OnErr result (IsInsertOutOfMemory self.old self.new) }
+        ensures nothing { inserts_text self.old (pasted_symbols (chars text.now)) ≡ false → IsOk
+            result }
+    {
+        if !has_pasted_text(text) {
+            return self.insert_nothing();
+        }
+        let unified = unify_line_ends(self.allocator(), text)?;
+        self.insert_str(unified.as_str())
     }
 
     /// Inserts the yanked text where `insert_str` inserts, and returns whether there was any.
@@ -165,6 +184,12 @@ impl TextArea<'_> {
 
 fn has_text(text: &str) -> bool
     ensures { result ≡ has_symbols (fragment_symbols (chars text.now)) }
+{
+    !text.is_empty()
+}
+
+fn has_pasted_text(text: &str) -> bool
+    ensures { result ≡ has_symbols (pasted_symbols (chars text.now)) }
 {
     !text.is_empty()
 }

@@ -1,12 +1,13 @@
 //! Moves of the cursor.
 ghost use Rattle.std.specs.Prelude.{◌≡◌, IfSome};
-ghost use Rattle.tui_textarea.specs.Prelude.{IsPlace, IsMoved, IsMovedWith, IsTarget, anchor_with, bias_of};
+ghost use Rattle.tui_textarea.specs.Prelude.{IsPlace, IsMoved, gone_to, IsMovedWith, IsTarget, anchor_with, bias_of};
 
 use crate::textarea::TextArea;
 use textarea_data::cursor::CursorMove;
 use textarea_data::range::AtomicCursorBias;
 use textarea_document::target::target;
 use textarea_ranges::lookup::move_out;
+use textarea_text::places::clip;
 
 impl TextArea<'_> {
     /// Moves the cursor. An open selection follows it, and a run of typing ends. Up and Down move
@@ -20,6 +21,19 @@ impl TextArea<'_> {
         ensures { IsMoved self.old cursor_move self.new }
     {
         self.move_with_shift(cursor_move, self.is_selecting());
+    }
+
+    /// Moves the cursor to the position (row, column), or to the nearest one in the text: the row is
+    /// at most the last, the column at most its line's length. A position strictly inside an atomic
+    /// range is moved to the range's end. An open selection follows the cursor, and a run of typing
+    /// ends. Unlike `CursorMove::Jump` it reaches every row.
+    pub fn go_to(&mut self, place: (usize, usize))
+        ensures { self.new ≡ gone_to self.old place }
+    {
+        let nearest = clip(self.document.lines(), place);
+        let target = move_out(self.document.ranges(), nearest, AtomicCursorBias::Forward);
+        let anchor = self.anchor_with(self.is_selecting());
+        self.document.move_to(target, anchor);
     }
 
     // Moves the cursor. With Shift an open selection stays open, or one begins at the old cursor;

@@ -43,7 +43,7 @@ impl TextArea<'_> {
         ensures no_pattern { self.old.pattern ≡ None → IsOk result }
     {
         let found = self.found_match(Direction::Forward, match_cursor)?;
-        Ok(self.go_to(found))
+        Ok(self.go_to_match(found))
     }
 
     /// Moves the cursor to the last start of a match before it or, with `match_cursor`, at it, and
@@ -60,29 +60,31 @@ impl TextArea<'_> {
         ensures no_pattern { self.old.pattern ≡ None → IsOk result }
     {
         let found = self.found_match(Direction::Back, match_cursor)?;
-        Ok(self.go_to(found))
+        Ok(self.go_to_match(found))
     }
 
     // Returns the position that a search from the cursor finds.
     fn found_match(
-        &self,
+        &mut self,
         direction: Direction,
         match_cursor: bool,
     ) -> Result<Option<(usize, usize)>, AllocError>
         ensures found { IfOk result
-            (λ place. place ≡ found_match direction self.now match_cursor) }
+            (λ place. place ≡ found_match direction self.old match_cursor) }
         ensures place { OnOk result
-            (IfSome (found_match direction self.now match_cursor)
-            (IsPlace self.now.document.text)) }
-        ensures no_pattern { self.now.pattern ≡ None → IsOk result }
+            (IfSome (found_match direction self.old match_cursor)
+            (IsPlace self.old.document.text)) }
+        ensures same { self.new ≡ self.old }
+        ensures no_pattern { self.old.pattern ≡ None → IsOk result }
     {
         let cursor = self.document.cursor();
-        self.search
-            .find(direction, self.document.lines(), cursor, match_cursor)
+        let lines = self.document.lines();
+        self.drawing
+            .find_match(&self.search, direction, lines, cursor, match_cursor)
     }
 
     // Moves the cursor to the found position, if there is one, and returns whether there is.
-    fn go_to(&mut self, found: Option<(usize, usize)>) -> bool
+    fn go_to_match(&mut self, found: Option<(usize, usize)>) -> bool
         requires { IfSome found (IsPlace self.old.document.text) }
         ensures went { result ≡ is_some found }
         ensures state { self.new ≡ after_search self.old found }

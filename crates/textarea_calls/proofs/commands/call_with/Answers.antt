@@ -8,12 +8,12 @@ use Rattle.textarea_calls.specs.declared.call.Call.TheVariants as call
 use Rattle.textarea_calls.specs.declared.commands.CommandContent.TheVariants as content
 use Rattle.textarea_calls.proofs.Tables.{IsOther, meaning_by-after, command_meaning-read, command_meaning-unread, option_map-twice, ready-none}
 use Rattle.textarea_calls.proofs.commands.call_with.Goals as goal
-use Rattle.textarea_calls.proofs.commands.call_with.Goals.{in-insert_char+in_ok-one_character-in-insert_char, in-delete_str+in_ok-number-in-delete_str, in-search_forward+in_ok-truth-in-search_forward, in-search_back+in_ok-truth-in-search_back, in-measure+in_ok-short_number-in-measure, in-render+in_ok-area-in-render, in-hit+in_ok-position-in-hit, in-move+in_ok-move_named-in-move, in-jump+in_ok-jump-in-jump, in-scroll+in_ok-scroll_amounts-in-scroll, in-page+in_ok-page_named-in-page}
+use Rattle.textarea_calls.proofs.commands.call_with.Goals.{in-insert_char+in_ok-one_character-in-insert_char, in-delete_str+in_ok-number-in-delete_str, in-search_forward+in_ok-truth-in-search_forward, in-search_back+in_ok-truth-in-search_back, in-measure+in_ok-short_number-in-measure, in-render+in_ok-area-in-render, in-hit+in_ok-position-in-hit, in-move+in_ok-move_named-in-move, in-jump+in_ok-jump-in-jump, in-go_to+in_ok-two_numbers-in-go_to, in-scroll+in_ok-scroll_amounts-in-scroll, in-page+in_ok-page_named-in-page}
 
 pub returns-in_default-clause-means : goal.returns-in_default-clause-means
 unfolding plain_meaning setting_meaning
 returns-in_default-clause-means c =
-    let others : IsOther c.args.name.now acting_commands = (c.in_default.not-insert_char, (c.in_default.not-delete_str, (c.in_default.not-search_forward, (c.in_default.not-search_back, (c.in_default.not-measure, (c.in_default.not-render, (c.in_default.not-hit, (c.in_default.not-move, (c.in_default.not-jump, (c.in_default.not-scroll, (c.in_default.not-page, tt))))))))))) in
+    let others : IsOther c.args.name.now acting_commands = (c.in_default.not-insert_char, (c.in_default.not-delete_str, (c.in_default.not-search_forward, (c.in_default.not-search_back, (c.in_default.not-measure, (c.in_default.not-render, (c.in_default.not-hit, (c.in_default.not-move, (c.in_default.not-jump, (c.in_default.not-go_to, (c.in_default.not-scroll, (c.in_default.not-page, tt)))))))))))) in
     c.setting_with.ensures.means
     ∙ sym (meaning_by-after c.args.name.now (Some c.args.arguments.now) acting_commands (setting_commands ++ bare_commands) others)
 
@@ -30,6 +30,7 @@ returns-clause-means c =
       | in-hit+in_ok-position-in-hit w ↦ command_meaning-read plain_meaning (λ value. Plain (call.CursorAtPosition value)) _ _ _ _ _ _ _ w.in-hit.is (sym (option_map-twice (λ value. Plain (call.CursorAtPosition value)) (λ p. record { x = p.0; y = p.1 }) (two_short_numbers c.args.arguments.now))) w.position.ensures (w.in_ok-position-in-hit.was) (ap (λ made. meaning_of (content.Plain made)) w.result-is)
       | in-move+in_ok-move_named-in-move w ↦ command_meaning-read plain_meaning (λ value. Plain (call.Move value)) _ _ _ _ _ _ _ w.in-move.is refl w.move_named.ensures (w.in_ok-move_named-in-move.was) (ap (λ made. meaning_of (content.Plain made)) w.result-is)
       | in-jump+in_ok-jump-in-jump w ↦ command_meaning-read plain_meaning (λ value. Plain (call.Move value)) _ _ _ _ _ _ _ w.in-jump.is (sym (option_map-twice (λ value. Plain (call.Move value)) (λ p. move.Jump p.0 p.1) (two_short_numbers c.args.arguments.now))) w.jump.ensures (w.in_ok-jump-in-jump.was) (ap (λ made. meaning_of (content.Plain made)) w.result-is)
+      | in-go_to+in_ok-two_numbers-in-go_to w ↦ command_meaning-read plain_meaning (λ value. Plain (call.GoTo value)) _ _ _ _ _ _ _ w.in-go_to.is refl w.two_numbers.ensures (w.in_ok-two_numbers-in-go_to.was) (ap (λ made. meaning_of (content.Plain made)) w.result-is)
       | in-scroll+in_ok-scroll_amounts-in-scroll w ↦ command_meaning-read plain_meaning (λ value. Plain (call.Scroll value)) _ _ _ _ _ _ _ w.in-scroll.is refl w.scroll_amounts.ensures (w.in_ok-scroll_amounts-in-scroll.was) (ap (λ made. meaning_of (content.Plain made)) w.result-is)
       | in-page+in_ok-page_named-in-page w ↦ command_meaning-read plain_meaning (λ value. Plain (call.Scroll value)) _ _ _ _ _ _ _ w.in-page.is refl w.page_named.ensures (w.in_ok-page_named-in-page.was) (ap (λ made. meaning_of (content.Plain made)) w.result-is)
     ]
@@ -62,6 +63,10 @@ pub returns-in_err-move_named-in-move-clause-means : goal.returns-in_err-move_na
 unfolding plain_meaning
 returns-in_err-move_named-in-move-clause-means c = command_meaning-unread plain_meaning (λ value. Plain (call.Move value)) _ _ _ _ _ c.from_residual-in_err-move_named-in-move.ensures c.in-move.is refl c.in_err-move_named-in-move.ensures
 
+pub returns-in_err-two_numbers-in-go_to-clause-means : goal.returns-in_err-two_numbers-in-go_to-clause-means
+unfolding plain_meaning
+returns-in_err-two_numbers-in-go_to-clause-means c = command_meaning-unread plain_meaning (λ value. Plain (call.GoTo value)) _ _ _ _ _ c.from_residual-in_err-two_numbers-in-go_to.ensures c.in-go_to.is refl c.in_err-two_numbers-in-go_to.ensures
+
 pub returns-in_err-scroll_amounts-in-scroll-clause-means : goal.returns-in_err-scroll_amounts-in-scroll-clause-means
 unfolding plain_meaning
 returns-in_err-scroll_amounts-in-scroll-clause-means c = command_meaning-unread plain_meaning (λ value. Plain (call.Scroll value)) _ _ _ _ _ c.from_residual-in_err-scroll_amounts-in-scroll.ensures c.in-scroll.is refl c.in_err-scroll_amounts-in-scroll.ensures
@@ -93,6 +98,7 @@ returns-clause-ready c =
       | in-hit+in_ok-position-in-hit w ↦ subst CanBeMade (sym w.result-is) tt
       | in-move+in_ok-move_named-in-move w ↦ subst CanBeMade (sym w.result-is) tt
       | in-jump+in_ok-jump-in-jump w ↦ subst CanBeMade (sym w.result-is) tt
+      | in-go_to+in_ok-two_numbers-in-go_to w ↦ subst CanBeMade (sym w.result-is) tt
       | in-scroll+in_ok-scroll_amounts-in-scroll w ↦ subst CanBeMade (sym w.result-is) tt
       | in-page+in_ok-page_named-in-page w ↦ subst CanBeMade (sym w.result-is) tt
     ]
@@ -123,6 +129,9 @@ returns-in_err-move_named-in-move-clause-ready c = ready-none _ c.from_residual-
 
 pub returns-in_err-jump-in-jump-clause-ready : goal.returns-in_err-jump-in-jump-clause-ready
 returns-in_err-jump-in-jump-clause-ready c = ready-none _ c.from_residual-in_err-jump-in-jump.ensures
+
+pub returns-in_err-two_numbers-in-go_to-clause-ready : goal.returns-in_err-two_numbers-in-go_to-clause-ready
+returns-in_err-two_numbers-in-go_to-clause-ready c = ready-none _ c.from_residual-in_err-two_numbers-in-go_to.ensures
 
 pub returns-in_err-scroll_amounts-in-scroll-clause-ready : goal.returns-in_err-scroll_amounts-in-scroll-clause-ready
 returns-in_err-scroll_amounts-in-scroll-clause-ready c = ready-none _ c.from_residual-in_err-scroll_amounts-in-scroll.ensures

@@ -16,7 +16,7 @@ pub returns-in_default-clause-means : goal.returns-in_default-clause-means
 returns-in_default-clause-means c =
     let after : command_meaning c.args.name.now (option_copied c.args.arguments) ≡ plain_meaning c.args.name.now (option_copied c.args.arguments) =
     command_meaning-plain c.args.name.now (option_copied c.args.arguments)
-    (c.in_default.not-insert_str, (c.in_default.not-set_yank_text, (c.in_default.not-set_search_pattern, (c.in_default.not-ranges, (c.in_default.not-set_lines, (c.in_default.not-input, tt)))))) in
+    (c.in_default.not-insert_str, (c.in_default.not-insert_pasted, (c.in_default.not-set_yank_text, (c.in_default.not-set_search_pattern, (c.in_default.not-ranges, (c.in_default.not-set_lines, (c.in_default.not-input, tt))))))) in
     subst (λ (means : Option Meaning). IsReadAs meaning_of means c.ok_or-in_default.result) (c.plain.ensures.means ∙ sym after)
     (with_arguments-made content.Plain (λ (call : Call). meaning_of (content.Plain call)) c.plain.result c.plain.result c.map-in_default.result c.ok_or-in_default.result (λ x. refl) refl c.map-in_default.ensures.cases c.ok_or-in_default.ensures.value)
 
@@ -41,6 +41,9 @@ returns-in-set_lines-clause-ready c = c.set_lines.ensures.ready
 pub returns-in-insert_str-clause-ready : goal.returns-in-insert_str-clause-ready
 returns-in-insert_str-clause-ready c = ready-read content.InsertStr c.text.result c.map.result (λ x. tt) c.map.ensures.cases
 
+pub returns-in-insert_pasted-clause-ready : goal.returns-in-insert_pasted-clause-ready
+returns-in-insert_pasted-clause-ready c = ready-read content.InsertPasted c.text-in-insert_pasted.result c.map-in-insert_pasted.result (λ x. tt) c.map-in-insert_pasted.ensures.cases
+
 pub returns-in-set_yank_text-clause-ready : goal.returns-in-set_yank_text-clause-ready
 returns-in-set_yank_text-clause-ready c = ready-read content.SetYankText c.text-in-set_yank_text.result c.map-in-set_yank_text.result (λ x. tt) c.map-in-set_yank_text.ensures.cases
 
@@ -56,6 +59,13 @@ returns-in-insert_str-clause-means c =
     let by_row = ap (λ (name : List ℕ). command_meaning name (option_copied c.args.arguments)) c.in-insert_str.is in
     subst (λ (means : Option Meaning). IsReadAs meaning_of means c.map.result) (sym by_row)
     (read-made string_bytes content.InsertStr meaning.InsertStr _ c.text.result c.map.result (λ x. refl) c.text.ensures c.map.ensures.cases)
+
+pub returns-in-insert_pasted-clause-means : goal.returns-in-insert_pasted-clause-means
+unfolding command_meaning
+returns-in-insert_pasted-clause-means c =
+    let by_row = ap (λ (name : List ℕ). command_meaning name (option_copied c.args.arguments)) c.in-insert_pasted.is in
+    subst (λ (means : Option Meaning). IsReadAs meaning_of means c.map-in-insert_pasted.result) (sym by_row)
+    (read-made string_bytes content.InsertPasted meaning.InsertPasted _ c.text-in-insert_pasted.result c.map-in-insert_pasted.result (λ x. refl) c.text-in-insert_pasted.ensures c.map-in-insert_pasted.ensures.cases)
 
 pub returns-in-set_yank_text-clause-means : goal.returns-in-set_yank_text-clause-means
 unfolding command_meaning

@@ -19,7 +19,7 @@ ready_numbers false = tt
 pub returns-in_default-clause-means : goal.returns-in_default-clause-means
 unfolding setting_meaning
 returns-in_default-clause-means c =
-    let nothing : MeansNothing c.args.name.now (Some c.args.arguments.now) (setting_commands ++ bare_commands) = (inl c.in_default.not-set_tab_length, (inl c.in_default.not-set_hard_tab_indent, (inl c.in_default.not-set_max_histories, (inl c.in_default.not-set_undo_coalescing, (inl c.in_default.not-set_wrap_mode, (inl c.in_default.not-set_mask_char, (inl c.in_default.not-line_numbers, (inl c.in_default.not-now, (inr refl, (inr refl, (inr refl, (inr refl, (inr refl, (inr refl, (inr refl, (inr refl, (inr refl, (inr refl, (inr refl, (inr refl, (inr refl, (inr refl, (inr refl, (inr refl, (inr refl, (inr refl, (inr refl, (inr refl, tt)))))))))))))))))))))))))))) in
+    let nothing : MeansNothing c.args.name.now (Some c.args.arguments.now) (setting_commands ++ bare_commands) = (inl c.in_default.not-set_tab_length, (inl c.in_default.not-set_hard_tab_indent, (inl c.in_default.not-set_max_histories, (inl c.in_default.not-set_undo_coalescing, (inl c.in_default.not-set_wrap_mode, (inl c.in_default.not-set_mask_char, (inl c.in_default.not-line_numbers, (inl c.in_default.not-now, (inr refl, (inr refl, (inr refl, (inr refl, (inr refl, (inr refl, (inr refl, (inr refl, (inr refl, (inr refl, (inr refl, (inr refl, (inr refl, (inr refl, (inr refl, (inr refl, (inr refl, (inr refl, (inr refl, (inr refl, (inr refl, tt))))))))))))))))))))))))))))) in
     sym (meaning_by-none c.args.name.now (Some c.args.arguments.now) (setting_commands ++ bare_commands) nothing)
 
 pub returns-clause-means : goal.returns-clause-means

@@ -1,8 +1,12 @@
 use Rattle.std.proofs.Common.{◌≡◌, ◌≤◌, ◌∙◌, List, ap, arith, filter_map, subst, sym}
-use Rattle.textarea_document.specs.Prelude.{size_limit, Symbol, Place, IsPlace, TextAndLayout, applied, place_after, place_before, moved_by, moved_ranges}
+use Rattle.textarea_document.specs.Prelude.{size_limit, Symbol, Place, IsPlace, TextAndLayout, applied, lines, place_after, place_before, moved_by, moved_ranges}
 use Rattle.textarea_text.proofs.TextPlaces.{takes_back}
+use Rattle.textarea_ranges.proofs.Searching.{AreApart-valid}
 use Rattle.textarea_document.proofs.Moves.{movable}
 use Rattle.textarea_document.proofs.document.make_change.Goals as goal
+
+pub move_ranges-requires-clause-apart : goal.move_ranges-requires-clause-apart
+move_ranges-requires-clause-apart c = AreApart-valid (lines c.args.text_layout.now.text) c.args.ranges.now.items c.requires.valid c.requires.in_order
 
 pub move_ranges-requires-clause-movable : goal.move_ranges-requires-clause-movable
 move_ranges-requires-clause-movable c = movable c.args.text_layout.now.text c.args.ranges.now.items c.lines-lines.ensures.small c.requires.valid

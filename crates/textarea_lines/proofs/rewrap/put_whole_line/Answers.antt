@@ -8,6 +8,7 @@ use Rattle.textarea_text.proofs.StringRows.{line_at}
 use Rattle.textarea_util.specs.Replaced.{replaced}
 use Rattle.textarea_text.specs.Text.{lines_of}
 use Rattle.textarea_screen_map.specs.declared.layout.Wrapping.{Wrapping}
+use Rattle.textarea_wrap.specs.Marks.{marks_of}
 use Rattle.textarea_wrap.specs.WrapResult.{IsWrapped}
 use Rattle.textarea_wrap.specs.declared.wrap.WrapMode.TheVariants as mode
 use Rattle.textarea_screen_map.proofs.Holding.{bytes_of_line}
@@ -49,6 +50,7 @@ returns-clause-rows c =
       short = omega (arith, c.requires.whole.size);
       right = subst (λ n. IsWrapped mode.None n 1 (encode_utf8_all (get_or (lines_of c.args.lines.now) c.args.row [])) c.unwrap-wrapped.result.ranges) tab_len
           (subst (λ (t : List ℕ). IsWrapped mode.None c.wrapping-wrapping.result.tab_len 1 t c.unwrap-wrapped.result.ranges) bytes right);
+      marked = IfOk-at_ok _ c.unwrap-wrapped.ensures c.line_ranges.ensures.marks ∙ ap (λ (t : List ℕ). marks_of t c.unwrap-wrapped.result.ranges) bytes;
     }
 
 pub returns-clause-wrapping : goal.returns-clause-wrapping

@@ -1,6 +1,7 @@
-use Rattle.std.proofs.Common.{◌≡◌, ◌<◌, ◌+◌, ℕ, List, Some, None, arith, get_or, length, set, subst, sym, ◌∙◌}
+use Rattle.std.proofs.Common.{◌≡◌, ◌<◌, ◌+◌, ℕ, List, Some, None, arith, get_or, length, set, refl, subst, sym, ◌∙◌}
+use Rattle.std.proofs.lemmas.List.Elements.{All-drop}
 use Rattle.textarea_ranges.specs.Prelude.{AtomicRange, IsMovable, moved_by}
-use Rattle.textarea_ranges.proofs.Closing.{Closing, closing_none, closing_some}
+use Rattle.textarea_ranges.proofs.Closing.{Closing, closing_none, closing_some, first_of_rest}
 use Rattle.textarea_ranges.proofs.moved.close_up.Goals as goal
 use Rattle.textarea_ranges.proofs.moved.close_up.Goals.{in-Some, in_default}
 
@@ -19,12 +20,20 @@ loop-index-preserved c =
     elim c.match-moved.branch [
       | in-Some w ↦
           let found : f (get_or before index nothing) ≡ Some w.in-Some.range = sym c.moved.ensures ∙ w.in-Some.is in
-          let next = closing_some f IsMovable before all retained index nothing w.in-Some.range within found c.loop-index.invariant in
-          subst (λ (xs : List AtomicRange). Closing f IsMovable xs c.match-moved.retained (index + 1) all) (sym w.ranges-is)
-          (subst (λ (n : ℕ). Closing f IsMovable (set before retained w.in-Some.range) n (index + 1) all) (sym w.retained-is) next)
+          let next = closing_some f IsMovable before all retained index c.args.first nothing w.in-Some.range within found c.loop-index.invariant in
+          subst (λ (xs : List AtomicRange). Closing f IsMovable xs c.match-moved.retained (index + 1) c.args.first all) (sym w.ranges-is)
+          (subst (λ (n : ℕ). Closing f IsMovable (set before retained w.in-Some.range) n (index + 1) c.args.first all) (sym w.retained-is) next)
       | in_default w ↦
           let found : f (get_or before index nothing) ≡ None = sym c.moved.ensures ∙ w.in_default.is in
-          let next = closing_none f IsMovable before all retained index nothing within found c.loop-index.invariant in
-          subst (λ (xs : List AtomicRange). Closing f IsMovable xs c.match-moved.retained (index + 1) all) (sym w.ranges-is)
-          (subst (λ (n : ℕ). Closing f IsMovable before n (index + 1) all) (sym w.retained-is) next)
+          let next = closing_none f IsMovable before all retained index c.args.first nothing within found c.loop-index.invariant in
+          subst (λ (xs : List AtomicRange). Closing f IsMovable xs c.match-moved.retained (index + 1) c.args.first all) (sym w.ranges-is)
+          (subst (λ (n : ℕ). Closing f IsMovable before n (index + 1) c.args.first all) (sym w.retained-is) next)
     ]
+
+pub loop-index-init : goal.loop-index-init
+loop-index-init c =
+    let all : List AtomicRange = c.args.ranges.now in
+    record { ordered = omega arith; len = refl; each = All-drop IsMovable c.args.first all c.requires.movable; rest = refl; closes = refl }
+
+pub moved-requires-clause-movable : goal.moved-requires-clause-movable
+moved-requires-clause-movable c = first_of_rest IsMovable c.loop-index.ranges c.loop-index.index _ (omega arith) c.loop-index.invariant.each

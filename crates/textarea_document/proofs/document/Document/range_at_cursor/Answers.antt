@@ -1,6 +1,6 @@
 use Rattle.std.proofs.Common.{◌≡◌, ◌∙◌, ap, sym, subst}
 use Rattle.textarea_document.specs.Prelude.{IfSome, lines, range_at_place, AreValid, DocumentState}
-use Rattle.textarea_document.proofs.Ranges.{IsStoredRange, range_starts_before, range_ends_after, stored_ordered, stored_start, stored_end, range_is_stored}
+use Rattle.textarea_document.proofs.Ranges.{apart_slice, IsStoredRange, range_starts_before, range_ends_after, stored_ordered, stored_start, stored_end, range_is_stored}
 use Rattle.textarea_document.proofs.document.Document.range_at_cursor.Goals as goal
 
 known : (c : goal.After-range_at_place) → IfSome c.range_at_place.result (IsStoredRange c.args.self.now.text)
@@ -27,3 +27,6 @@ returns-clause-before c = λ backward.
 pub returns-clause-after : goal.returns-clause-after
 returns-clause-after c = λ forward.
     range_ends_after c.args.self.now.text c.args.self.now.ranges c.args.self.now.cursor c.range_at_place.result (subst (λ (s : DocumentState). AreValid (lines s.text) s.ranges) c.self.view_is c.self.invariant.ranges) (sym (range_is c ∙ ap (range_at_place c.args.self.now.ranges c.args.self.now.cursor) forward))
+
+pub range_at_place-requires : goal.range_at_place-requires
+range_at_place-requires c = apart_slice (lines c.self.inside.text_layout.text) _ _ c.self.invariant.ranges c.self.invariant.in_order c.as_slice.ensures.value

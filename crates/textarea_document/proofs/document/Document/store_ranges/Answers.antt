@@ -1,7 +1,7 @@
 use Rattle.std.proofs.Common.{◌∙◌, List, Option, ap, sym, subst}
 use Rattle.textarea_document.specs.Prelude.{IfSome, lines, IsPlace, Place, AtomicRange, moved_out, AreValid, anchor_out, with_ranges, unless_empty, DocumentState, document_of}
 use Rattle.textarea_data.specs.declared.range.AtomicCursorBias.TheVariants.{Forward}
-use Rattle.textarea_document.proofs.Ranges.{anchor_place}
+use Rattle.textarea_document.proofs.Ranges.{apart_slice, anchor_place}
 use Rattle.textarea_document.proofs.document.Document.store_ranges.Goals as goal
 
 pub invariant_of-self : goal.invariant_of-self
@@ -34,3 +34,9 @@ returns c =
     ∙ ap (λ (p : Place). document_of inside.text_layout p (unless_empty (anchor_out supplied inside.anchor) p) supplied inside.history.log)
     (c.move_out-cursor.ensures.value ∙ ap (λ (r : List AtomicRange). moved_out r inside.cursor Forward) c.as_slice.ensures.value)
     ∙ ap (λ (s : DocumentState). with_ranges s supplied) c.self.view_is
+
+pub move_out-cursor-requires : goal.move_out-cursor-requires
+move_out-cursor-requires c = apart_slice (lines c.args.self.now.text) _ _ c.requires.valid c.requires.in_order c.as_slice.ensures.value
+
+pub anchor_out-anchor-requires : goal.anchor_out-anchor-requires
+anchor_out-anchor-requires c = apart_slice (lines c.args.self.now.text) _ _ c.requires.valid c.requires.in_order c.as_slice-2.ensures.value

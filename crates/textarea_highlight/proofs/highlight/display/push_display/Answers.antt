@@ -1,5 +1,5 @@
 use Rattle.std.proofs.lemmas.Grind.{common_steps}
-use Rattle.std.proofs.Common.{arith, ◌++◌, ◌∙◌}
+use Rattle.std.proofs.Common.{arith}
 use Rattle.textarea_highlight.proofs.DisplayLemmas.{tab_displayed}
 use Rattle.textarea_highlight.proofs.highlight.display.push_display.Goals as goal
 

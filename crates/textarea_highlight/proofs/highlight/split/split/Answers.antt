@@ -1,59 +1,44 @@
-use Rattle.std.proofs.lemmas.Grind.{common_steps}
-use Rattle.std.proofs.Common.{refl, inl, arith}
-use Rattle.std.proofs.lemmas.Str.{IsCharBoundary-start, IsCharBoundary-end}
-use Rattle.textarea_highlight.proofs.SplitLemmas.{split_more, pass_more, room_left, split_at_start, column_at_start, edge_at}
-use Rattle.textarea_highlight.proofs.WholeLemmas.{whole}
+use Rattle.std.proofs.Common.{ℕ, ◌<◌, ◌≤◌, length, get_or, inl, refl, arith}
+use Rattle.std.proofs.lemmas.Str.{IsCharBoundary-end}
+use Rattle.textarea_highlight.specs.declared.highlight.borders.Border.{Border}
+use Rattle.textarea_highlight.proofs.SplitLemmas.{next_segment, pass_more, past_end, split_at_start, split_more}
 use Rattle.textarea_highlight.proofs.highlight.split.split.Goals as goal
+use Rattle.textarea_highlight.proofs.highlight.split.split.Goals.{else-loop-border-test, then-loop-border-test+then-row-border}
 
 pub loop-border-init : goal.loop-border-init
 loop-border-init c = record {
-  splits = record { within = omega arith; passed = λ k d lt. absurd (omega arith); ahead = λ k d le lt. omega arith };
-  boundary = IsCharBoundary-start c.args.row.now c.utf8.row;
+  within = omega arith;
+  passed = λ k d lt. absurd (omega arith);
+  boundary = c.requires.from;
   tab = refl;
   masked = refl;
-  column = column_at_start c.args.row_style.tab_len;
-  room = omega arith;
+  known = c.requires.known;
   base_is = c.restart.ensures.base;
   after = c.restart.ensures.none;
-  split = split_at_start _ _ _ _ _ _;
+  split = split_at_start _ _ _ _ _ _ _;
 }
-
-pub split_to-requires-clause-order : goal.split_to-requires-clause-order
-split_to-requires-clause-order c =
-    c.loop-border.invariant.splits.ahead c.loop-border.border-index _ (omega arith) c.loop-border-test.true
-
-pub split_to-requires-clause-from_boundary : goal.split_to-requires-clause-from_boundary
-split_to-requires-clause-from_boundary c = c.loop-border.invariant.boundary
-
-pub split_to-requires-clause-room : goal.split_to-requires-clause-room
-split_to-requires-clause-room c = grind (arith, common_steps, room_left)
 
 pub loop-border-preserved : goal.loop-border-preserved
 loop-border-preserved c =
     let i = c.loop-border.border-index in
-    pass_more _ _ _ _ _ _ i _ _ _ _ _
-    (split_more _ _ _ _ _ _ i _ _ _ _ _ _ _ c.utf8.row c.loop-border.invariant (c.loop-border.invariant.splits.ahead i _ (omega arith) c.loop-border-test.true)
-    (c.requires.placed i _ c.loop-border-test.true) (edge_at _ _ i _ c.loop-border-test.true) (λ k e le lt. c.requires.ordered i k _ e le lt)
-    c.in_ok-split_to.ensures.added c.in_ok-split_to.ensures.displayed c.in_ok-split_to.ensures.bound)
-    c.loop-border-test.true c.in_ok-pass.ensures.base c.in_ok-pass.ensures.ok
-
-pub split_to-requires-2-clause-order : goal.split_to-requires-2-clause-order
-split_to-requires-2-clause-order c = c.loop-border.invariant.boundary.0
-
-pub split_to-requires-2-clause-from_boundary : goal.split_to-requires-2-clause-from_boundary
-split_to-requires-2-clause-from_boundary c = c.loop-border.invariant.boundary
-
-pub split_to-requires-2-clause-room : goal.split_to-requires-2-clause-room
-split_to-requires-2-clause-room c =
-    omega (arith, c.loop-border.invariant.room, c.loop-border.invariant.boundary.0, c.requires.room)
+    let next = next_segment c.args.row.now c.args.borders.now i c.loop-border.start c.max-end.result _ c.max-end.ensures c.loop-border-test.true c.requires.ordered c.requires.placed
+    c.if-row-border.false c.loop-border.invariant.boundary in
+    pass_more _ _ _ _ _ _ _ i _ _ _ _ _ _
+    (split_more _ _ _ _ _ _ _ i _ c.max-end.result _ _ _ _ _ c.loop-border.invariant next.order next.boundary next.edge next.ahead
+    c.in_ok-split_to.ensures.added c.in_ok-split_to.ensures.known c.in_ok-split_to.ensures.tab c.in_ok-split_to.ensures.masked)
+    c.loop-border-test.true next.last c.in_ok-pass.ensures.base c.in_ok-pass.ensures.ok
 
 pub returns-clause-added : goal.returns-clause-added
 returns-clause-added c =
-    let end = split_more _ _ _ _ _ _ _ _ _ _ _ _ _ _ c.utf8.row c.loop-border.invariant c.loop-border.invariant.boundary.0 (IsCharBoundary-end c.args.row.now) (inl refl)
-    (λ k d le lt. absurd (omega arith)) c.in_ok-split_to-2.ensures.added c.in_ok-split_to-2.ensures.displayed c.in_ok-split_to-2.ensures.bound in
-    let split = end.split in record {
-      segments = split.0;
-      split = split.1;
-      added = split.2;
-      whole = λ stops. whole c.args.row.now c.args.borders.now _ _ _ split.0 c.utf8.row c.requires.placed stops split.1;
-    }
+    let row = c.args.row.now in
+    let borders = c.args.borders.now in
+    let i = c.loop-border.border-index in
+    let ahead : (k : ℕ) (e : Border) → i ≤ k → k < length borders → length row ≤ (get_or borders k e).offset =
+    elim c.loop-border-test.branch [
+      | else-loop-border-test w ↦ λ k e le below. absurd (omega (arith, w.loop-border-test.false))
+      | then-loop-border-test+then-row-border w ↦ past_end row borders i _ w.if-row-border.true c.requires.ordered
+    ] in
+    let end = split_more _ _ _ _ _ _ _ i _ (length row) _ _ _ _ _ c.loop-border.invariant c.loop-border.invariant.boundary.0 (IsCharBoundary-end row) (λ more. inl refl) (λ more. ahead)
+    c.in_ok-split_to-2.ensures.added c.in_ok-split_to-2.ensures.known c.in_ok-split_to-2.ensures.tab c.in_ok-split_to-2.ensures.masked in
+    let split = end.split in
+    record { segments = split.0; split = split.1; added = split.2 }

@@ -1,9 +1,10 @@
 use Rattle.std.proofs.Common.{◌∙◌, ap, arith, sym}
 use Rattle.textarea_text.specs.Offset.{offset_at}
 use Rattle.textarea_text.specs.Place.{Place}
-use Rattle.textarea_text.specs.Text.{lines}
+use Rattle.textarea_text.specs.Text.{lines, lines_of}
 use Rattle.textarea_lines.specs.TextLayout.{TextAndLayout}
 use Rattle.textarea_lines.specs.Wrappings.{is_wrapped}
+use Rattle.textarea_lines.proofs.Fronts.{same_before}
 use Rattle.textarea_lines.proofs.Positions.{located_at}
 use Rattle.textarea_lines.proofs.Stores.{lines_stored}
 use Rattle.textarea_lines.proofs.WholeLines.{Inside, can_wrap, holds_inside, layout_inside}
@@ -46,6 +47,8 @@ invariant_of-self-2 c = record {
   measured = tt;
   cached = rw c.drop_measured.ensures tt;
   place = located_at c.apply_inside.new.lines.items c.new-self-inside.result c.start-row.result c.args.change.place c.offset_of-offset.result c.new-self-inside.ensures c.start-row.ensures c.in_ok-apply_inside.ensures.start c.in_ok-apply_inside.ensures.offset;
+  marked = c.cut.ensures (lines_of c.self.inside.lines.items) (lines_of c.apply_inside.new.lines.items)
+      (same_before _ _ _ _ _ _ _ _ _ c.start-row.result.1 (steps (goal.at.invariant_of-self-2 c).After-as_slice-lines) (ap (λ (p : Place). p.1) c.start-row.ensures)) c.self.invariant.marked;
 }
 
 pub returns-clause-ok : goal.returns-clause-ok

@@ -7,7 +7,7 @@ use Rattle.textarea_lines.proofs.text_layout.TextLayout.count_rows_at.Goals as g
 
 pub invariant_of-self : goal.invariant_of-self
 invariant_of-self c =
-    record { contents = c.self.invariant.contents; measured = c.self.invariant.measured; cached = rw c.drop_measured.ensures tt; place = c.self.invariant.place }
+    record { contents = c.self.invariant.contents; measured = c.self.invariant.measured; cached = rw c.drop_measured.ensures tt; place = c.self.invariant.place; marked = c.self.invariant.marked }
 
 pub invariant_of-self-in-Ok : goal.invariant_of-self-in-Ok
 invariant_of-self-in-Ok c =
@@ -17,6 +17,7 @@ invariant_of-self-in-Ok c =
       measured = c.self.invariant.measured;
       cached = next_wrap inside.settings inside.lines.items inside.count inside.map.rows _ c.args.wrapping c.in-Ok.wraps c.self.invariant.contents.stored.some refl c.in-Ok.ensures;
       place = c.self.invariant.place;
+      marked = c.self.invariant.marked;
     }
 
 pub returns-in-Err-clause-rows : goal.returns-in-Err-clause-rows

@@ -1,6 +1,7 @@
 use Rattle.std.proofs.Common.{◌∙◌, Option, subst, sym}
 use Rattle.std.specs.Option.{IfSome}
 use Rattle.textarea_text.specs.Text.{lines_of}
+use Rattle.textarea_screen_map.specs.LineMarks.{AreMarksOf}
 use Rattle.textarea_screen_map.specs.Map.{IsRowCount}
 use Rattle.textarea_lines.specs.declared.rewrap.WrappedRows.{WrappedRows}
 use Rattle.textarea_lines.specs.declared.text_layout.TextLayout.TheInside.{Inside}
@@ -18,6 +19,7 @@ record HoldsAll (inside : Inside) (settings : LayoutSettings) (text_layout : Tex
   pub measured : IfSome inside.measured (λ last. IsRowCount last.wrapping (lines_of inside.lines.items) last.rows)
   pub cached : IfSome inside.cached (IsNextWrap inside.count inside.lines.items)
   pub place : IsPlaceAtByte inside.lines.items inside.found
+  pub marked : AreMarksOf (lines_of inside.lines.items) inside.marks
 
 contents : (c : goal.After-settings-1) → HoldsAll c.match-wraps.self-inside c.args.settings c.args.self.now
 contents c =
@@ -35,11 +37,12 @@ contents c =
             measured = c.self.invariant.measured;
             cached = rw w.drop_measured.ensures tt;
             place = c.self.invariant.place;
+            marked = c.self.invariant.marked;
           })
       | in-None+else-not-is_wrapped w ↦
           let stays = subst (λ (o : Option WrappedRows). IsRewrappedIfOther text_layout settings o) w.in-None.is c.requires in
           subst (λ (v : Inside). HoldsAll v settings text_layout) (sym w.self-inside-is)
-          (record { rows = holds_same_wrapped inside.settings settings items inside.size inside.count inside.map text_layout before (sym w.is_wrapped.ensures ∙ w.if-not-is_wrapped.false) stays; measured = c.self.invariant.measured; cached = c.self.invariant.cached; place = c.self.invariant.place })
+          (record { rows = holds_same_wrapped inside.settings settings items inside.size inside.count inside.map text_layout before (sym w.is_wrapped.ensures ∙ w.if-not-is_wrapped.false) stays; measured = c.self.invariant.measured; cached = c.self.invariant.cached; place = c.self.invariant.place; marked = c.self.invariant.marked })
       | in-None+then-not-is_wrapped w ↦
           let stays = subst (λ (o : Option WrappedRows). IsRewrappedIfOther text_layout settings o) w.in-None.is c.requires in
           let set = w.set_tab_len.ensures in
@@ -49,11 +52,12 @@ contents c =
             measured = c.self.invariant.measured;
             cached = c.self.invariant.cached;
             place = c.self.invariant.place;
+            marked = c.self.invariant.marked;
           })
     ]
 
 pub invariant_of-self : goal.invariant_of-self
-invariant_of-self c = record { contents = (contents c).rows.rows; measured = (contents c).measured; cached = (contents c).cached; place = (contents c).place }
+invariant_of-self c = record { contents = (contents c).rows.rows; measured = (contents c).measured; cached = (contents c).cached; place = (contents c).place; marked = (contents c).marked }
 
 pub returns : goal.returns
 returns c = (contents c).rows.is

@@ -1,6 +1,7 @@
 use Rattle.std.proofs.Common.{arith, List, ap, length, ◌∙◌}
 use Rattle.std.proofs.lemmas.Grind.{common_steps}
 use Rattle.textarea_util.specs.Replaced.{replaced}
+use Rattle.textarea_text.specs.Text.{lines_of}
 use Rattle.textarea_lines.proofs.Stores.{count_stored}
 use Rattle.textarea_lines.proofs.Positions.{located_first}
 use Rattle.textarea_lines.proofs.Changes.{Replacing, holds_replaced, layout_replaced, some_now}
@@ -37,6 +38,7 @@ invariant_of-self-2 c =
       measured = tt;
       cached = rw c.drop_measured.ensures tt;
       place = located_first c.replace_in.new.lines.items c.new-self-inside.result c.new-self-inside.ensures (some_now _ _ _ _ _ known);
+      marked = c.clear.ensures.right (lines_of c.replace_in.new.lines.items);
     }
 
 pub returns-clause-ok : goal.returns-clause-ok

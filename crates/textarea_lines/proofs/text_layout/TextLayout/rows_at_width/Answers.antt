@@ -27,6 +27,7 @@ invariant_of-self c =
       measured = subst (λ (t : List (List ℕ)). IsRowCount c.wrapping_at-wrapping.result t c.in_ok-rows.rows) same c.in_ok-rows.ensures.rows;
       cached = c.self-2.invariant.cached;
       place = c.self-2.invariant.place;
+      marked = c.self-2.invariant.marked;
     }
 
 pub returns-then-is_same-clause-rows : goal.returns-then-is_same-clause-rows

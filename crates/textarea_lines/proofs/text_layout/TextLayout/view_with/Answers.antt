@@ -26,8 +26,11 @@ contents c =
     subst (λ (m : MapView). Holds (at_width text_layout width) inside.lines.items inside.size (count_at wraps inside.count) m (with_settings text_layout (at_width text_layout width))) (map_is c)
     (holds_at inside.settings inside.lines.items inside.size inside.count inside.map text_layout width wraps (record { rows = c.self.invariant.contents; is = c.self.view_is }) ready.wraps)
 
-pub new-requires : goal.new-requires
-new-requires c = grind (arith, common_steps, is_borrowed, contents c)
+pub new-requires-clause-rows : goal.new-requires-clause-rows
+new-requires-clause-rows c = grind (arith, common_steps, is_borrowed, contents c)
+
+pub new-requires-clause-marks : goal.new-requires-clause-marks
+new-requires-clause-marks c = rw c.as_slice.ensures.value c.self.invariant.marked
 
 pub returns : goal.returns
 returns c =

@@ -23,6 +23,7 @@ invariant_of-result c =
       measured = tt;
       cached = tt;
       place = located_first items c.new-2.result c.new-2.ensures some;
+      marked = c.new-3.ensures (lines_of items);
     }
 
 pub returns : goal.returns

@@ -1,4 +1,5 @@
 use Rattle.std.proofs.Common.{◌∙◌}
+use Rattle.textarea_text.specs.Text.{lines_of}
 use Rattle.textarea_text.proofs.Copies.{lines_copied}
 use Rattle.textarea_lines.proofs.Positions.{located_copied}
 use Rattle.textarea_lines.proofs.Stores.{holds_copied, layout_copied}
@@ -14,6 +15,7 @@ invariant_of-result c =
       measured = rw same c.self.invariant.measured;
       cached = tt;
       place = located_copied inside.lines.items copies inside.found _ same c.new.ensures c.self.invariant.place;
+      marked = c.new-2.ensures (lines_of copies);
     }
 
 pub returns : goal.returns

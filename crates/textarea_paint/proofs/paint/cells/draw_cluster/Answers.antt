@@ -1,7 +1,8 @@
 use Rattle.std.proofs.Common.{◌+◌, cond, eqb, [], ◌∷◌, ap, ◌∙◌, arith}
+use Rattle.textarea_screen.specs.Buffer.{is_between}
 use Rattle.textarea_screen.specs.Cell.{with_symbol}
 use Rattle.textarea_screen.proofs.ChangeLemmas.{Changes-as}
-use Rattle.textarea_paint.specs.Cells.{is_between, placed_at, row_change, symbol_of}
+use Rattle.textarea_paint.specs.Cells.{placed_at, row_change, symbol_of}
 use Rattle.textarea_paint.specs.Clusters.{Cluster}
 use Rattle.textarea_paint.specs.LineClusters.{styled_cluster}
 use Rattle.textarea_paint.proofs.CellLemmas.{row_change-one}

@@ -1,11 +1,13 @@
 use Rattle.std.proofs.lemmas.Grind.{common_steps}
 use Rattle.std.proofs.Common.{◌+◌, cond, eqb, ap, ◌∙◌, arith}
 use Rattle.std.proofs.lemmas.Bool.{cond-false}
+use Rattle.textarea_screen.specs.Buffer.{is_between}
 use Rattle.textarea_screen.specs.Rect.{contains}
 use Rattle.textarea_screen.specs.Cell.{with_symbol}
+use Rattle.textarea_screen.proofs.BufferLemmas.{between_clipped}
 use Rattle.textarea_screen.proofs.ChangeLemmas.{Changes-inside, Changes-then, KeepsOutside-from_changes, KeepsOutside-same, KeepsOutside-then}
-use Rattle.textarea_paint.specs.Cells.{is_between, symbol_of}
-use Rattle.textarea_paint.proofs.CellLemmas.{between_clipped, between_more, between_narrower}
+use Rattle.textarea_paint.specs.Cells.{symbol_of}
+use Rattle.textarea_paint.proofs.CellLemmas.{between_more, between_narrower}
 use Rattle.textarea_paint.proofs.paint.cells.draw_columns.Goals as goal
 
 pub loop-column-preserved : goal.loop-column-preserved

@@ -1,7 +1,7 @@
 use Rattle.std.proofs.Common.{◌≤◌, max, cond, eqb}
-use Rattle.textarea_screen.specs.Buffer.{Changes}
+use Rattle.textarea_screen.specs.Buffer.{Changes, is_between}
 use Rattle.textarea_screen.specs.Cell.{with_symbol}
-use Rattle.textarea_paint.specs.Cells.{is_between, symbol_of}
+use Rattle.textarea_paint.specs.Cells.{symbol_of}
 use Rattle.textarea_paint.proofs.paint.cells.draw_columns.Given as goal
 
 abbrev pub invariant-loop-column : goal.invariant-loop-column

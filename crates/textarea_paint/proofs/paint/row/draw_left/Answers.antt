@@ -1,31 +1,34 @@
-use Rattle.std.proofs.Common.{ap, ◌∙◌, arith}
+use Rattle.std.proofs.Common.{arith}
 use Rattle.textarea_screen.specs.Text.{line_view}
 use Rattle.textarea_paint.specs.Clusters.{row_clusters}
-use Rattle.textarea_paint.specs.LineClusters.{clusters_left, styled_cluster}
-use Rattle.textarea_paint.proofs.ClusterLemmas.{AreInline-tail}
-use Rattle.textarea_paint.proofs.RowLemmas.{drawing_start, drawing_next, drawing_end, drawing_past}
+use Rattle.textarea_paint.specs.LineClusters.{clusters_left, run_clusters}
+use Rattle.textarea_paint.proofs.ClusterLemmas.{AreInline-after, AreInline-front}
+use Rattle.textarea_paint.proofs.RowLemmas.{drawing_start, drawing_run, drawing_end, drawing_past}
 use Rattle.textarea_paint.proofs.paint.row.draw_left.Goals as goal
 
-pub loop-cluster-init : goal.loop-cluster-init
-loop-cluster-init c =
-    let all = ap clusters_left c.into_iter-cluster-iterator.ensures.into_iter_gives ∙ c.new-cluster-items.ensures in
+pub loop-pen-init : goal.loop-pen-init
+loop-pen-init c = record {
+  drawing = drawing_start c.args.cells c.args.left 0 (row_clusters c.args.style (line_view c.args.line.now)) c.args.buffer.now _ _
+      (record { hidden = omega arith; x = omega arith }) c.new-clusters.ensures;
+  short = λ short. rw c.new-clusters.ensures short;
+}
+
+pub loop-pen-preserved : goal.loop-pen-preserved
+loop-pen-preserved c =
+    let d = c.loop-pen.invariant.drawing in
+    let run = run_clusters c.in-Some.run' in
     record {
-      drawing = drawing_start c.args.cells c.args.left 0 (row_clusters c.args.style (line_view c.args.line.now)) c.args.buffer.now _ _
-          (record { hidden = omega arith; x = omega arith }) all;
-      short = λ short. rw all short;
+      drawing = drawing_run run d c.in-Some.ensures.steps (c.in_ok-pen.ensures.moved c.args.left d.column d.at) (c.in_ok-pen.ensures.drawn c.args.left d.column d.at);
+      short = λ short. AreInline-after run (clusters_left c.next_run.new.self) c.in-Some.ensures.steps (c.loop-pen.invariant.short short);
     }
 
-pub loop-cluster-preserved : goal.loop-cluster-preserved
-loop-cluster-preserved c =
-    let d = c.loop-cluster.invariant.drawing in
-    record {
-      drawing = drawing_next (styled_cluster c.in-Some.cluster) d c.in-Some.ensures.steps (c.in_ok-pen.ensures.moved c.args.left d.column d.at)
-          (c.in_ok-pen.ensures.drawn c.args.left d.column d.at);
-      short = λ short. AreInline-tail (styled_cluster c.in-Some.cluster) c.in-Some.ensures.steps (c.loop-cluster.invariant.short short);
-    }
+pub returns-in_err-pen-clause-inline : goal.returns-in_err-pen-clause-inline
+returns-in_err-pen-clause-inline c = λ short.
+    let run = run_clusters c.in-Some.run' in
+    cc (c.in_err-pen.ensures.inline (AreInline-front run (clusters_left c.next_run.new.self) c.in-Some.ensures.steps (c.loop-pen.invariant.short short)))
 
-pub returns-in-None-clause-ok : goal.returns-in-None-clause-ok
-returns-in-None-clause-ok c = drawing_end c.loop-cluster.invariant.drawing c.in-None.ensures.steps.0
+pub returns-after-loop-pen-clause-ok : goal.returns-after-loop-pen-clause-ok
+returns-after-loop-pen-clause-ok c = drawing_past c.loop-pen.invariant.drawing (omega arith)
 
-pub returns-then-end-pen-clause-ok : goal.returns-then-end-pen-clause-ok
-returns-then-end-pen-clause-ok c = drawing_past c.loop-cluster.invariant.drawing (omega arith)
+pub returns-in_default-clause-ok : goal.returns-in_default-clause-ok
+returns-in_default-clause-ok c = drawing_end c.loop-pen.invariant.drawing c.in_default.ensures.steps.0

@@ -1,9 +1,10 @@
 use Rattle.std.proofs.lemmas.Grind.{common_steps}
-use Rattle.std.proofs.Common.{◌≡◌, ◌<◌, ◌+◌, ◌-◌, ◌∙◌, List, ℕ, ap, arith, length, take}
+use Rattle.std.proofs.Common.{◌≡◌, ◌<◌, ◌+◌, ◌-◌, ◌∙◌, List, ℕ, ap, arith, length, sym, take}
 use Rattle.std.proofs.lemmas.List.{length-map}
 use Rattle.std.specs.Str.{chars}
 use Rattle.textarea_text.specs.Text.{characters_of, lines_of}
 use Rattle.textarea_screen_map.proofs.Holding.{bytes_of_line}
+use Rattle.textarea_screen_map.proofs.MarkLemmas.{whole_slice}
 use Rattle.textarea_screen_map.proofs.Layouts.{length-AreRowsOf}
 use Rattle.textarea_screen_map.proofs.VisualRows.{IsFoundRow, found_row, number_there, row_displayed}
 use Rattle.textarea_screen_map.proofs.screen_map.ScreenMap.row_at.Goals as goal
@@ -86,3 +87,10 @@ returns-clause-number c = c.line_of_row-line.ensures.row
 
 pub returns-clause-line : goal.returns-clause-line
 returns-clause-line c = c.line_of_row-line.ensures.line
+
+pub returns-clause-whole : goal.returns-clause-whole
+returns-clause-whole c = λ same.
+    let known = row_is (goal.at.returns-clause-whole c).After-as_str-text in
+    let text = c.as_str-text.result.now in
+    let bytes = bytes_of_line c.args.lines.now c.line_of_row-line.result.0 c.index-lines-line.result text known.within c.index-lines-line.is c.as_str-text.ensures.value in
+    whole_slice text c.range-2.result.now _ _ c.range-2.ensures.value (same ∙ ap length (sym bytes)) ∙ bytes

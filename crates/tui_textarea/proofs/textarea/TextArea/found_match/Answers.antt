@@ -9,13 +9,13 @@ use Rattle.tui_textarea.proofs.textarea.TextArea.found_match.Goals as goal
 
 pub returns-clause-found : goal.returns-clause-found
 returns-clause-found c =
-    subst (λ (s : State). IfOk c.find.result (λ found. found ≡ found_match c.args.direction s c.args.match_cursor)) c.self.view_is
-    (subst (λ (leads : Option Place). IfOk c.find.result (λ found. found ≡ leads))
-    (search_is (found_start c.args.direction) c.self.inside.search c.lines.result.now c.self.inside.document c.cursor-cursor.result c.args.match_cursor c.lines.ensures.lines c.cursor-cursor.ensures.value)
-    c.find.ensures.found)
+    subst (λ (s : State). IfOk c.find_match.result (λ found. found ≡ found_match c.args.direction s c.args.match_cursor)) c.self.view_is
+    (subst (λ (leads : Option Place). IfOk c.find_match.result (λ found. found ≡ leads))
+    (search_is (found_start c.args.direction) c.self.inside.search c.lines-lines.result.now c.self.inside.document c.cursor-cursor.result c.args.match_cursor c.lines-lines.ensures.lines c.cursor-cursor.ensures.value)
+    c.find_match.ensures.found.found)
 
 pub returns-clause-place : goal.returns-clause-place
 returns-clause-place c =
-    target_in_text c.find.result (found_match c.args.direction c.args.self.now c.args.match_cursor) c.lines.result.now c.args.self.now.document.text
-    (subst (λ (s : State). lines_of c.lines.result.now ≡ lines s.document.text) c.self.view_is c.lines.ensures.lines)
-    (returns-clause-found c) c.find.ensures.within
+    target_in_text c.find_match.result (found_match c.args.direction c.args.self.now c.args.match_cursor) c.lines-lines.result.now c.args.self.now.document.text
+    (subst (λ (s : State). lines_of c.lines-lines.result.now ≡ lines s.document.text) c.self.view_is c.lines-lines.ensures.lines)
+    (returns-clause-found c) c.find_match.ensures.found.within

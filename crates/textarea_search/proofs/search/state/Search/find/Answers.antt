@@ -1,4 +1,6 @@
 use Rattle.std.proofs.Common.{ap, sym, refl, ◌∙◌}
+use Rattle.regex.specs.Strings.{matcher_pattern}
+use Rattle.textarea_search.proofs.PatternLemmas.{needle_for}
 use Rattle.textarea_search.specs.Starts.{starts_of, found_start}
 use Rattle.textarea_search.proofs.search.state.Search.find.Goals as goal
 
@@ -10,3 +12,7 @@ returns c =
       within = c.found_start.ensures.within;
       no_pattern = λ _. refl;
     }
+
+pub found_start-requires-clause-needle : goal.found_start-requires-clause-needle
+found_start-requires-clause-needle c =
+    needle_for c.in-Some.pattern (matcher_pattern c.in_ok-matcher.matcher) c.finder-finder.result c.in_ok-matcher.ensures.lists c.finder-finder.ensures

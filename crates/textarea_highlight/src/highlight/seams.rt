@@ -1,0 +1,153 @@
+//! Offsets at which a row can be split so that its cells stay the same.
+ghost use Rattle.std.specs.Prelude.{◌≡◌, ◌⊎◌, ◌+◌, ◌*◌, ◌^◌, ◌<◌, ◌≤◌, ◌↔◌, length, slice_index, IsCharBoundary, IsTrue, IsUtf8};
+ghost use Rattle.textarea_highlight.specs.Columns.{column_of};
+ghost use Rattle.textarea_highlight.specs.Seams.{IsBetweenSeams, IsColumnAt, IsSeam, IsVisible, IsWalk};
+
+use super::highlighter::RowPart;
+use textarea_wrap::wrap::columns::column_after_text;
+
+/// An offset in a row, in bytes, with its column, counted from the start of the row.
+#[derive(Clone, Copy, Debug, PartialEq, Eq)]
+pub struct RowOffset {
+    pub offset: usize,
+    pub column: usize,
+}
+
+/// A walk over a row from left to right.
+#[derive(Clone, Copy, Debug, PartialEq, Eq)]
+pub struct Walk {
+    pub at: RowOffset,
+    /// The last seam on the way, or where the walk began.
+    pub seam: RowOffset,
+    /// The character before the offset is visible ASCII.
+    pub after_visible: bool,
+}
+
+/// Returns the part of a row that has the columns from `left` up to `right`. It begins at the row's
+/// start or at a seam before the column `left`, and ends at the first seam at or after the column
+/// `right`, or at the row's end. A seam is an offset between two visible characters of ASCII.
+pub fn part_between(row: &str, tab_len: u8, left: usize, right: usize) -> RowPart
+    requires { 255 * length row.now < 2 ^ 63 }
+    ensures part { IsBetweenSeams row.now tab_len left right result }
+    ensures text { IsUtf8 row.now }
+{
+    let start = last_seam(row, tab_len, left);
+    RowPart {
+        from: start.offset,
+        to: seam_after(row, tab_len, start, right),
+        column: start.column,
+    }
+}
+
+// Returns the last seam before a column, or the row's start.
+fn last_seam(row: &str, tab_len: u8, column: usize) -> RowOffset
+    requires { 255 * length row.now < 2 ^ 63 }
+    ensures at { IsColumnAt row.now tab_len result }
+    ensures seam { 0 < result.offset → IsSeam row.now result.offset }
+    ensures left { 0 < result.offset → result.column < column }
+{
+    let mut walk = walk_from(RowOffset {
+        offset: 0,
+        column: 0,
+    });
+    'walking: while walk.at.offset < row.len() && walk.at.column < column {
+        walk = next_character(row, tab_len, walk);
+    }
+    walk.seam
+}
+
+// Returns the offset of the first seam after `start` that is at or after a column, or the row's
+// end.
+fn seam_after(row: &str, tab_len: u8, start: RowOffset, column: usize) -> usize
+    requires room { 255 * length row.now < 2 ^ 63 }
+    requires start { IsColumnAt row.now tab_len start }
+    ensures order { start.offset ≤ result }
+    ensures boundary { IsCharBoundary row.now result }
+    ensures seam { result < length row.now → IsSeam row.now result }
+    ensures right { result < length row.now → column ≤ column_of row.now tab_len result }
+{
+    let mut walk = walk_from(start);
+    'walking: while walk.at.offset < row.len() {
+        walk = next_character(row, tab_len, walk);
+        if start.offset < walk.seam.offset && column <= walk.seam.column {
+            return walk.seam.offset;
+        }
+    }
+    row.len()
+}
+
+fn walk_from(start: RowOffset) -> Walk
+    ensures at { result.at ≡ start }
+    ensures seam { result.seam ≡ start }
+    ensures last { IsTrue result.after_visible ↔ ⊥ }
+{
+    Walk {
+        at: start,
+        seam: start,
+        after_visible: false,
+    }
+}
+
+// Walks over one character.
+fn next_character(row: &str, tab_len: u8, walk: Walk) -> Walk
+    requires room { 255 * length row.now < 2 ^ 63 }
+    requires inside { walk.at.offset < length row.now }
+    requires known { IsWalk row.now tab_len walk }
+    ensures known { IsWalk row.now tab_len result }
+    ensures further { walk.at.offset < result.at.offset }
+    ensures seam { (result.seam ≡ walk.seam)
+        ⊎ ((result.seam ≡ walk.at) × IsSeam row.now result.seam.offset) }
+{
+    if !is_visible(row.as_bytes()[walk.at.offset]) {
+        return Walk {
+            at: after_other(row, tab_len, walk.at),
+            seam: walk.seam,
+            after_visible: false,
+        };
+    }
+    Walk {
+        at: after_visible(row, tab_len, walk.at),
+        seam: if walk.after_visible {
+            walk.at
+        } else {
+            walk.seam
+        },
+        after_visible: true,
+    }
+}
+
+// Returns the offset after a visible character of ASCII.
+fn after_visible(row: &str, tab_len: u8, at: RowOffset) -> RowOffset
+    requires room { 255 * length row.now < 2 ^ 63 }
+    requires inside { at.offset < length row.now }
+    requires known { IsColumnAt row.now tab_len at }
+    requires visible { IsVisible (slice_index row.now at.offset) }
+    ensures known { IsColumnAt row.now tab_len result }
+    ensures next { result.offset ≡ at.offset + 1 }
+{
+    RowOffset {
+        offset: at.offset + 1,
+        column: at.column + 1,
+    }
+}
+
+// Returns the offset after any character.
+fn after_other(row: &str, tab_len: u8, at: RowOffset) -> RowOffset
+    requires room { 255 * length row.now < 2 ^ 63 }
+    requires inside { at.offset < length row.now }
+    requires known { IsColumnAt row.now tab_len at }
+    ensures known { IsColumnAt row.now tab_len result }
+    ensures further { at.offset < result.offset }
+{
+    let end = row.ceil_char_boundary(at.offset + 1);
+    RowOffset {
+        offset: end,
+        column: column_after_text(&row[at.offset..end], at.column, tab_len),
+    }
+}
+
+fn is_visible(byte: u8) -> bool
+    ensures { IsTrue result ↔ IsVisible byte }
+{
+    32 <= byte && byte < 127
+}

@@ -1,0 +1,5 @@
+use Rattle.textarea_paint.proofs.PlainLemmas.{ArePrintable}
+use Rattle.textarea_paint.proofs.paint.clusters.plain_count.Given as goal
+
+abbrev pub invariant-loop-at : goal.invariant-loop-at
+invariant-loop-at l = ArePrintable l.bytes l.at

@@ -1,0 +1,11 @@
+use Rattle.std.proofs.Common.{◌-◌, ◌<◌, ◌≤◌, get_or, length}
+use Rattle.textarea_screen_map.specs.LineMarks.{line_start}
+use Rattle.textarea_screen_map.proofs.line_marks.count_to_display.Given as goal
+
+-- the mark before `low` is not after the display column
+abbrev pub invariant-halving : goal.invariant-halving
+invariant-halving l =
+    (l.low ≤ l.high) × (l.high ≤ length l.marks) × (0 < l.low → (get_or l.marks (l.low - 1) line_start).display ≤ l.display)
+
+abbrev pub decreases-halving : goal.decreases-halving
+decreases-halving l = l.high - l.low
