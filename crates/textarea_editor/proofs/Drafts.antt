@@ -1,5 +1,5 @@
 -- Calls on a draft, one list after another.
-use Rattle.std.proofs.Common.{◌≡◌, ◌+◌, ◌-◌, ◌<◌, ◌∙◌, ◌⊎◌, ◌&&◌, ℕ, zero, suc, Bool, true, false, List, [], ◌∷◌, ◌++◌, Option, Some, None, OnErr, Result, Ok, Err, ap, append-nil, append_assoc, if◌then◌else◌, inl, inr, is_some, length, map, refl, subst, sym, take, zero-add, arith, add-one, add-suc, add-zero, length-append}
+use Rattle.std.proofs.Common.{◌≡◌, ◌+◌, ◌<◌, ◌∙◌, ◌⊎◌, ◌&&◌, ℕ, Bool, true, false, List, [], ◌∷◌, ◌++◌, Option, Some, None, OnErr, Result, Ok, Err, ap, append-nil, if◌then◌else◌, inl, inr, is_some, length, map, refl, subst, sym, take, zero-add, arith, length-append}
 use Rattle.std.proofs.Math.Seq.{take-append-add}
 use Rattle.std.specs.List.{All, list_all}
 use Rattle.std.specs.Option.{option_map}
@@ -19,7 +19,6 @@ use Rattle.textarea_data.specs.declared.cursor.CursorMove.TheVariants.{InViewpor
 use Rattle.textarea_document.specs.Selection.{is_selected, selected}
 use Rattle.textarea_editor.specs.Draft.{FailsIn, FailsInSome, IsHonest, IsUndrawn, Makes, RunsShort, is_unchanged, leaves_text, plain_call, plain_calls}
 use Rattle.textarea_editor.specs.declared.draft.Draft.{Draft}
-use Rattle.textarea_editor.specs.Moves.{repeated}
 use Rattle.textarea_modal.proofs.Runs.{draws_nothing_of, made_after, none_made, ran_out_after}
 use Rattle.textarea_modal.specs.Runs.{AllMade, RunsOutAt}
 use Rattle.textarea_screen.proofs.ChangeLemmas.{KeepsOutside-same}
@@ -29,7 +28,7 @@ use Rattle.textarea_text.specs.Place.{Place}
 use Rattle.textarea_text.specs.Text.{Symbol}
 use Rattle.tui_textarea.specs.Drawing.{viewport_scrolled}
 use Rattle.tui_textarea.specs.Input.{IsAfterAction, asked_by}
-use Rattle.tui_textarea.specs.Moves.{IsMovedWith, after_move_by, pushed}
+use Rattle.tui_textarea.specs.Moves.{IsMovedWith, after_move_by, gone_to, pushed}
 use Rattle.tui_textarea.specs.Outcomes.{IsAfterCall, IsBufferOutOfMemory, RanOutOfMemory, after_pattern}
 use Rattle.tui_textarea.specs.Run.{CallLeads, Leads, Run, StopsAt}
 use Rattle.tui_textarea.specs.CallResults.{CallResult, PatternRejected, call_result}
@@ -41,7 +40,7 @@ use Rattle.tui_textarea.specs.State.{State}
 
 call_plain : (old : State) (buffer : Buffer) (this : Call) (returned : CallResult) (new : State) (displayed : Buffer) → CallLeads old buffer this returned new displayed → CallLeads old buffer (plain_call this) returned new displayed
 call_plain old buffer (call.Input input) returned new displayed led = record { answered = led.answered; after = led.after; drawn = led.drawn }
-call_plain old buffer (call.InsertStr text) returned new displayed led = record { answered = led.answered; after = led.after; drawn = led.drawn }
+call_plain old buffer (call.InsertPasted text) returned new displayed led = record { answered = led.answered; after = led.after; drawn = led.drawn }
 call_plain old buffer (call.SetSearchPattern text) returned new displayed led = record { answered = led.answered; after = led.after; drawn = led.drawn }
 call_plain old buffer other returned new displayed led = led
 
@@ -54,7 +53,7 @@ leads_plain old new buffer displayed (this ∷ calls) (a ∷ answers) led =
 
 ran_out_plain : (this : Call) (before new : State) → RanOutOfMemory before this new → RanOutOfMemory before (plain_call this) new
 ran_out_plain (call.Input input) before new ran = record { may = ran.may; left = ran.left }
-ran_out_plain (call.InsertStr text) before new ran = record { may = ran.may; left = ran.left }
+ran_out_plain (call.InsertPasted text) before new ran = record { may = ran.may; left = ran.left }
 ran_out_plain (call.SetSearchPattern text) before new ran = record { may = ran.may; left = ran.left }
 ran_out_plain other before new ran = ran
 
@@ -167,26 +166,6 @@ short_before a b calls more short = record {
 pub fails_before : (a b : Draft) (calls more : List Call) → FailsIn a calls b → FailsIn a (calls ++ more) b
 fails_before a b calls more fails = record { short = short_before a.area b.area calls more fails.short; honest = fails.honest }
 
--- ---- calls that are repeated
-
-repeated-add : (calls : List Call) (m n : ℕ) → repeated (m + n) calls ≡ repeated m calls ++ repeated n calls
-repeated-add calls m zero = ap (λ k. repeated k calls) (add-zero m) ∙ sym (append-nil (repeated m calls))
-repeated-add calls m (suc n) =
-    ap (λ k. repeated k calls) (add-suc m n) ∙ ap (λ l. l ++ calls) (repeated-add calls m n) ∙ append_assoc (repeated m calls) (repeated n calls) calls
-
-pub makes_once_more : (a b c : Draft) (calls : List Call) (count : ℕ) → Makes a (repeated count calls) b → Makes b calls c → Makes a (repeated (count + 1) calls) c
-makes_once_more a b c calls count first second =
-    rw add-one (makes_then a b c (repeated count calls) calls first second)
-
-pub fails_once_more : (a b c : Draft) (calls : List Call) (done count : ℕ) → done < count → Makes a (repeated done calls) b → FailsIn b calls c → FailsIn a (repeated count calls) c
-fails_once_more a b c calls done count within first second =
-    let left = count - (done + 1) in
-    let whole : repeated count calls ≡ (repeated done calls ++ calls) ++ repeated left calls =
-    ap (λ k. repeated k calls) (let e : count ≡ (done + 1) + left = omega arith in e) ∙ repeated-add calls (done + 1) left
-    ∙ ap (λ k. repeated k calls ++ repeated left calls) (add-one done) in
-    subst (λ (l : List Call). FailsIn a l c) (sym whole)
-    (fails_before a c (repeated done calls ++ calls) (repeated left calls) (fails_then a b c (repeated done calls) calls first second))
-
 -- ---- calls of a kind
 
 -- memory ran out before any call
@@ -209,6 +188,9 @@ moved_keeps old shift (Some place) = refl
 moved_with_keeps : (old : State) (shift : Bool) (cursor_move : CursorMove) (new : State) → IsMovedWith old shift cursor_move new → SameText old new
 moved_with_keeps old shift cursor_move new moved =
     ap text moved.new_is ∙ moved_keeps old shift (pushed old.document.ranges cursor_move moved.found)
+
+gone_keeps : (old : State) (place : Place) → SameText old (gone_to old place)
+gone_keeps old place = refl
 
 searched_keeps : (old : State) (found : Option Place) → SameText old (after_search old found)
 searched_keeps old None = refl
@@ -238,6 +220,7 @@ acted_keeps old (action.Scroll scrolling) new is acted = moved_with_keeps (viewp
 call_keeps : (old : State) (this : Call) (answer : CallResult) (new : State) → leaves_text this ≡ true → IsAfterCall old this answer new → SameText old new
 call_keeps old (call.Input input) answer new is after = acted_keeps old (asked_by input.now) new is after
 call_keeps old (call.Move cursor_move) answer new is after = moved_with_keeps old (is_some old.document.anchor) cursor_move new after
+call_keeps old (call.GoTo place) answer new is after = ap text after ∙ gone_keeps old place
 call_keeps old (call.Scroll scrolling) answer new is after = moved_with_keeps (viewport_scrolled old scrolling) (is_some old.document.anchor) InViewport new after
 call_keeps old call.StartSelection answer new is after = ap text after
 call_keeps old call.CancelSelection answer new is after = ap text after

@@ -7,7 +7,7 @@ use Rattle.textarea_editor.proofs.Drafts.{honest_then, makes_none, makes_then}
 use Rattle.textarea_editor.specs.Draft.{FailsIn, FailsInAsked, IsHonest, Makes, MakesSome}
 use Rattle.textarea_editor.specs.declared.draft.Draft.{Draft}
 use Rattle.textarea_editor.specs.Editor.{AsksToSave, MayQuit}
-use Rattle.textarea_editor.specs.Steps.{AreSteps, FailsAt, IsStep, IsTimed, MakesCallsOf, Moment, NoneFails}
+use Rattle.textarea_editor.specs.Steps.{AreSteps, FailsAt, IsStep, IsTimed, MakesCallsOf, Moment, NoneFails, Succeeds}
 use Rattle.textarea_editor.specs.declared.editor.Editor.{Editor}
 use Rattle.textarea_editor.specs.declared.effect.Effect.{Effect}
 use Rattle.textarea_editor.specs.declared.effect.Effect.TheVariants.{Quit}
@@ -20,8 +20,8 @@ failed_honest : (old new : Draft) (first : List Call) (IsAsked : List Call → T
 failed_honest old new first IsAsked (inl early) = early.honest
 failed_honest old new first IsAsked (inr fails) = fails.fails.honest
 
-step_honest : (old new : Editor) (now : Duration) (event : Event) (effect : Effect) → (MakesSome (IsTimed old now event) old.draft new.draft ⊎ FailsAt old now event effect new) → IsHonest old.draft new.draft
-step_honest old new now event effect (inl made) = made.makes.honest
+step_honest : (old new : Editor) (now : Duration) (event : Event) (effect : Effect) → (Succeeds old now event new ⊎ FailsAt old now event effect new) → IsHonest old.draft new.draft
+step_honest old new now event effect (inl made) = made.makes.makes.honest
 step_honest old new now event effect (inr failed) = failed_honest old.draft new.draft (SetNow now ∷ []) (IsTimed old now event) failed.fails
 
 run_honest : (old new : Editor) (moments : List Moment) → AreSteps old moments new → IsHonest old.draft new.draft
@@ -41,8 +41,8 @@ quits_after saved old new moments now event steps step = may_quit saved old mome
 
 -- ---- the calls of events
 
-step_made : (old new : Editor) (now : Duration) (event : Event) (effect : Effect) → new.message ≢ Memory → (MakesSome (IsTimed old now event) old.draft new.draft ⊎ FailsAt old now event effect new) → MakesSome (IsTimed old now event) old.draft new.draft
-step_made old new now event effect other (inl made) = made
+step_made : (old new : Editor) (now : Duration) (event : Event) (effect : Effect) → new.message ≢ Memory → (Succeeds old now event new ⊎ FailsAt old now event effect new) → MakesSome (IsTimed old now event) old.draft new.draft
+step_made old new now event effect other (inl made) = made.makes
 step_made old new now event effect other (inr failed) = absurd (other failed.message)
 
 pub run_made : (old new : Editor) (moments : List Moment) → AreSteps old moments new → NoneFails moments → MakesCallsOf old moments new

@@ -10,7 +10,7 @@ use Rattle.textarea_calls.specs.declared.kind.Write.TheVariants as write
 use Rattle.textarea_data.specs.declared.input.Input.{Input}
 use Rattle.textarea_data.specs.declared.cursor.CursorMove.{CursorMove}
 use Rattle.textarea_editor.proofs.Drafts.{made_keeps}
-use Rattle.textarea_editor.specs.Draft.{IsHonest, RunsShort, is_edit, leaves_text}
+use Rattle.textarea_editor.specs.Draft.{IsHonest, RunsShort, is_edit, leaves_text, stop_of}
 use Rattle.textarea_editor.specs.declared.draft.Draft.{Draft}
 use Rattle.textarea_modal.specs.Calls.{key_call, motion_call}
 use Rattle.textarea_modal.specs.Course.{course, stays, unless}
@@ -58,6 +58,24 @@ none_later false mode = refl
 course_of_one : (mode : Mode) (input : Input) → (course mode (input ∷ [])).calls ≡ (step mode input).calls
 course_of_one mode input =
     ap (λ l. (step mode input).calls ++ l) (none_later (step mode input).quits (step mode input).mode) ∙ append-nil (step mode input).calls
+
+mode_later : (quits : Bool) (mode : Mode) → (unless quits mode (stays mode false)).mode ≡ mode
+mode_later true mode = refl
+mode_later false mode = refl
+
+quits_later : (quits : Bool) (mode : Mode) → (unless quits mode (stays mode false)).quits ≡ quits
+quits_later true mode = refl
+quits_later false mode = refl
+
+pub key_mode : (old new : State) (from to : Mode) (input : Input) (taken : ℕ) (stop : ModalStop) → stop ≢ Memory → EndsAs old from (input ∷ []) new to taken stop → to ≡ (step from input).mode
+key_mode old new from to input taken End goes ends = ends.mode ∙ mode_later (step from input).quits (step from input).mode
+key_mode old new from to input taken Quit goes ends = ends.mode ∙ mode_later (step from input).quits (step from input).mode
+key_mode old new from to input taken Memory goes ends = absurd (goes refl)
+
+pub key_stop : (old new : State) (from to : Mode) (input : Input) (taken : ℕ) (stop : ModalStop) → stop ≢ Memory → EndsAs old from (input ∷ []) new to taken stop → stop ≡ stop_of (step from input).quits
+key_stop old new from to input taken End goes ends = ap stop_of (ends.quit ∙ quits_later (step from input).quits (step from input).mode)
+key_stop old new from to input taken Quit goes ends = ap stop_of (ends.quit ∙ quits_later (step from input).quits (step from input).mode)
+key_stop old new from to input taken Memory goes ends = absurd (goes refl)
 
 pub key_made : (old new : State) (from to : Mode) (input : Input) (taken : ℕ) (stop : ModalStop) → stop ≢ Memory → EndsAs old from (input ∷ []) new to taken stop → AllMade old (step from input).calls new
 key_made old new from to input taken End goes ends = subst (λ (l : List Call). AllMade old l new) (course_of_one from input) ends.made

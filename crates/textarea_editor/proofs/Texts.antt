@@ -1,13 +1,13 @@
 -- Texts that are made character by character.
-use Rattle.std.proofs.Common.{◌≡◌, ◌∙◌, ◌⊎◌, ◌&&◌, ◌==◌, ℕ, Bool, true, false, List, [], ◌∷◌, ◌++◌, OnOk, Result, Ok, Err, String, string_bytes, if◌then◌else◌, inl, inr, ap, append-nil, append_assoc, length, refl, rules, sym}
+use Rattle.std.proofs.Common.{◌≡◌, ◌∙◌, ◌==◌, ℕ, Bool, true, false, List, [], ◌∷◌, ◌++◌, OnOk, Result, Ok, Err, String, string_bytes, if◌then◌else◌, ap, append-nil, append_assoc, length, refl, rules, sym}
 use Rattle.std.specs.Prelude.{chars, codes, encode_utf8, encode_utf8_all, is_ok}
-use Rattle.std.proofs.lemmas.Bool.{and_left, and_right, eqb-false, eqb-true, ne_eqb}
+use Rattle.std.proofs.lemmas.Bool.{eqb-false, eqb-true}
 use Rattle.std.proofs.lemmas.List.{nil_from_length}
 use Rattle.std.specs.Char.Unicode.Uppercase.{is_uppercase}
 use Rattle.std.specs.List.{flat_map, list_any}
 use Rattle.std.specs.Str.{IsUtf8}
 use Rattle.std.proofs.lemmas.Str.{IsUtf8-string_bytes, chars-IsAscii, chars-nil, chars_from_encodes, encodes-append, encodes-chars}
-use Rattle.textarea_editor.specs.Patterns.{case_mark, ends_line, escaped, first_line, is_special, pasted_for, pattern_of}
+use Rattle.textarea_editor.specs.Patterns.{case_mark, ends_line, escaped, first_line, is_special, pattern_of}
 use Rattle.textarea_text.specs.Text.{characters_of}
 
 -- a part is added, and the rest is what is left after it
@@ -30,20 +30,6 @@ characters_of-pushed old new c e =
 pub pushed_on_ok : {Z E T : Type 0} (old new : String Z) (c : ℕ) (result : Result T E) → string_bytes new ≡ (if is_ok result then string_bytes old ++ encode_utf8 c else string_bytes old) → OnOk result (characters_of new ≡ characters_of old ++ c ∷ [])
 pushed_on_ok old new c (Ok value) bytes = characters_of-pushed old new c bytes
 pushed_on_ok old new c (Err error) bytes = tt
-
--- ---- pasted texts
-
-pub pasted_return : (was_return : Bool) (c : ℕ) → c ≡ 13 → pasted_for was_return c ≡ 10 ∷ []
-pasted_return was_return c is = ap (pasted_for was_return) is
-
-pub pasted_plain : (was_return : Bool) (c : ℕ) → (c ≡ 13 → ⊥) → (c == 10 && was_return) ≡ false → pasted_for was_return c ≡ c ∷ []
-pasted_plain was_return c other stays =
-    ap (λ (b : Bool). if b then 10 ∷ [] else (if c == 10 && was_return then [] else c ∷ [])) (ne_eqb c 13 other)
-    ∙ ap (λ (b : Bool). if b then [] else c ∷ []) stays
-
-pub stays_by : (was_return : Bool) (c : ℕ) → ((c ≡ 10) × (was_return ≡ false)) ⊎ (c ≡ 10 → ⊥) → (c == 10 && was_return) ≡ false
-stays_by was_return c (inl both) = and_right (c == 10) was_return both.1
-stays_by was_return c (inr other) = and_left (c == 10) was_return (ne_eqb c 10 other)
 
 -- ---- patterns
 

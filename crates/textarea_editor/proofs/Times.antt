@@ -42,8 +42,8 @@ input_at (focus.Question question) editor draft area time input calls is = is
 input_at focus.Help editor draft area time input calls is = is
 
 event_at : (editor : Editor) (draft : Draft) (area : State) (time : ℕ) (this : Event) (calls : List Call) → IsEvent (with_draft editor draft) (at_time area time) this calls → IsEvent editor area this calls
-event_at editor draft area time (event.Input input) calls is = input_at editor.focus editor draft area time input calls is
-event_at editor draft area time (event.Paste text) calls is = paste_at editor.focus is
+event_at editor draft area time (event.Input input) calls is = input_at editor.controls.focus editor draft area time input calls is
+event_at editor draft area time (event.Paste text) calls is = paste_at editor.controls.focus is
   where
     paste_at : (asked : Focus) → IsPaste asked (with_draft editor draft) (string_bytes text) calls → IsPaste asked editor (string_bytes text) calls
     paste_at focus.Text is = is

@@ -3,10 +3,12 @@ use Rattle.std.specs.Prelude.{◌≡◌, ◌⊎◌, ◌≤◌, ℕ, Bool, true, 
 use Rattle.textarea_calls.specs.CallGroups.{draws}
 use Rattle.textarea_calls.specs.FlagRule.{FlagRule, flag_rule_of, unchanged}
 use Rattle.textarea_calls.specs.declared.call.Call.{Call}
-use Rattle.textarea_calls.specs.declared.call.Call.TheVariants.{CancelSelection, ClearAtomicRanges, Copy, Cut, Input, InsertStr, Move, Paste, Redo, RemoveLineNumber, Scroll, SearchBack, SearchForward, SelectAll, SetCursorLineStyle, SetCursorRenderMode, SetHardTabIndent, SetLineNumberStyle, SetMaxHistories, SetNow, SetSearchPattern, SetSearchStyle, SetSelectionStyle, SetUndoCoalescing, SetWrapMode, StartSelection, Undo}
+use Rattle.textarea_calls.specs.declared.call.Call.TheVariants.{CancelSelection, ClearAtomicRanges, Copy, Cut, GoTo, Input, InsertPasted, Move, Paste, Redo, RemoveLineNumber, Scroll, SearchBack, SearchForward, SelectAll, SetCursorLineStyle, SetCursorRenderMode, SetHardTabIndent, SetLineNumberStyle, SetMaxHistories, SetNow, SetSearchPattern, SetSearchStyle, SetSelectionStyle, SetUndoCoalescing, SetWrapMode, StartSelection, Undo}
 use Rattle.textarea_calls.specs.declared.kind.Write.TheVariants as write
 use Rattle.textarea_editor.specs.declared.draft.Draft.{Draft}
 use Rattle.textarea_modal.specs.Runs.{AllMade, RunsOutAt}
+use Rattle.textarea_modal.specs.declared.modal.ModalStop.{ModalStop}
+use Rattle.textarea_modal.specs.declared.modal.ModalStop.TheVariants.{End, Quit}
 use Rattle.textarea_modal.specs.declared.step.KeyCall.{KeyCall}
 use Rattle.textarea_modal.specs.declared.step.KeyCall.TheVariants as key
 use Rattle.tui_textarea.specs.Input.{asked_by}
@@ -21,6 +23,7 @@ is_unchanged other = false
 abbrev pub leaves_text : Call → Bool
 leaves_text (Input input) = is_unchanged (flag_rule_of (asked_by input.now))
 leaves_text (Move cursor_move) = true
+leaves_text (GoTo place) = true
 leaves_text (Scroll scrolling) = true
 leaves_text StartSelection = true
 leaves_text CancelSelection = true
@@ -46,7 +49,7 @@ leaves_text call = false
 -- whether the call may edit the text; of these calls only those that the editor makes
 abbrev pub may_edit : Call → Bool
 may_edit (Input input) = true
-may_edit (InsertStr text) = true
+may_edit (InsertPasted text) = true
 may_edit Cut = true
 may_edit Paste = true
 may_edit Undo = true
@@ -64,10 +67,15 @@ is_edit (key.Write write.Copy) = false
 is_edit (key.Write other) = true
 is_edit other = false
 
+-- how a key of the modal editor ends that doesn't run out of memory
+abbrev pub stop_of : Bool → ModalStop
+stop_of true = Quit
+stop_of false = End
+
 -- a call without the address of the text or input that it borrows
 abbrev pub plain_call : Call → Call
 plain_call (Input input) = Input (record { ref_ptr = (0, 0); now = input.now })
-plain_call (InsertStr text) = InsertStr (record { ref_ptr = (0, 0); now = text.now })
+plain_call (InsertPasted text) = InsertPasted (record { ref_ptr = (0, 0); now = text.now })
 plain_call (SetSearchPattern text) = SetSearchPattern (record { ref_ptr = (0, 0); now = text.now })
 plain_call call = call
 

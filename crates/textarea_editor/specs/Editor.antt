@@ -23,7 +23,7 @@ rows_of editor = editor.rows
 
 -- the next key answers whether to save before the program ends
 abbrev pub AsksToSave : Editor → Type 0
-AsksToSave editor = editor.focus ≡ focus.Question SaveFirst
+AsksToSave editor = editor.controls.focus ≡ focus.Question SaveFirst
 
 -- the program may end at the next key without a further question: the text counts as unchanged, or
 -- that question was asked
@@ -32,4 +32,4 @@ MayQuit editor = (editor.draft.is_changed ≡ false) ⊎ AsksToSave editor
 
 -- the screen shows the help instead of the text
 abbrev pub ShowsHelp : Editor → Type 0
-ShowsHelp editor = editor.focus ≡ focus.Help
+ShowsHelp editor = editor.controls.focus ≡ focus.Help

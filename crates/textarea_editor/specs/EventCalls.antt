@@ -9,8 +9,7 @@ use Rattle.textarea_data.specs.declared.input.Input.{Input}
 use Rattle.textarea_data.specs.declared.input.Key.{Key}
 use Rattle.textarea_data.specs.declared.input.Key.TheVariants.{Char, Esc, F, MouseScrollDown, MouseScrollUp}
 use Rattle.textarea_editor.specs.LineNumber.{IsLineNumber, row_of}
-use Rattle.textarea_editor.specs.Moves.{calls_to}
-use Rattle.textarea_editor.specs.Patterns.{first_line, pasted, pattern_of}
+use Rattle.textarea_editor.specs.Patterns.{first_line, pattern_of}
 use Rattle.textarea_editor.specs.PromptKeys.{prompt_key}
 use Rattle.textarea_editor.specs.declared.editor.Editor.{Editor}
 use Rattle.textarea_editor.specs.declared.editor.TheConstants.{WHEEL_DOWN, WHEEL_UP}
@@ -146,7 +145,7 @@ prompt_line field = slice_index_or (lines field.document.text) 0 []
 
 -- from where the prompt was opened to the first match
 abbrev pub look_calls : Place → List ℕ → List Call
-look_calls origin pattern = calls_to origin ++ call.SetSearchPattern (borrowed pattern) ∷ call.SearchForward true ∷ []
+look_calls origin pattern = call.GoTo origin ∷ call.SetSearchPattern (borrowed pattern) ∷ call.SearchForward true ∷ []
 
 -- the matches of the prompt's text are lit and the first one is found
 pub record IsLookingFor (origin : Place) (field : State) (calls : List Call) : Type 0 where
@@ -167,7 +166,7 @@ IsPromptEdited false asked origin field calls = calls ≡ []
 -- to the start of a line, which drops the selection
 abbrev pub row_calls : Option ℕ → List Call
 row_calls None = []
-row_calls (Some row) = call.CancelSelection ∷ calls_to (row, 0)
+row_calls (Some row) = call.CancelSelection ∷ call.GoTo (row, 0) ∷ []
 
 -- to the line of the number in the prompt's text, if it is one
 pub record IsLineAsked (field : State) (calls : List Call) : Type 0 where
@@ -199,15 +198,13 @@ IsKeyInPrompt prompt.Edit asked origin field input calls = IsPromptInput asked o
 -- ---- inputs, pastes and the mouse
 
 abbrev pub IsInput : Focus → Editor → State → Input → List Call → Type 0
-IsInput focus.Text editor area input calls = IsKeyInText editor.modal editor.wraps editor.numbers (is_selecting area) input calls
-IsInput (focus.Prompt asked) editor area input calls = IsKeyInPrompt (prompt_key asked input) asked editor.origin editor.field input calls
+IsInput focus.Text editor area input calls = IsKeyInText editor.controls.modal editor.controls.wraps editor.controls.numbers (is_selecting area) input calls
+IsInput (focus.Prompt asked) editor area input calls = IsKeyInPrompt (prompt_key asked input) asked editor.controls.origin editor.field input calls
 IsInput other editor area input calls = calls ≡ []
 
--- a text is pasted into the text as one edit, with a line feed for each line end
-pub record IsPasteInText (text : List ℕ) (calls : List Call) : Type 0 where
-  pub inserted : List ℕ
-  pub inserted_is : chars inserted ≡ pasted (chars text)
-  pub calls_are : calls ≡ call.InsertStr (borrowed inserted) ∷ []
+-- a text is pasted into the text as one edit
+abbrev pub paste_calls : List ℕ → List Call
+paste_calls text = call.InsertPasted (borrowed text) ∷ []
 
 -- the first line of a text is pasted into the prompt
 abbrev pub IsPasteInPrompt : Asked → Place → State → List ℕ → List Call → Type 0
@@ -216,8 +213,8 @@ IsPasteInPrompt asked origin field text calls =
     IsPromptEdited (inserts_text field line) asked origin (str_inserted field line) calls
 
 abbrev pub IsPaste : Focus → Editor → List ℕ → List Call → Type 0
-IsPaste focus.Text editor text calls = IsPasteInText text calls
-IsPaste (focus.Prompt asked) editor text calls = IsPasteInPrompt asked editor.origin editor.field text calls
+IsPaste focus.Text editor text calls = calls ≡ paste_calls text
+IsPaste (focus.Prompt asked) editor text calls = IsPasteInPrompt asked editor.controls.origin editor.field text calls
 IsPaste other editor text calls = calls ≡ []
 
 -- whether the mouse moves the cursor, and then whether it selects up to there
@@ -240,7 +237,7 @@ selection_calls false selecting = call.CancelSelection ∷ []
 -- to the position that a cell shows, if it shows one
 abbrev pub click_calls : Bool → Bool → Option Place → List Call
 click_calls selects selecting None = []
-click_calls selects selecting (Some place) = selection_calls selects selecting ++ calls_to place
+click_calls selects selecting (Some place) = selection_calls selects selecting ++ call.GoTo place ∷ []
 
 -- a click at a column and row
 pub record IsClick (selects selecting : Bool) (widget : WidgetState) (column row : ℕ) (calls : List Call) : Type 0 where
@@ -255,7 +252,7 @@ IsMouse (Some selects) selecting widget mouse calls = IsClick selects selecting 
 -- ---- events
 
 abbrev pub IsEvent : Editor → State → Event → List Call → Type 0
-IsEvent editor area (event.Input input) calls = IsInput editor.focus editor area input calls
-IsEvent editor area (event.Paste text) calls = IsPaste editor.focus editor (string_bytes text) calls
-IsEvent editor area (event.Mouse mouse) calls = IsMouse (click_of editor.focus editor.rows mouse) (is_selecting area) (widget_of area) mouse calls
+IsEvent editor area (event.Input input) calls = IsInput editor.controls.focus editor area input calls
+IsEvent editor area (event.Paste text) calls = IsPaste editor.controls.focus editor (string_bytes text) calls
+IsEvent editor area (event.Mouse mouse) calls = IsMouse (click_of editor.controls.focus editor.rows mouse) (is_selecting area) (widget_of area) mouse calls
 IsEvent editor area other calls = calls ≡ []

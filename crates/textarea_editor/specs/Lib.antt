@@ -1,11 +1,11 @@
 pub mod Arguments
+pub mod Controls
 pub mod Draft
 pub mod Editor
 pub mod Effects
 pub mod EventCalls
 pub mod FileText
 pub mod LineNumber
-pub mod Moves
 pub mod Patterns
 pub mod PromptKeys
 pub mod Screen

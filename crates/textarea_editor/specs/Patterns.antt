@@ -1,5 +1,5 @@
--- The search pattern of a typed text, and the line feeds of a pasted one.
-use Rattle.std.specs.Prelude.{ℕ, ◌==◌, ◌&&◌, ◌||◌, Bool, false, List, [], ◌∷◌, ◌++◌, codes, if◌then◌else◌}
+-- The search pattern of a typed text, and the first line of a pasted one.
+use Rattle.std.specs.Prelude.{ℕ, ◌==◌, ◌||◌, Bool, List, [], ◌∷◌, ◌++◌, codes, if◌then◌else◌}
 use Rattle.std.specs.Char.Unicode.Uppercase.{is_uppercase}
 use Rattle.std.specs.List.{flat_map, list_any}
 use Rattle.textarea_editor.specs.declared.pattern.TheConstants.{SPECIAL}
@@ -20,20 +20,6 @@ case_mark cs = if list_any is_uppercase cs then [] else codes "(?i)"
 abbrev pub pattern_of : List ℕ → List ℕ
 pattern_of [] = []
 pattern_of (c ∷ cs) = case_mark (c ∷ cs) ++ flat_map escaped (c ∷ cs)
-
--- a character of a pasted text: a carriage return, 13, becomes a line feed, 10, and a line feed
--- that follows one is dropped
-abbrev pub pasted_for : Bool → ℕ → List ℕ
-pasted_for was_return c = if c == 13 then 10 ∷ [] else (if c == 10 && was_return then [] else c ∷ [])
-
--- the characters of a pasted text, after a carriage return or not
-abbrev pub pasted_after : Bool → List ℕ → List ℕ
-pasted_after was_return [] = []
-pasted_after was_return (c ∷ cs) = pasted_for was_return c ++ pasted_after (c == 13) cs
-
--- a pasted text with a line feed for each line end: terminals send a carriage return for one
-abbrev pub pasted : List ℕ → List ℕ
-pasted cs = pasted_after false cs
 
 -- whether a character ends a line
 abbrev pub ends_line : ℕ → Bool

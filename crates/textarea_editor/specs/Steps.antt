@@ -1,8 +1,9 @@
 -- Steps of an editor, one after another.
-use Rattle.std.specs.Prelude.{◌≡◌, ◌≢◌, ◌⊎◌, List, [], ◌∷◌, ◌++◌}
+use Rattle.std.specs.Prelude.{◌≡◌, ◌≢◌, ◌⊎◌, is_some, List, [], ◌∷◌, ◌++◌}
 use Rattle.std.specs.declared.time.Duration.{Duration}
 use Rattle.textarea_calls.specs.declared.call.Call.{Call}
 use Rattle.textarea_calls.specs.declared.call.Call.TheVariants.{SetNow}
+use Rattle.textarea_editor.specs.Controls.{IsAfterEvent}
 use Rattle.textarea_editor.specs.Draft.{FailsIn, FailsInAsked, Makes, MakesSome}
 use Rattle.textarea_editor.specs.Editor.{MayQuit}
 use Rattle.textarea_editor.specs.Effects.{Carries}
@@ -19,17 +20,23 @@ pub record IsTimed (old : Editor) (now : Duration) (event : Event) (calls : List
   pub asked : IsEvent old old.draft.area event later
   pub calls_are : calls ≡ SetNow now ∷ later
 
+-- the calls of an event were made, and then the next event is for what the table says
+pub record Succeeds (old : Editor) (now : Duration) (event : Event) (new : Editor) : Type 0 where
+  pub makes : MakesSome (IsTimed old now event) old.draft new.draft
+  pub controls : IsAfterEvent old.controls (is_some old.name) new.draft.is_changed old.draft.area.document.cursor old.field event new.controls
+
 -- memory ran out in the calls of an event, or after the first before the others were known: the
 -- status row shows it, and the program does nothing
 pub record FailsAt (old : Editor) (now : Duration) (event : Event) (effect : Effect) (new : Editor) : Type 0 where
   pub fails : FailsIn old.draft (SetNow now ∷ []) new.draft ⊎ FailsInAsked (IsTimed old now event) old.draft new.draft
+  pub kept : new.controls ≡ old.controls
   pub message : new.message ≡ Memory
   pub silent : effect ≡ Nothing
 
 -- a step by an event: its calls, and its effect; the file's line end stays. The program ends without
 -- a question only if the text counted as unchanged
 pub record IsStep (old : Editor) (now : Duration) (event : Event) (effect : Effect) (new : Editor) : Type 0 where
-  pub led : MakesSome (IsTimed old now event) old.draft new.draft ⊎ FailsAt old now event effect new
+  pub led : Succeeds old now event new ⊎ FailsAt old now event effect new
   pub carries : Carries (MayQuit old) new.draft.area new.line_end effect
   pub end : new.line_end ≡ old.line_end
 

@@ -3,7 +3,7 @@
 use crate::effect::SaveEnd;
 use crate::message::Trouble;
 use std::fs::{File, Metadata, OpenFile, OpenOptions};
-use std::io::{ErrorKind, Write};
+use std::io::{ErrorKind, Read, Write};
 use std::os::unix::fs::{MetadataExt, chown};
 use std::rt::Files;
 use std::{fs, io};
@@ -61,6 +61,18 @@ fn state_of<R: Files>(rt: &R, name: &str) -> Result<Option<Metadata>, Trouble> {
     }
 }
 
+// Reads a text file whose size is about this, into memory that is requested once.
+fn read_text<R: Files + AllocGlobal>(rt: &R, name: &str, size: u64) -> io::Result<String> {
+    // The read that finds the end of the file has room for a byte.
+    let room = usize::try_from(size)
+        .unwrap_or(usize::MAX)
+        .saturating_add(1);
+    let mut text = String::with_capacity(rt.alloc(), room)?;
+    let mut file = File::open(rt, name)?;
+    file.read_to_string(&mut text)?;
+    Ok(text)
+}
+
 impl DiskFile {
     /// Reads the file of this name whole. A file that doesn't exist has no text. After an error
     /// nothing is known of the file, so that `save` asks before it replaces it.
@@ -72,7 +84,7 @@ impl DiskFile {
         let Some(metadata) = state_of(rt, name)? else {
             return Ok(None);
         };
-        match fs::read_to_string(rt, name) {
+        match read_text(rt, name, metadata.len()) {
             Ok(text) => {
                 self.known = Some(stamp_of(&metadata));
                 Ok(Some(text))
@@ -130,12 +142,25 @@ fn replace<R: Files + AllocGlobal>(
     }
     let target = target_of(rt, name)?;
     let beside = beside(rt, target.as_str())?;
-    let written = write_beside(rt, beside.as_str(), text, old);
-    if let Err(error) = written.and_then(|()| fs::rename(rt, beside.as_str(), target.as_str())) {
+    let replaced = write_and_rename(rt, beside.as_str(), target.as_str(), text, old);
+    if replaced.is_err() {
         let _ = fs::remove_file(rt, beside.as_str());
-        return Err(error);
     }
-    Ok(stamp_of(&fs::metadata(rt, target.as_str())?))
+    replaced
+}
+
+// Writes the text to the new file, which then takes the target's name, as the last step that may
+// fail. Returns the state of the new file, which is the same under either name.
+fn write_and_rename<R: Files>(
+    rt: &R,
+    beside: &str,
+    target: &str,
+    text: &str,
+    old: &Option<Metadata>,
+) -> io::Result<Stamp> {
+    let stamp = write_beside(rt, beside, text, old)?;
+    fs::rename(rt, beside, target)?;
+    Ok(stamp)
 }
 
 // The file that a name leads to, if it is that of a link.
@@ -158,13 +183,14 @@ fn beside<R: AllocGlobal>(rt: &R, target: &str) -> io::Result<String> {
     }
 }
 
-// Writes the new file, with the mode bits and owner of the old one, and brings it to the disk.
+// Writes the new file, with the mode bits and owner of the old one, brings it to the disk, and
+// returns its state.
 fn write_beside<R: Files>(
     rt: &R,
     beside: &str,
     text: &str,
     old: &Option<Metadata>,
-) -> io::Result<()> {
+) -> io::Result<Stamp> {
     let mut file = create_beside(rt, beside)?;
     if let Some(metadata) = old {
         // Only root may give a file to another owner. That may clear mode bits, so these come after
@@ -173,7 +199,8 @@ fn write_beside<R: Files>(
         file.set_permissions(metadata.permissions())?;
     }
     file.write_all(text.as_bytes())?;
-    file.sync_all()
+    file.sync_all()?;
+    Ok(stamp_of(&file.metadata()?))
 }
 
 // Creates the new file. One that a killed save left is removed first.

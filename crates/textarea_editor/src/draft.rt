@@ -12,7 +12,7 @@ ghost use Rattle.textarea_screen.specs.Rect.{contains};
 ghost use Rattle.tui_textarea.specs.Drawing.{IsRendered, widget_of};
 ghost use Rattle.tui_textarea.specs.Input.{asked_by};
 ghost use Rattle.tui_textarea.specs.Rendered.{IsDrawn};
-ghost use Rattle.textarea_editor.specs.Draft.{FailsIn, IsUndrawn, Makes, RunsShort, is_edit, is_unchanged, leaves_text, may_edit, plain_calls};
+ghost use Rattle.textarea_editor.specs.Draft.{FailsIn, IsUndrawn, Makes, RunsShort, is_edit, is_unchanged, leaves_text, may_edit, plain_calls, stop_of};
 
 pub mod moving;
 
@@ -137,6 +137,9 @@ impl Draft {
             Makes self.old (step modal.old input.now).calls self.new }
         ensures memory { result ≡ ModalStop.Memory →
             FailsIn self.old (step modal.old input.now).calls self.new }
+        ensures mode { result ≢ ModalStop.Memory → modal.new ≡ (step modal.old input.now).mode }
+        ensures stop { result ≢ ModalStop.Memory →
+            result ≡ stop_of (step modal.old input.now).quits }
     {
         self.is_changed = self.is_changed || may_change(modal.mode(), input);
         let stop = modal.run(&mut self.area, &[*input]).stop;

@@ -16,6 +16,7 @@ mod prompt;
 mod saving;
 mod status;
 
+use crate::controls::Controls;
 use crate::draft::Draft;
 use crate::editor::parts::{file_draft, help_area, opened, plain_field, replace};
 use crate::effect::Effect;
@@ -49,17 +50,10 @@ pub struct Editor {
     help: TextArea<'static>,
     name: Option<String>,
     line_end: LineEnd,
-    modal: Option<Modal>,
-    focus: Focus,
+    controls: Controls,
     message: Message,
-    /// The cursor as the prompt for a text to find was opened.
-    origin: (usize, usize),
     columns: u16,
     rows: u16,
-    wraps: bool,
-    numbers: bool,
-    /// Whether the program ends once the file is saved.
-    ends_when_saved: bool,
 }
 
 impl Editor {
@@ -77,15 +71,17 @@ impl Editor {
             help,
             name: None,
             line_end: LineEnd::LineFeed,
-            modal: if is_modal { Some(Modal::new()) } else { None },
-            focus: Focus::Text,
+            controls: Controls {
+                focus: Focus::Text,
+                modal: if is_modal { Some(Modal::new()) } else { None },
+                origin: (0, 0),
+                wraps: true,
+                numbers: false,
+                ends_when_saved: false,
+            },
             message: Message::Nothing,
-            origin: (0, 0),
             columns,
             rows,
-            wraps: true,
-            numbers: false,
-            ends_when_saved: false,
         })
     }
 
@@ -121,7 +117,7 @@ impl Editor {
         let (draft, line_end) = file_draft(self.allocator(), text, wraps)?;
         replace(&mut self.draft, draft);
         self.line_end = line_end;
-        self.wraps = wraps;
+        self.controls.wraps = wraps;
         Ok(())
     }
 

@@ -1,9 +1,11 @@
 //! What the next key is for.
 
-ghost use Rattle.std.specs.Prelude.{◌≡◌};
+ghost use Rattle.std.specs.Prelude.{◌≡◌, is_some};
+ghost use Rattle.textarea_editor.specs.Controls.{reply_of, scrolls_help};
 ghost use Rattle.textarea_editor.specs.PromptKeys.{naming_key, prompt_key, search_key};
 
 use textarea_data::input::{Input, Key};
+use textarea_data::scroll::Scrolling;
 
 /// What the prompt asks for.
 #[derive(Clone, Copy, Debug, PartialEq, Eq)]
@@ -23,6 +25,19 @@ pub enum Question {
     SaveFirst,
     /// Whether to overwrite a file that changed on disk.
     Overwrite,
+}
+
+/// What a key answers to a question.
+#[derive(Clone, Copy, Debug, PartialEq, Eq)]
+pub enum Reply {
+    /// Yes.
+    Yes,
+    /// No.
+    No,
+    /// Neither: back to the text.
+    Back,
+    /// Nothing.
+    Other,
 }
 
 /// What the next key is for.
@@ -85,5 +100,30 @@ fn naming_key(key: Key) -> PromptKey
         Key::Esc => PromptKey::Leave,
         Key::Enter => PromptKey::Accept,
         _ => PromptKey::Edit,
+    }
+}
+
+/// Returns what a key answers to a question.
+pub fn reply_of(key: Key) -> Reply
+    ensures { result ≡ reply_of key }
+{
+    match key {
+        Key::Char('y' | 'Y') => Reply::Yes,
+        Key::Char('n' | 'N') => Reply::No,
+        Key::Esc => Reply::Back,
+        _ => Reply::Other,
+    }
+}
+
+/// Returns how a key scrolls the help, if it does.
+pub fn help_scrolling(key: Key) -> Option<Scrolling>
+    ensures { is_some result ≡ scrolls_help key }
+{
+    match key {
+        Key::Down | Key::MouseScrollDown => Some(Scrolling::Delta { rows: 1, cols: 0 }),
+        Key::Up | Key::MouseScrollUp => Some(Scrolling::Delta { rows: -1, cols: 0 }),
+        Key::PageDown => Some(Scrolling::PageDown),
+        Key::PageUp => Some(Scrolling::PageUp),
+        _ => None,
     }
 }

@@ -6,6 +6,7 @@
 #![tactic(auto)]
 
 pub mod arguments;
+pub mod controls;
 pub mod disk;
 pub mod draft;
 pub mod editor;

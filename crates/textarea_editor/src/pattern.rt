@@ -1,9 +1,9 @@
-//! The search pattern of a typed text, and the line feeds of a pasted one.
+//! The search pattern of a typed text, and the first line of a pasted one.
 ghost use Rattle.std.specs.Prelude.{◌≡◌, ◌++◌, IfOk, OnOk};
 ghost use Rattle.std.specs.List.{flat_map, list_any};
 ghost use Rattle.std.specs.Char.Unicode.Uppercase.{is_uppercase};
 ghost use Rattle.std.specs.Str.{chars};
-ghost use Rattle.textarea_editor.specs.Patterns.{ends_line, escaped, first_line, is_special, pasted, pasted_for, pattern_of};
+ghost use Rattle.textarea_editor.specs.Patterns.{ends_line, escaped, first_line, is_special, pattern_of};
 ghost use Rattle.textarea_text.specs.Text.{characters_of};
 
 use std::alloc::{AllocError, Global};
@@ -59,34 +59,6 @@ fn is_special(c: char) -> bool
     ensures { result ≡ is_special c }
 {
     SPECIAL.iter().any(|special| *special == c)
-}
-
-/// Returns a pasted text with a line feed for each line end: terminals send a carriage return for
-/// one.
-pub fn pasted(alloc: Global, text: &str) -> Result<String, AllocError>
-    ensures { IfOk result (λ lines. characters_of lines ≡ pasted (chars text.now)) }
-{
-    let mut lines = String::new(alloc);
-    let mut was_return = false;
-    for c in text.chars() {
-        push_pasted(&mut lines, c, was_return)?;
-        was_return = c == '\r';
-    }
-    Ok(lines)
-}
-
-// Adds a character of a pasted text, after a carriage return or not.
-fn push_pasted(lines: &mut String, c: char, was_return: bool) -> Result<(), AllocError>
-    ensures { OnOk result
-        (characters_of lines.new ≡ characters_of lines.old ++ pasted_for was_return c) }
-{
-    if c == '\r' {
-        return lines.push('\n');
-    }
-    if c == '\n' && was_return {
-        return Ok(());
-    }
-    lines.push(c)
 }
 
 /// Returns the first line of a text, which ends at a line feed or a carriage return.

@@ -1,14 +1,15 @@
 // Questions that are answered by one key.
-ghost use Rattle.std.specs.Prelude.{◌≡◌, IfOk};
+ghost use Rattle.std.specs.Prelude.{◌≡◌, IfOk, OnErr, OnOk, is_some};
+ghost use Rattle.textarea_editor.specs.Controls.{after_reply, left, reply_of};
 ghost use Rattle.textarea_editor.specs.Editor.{MayQuit};
 ghost use Rattle.textarea_editor.specs.Effects.{Carries};
 ghost use Rattle.textarea_editor.specs.declared.focus.Focus.TheVariants as focus;
 
 use super::Editor;
 use crate::effect::Effect;
-use crate::focus::{Focus, Question};
+use crate::focus::{Focus, Question, Reply, reply_of};
 use std::alloc::AllocError;
-use textarea_data::input::{Input, Key};
+use textarea_data::input::Input;
 
 impl Editor {
     // Takes a key as the reply to a question. Another key than those that are offered leaves the
@@ -18,25 +19,39 @@ impl Editor {
         question: Question,
         input: &Input,
     ) -> Result<Effect, AllocError>
-        requires { self.old.focus ≡ focus.Question question }
+        requires { self.old.controls.focus ≡ focus.Question question }
         ensures draft { self.new.draft ≡ self.old.draft }
         ensures carries { IfOk result
             (Carries (MayQuit self.old) self.new.draft.area self.new.line_end) }
         ensures end { self.new.line_end ≡ self.old.line_end }
+        ensures controls { OnOk result (self.new.controls ≡ after_reply question
+            (reply_of input.now.key) self.old.controls (is_some self.old.name)
+            self.old.draft.area.document.cursor) }
+        ensures kept { OnErr result (self.new.controls ≡ self.old.controls) }
     {
-        match (question, input.key) {
-            (Question::SaveFirst, Key::Char('y' | 'Y')) => {
-                self.ends_when_saved = true;
-                self.save(false)
+        match (question, reply_of(input.key)) {
+            (Question::SaveFirst, Reply::Yes) => {
+                let effect = self.save(false)?;
+                self.controls.ends_when_saved = true;
+                Ok(effect)
             }
-            (Question::SaveFirst, Key::Char('n' | 'N')) => Ok(Effect::Quit),
-            (Question::Overwrite, Key::Char('y' | 'Y')) => self.save(true),
-            (Question::Overwrite, Key::Char('n' | 'N')) | (_, Key::Esc) => {
-                self.focus = Focus::Text;
-                self.ends_when_saved = false;
+            (Question::SaveFirst, Reply::No) => Ok(Effect::Quit),
+            (Question::Overwrite, Reply::Yes) => self.save(true),
+            (Question::Overwrite, Reply::No) | (_, Reply::Back) => {
+                self.leave();
                 Ok(Effect::Nothing)
             }
-            _ => Ok(Effect::Nothing),
+            (_, Reply::Other) => Ok(Effect::Nothing),
         }
+    }
+
+    // Goes back to the text. A save no longer ends the program.
+    pub(super) fn leave(&mut self)
+        ensures draft { self.new.draft ≡ self.old.draft }
+        ensures end { self.new.line_end ≡ self.old.line_end }
+        ensures controls { self.new.controls ≡ left self.old.controls }
+    {
+        self.controls.focus = Focus::Text;
+        self.controls.ends_when_saved = false;
     }
 }

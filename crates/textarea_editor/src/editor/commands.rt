@@ -1,7 +1,8 @@
 // What the commands of the table do.
-ghost use Rattle.std.specs.Prelude.{◌≡◌, ◌∷◌, [], IfOk, IsTrue, OnErr, OnOk};
+ghost use Rattle.std.specs.Prelude.{◌≡◌, ◌∷◌, [], IfOk, IsTrue, OnErr, OnOk, is_some};
 ghost use Rattle.std.specs.List.{list_all};
 ghost use Rattle.textarea_calls.specs.declared.call.Call.TheVariants as call;
+ghost use Rattle.textarea_editor.specs.Controls.{after_command, prompt_opened};
 ghost use Rattle.textarea_editor.specs.Draft.{FailsIn, Makes, leaves_text, may_edit, plain_calls};
 ghost use Rattle.textarea_editor.specs.Editor.{MayQuit};
 ghost use Rattle.textarea_editor.specs.Effects.{Carries};
@@ -20,13 +21,17 @@ use textarea_screen::screen::{Color, Style};
 impl Editor {
     // Does what a command says.
     pub(super) fn command(&mut self, command: Command) -> Result<Effect, AllocError>
-        ensures ok { OnOk result (Makes self.old.draft (command_calls self.old.wraps
-            self.old.numbers (is_selecting self.old.draft.area) command) self.new.draft) }
-        ensures err { OnErr result (FailsIn self.old.draft (command_calls self.old.wraps
-            self.old.numbers (is_selecting self.old.draft.area) command) self.new.draft) }
+        ensures ok { OnOk result (Makes self.old.draft (command_calls self.old.controls.wraps
+            self.old.controls.numbers (is_selecting self.old.draft.area) command) self.new.draft) }
+        ensures err { OnErr result (FailsIn self.old.draft (command_calls self.old.controls.wraps
+            self.old.controls.numbers (is_selecting self.old.draft.area) command) self.new.draft) }
         ensures carries { IfOk result
             (Carries (MayQuit self.old) self.new.draft.area self.new.line_end) }
         ensures end { self.new.line_end ≡ self.old.line_end }
+        ensures controls { OnOk result (self.new.controls ≡ after_command self.old.controls
+            (is_some self.old.name) self.new.draft.is_changed
+            self.old.draft.area.document.cursor command) }
+        ensures kept { OnErr result (self.new.controls ≡ self.old.controls) }
     {
         match command {
             Command::Save => self.save(false),
@@ -42,10 +47,10 @@ impl Editor {
             Command::Copy => self.copy(),
             Command::SelectAll => self.set(&[Call::SelectAll]),
             Command::Cancel => self.set(&[Call::CancelSelection, Call::SetSearchPattern("")]),
-            Command::Wrap => self.set_wraps(!self.wraps),
-            Command::LineNumbers => self.set_numbers(!self.numbers),
+            Command::Wrap => self.set_wraps(!self.controls.wraps),
+            Command::LineNumbers => self.set_numbers(!self.controls.numbers),
             Command::Help => {
-                self.focus = Focus::Help;
+                self.controls.focus = Focus::Help;
                 Ok(Effect::Nothing)
             }
         }
@@ -59,6 +64,7 @@ impl Editor {
         ensures carries { IfOk result
             (Carries (MayQuit self.old) self.new.draft.area self.new.line_end) }
         ensures end { self.new.line_end ≡ self.old.line_end }
+        ensures controls { self.new.controls ≡ self.old.controls }
     {
         self.draft.set(calls)?;
         Ok(Effect::Nothing)
@@ -72,6 +78,7 @@ impl Editor {
         ensures carries { IfOk result
             (Carries (MayQuit self.old) self.new.draft.area self.new.line_end) }
         ensures end { self.new.line_end ≡ self.old.line_end }
+        ensures controls { self.new.controls ≡ self.old.controls }
     {
         self.draft.edit(calls)?;
         Ok(Effect::Nothing)
@@ -82,6 +89,9 @@ impl Editor {
         ensures carries { IfOk result
             (Carries (MayQuit self.old) self.new.draft.area self.new.line_end) }
         ensures end { self.new.line_end ≡ self.old.line_end }
+        ensures controls { OnOk result (self.new.controls ≡ prompt_opened self.old.controls
+            self.old.draft.area.document.cursor asked) }
+        ensures kept { OnErr result (self.new.controls ≡ self.old.controls) }
     {
         self.ask(asked)?;
         Ok(Effect::Nothing)
@@ -89,13 +99,14 @@ impl Editor {
 
     // Copies the selected text, if a selection is open, and gives it to the program.
     fn copy(&mut self) -> Result<Effect, AllocError>
-        ensures ok { OnOk result (Makes self.old.draft (command_calls self.old.wraps
-            self.old.numbers (is_selecting self.old.draft.area) Command.Copy) self.new.draft) }
-        ensures err { OnErr result (FailsIn self.old.draft (command_calls self.old.wraps
-            self.old.numbers (is_selecting self.old.draft.area) Command.Copy) self.new.draft) }
+        ensures ok { OnOk result (Makes self.old.draft (command_calls self.old.controls.wraps
+            self.old.controls.numbers (is_selecting self.old.draft.area) Command.Copy) self.new.draft) }
+        ensures err { OnErr result (FailsIn self.old.draft (command_calls self.old.controls.wraps
+            self.old.controls.numbers (is_selecting self.old.draft.area) Command.Copy) self.new.draft) }
         ensures carries { IfOk result
             (Carries (MayQuit self.old) self.new.draft.area self.new.line_end) }
         ensures end { self.new.line_end ≡ self.old.line_end }
+        ensures controls { self.new.controls ≡ self.old.controls }
     {
         if !self.draft.area().is_selecting() {
             return Ok(Effect::Nothing);
@@ -106,13 +117,14 @@ impl Editor {
 
     // Removes the selected text, if a selection is open, and gives it to the program.
     fn cut(&mut self) -> Result<Effect, AllocError>
-        ensures ok { OnOk result (Makes self.old.draft (command_calls self.old.wraps
-            self.old.numbers (is_selecting self.old.draft.area) Command.Cut) self.new.draft) }
-        ensures err { OnErr result (FailsIn self.old.draft (command_calls self.old.wraps
-            self.old.numbers (is_selecting self.old.draft.area) Command.Cut) self.new.draft) }
+        ensures ok { OnOk result (Makes self.old.draft (command_calls self.old.controls.wraps
+            self.old.controls.numbers (is_selecting self.old.draft.area) Command.Cut) self.new.draft) }
+        ensures err { OnErr result (FailsIn self.old.draft (command_calls self.old.controls.wraps
+            self.old.controls.numbers (is_selecting self.old.draft.area) Command.Cut) self.new.draft) }
         ensures carries { IfOk result
             (Carries (MayQuit self.old) self.new.draft.area self.new.line_end) }
         ensures end { self.new.line_end ≡ self.old.line_end }
+        ensures controls { self.new.controls ≡ self.old.controls }
     {
         if !self.draft.area().is_selecting() {
             return Ok(Effect::Nothing);
@@ -139,6 +151,7 @@ impl Editor {
         ensures carries { IfOk result
             (Carries (MayQuit self.old) self.new.draft.area self.new.line_end) }
         ensures end { self.new.line_end ≡ self.old.line_end }
+        ensures controls { self.new.controls ≡ self.old.controls }
     {
         let call = if is_forward {
             Call::SearchForward(false)
@@ -160,9 +173,12 @@ impl Editor {
         ensures carries { IfOk result
             (Carries (MayQuit self.old) self.new.draft.area self.new.line_end) }
         ensures end { self.new.line_end ≡ self.old.line_end }
+        ensures controls { OnOk result
+            (self.new.controls ≡ record self.old.controls { wraps = wraps }) }
+        ensures kept { OnErr result (self.new.controls ≡ self.old.controls) }
     {
         self.draft.set(&[Call::SetWrapMode(wrap_mode(wraps))])?;
-        self.wraps = wraps;
+        self.controls.wraps = wraps;
         Ok(Effect::Nothing)
     }
 
@@ -175,9 +191,12 @@ impl Editor {
         ensures carries { IfOk result
             (Carries (MayQuit self.old) self.new.draft.area self.new.line_end) }
         ensures end { self.new.line_end ≡ self.old.line_end }
+        ensures controls { OnOk result
+            (self.new.controls ≡ record self.old.controls { numbers = numbers }) }
+        ensures kept { OnErr result (self.new.controls ≡ self.old.controls) }
     {
         self.draft.set(&[numbers_call(numbers)])?;
-        self.numbers = numbers;
+        self.controls.numbers = numbers;
         Ok(Effect::Nothing)
     }
 }

@@ -59,7 +59,7 @@ impl Editor {
         ensures cells { ¬ ShowsHelp self.old → OnOk result
             (IsDrawn (widget_of self.new.draft.area) above buffer.old buffer.new) }
     {
-        match self.focus {
+        match self.controls.focus {
             Focus::Help => self.help.render(above, buffer),
             Focus::Text | Focus::Prompt(_) | Focus::Question(_) => {
                 self.draft.render(above, buffer)
@@ -69,7 +69,7 @@ impl Editor {
 
     // Returns the cell of the cursor: that of the text, or of the prompt.
     fn caret(&self, prompt_caret: Option<Position>) -> Option<Position> {
-        match self.focus {
+        match self.controls.focus {
             Focus::Text => self.draft.area().rendered_cursor_position(),
             Focus::Prompt(_) => prompt_caret,
             Focus::Question(_) | Focus::Help => None,
@@ -83,7 +83,7 @@ impl Editor {
         buffer: &mut Buffer,
     ) -> Result<Option<Position>, AllocError>
         ensures draft { self.new.draft ≡ self.old.draft }
-        ensures focus { self.new.focus ≡ self.old.focus }
+        ensures focus { self.new.controls.focus ≡ self.old.controls.focus }
         ensures end { self.new.line_end ≡ self.old.line_end }
     {
         let alloc = self.allocator();
@@ -99,7 +99,7 @@ impl Editor {
         let right_area = Rect::new(room, row.y, row.width.saturating_sub(room), row.height);
         draw_part(buffer, left_area, style, left)?;
         draw_part(buffer, right_area, style, right)?;
-        if !matches!(self.focus, Focus::Prompt(_)) {
+        if !matches!(self.controls.focus, Focus::Prompt(_)) {
             return Ok(None);
         }
         let begin = left_columns.min(room);

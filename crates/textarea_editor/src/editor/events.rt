@@ -1,6 +1,7 @@
 // What an event does, by what has the focus.
-ghost use Rattle.std.specs.Prelude.{◌≡◌, ◌⊎◌, ◌∷◌, [], IfOk, OnErr, OnOk};
+ghost use Rattle.std.specs.Prelude.{◌≡◌, ◌⊎◌, ◌∷◌, [], IfOk, OnErr, OnOk, is_some};
 ghost use Rattle.textarea_calls.specs.declared.call.Call.TheVariants.{SetNow};
+ghost use Rattle.textarea_editor.specs.Controls.{IsAfterEvent, IsAfterInput, after_help_key, scrolls_help};
 ghost use Rattle.textarea_editor.specs.Draft.{FailsIn, FailsInAsked, FailsInSome, MakesSome};
 ghost use Rattle.textarea_editor.specs.Editor.{MayQuit};
 ghost use Rattle.textarea_editor.specs.Effects.{Carries};
@@ -9,12 +10,11 @@ ghost use Rattle.textarea_editor.specs.Steps.{IsTimed};
 
 use super::Editor;
 use crate::effect::Effect;
-use crate::focus::Focus;
+use crate::focus::{Focus, help_scrolling};
 use crate::message::Message;
 use std::alloc::AllocError;
 use std::time::Duration;
-use textarea_data::input::{Input, Key};
-use textarea_data::scroll::Scrolling;
+use textarea_data::input::Input;
 use textarea_terminal::input::Event;
 
 impl Editor {
@@ -27,6 +27,10 @@ impl Editor {
         ensures carries { IfOk result
             (Carries (MayQuit self.old) self.new.draft.area self.new.line_end) }
         ensures end { self.new.line_end ≡ self.old.line_end }
+        ensures controls { OnOk result (IsAfterEvent self.old.controls (is_some self.old.name)
+            self.new.draft.is_changed self.old.draft.area.document.cursor self.old.field event.now
+            self.new.controls) }
+        ensures kept { OnErr result (self.new.controls ≡ self.old.controls) }
     {
         self.draft.set_time(now);
         self.take(event)
@@ -41,6 +45,10 @@ impl Editor {
         ensures carries { IfOk result
             (Carries (MayQuit self.old) self.new.draft.area self.new.line_end) }
         ensures end { self.new.line_end ≡ self.old.line_end }
+        ensures controls { OnOk result (IsAfterEvent self.old.controls (is_some self.old.name)
+            self.new.draft.is_changed self.old.draft.area.document.cursor self.old.field event.now
+            self.new.controls) }
+        ensures kept { OnErr result (self.new.controls ≡ self.old.controls) }
     {
         match event {
             Event::Size { columns, rows } => {
@@ -69,17 +77,21 @@ impl Editor {
     // Takes a key, or a step of the wheel.
     fn take_input(&mut self, input: &Input) -> Result<Effect, AllocError>
         ensures ok { OnOk result
-            (MakesSome (IsInput self.old.focus self.old self.old.draft.area input.now)
+            (MakesSome (IsInput self.old.controls.focus self.old self.old.draft.area input.now)
             self.old.draft self.new.draft) }
         ensures err { OnErr result
-            (FailsInSome (IsInput self.old.focus self.old self.old.draft.area input.now)
+            (FailsInSome (IsInput self.old.controls.focus self.old self.old.draft.area input.now)
             self.old.draft self.new.draft) }
         ensures carries { IfOk result
             (Carries (MayQuit self.old) self.new.draft.area self.new.line_end) }
         ensures end { self.new.line_end ≡ self.old.line_end }
+        ensures controls { OnOk result (IsAfterInput self.old.controls.focus self.old.controls
+            (is_some self.old.name) self.new.draft.is_changed
+            self.old.draft.area.document.cursor self.old.field input.now self.new.controls) }
+        ensures kept { OnErr result (self.new.controls ≡ self.old.controls) }
     {
         self.message = Message::Nothing;
-        match self.focus {
+        match self.controls.focus {
             Focus::Text => self.take_key(input),
             Focus::Prompt(asked) => self.take_prompt_key(asked, input),
             Focus::Question(question) => self.take_answer(question, input),
@@ -92,15 +104,16 @@ impl Editor {
 
     // Takes a pasted text.
     fn take_paste(&mut self, text: &str) -> Result<Effect, AllocError>
-        ensures ok { OnOk result (MakesSome (IsPaste self.old.focus self.old text.now)
+        ensures ok { OnOk result (MakesSome (IsPaste self.old.controls.focus self.old text.now)
             self.old.draft self.new.draft) }
-        ensures err { OnErr result (FailsInSome (IsPaste self.old.focus self.old text.now)
+        ensures err { OnErr result (FailsInSome (IsPaste self.old.controls.focus self.old text.now)
             self.old.draft self.new.draft) }
         ensures carries { IfOk result
             (Carries (MayQuit self.old) self.new.draft.area self.new.line_end) }
         ensures end { self.new.line_end ≡ self.old.line_end }
+        ensures controls { self.new.controls ≡ self.old.controls }
     {
-        match self.focus {
+        match self.controls.focus {
             Focus::Text => self.paste(text),
             Focus::Prompt(asked) => self.paste_in_prompt(asked, text),
             Focus::Question(_) | Focus::Help => Ok(Effect::Nothing),
@@ -111,13 +124,12 @@ impl Editor {
     fn take_help_key(&mut self, input: &Input)
         ensures draft { self.new.draft ≡ self.old.draft }
         ensures end { self.new.line_end ≡ self.old.line_end }
+        ensures controls { self.new.controls
+            ≡ after_help_key (scrolls_help input.now.key) self.old.controls }
     {
-        match input.key {
-            Key::Down | Key::MouseScrollDown => self.help.scroll(Scrolling::from((1, 0))),
-            Key::Up | Key::MouseScrollUp => self.help.scroll(Scrolling::from((-1, 0))),
-            Key::PageDown => self.help.scroll(Scrolling::PageDown),
-            Key::PageUp => self.help.scroll(Scrolling::PageUp),
-            _ => self.focus = Focus::Text,
+        match help_scrolling(input.key) {
+            Some(scrolling) => self.help.scroll(scrolling),
+            None => self.controls.focus = Focus::Text,
         }
     }
 }

@@ -1,16 +1,16 @@
 // Keys in the text, and texts that are pasted into it.
 ghost use Rattle.std.specs.Prelude.{◌≡◌, IfOk, OnErr, OnOk, is_some};
+ghost use Rattle.textarea_editor.specs.Controls.{IsAfterKey, after_step, after_typed, after_unbound};
 ghost use Rattle.textarea_editor.specs.Draft.{FailsIn, FailsInSome, Makes, MakesSome};
 ghost use Rattle.textarea_editor.specs.Editor.{MayQuit};
 ghost use Rattle.textarea_editor.specs.Effects.{Carries};
-ghost use Rattle.textarea_editor.specs.EventCalls.{IsKeyInText, IsPasteInText, is_selecting, typed_calls, unbound_calls};
+ghost use Rattle.textarea_editor.specs.EventCalls.{IsKeyInText, is_selecting, paste_calls, typed_calls, unbound_calls};
 ghost use Rattle.textarea_modal.specs.Table.{step};
 
 use super::{Editor, WHEEL_DOWN, WHEEL_UP};
 use crate::draft::copies;
 use crate::effect::Effect;
 use crate::keys::command_of;
-use crate::pattern::pasted;
 use std::alloc::AllocError;
 use textarea_calls::Call;
 use textarea_data::input::{Input, Key};
@@ -19,17 +19,21 @@ use textarea_modal::{Modal, ModalStop};
 impl Editor {
     // Takes a key in the text: one of the table, of the modal editor, or of the text area.
     pub(super) fn take_key(&mut self, input: &Input) -> Result<Effect, AllocError>
-        ensures ok { OnOk result (MakesSome (IsKeyInText self.old.modal self.old.wraps
-            self.old.numbers (is_selecting self.old.draft.area) input.now)
+        ensures ok { OnOk result (MakesSome (IsKeyInText self.old.controls.modal self.old.controls.wraps
+            self.old.controls.numbers (is_selecting self.old.draft.area) input.now)
             self.old.draft self.new.draft) }
-        ensures err { OnErr result (FailsInSome (IsKeyInText self.old.modal self.old.wraps
-            self.old.numbers (is_selecting self.old.draft.area) input.now)
+        ensures err { OnErr result (FailsInSome (IsKeyInText self.old.controls.modal self.old.controls.wraps
+            self.old.controls.numbers (is_selecting self.old.draft.area) input.now)
             self.old.draft self.new.draft) }
         ensures carries { IfOk result
             (Carries (MayQuit self.old) self.new.draft.area self.new.line_end) }
         ensures end { self.new.line_end ≡ self.old.line_end }
+        ensures controls { OnOk result (IsAfterKey self.old.controls (is_some self.old.name)
+            self.new.draft.is_changed self.old.draft.area.document.cursor input.now
+            self.new.controls) }
+        ensures kept { OnErr result (self.new.controls ≡ self.old.controls) }
     {
-        match command_of(input, self.modal.is_some()) {
+        match command_of(input, self.controls.modal.is_some()) {
             Some(command) => self.command(command),
             None => self.take_unbound(input),
         }
@@ -38,12 +42,15 @@ impl Editor {
     // Takes a key that is none of the table.
     fn take_unbound(&mut self, input: &Input) -> Result<Effect, AllocError>
         ensures ok { OnOk result (Makes self.old.draft
-            (unbound_calls self.old.modal input.now.key input.now) self.new.draft) }
+            (unbound_calls self.old.controls.modal input.now.key input.now) self.new.draft) }
         ensures err { OnErr result (FailsIn self.old.draft
-            (unbound_calls self.old.modal input.now.key input.now) self.new.draft) }
+            (unbound_calls self.old.controls.modal input.now.key input.now) self.new.draft) }
         ensures carries { IfOk result
             (Carries (MayQuit self.old) self.new.draft.area self.new.line_end) }
         ensures end { self.new.line_end ≡ self.old.line_end }
+        ensures controls { OnOk result (self.new.controls ≡ after_unbound input.now.key
+            self.old.controls self.new.draft.is_changed input.now) }
+        ensures kept { OnErr result (self.new.controls ≡ self.old.controls) }
     {
         match input.key {
             Key::MouseScrollDown => self.set(&[Call::Scroll(WHEEL_DOWN)]),
@@ -55,14 +62,17 @@ impl Editor {
     // Takes a key of the modal editor, if there is one, or of the text area.
     fn take_typed(&mut self, input: &Input) -> Result<Effect, AllocError>
         ensures ok { OnOk result
-            (Makes self.old.draft (typed_calls self.old.modal input.now) self.new.draft) }
+            (Makes self.old.draft (typed_calls self.old.controls.modal input.now) self.new.draft) }
         ensures err { OnErr result
-            (FailsIn self.old.draft (typed_calls self.old.modal input.now) self.new.draft) }
+            (FailsIn self.old.draft (typed_calls self.old.controls.modal input.now) self.new.draft) }
         ensures carries { IfOk result
             (Carries (MayQuit self.old) self.new.draft.area self.new.line_end) }
         ensures end { self.new.line_end ≡ self.old.line_end }
+        ensures controls { OnOk result (self.new.controls ≡ after_typed self.old.controls.modal
+            self.old.controls self.new.draft.is_changed input.now) }
+        ensures kept { OnErr result (self.new.controls ≡ self.old.controls) }
     {
-        match self.modal {
+        match self.controls.modal {
             Some(modal) => self.take_modal(modal, input),
             None => {
                 self.draft.input(input)?;
@@ -80,30 +90,33 @@ impl Editor {
         ensures carries { IfOk result
             (Carries (MayQuit self.old) self.new.draft.area self.new.line_end) }
         ensures end { self.new.line_end ≡ self.old.line_end }
+        ensures controls { OnOk result (self.new.controls ≡ after_step self.old.controls
+            self.new.draft.is_changed (step modal input.now)) }
+        ensures kept { OnErr result (self.new.controls ≡ self.old.controls) }
     {
         let mut modal = modal;
         let is_copied = copies(&modal, input);
         let stop = self.draft.take_key(&mut modal, input);
-        self.modal = Some(modal);
+        if stop == ModalStop::Memory {
+            return Err(AllocError);
+        }
+        self.controls.modal = Some(modal);
         match stop {
-            ModalStop::End if is_copied => Ok(self.clipboard()),
-            ModalStop::End => Ok(Effect::Nothing),
             ModalStop::Quit => Ok(self.quit()),
-            ModalStop::Memory => Err(AllocError),
+            _ if is_copied => Ok(self.clipboard()),
+            _ => Ok(Effect::Nothing),
         }
     }
 
     // Inserts a pasted text as one edit.
     pub(super) fn paste(&mut self, text: &str) -> Result<Effect, AllocError>
-        ensures ok { OnOk result
-            (MakesSome (IsPasteInText text.now) self.old.draft self.new.draft) }
-        ensures err { OnErr result
-            (FailsInSome (IsPasteInText text.now) self.old.draft self.new.draft) }
+        ensures ok { OnOk result (Makes self.old.draft (paste_calls text.now) self.new.draft) }
+        ensures err { OnErr result (FailsIn self.old.draft (paste_calls text.now) self.new.draft) }
         ensures carries { IfOk result
             (Carries (MayQuit self.old) self.new.draft.area self.new.line_end) }
         ensures end { self.new.line_end ≡ self.old.line_end }
+        ensures controls { self.new.controls ≡ self.old.controls }
     {
-        let lines = pasted(self.allocator(), text)?;
-        self.edit(&[Call::InsertStr(lines.as_str())])
+        self.edit(&[Call::InsertPasted(text)])
     }
 }

@@ -17,16 +17,17 @@ impl Editor {
     // Takes a report of the mouse.
     pub(super) fn take_mouse(&mut self, mouse: &Mouse) -> Result<Effect, AllocError>
         ensures ok { OnOk result
-            (MakesSome (IsMouse (click_of self.old.focus self.old.rows mouse.now)
+            (MakesSome (IsMouse (click_of self.old.controls.focus self.old.rows mouse.now)
             (is_selecting self.old.draft.area) (widget_of self.old.draft.area) mouse.now)
             self.old.draft self.new.draft) }
         ensures err { OnErr result
-            (FailsInSome (IsMouse (click_of self.old.focus self.old.rows mouse.now)
+            (FailsInSome (IsMouse (click_of self.old.controls.focus self.old.rows mouse.now)
             (is_selecting self.old.draft.area) (widget_of self.old.draft.area) mouse.now)
             self.old.draft self.new.draft) }
         ensures carries { IfOk result
             (Carries (MayQuit self.old) self.new.draft.area self.new.line_end) }
         ensures end { self.new.line_end ≡ self.old.line_end }
+        ensures controls { self.new.controls ≡ self.old.controls }
     {
         match self.click_of(mouse) {
             Some(selects) => self.click(mouse, selects),
@@ -46,6 +47,7 @@ impl Editor {
         ensures carries { IfOk result
             (Carries (MayQuit self.old) self.new.draft.area self.new.line_end) }
         ensures end { self.new.line_end ≡ self.old.line_end }
+        ensures controls { self.new.controls ≡ self.old.controls }
     {
         let cell = Position {
             x: mouse.column,
@@ -57,9 +59,9 @@ impl Editor {
 
     // Returns whether the mouse moves the cursor, and then whether it selects up to there.
     fn click_of(&self, mouse: &Mouse) -> Option<bool>
-        ensures { result ≡ click_of self.now.focus self.now.rows mouse.now }
+        ensures { result ≡ click_of self.now.controls.focus self.now.rows mouse.now }
     {
-        match self.focus {
+        match self.controls.focus {
             Focus::Text if mouse.row < self.text_rows() => selects_by(mouse.kind, mouse.shift),
             _ => None,
         }

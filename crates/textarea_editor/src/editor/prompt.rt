@@ -1,10 +1,12 @@
 // The prompt: a text area of one line in the status row.
 ghost use Rattle.std.specs.Prelude.{◌≡◌, IfOk, OnErr, OnOk};
+ghost use Rattle.textarea_editor.specs.Controls.{IsAfterPromptKey, IsNameTaken, IsTaken, prompt_opened, with_focus};
 ghost use Rattle.textarea_editor.specs.Draft.{FailsIn, FailsInSome, Makes, MakesSome};
 ghost use Rattle.textarea_editor.specs.Editor.{MayQuit};
 ghost use Rattle.textarea_editor.specs.Effects.{Carries};
 ghost use Rattle.textarea_editor.specs.EventCalls.{IsKeyInPrompt, IsLineAsked, IsLookingFor, IsPasteInPrompt, IsPromptChanged, IsPromptInput, IsPromptTaken, row_calls};
 ghost use Rattle.textarea_editor.specs.PromptKeys.{prompt_key};
+ghost use Rattle.textarea_editor.specs.declared.focus.Focus.TheVariants as focus;
 
 use super::Editor;
 use crate::effect::Effect;
@@ -20,10 +22,13 @@ impl Editor {
     pub(super) fn ask(&mut self, asked: Asked) -> Result<(), AllocError>
         ensures draft { self.new.draft ≡ self.old.draft }
         ensures end { self.new.line_end ≡ self.old.line_end }
+        ensures controls { OnOk result (self.new.controls ≡ prompt_opened self.old.controls
+            self.old.draft.area.document.cursor asked) }
+        ensures kept { OnErr result (self.new.controls ≡ self.old.controls) }
     {
         self.field.clear()?;
-        self.origin = self.draft.area().cursor();
-        self.focus = Focus::Prompt(asked);
+        self.controls.origin = self.draft.area().cursor();
+        self.controls.focus = Focus::Prompt(asked);
         Ok(())
     }
 
@@ -34,17 +39,19 @@ impl Editor {
         input: &Input,
     ) -> Result<Effect, AllocError>
         ensures ok { OnOk result (MakesSome (IsKeyInPrompt (prompt_key asked input.now) asked
-            self.old.origin self.old.field input.now) self.old.draft self.new.draft) }
+            self.old.controls.origin self.old.field input.now) self.old.draft self.new.draft) }
         ensures err { OnErr result (FailsInSome (IsKeyInPrompt (prompt_key asked input.now) asked
-            self.old.origin self.old.field input.now) self.old.draft self.new.draft) }
+            self.old.controls.origin self.old.field input.now) self.old.draft self.new.draft) }
         ensures carries { IfOk result
             (Carries (MayQuit self.old) self.new.draft.area self.new.line_end) }
         ensures end { self.new.line_end ≡ self.old.line_end }
+        ensures controls { OnOk result (IsAfterPromptKey (prompt_key asked input.now) asked
+            self.old.controls self.old.field self.new.controls) }
+        ensures kept { OnErr result (self.new.controls ≡ self.old.controls) }
     {
         match prompt_key(asked, input) {
             PromptKey::Leave => {
-                self.focus = Focus::Text;
-                self.ends_when_saved = false;
+                self.leave();
                 Ok(Effect::Nothing)
             }
             PromptKey::Next => self.find(true),
@@ -57,14 +64,15 @@ impl Editor {
     // Passes an input to the prompt's text area.
     fn edit_prompt(&mut self, asked: Asked, input: &Input) -> Result<Effect, AllocError>
         ensures ok { OnOk result
-            (MakesSome (IsPromptInput asked self.old.origin self.old.field input.now)
+            (MakesSome (IsPromptInput asked self.old.controls.origin self.old.field input.now)
             self.old.draft self.new.draft) }
         ensures err { OnErr result
-            (FailsInSome (IsPromptInput asked self.old.origin self.old.field input.now)
+            (FailsInSome (IsPromptInput asked self.old.controls.origin self.old.field input.now)
             self.old.draft self.new.draft) }
         ensures carries { IfOk result
             (Carries (MayQuit self.old) self.new.draft.area self.new.line_end) }
         ensures end { self.new.line_end ≡ self.old.line_end }
+        ensures controls { self.new.controls ≡ self.old.controls }
     {
         let is_edited = self.field.input(*input)?;
         if is_edited {
@@ -77,14 +85,15 @@ impl Editor {
     // Pastes the first line of a text into the prompt.
     pub(super) fn paste_in_prompt(&mut self, asked: Asked, text: &str) -> Result<Effect, AllocError>
         ensures ok { OnOk result
-            (MakesSome (IsPasteInPrompt asked self.old.origin self.old.field text.now)
+            (MakesSome (IsPasteInPrompt asked self.old.controls.origin self.old.field text.now)
             self.old.draft self.new.draft) }
         ensures err { OnErr result
-            (FailsInSome (IsPasteInPrompt asked self.old.origin self.old.field text.now)
+            (FailsInSome (IsPasteInPrompt asked self.old.controls.origin self.old.field text.now)
             self.old.draft self.new.draft) }
         ensures carries { IfOk result
             (Carries (MayQuit self.old) self.new.draft.area self.new.line_end) }
         ensures end { self.new.line_end ≡ self.old.line_end }
+        ensures controls { self.new.controls ≡ self.old.controls }
     {
         let line = first_line(self.allocator(), text)?;
         let is_edited = self.field.insert_str(line.as_str())?;
@@ -97,14 +106,15 @@ impl Editor {
 
     // Looks for the prompt's text, if it is one to find.
     fn look(&mut self, asked: Asked) -> Result<Effect, AllocError>
-        ensures ok { OnOk result (MakesSome (IsPromptChanged asked self.old.origin self.old.field)
+        ensures ok { OnOk result (MakesSome (IsPromptChanged asked self.old.controls.origin self.old.field)
             self.old.draft self.new.draft) }
         ensures err { OnErr result
-            (FailsInSome (IsPromptChanged asked self.old.origin self.old.field)
+            (FailsInSome (IsPromptChanged asked self.old.controls.origin self.old.field)
             self.old.draft self.new.draft) }
         ensures carries { IfOk result
             (Carries (MayQuit self.old) self.new.draft.area self.new.line_end) }
         ensures end { self.new.line_end ≡ self.old.line_end }
+        ensures controls { self.new.controls ≡ self.old.controls }
     {
         match asked {
             Asked::Text => self.look_for(),
@@ -115,16 +125,17 @@ impl Editor {
     // Lights the matches of the prompt's text, and moves to the first one from where the prompt was
     // opened.
     fn look_for(&mut self) -> Result<Effect, AllocError>
-        ensures ok { OnOk result (MakesSome (IsLookingFor self.old.origin self.old.field)
+        ensures ok { OnOk result (MakesSome (IsLookingFor self.old.controls.origin self.old.field)
             self.old.draft self.new.draft) }
-        ensures err { OnErr result (FailsInSome (IsLookingFor self.old.origin self.old.field)
+        ensures err { OnErr result (FailsInSome (IsLookingFor self.old.controls.origin self.old.field)
             self.old.draft self.new.draft) }
         ensures carries { IfOk result
             (Carries (MayQuit self.old) self.new.draft.area self.new.line_end) }
         ensures end { self.new.line_end ≡ self.old.line_end }
+        ensures controls { self.new.controls ≡ self.old.controls }
     {
         let pattern = pattern_of(self.allocator(), self.field.lines()[0].as_str())?;
-        let found = self.draft.look_for(self.origin, pattern.as_str())?;
+        let found = self.draft.look_for(self.controls.origin, pattern.as_str())?;
         if !found && !pattern.is_empty() {
             self.message = Message::NoMatch;
         }
@@ -140,6 +151,9 @@ impl Editor {
         ensures carries { IfOk result
             (Carries (MayQuit self.old) self.new.draft.area self.new.line_end) }
         ensures end { self.new.line_end ≡ self.old.line_end }
+        ensures controls { OnOk result
+            (IsTaken asked self.old.controls self.old.field self.new.controls) }
+        ensures kept { OnErr result (self.new.controls ≡ self.old.controls) }
     {
         match asked {
             // Enter moves on in a search, so its text is never taken.
@@ -158,11 +172,14 @@ impl Editor {
         ensures carries { IfOk result
             (Carries (MayQuit self.old) self.new.draft.area self.new.line_end) }
         ensures end { self.new.line_end ≡ self.old.line_end }
+        ensures controls { OnOk result
+            (self.new.controls ≡ with_focus self.old.controls focus.Text) }
+        ensures kept { OnErr result (self.new.controls ≡ self.old.controls) }
     {
-        self.focus = Focus::Text;
         match row_of(line_number(self.field.lines()[0].as_str())) {
             Some(row) => self.go_to_row(row),
             None => {
+                self.controls.focus = Focus::Text;
                 self.message = Message::NoLine;
                 Ok(Effect::Nothing)
             }
@@ -176,8 +193,12 @@ impl Editor {
         ensures carries { IfOk result
             (Carries (MayQuit self.old) self.new.draft.area self.new.line_end) }
         ensures end { self.new.line_end ≡ self.old.line_end }
+        ensures controls { OnOk result
+            (self.new.controls ≡ with_focus self.old.controls focus.Text) }
+        ensures kept { OnErr result (self.new.controls ≡ self.old.controls) }
     {
         self.draft.go_to(row)?;
+        self.controls.focus = Focus::Text;
         Ok(Effect::Nothing)
     }
 
@@ -187,9 +208,12 @@ impl Editor {
         ensures carries { IfOk result
             (Carries (MayQuit self.old) self.new.draft.area self.new.line_end) }
         ensures end { self.new.line_end ≡ self.old.line_end }
+        ensures controls { OnOk result
+            (IsNameTaken self.old.controls self.old.field self.new.controls) }
+        ensures kept { OnErr result (self.new.controls ≡ self.old.controls) }
     {
-        self.focus = Focus::Text;
         if self.field.is_empty() {
+            self.leave();
             return Ok(Effect::Nothing);
         }
         self.name = Some(self.field.lines()[0].clone()?);

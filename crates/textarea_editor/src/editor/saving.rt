@@ -1,5 +1,6 @@
 // Saving the text, and ending the program.
-ghost use Rattle.std.specs.Prelude.{◌≡◌, ◌≢◌, false, IfOk};
+ghost use Rattle.std.specs.Prelude.{◌≡◌, ◌≢◌, false, IfOk, OnErr, OnOk, is_some};
+ghost use Rattle.textarea_editor.specs.Controls.{quit_asked, save_asked};
 ghost use Rattle.textarea_editor.specs.Editor.{MayQuit, draft_of, end_of};
 ghost use Rattle.textarea_editor.specs.Effects.{Carries};
 
@@ -17,13 +18,16 @@ impl Editor {
         ensures carries { IfOk result
             (Carries (MayQuit self.old) self.new.draft.area self.new.line_end) }
         ensures end { self.new.line_end ≡ self.old.line_end }
+        ensures controls { OnOk result (self.new.controls ≡ save_asked self.old.controls
+            (is_some self.old.name) self.old.draft.area.document.cursor) }
+        ensures kept { OnErr result (self.new.controls ≡ self.old.controls) }
     {
         if self.name.is_none() {
             self.ask(Asked::Name)?;
             return Ok(Effect::Nothing);
         }
-        self.focus = Focus::Text;
         let text = joined(self.allocator(), self.draft.area().lines(), self.line_end)?;
+        self.controls.focus = Focus::Text;
         Ok(Effect::Save { text, overwrites })
     }
 
@@ -43,14 +47,14 @@ impl Editor {
             SaveEnd::Saved => {
                 self.draft.set_saved();
                 self.message = Message::Saved;
-                if self.ends_when_saved {
+                if self.controls.ends_when_saved {
                     return Effect::Quit;
                 }
             }
-            SaveEnd::ChangedOnDisk => self.focus = Focus::Question(Question::Overwrite),
+            SaveEnd::ChangedOnDisk => self.controls.focus = Focus::Question(Question::Overwrite),
             SaveEnd::Failed(trouble) => {
                 self.message = Message::NotSaved(trouble);
-                self.ends_when_saved = false;
+                self.controls.ends_when_saved = false;
             }
         }
         Effect::Nothing
@@ -62,11 +66,13 @@ impl Editor {
         ensures carries { Carries (self.old.draft.is_changed ≡ false) self.new.draft.area
             self.new.line_end result }
         ensures end { self.new.line_end ≡ self.old.line_end }
+        ensures controls { self.new.controls ≡ quit_asked self.old.controls
+            self.new.draft.is_changed }
     {
         if !self.draft.is_changed() {
             return Effect::Quit;
         }
-        self.focus = Focus::Question(Question::SaveFirst);
+        self.controls.focus = Focus::Question(Question::SaveFirst);
         Effect::Nothing
     }
 }

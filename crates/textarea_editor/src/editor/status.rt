@@ -8,7 +8,7 @@ use textarea_modal::Mode;
 impl Editor {
     // The text at the left of the status row: a question, or the file's name and a message.
     pub(super) fn left_text(&self, alloc: Global) -> Result<String, AllocError> {
-        match self.focus {
+        match self.controls.focus {
             Focus::Prompt(Asked::Text) => String::from_str(alloc, " Find: "),
             Focus::Prompt(Asked::Line) => String::from_str(alloc, " Go to line: "),
             Focus::Prompt(Asked::Name) => String::from_str(alloc, " Save as: "),
@@ -39,13 +39,16 @@ impl Editor {
     // The text at the right of the status row: the keys of the prompt and what it found, or mode,
     // line and column. `room` is the number of columns for it.
     pub(super) fn right_text(&self, alloc: Global, room: usize) -> Result<String, AllocError> {
-        match self.focus {
+        match self.controls.focus {
             Focus::Text => self.place_text(alloc, room),
             Focus::Prompt(Asked::Text) => {
                 let (message, _) = self.message.components();
                 format!(in alloc; "{message}  Enter: next  Esc: back ")
             }
-            _ => Ok(String::new(alloc)),
+            Focus::Prompt(_) | Focus::Question(_) | Focus::Help => {
+                let (message, _) = self.message.components();
+                String::from_str(alloc, message)
+            }
         }
     }
 
@@ -54,7 +57,7 @@ impl Editor {
         let line = row.saturating_add(1);
         let column = column.saturating_add(1);
         let mode = self.mode_text();
-        let wrap = if self.wraps { "wrap  " } else { "" };
+        let wrap = if self.controls.wraps { "wrap  " } else { "" };
         let whole = format!(in alloc; "{mode}{wrap}line {line}, column {column}  F1: keys ")?;
         if whole.len() <= room {
             return Ok(whole);
@@ -63,7 +66,7 @@ impl Editor {
     }
 
     fn mode_text(&self) -> &'static str {
-        match self.modal {
+        match self.controls.modal {
             None => "",
             Some(modal) => match modal.mode() {
                 Mode::Normal => "normal  ",

@@ -1,6 +1,6 @@
 use Rattle.std.proofs.Common.{◌∙◌, refl, true}
 use Rattle.textarea_editor.proofs.Drafts.{changed_honest}
-use Rattle.textarea_editor.proofs.ModalKeys.{key_failed, key_honest, key_made}
+use Rattle.textarea_editor.proofs.ModalKeys.{key_failed, key_honest, key_made, key_mode, key_stop}
 use Rattle.textarea_editor.proofs.draft.Draft.take_key.Goals as goal
 use Rattle.textarea_editor.proofs.draft.Draft.take_key.Goals.{then-self, else-self}
 use Rattle.textarea_editor.specs.Draft.{IsHonest}
@@ -31,3 +31,11 @@ unfolding after
 returns-else-eq-clause-ended c = λ other.
     let made = key_made c.args.self.now.area c.run-stop.new.area c.args.modal.now c.run-stop.new.self c.args.input.now c.run-stop.result.taken c.run-stop.result.stop other c.run-stop.ensures in
     record { made = made; honest = honest c made }
+
+pub returns-else-eq-clause-mode : goal.returns-else-eq-clause-mode
+returns-else-eq-clause-mode c = λ other.
+    key_mode c.args.self.now.area c.run-stop.new.area c.args.modal.now c.run-stop.new.self c.args.input.now c.run-stop.result.taken c.run-stop.result.stop other c.run-stop.ensures
+
+pub returns-else-eq-clause-stop : goal.returns-else-eq-clause-stop
+returns-else-eq-clause-stop c = λ other.
+    key_stop c.args.self.now.area c.run-stop.new.area c.args.modal.now c.run-stop.new.self c.args.input.now c.run-stop.result.taken c.run-stop.result.stop other c.run-stop.ensures

@@ -1,0 +1,154 @@
+-- What decides what the next event does, after each event, as a table.
+use Rattle.std.specs.Prelude.{◌≡◌, ◌≢◌, ◌==◌, ◌||◌, ℕ, not, Bool, true, false, [], Option, Some, None, is_some, if◌then◌else◌}
+use Rattle.textarea_data.specs.declared.input.Input.{Input}
+use Rattle.textarea_data.specs.declared.input.Key.{Key}
+use Rattle.textarea_data.specs.declared.input.Key.TheVariants.{Char, Down, Esc, MouseScrollDown, MouseScrollUp, PageDown, PageUp, Up}
+use Rattle.textarea_editor.specs.EventCalls.{IsCommandOf}
+use Rattle.textarea_editor.specs.PromptKeys.{prompt_key}
+use Rattle.textarea_editor.specs.declared.controls.Controls.{Controls}
+use Rattle.textarea_editor.specs.declared.focus.Asked.{Asked}
+use Rattle.textarea_editor.specs.declared.focus.Asked.TheVariants as asks
+use Rattle.textarea_editor.specs.declared.focus.Focus.{Focus}
+use Rattle.textarea_editor.specs.declared.focus.Focus.TheVariants as focus
+use Rattle.textarea_editor.specs.declared.focus.PromptKey.{PromptKey}
+use Rattle.textarea_editor.specs.declared.focus.PromptKey.TheVariants as prompt
+use Rattle.textarea_editor.specs.declared.focus.Question.{Question}
+use Rattle.textarea_editor.specs.declared.focus.Question.TheVariants.{Overwrite, SaveFirst}
+use Rattle.textarea_editor.specs.declared.focus.Reply.{Reply}
+use Rattle.textarea_editor.specs.declared.focus.Reply.TheVariants as reply
+use Rattle.textarea_editor.specs.declared.keys.Command.{Command}
+use Rattle.textarea_editor.specs.declared.keys.Command.TheVariants as command
+use Rattle.textarea_modal.specs.Table.{Step, step}
+use Rattle.textarea_modal.specs.declared.mode.Mode.{Mode}
+use Rattle.textarea_terminal.specs.declared.input.event.Event.{Event}
+use Rattle.textarea_terminal.specs.declared.input.event.Event.TheVariants as event
+use Rattle.textarea_text.specs.Place.{Place}
+use Rattle.tui_textarea.specs.State.{State}
+
+-- ---- changes
+
+-- the next key is for this
+abbrev pub with_focus : Controls → Focus → Controls
+with_focus controls next = record controls { focus = next }
+
+-- the next key is for the text, and a save doesn't end the program
+abbrev pub left : Controls → Controls
+left controls = record controls { focus = focus.Text; ends_when_saved = false }
+
+-- a prompt is opened, when the text's cursor is at this position
+abbrev pub prompt_opened : Controls → Place → Asked → Controls
+prompt_opened controls cursor asked = record controls { focus = focus.Prompt asked; origin = cursor }
+
+-- the text is saved, or the name is asked for, if the file has none
+abbrev pub save_asked : Controls → Bool → Place → Controls
+save_asked controls true cursor = with_focus controls focus.Text
+save_asked controls false cursor = prompt_opened controls cursor asks.Name
+
+-- the program ends, or there is a question first, if the text may have changed
+abbrev pub quit_asked : Controls → Bool → Controls
+quit_asked controls true = with_focus controls (focus.Question SaveFirst)
+quit_asked controls false = controls
+
+-- ---- keys in the text
+
+-- a command; the file has a name or not, and the text may have changed or not
+abbrev pub after_command : Controls → Bool → Bool → Place → Command → Controls
+after_command controls named changed cursor command.Save = save_asked controls named cursor
+after_command controls named changed cursor command.Quit = quit_asked controls changed
+after_command controls named changed cursor command.Find = prompt_opened controls cursor asks.Text
+after_command controls named changed cursor command.GoToLine = prompt_opened controls cursor asks.Line
+after_command controls named changed cursor command.Wrap = record controls { wraps = not controls.wraps }
+after_command controls named changed cursor command.LineNumbers = record controls { numbers = not controls.numbers }
+after_command controls named changed cursor command.Help = with_focus controls focus.Help
+after_command controls named changed cursor other = controls
+
+-- a step of the modal editor: its mode, and its end
+abbrev pub after_step : Controls → Bool → Step → Controls
+after_step controls changed made =
+    let next = record controls { modal = Some made.mode } in if made.quits then quit_asked next changed else next
+
+-- a key of the modal editor, if there is one, or of the text area
+abbrev pub after_typed : Option Mode → Controls → Bool → Input → Controls
+after_typed None controls changed input = controls
+after_typed (Some mode) controls changed input = after_step controls changed (step mode input)
+
+-- a key that is bound to no command
+abbrev pub after_unbound : Key → Controls → Bool → Input → Controls
+after_unbound MouseScrollDown controls changed input = controls
+after_unbound MouseScrollUp controls changed input = controls
+after_unbound other controls changed input = after_typed controls.modal controls changed input
+
+abbrev pub after_key : Option Command → Controls → Bool → Bool → Place → Input → Controls
+after_key (Some found) controls named changed cursor input = after_command controls named changed cursor found
+after_key None controls named changed cursor input = after_unbound input.key controls changed input
+
+-- a key in the text
+pub record IsAfterKey (controls : Controls) (named changed : Bool) (cursor : Place) (input : Input) (new : Controls) : Type 0 where
+  pub command : Option Command
+  pub found : IsCommandOf input (is_some controls.modal) command
+  pub new_is : new ≡ after_key command controls named changed cursor input
+
+-- ---- keys in the prompt
+
+-- a name is taken, if it is not empty
+pub record IsNameTaken (controls : Controls) (field : State) (new : Controls) : Type 0 where
+  pub none : field.document.text ≡ [] → new ≡ left controls
+  pub some : field.document.text ≢ [] → new ≡ with_focus controls focus.Text
+
+-- the prompt's text is taken
+abbrev pub IsTaken : Asked → Controls → State → Controls → Type 0
+IsTaken asks.Text controls field new = new ≡ controls
+IsTaken asks.Line controls field new = new ≡ with_focus controls focus.Text
+IsTaken asks.Name controls field new = IsNameTaken controls field new
+
+abbrev pub IsAfterPromptKey : PromptKey → Asked → Controls → State → Controls → Type 0
+IsAfterPromptKey prompt.Leave asked controls field new = new ≡ left controls
+IsAfterPromptKey prompt.Accept asked controls field new = IsTaken asked controls field new
+IsAfterPromptKey other asked controls field new = new ≡ controls
+
+-- ---- keys that answer a question, and keys in the help
+
+-- a letter, upper case or not: `y` is 121, `n` is 110
+abbrev pub letter_reply : ℕ → Reply
+letter_reply c = if c == 121 || c == 89 then reply.Yes else (if c == 110 || c == 78 then reply.No else reply.Other)
+
+abbrev pub reply_of : Key → Reply
+reply_of (Char c) = letter_reply c
+reply_of Esc = reply.Back
+reply_of key = reply.Other
+
+abbrev pub after_reply : Question → Reply → Controls → Bool → Place → Controls
+after_reply SaveFirst reply.Yes controls named cursor = record (save_asked controls named cursor) { ends_when_saved = true }
+after_reply SaveFirst reply.No controls named cursor = controls
+after_reply Overwrite reply.Yes controls named cursor = save_asked controls named cursor
+after_reply Overwrite reply.No controls named cursor = left controls
+after_reply question reply.Back controls named cursor = left controls
+after_reply question reply.Other controls named cursor = controls
+
+-- whether a key scrolls the help; others close it
+abbrev pub scrolls_help : Key → Bool
+scrolls_help Down = true
+scrolls_help MouseScrollDown = true
+scrolls_help Up = true
+scrolls_help MouseScrollUp = true
+scrolls_help PageDown = true
+scrolls_help PageUp = true
+scrolls_help key = false
+
+abbrev pub after_help_key : Bool → Controls → Controls
+after_help_key true controls = controls
+after_help_key false controls = with_focus controls focus.Text
+
+-- ---- events
+
+-- an input, with the focus on this
+abbrev pub IsAfterInput : Focus → Controls → Bool → Bool → Place → State → Input → Controls → Type 0
+IsAfterInput focus.Text controls named changed cursor field input new = IsAfterKey controls named changed cursor input new
+IsAfterInput (focus.Prompt asked) controls named changed cursor field input new = IsAfterPromptKey (prompt_key asked input) asked controls field new
+IsAfterInput (focus.Question question) controls named changed cursor field input new = new ≡ after_reply question (reply_of input.key) controls named cursor
+IsAfterInput focus.Help controls named changed cursor field input new = new ≡ after_help_key (scrolls_help input.key) controls
+
+-- an event; after it the text may have changed or not
+abbrev pub IsAfterEvent : Controls → Bool → Bool → Place → State → Event → Controls → Type 0
+IsAfterEvent controls named changed cursor field (event.Input input) new = IsAfterInput controls.focus controls named changed cursor field input new
+IsAfterEvent controls named changed cursor field other new = new ≡ controls
