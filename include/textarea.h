@@ -43,7 +43,7 @@ enum {
     TA_OK = 0,
     /** The call was made, and did nothing, or there is nothing to return. */
     TA_FALSE = 1,
-    /** Memory ran out. Out-parameters are unspecified. */
+    /** Memory ran out. */
     TA_OUT_OF_MEMORY = 2,
     /** The search pattern is not one of `regex`. */
     TA_PATTERN_REJECTED = 3,
@@ -316,6 +316,14 @@ typedef struct ta_block_t {
  * Statuses: ok, out of memory (the handle is empty then). */
 uint32_t ta_new(ta_handle_t *handle);
 
+/** Makes a text area with the text of a file behind the handle, and the cursor at the start. Each
+ * line feed ends a line, and one at the text's end begins no line; a carriage return directly
+ * before a line feed is dropped. A text area that was behind the handle is freed.
+ *
+ * Statuses: ok, out of memory, invalid argument (the text is not UTF-8). Where it is not ok, the
+ * handle stays as it was. */
+uint32_t ta_from_text(ta_handle_t *handle, const uint8_t *text, size_t text_len);
+
 /** Frees the text area behind the handle, which is empty then. An empty handle stays empty. */
 void ta_free(ta_handle_t *handle);
 
@@ -355,6 +363,12 @@ uint32_t ta_line(ta_handle_t *handle, size_t row, uint8_t *out, size_t out_len, 
  * Statuses: ok, empty handle. */
 uint32_t ta_lines(ta_handle_t *handle, uint8_t *out, size_t out_len, size_t *needed, size_t *ends, size_t ends_len, size_t *count);
 
+/** Returns the text: the lines, with a line feed between two. `out` gets the first of its bytes, as
+ * many as there is room for, and `needed` the number of all.
+ *
+ * Statuses: ok, out of memory, empty handle. */
+uint32_t ta_text(ta_handle_t *handle, uint8_t *out, size_t out_len, size_t *needed);
+
 /** Returns whether the text is one empty line.
  *
  * Statuses: ok (it is), false, empty handle. */
@@ -380,6 +394,13 @@ uint32_t ta_insert_newline(ta_handle_t *handle);
  * Statuses: ok (it inserted something or removed a selection), false, out of memory (the selected
  * text may have been removed), invalid argument (the text is not UTF-8), empty handle. */
 uint32_t ta_insert_str(ta_handle_t *handle, const uint8_t *text, size_t text_len);
+
+/** Inserts a text that was pasted from outside, where `ta_insert_str` inserts. Each line end breaks
+ * the line: a line feed, a carriage return, or a carriage return and a line feed.
+ *
+ * Statuses: ok (it inserted something or removed a selection), false, out of memory (the selected
+ * text may have been removed), invalid argument (the text is not UTF-8), empty handle. */
+uint32_t ta_insert_pasted(ta_handle_t *handle, const uint8_t *text, size_t text_len);
 
 /** Inserts a tab at the cursor, or at the end of the atomic range that strictly contains it: with
  * hard tabs a tab character, as typed, otherwise spaces up to the next tab stop; at tab length 0
@@ -458,8 +479,9 @@ uint32_t ta_clear(ta_handle_t *handle);
  * target changes nothing.
  *
  * Statuses: ok (the text changed: a character or a line break was inserted, or the call of another
- * edit, an undo or a redo did something), false, out of memory (the text area is as the call
- * leaves it), invalid argument (there is no such key), empty handle. */
+ * edit, an undo or a redo did something), false, out of memory (only for a key whose call may
+ * return it, which leaves the text area as that call does), invalid argument (there is no such
+ * key), empty handle. */
 uint32_t ta_input(ta_handle_t *handle, const ta_input_t *input);
 
 /** As `ta_input`, but by the table without shortcuts, for a caller that has its own: only
@@ -523,6 +545,14 @@ uint32_t ta_move_cursor(ta_handle_t *handle, uint32_t cursor_move);
  *
  * Statuses: ok, empty handle. */
 uint32_t ta_jump(ta_handle_t *handle, uint16_t row, uint16_t column);
+
+/** Moves the cursor to this row and column, both counted from 0, or to the nearest position: the row
+ * is at most the last, the column at most its line's length. A position strictly inside an atomic
+ * range is moved to the range's end. An open selection follows the cursor, and a run of typing
+ * ends. Unlike `ta_jump` it reaches every row.
+ *
+ * Statuses: ok, empty handle. */
+uint32_t ta_go_to(ta_handle_t *handle, size_t row, size_t column);
 
 /** Returns the cursor's row and column, which is always a position of the text.
  *
@@ -930,6 +960,11 @@ uint32_t ta_max_rows(ta_handle_t *handle, uint16_t *rows);
  *
  * Statuses: ok, out of memory, empty handle. */
 uint32_t ta_screen_reset(ta_handle_t *handle, const ta_area_t *area);
+
+/** Makes each cell of the screen a blank in the terminal's own colours.
+ *
+ * Statuses: ok, empty handle. */
+uint32_t ta_screen_clear(ta_handle_t *handle);
 
 /** Returns the rectangle whose cells the screen has.
  *

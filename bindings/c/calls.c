@@ -14,6 +14,7 @@ static void handles(void) {
     CHECK(ta_insert_char(&area, 'a') == TA_EMPTY_HANDLE);
     CHECK(ta_cursor(&area, &row, &column) == TA_EMPTY_HANDLE && row == 7 && column == 8);
     CHECK(ta_clone(&area, &copy) == TA_EMPTY_HANDLE && !copy.full);
+    CHECK(ta_from_text(&area, (const uint8_t *)"\xff", 1) == TA_INVALID_ARGUMENT && !area.full);
     ta_free(&area);
     ta_free(&area);
     CHECK(ta_new(&area) == TA_OK && has_lines(&area, "\n") && has_cursor(&area, 0, 0));
@@ -21,6 +22,9 @@ static void handles(void) {
     CHECK(ta_clone(&area, &copy) == TA_OK && has_lines(&copy, "one\ntwo\n"));
     CHECK(ta_undo(&copy) == TA_OK && has_lines(&copy, "\n") && has_lines(&area, "one\ntwo\n"));
     CHECK(ta_clone(&area, &copy) == TA_OK && has_lines(&copy, "one\ntwo\n"));
+    CHECK(ta_from_text(&area, TEXT("a\r\nb\n\n")) == TA_OK && has_lines(&area, "a\nb\n\n"));
+    CHECK(ta_from_text(&area, (const uint8_t *)"\xff", 1) == TA_INVALID_ARGUMENT && has_lines(&area, "a\nb\n\n"));
+    CHECK(ta_from_text(&area, TEXT("")) == TA_OK && has_lines(&area, "\n"));
     CHECK(ta_new(&area) == TA_OK && has_lines(&area, "\n"));
     ta_handle_t moved = area;
     memset(&area, 0, sizeof area);
@@ -42,7 +46,8 @@ static void lines(void) {
     CHECK(ta_is_empty(&area) == TA_FALSE);
     CHECK(ta_line_count(&area, &count) == TA_OK && count == 3);
     CHECK(ta_line(&area, 2, out, 3, &needed) == TA_OK && needed == 5 && !memcmp(out, "f\xc3\xa9\0", 4));
-    CHECK(ta_line(&area, 3, out, 3, &needed) == TA_FALSE);
+    CHECK(ta_line(&area, 3, out, 3, &needed) == TA_FALSE && needed == 5 && !memcmp(out, "f\xc3\xa9\0", 4));
+    CHECK(ta_text(&area, out, 3, &needed) == TA_OK && needed == 10 && !memcmp(out, "one\0", 4));
     CHECK(ta_lines(&area, out, 1, &needed, ends, 1, &count) == TA_OK);
     CHECK(needed == 8 && count == 3 && out[0] == 'o' && ends[0] == 3);
     CHECK(ta_set_lines(&area, TEXT(text), bad, 2, 0, 0) == TA_INVALID_ARGUMENT);
@@ -60,6 +65,9 @@ static void edits(void) {
     CHECK(has_lines(&area, "a\xe7\x8a\xac\n\n") && has_cursor(&area, 1, 0));
     CHECK(ta_insert_str(&area, TEXT("")) == TA_FALSE && ta_insert_str(&area, (const uint8_t *)"\xff", 1) == TA_INVALID_ARGUMENT);
     CHECK(ta_insert_str(&area, TEXT("b\r\nc")) == TA_OK && has_lines(&area, "a\xe7\x8a\xac\nb\nc\n"));
+    CHECK(ta_insert_pasted(&area, TEXT("x\ry\r\n")) == TA_OK && has_lines(&area, "a\xe7\x8a\xac\nb\ncx\ny\n\n"));
+    CHECK(ta_undo(&area) == TA_OK && ta_insert_pasted(&area, TEXT("")) == TA_FALSE);
+    CHECK(ta_insert_pasted(&area, (const uint8_t *)"\xff", 1) == TA_INVALID_ARGUMENT);
     CHECK(ta_insert_tab(&area) == TA_OK && has_lines(&area, "a\xe7\x8a\xac\nb\nc   \n"));
     CHECK(ta_paste(&area) == TA_FALSE && ta_set_yank_text(&area, TEXT("x\ny")) == TA_OK);
     CHECK(ta_paste(&area) == TA_OK && has_lines(&area, "a\xe7\x8a\xac\nb\nc   x\ny\n"));
@@ -94,11 +102,17 @@ static void moves(void) {
     CHECK(ta_move_cursor(&area, TA_MOVE_TOP) == TA_OK && has_cursor(&area, 0, 0));
     CHECK(ta_move_cursor(&area, 14) == TA_INVALID_ARGUMENT && ta_jump(&area, 9, 9) == TA_OK);
     CHECK(has_cursor(&area, 3, 4));
+    CHECK(ta_go_to(&area, 1, 2) == TA_OK && has_cursor(&area, 1, 2));
+    CHECK(ta_go_to(&area, SIZE_MAX, SIZE_MAX) == TA_OK && has_cursor(&area, 3, 4));
     ta_area_t place = {0, 0, 10, 2};
     CHECK(ta_screen_reset(&area, &place) == TA_OK && ta_render(&area, &place) == TA_OK);
     CHECK(ta_scroll(&area, -2, 0) == TA_OK && has_cursor(&area, 1, 4));
     CHECK(ta_scroll_page(&area, TA_SCROLL_PAGE_DOWN) == TA_OK && has_cursor(&area, 2, 0));
     CHECK(ta_scroll_page(&area, 4) == TA_INVALID_ARGUMENT);
+    static uint8_t many[70000];
+    memset(many, '\n', sizeof many);
+    CHECK(ta_from_text(&area, many, sizeof many) == TA_OK);
+    CHECK(ta_go_to(&area, 69998, 1) == TA_OK && has_cursor(&area, 69998, 0));
     ta_free(&area);
 }
 
@@ -327,6 +341,8 @@ static void screen(void) {
     CHECK(cells[1].bg.kind == TA_COLOR_RGB && cells[1].bg.green == 2 && cells[6].symbol[0] == 't' && cells[11].symbol[0] == ' ');
     memset(cells, 0xee, sizeof cells);
     CHECK(ta_screen_cells(&area, cells, 2, &needed) == TA_OK && needed == 12 && cells[1].bytes == 29 && cells[2].bytes == 0xeeee);
+    CHECK(ta_screen_clear(&area) == TA_OK && shows(&area, 1, "") && shows(&area, 2, ""));
+    CHECK(ta_screen_cell(&area, 2, 1, &cell) == TA_OK && cell.fg.kind == TA_COLOR_RESET && cell.modifier == 0);
     ta_free(&area);
 }
 

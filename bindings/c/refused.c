@@ -20,6 +20,13 @@ static const ta_style_t none = {0};
 static const ta_area_t place = {1, 1, 12, 5};
 
 static uint32_t made(ta_handle_t *a) { return ta_new(a); }
+static uint32_t loaded(ta_handle_t *a) { return ta_from_text(a, TEXT("one\ntwo\n")); }
+static uint32_t pasted_in(ta_handle_t *a) { return ta_insert_pasted(a, TEXT("a\rb\r\nc")); }
+static uint32_t whole(ta_handle_t *a) {
+    uint8_t out[4];
+    size_t needed;
+    return ta_text(a, out, 4, &needed);
+}
 static uint32_t typed(ta_handle_t *a) { return ta_insert_char(a, 'x'); }
 static uint32_t broken(ta_handle_t *a) { return ta_insert_newline(a); }
 static uint32_t written(ta_handle_t *a) { return ta_insert_str(a, TEXT("one two\nthree and a long line of text\n\xe7\x8a\xac")); }
@@ -94,7 +101,7 @@ static uint32_t (*const steps[])(ta_handle_t *) = {
     typed,   undone,  redone,   wrapped, numbered,  screen,     drawn,       some,   drawn,  next_word,
     to_end,  undone,  undone,   ranges,  bad_ranges, next_char, undone,      pattern, wrong, found,
     block,   placeholder, styled, highlight, drawn, long_cell,  measured,    yank,   pasted, cloned,
-    key,     lines,   key,      drawn,   cleared,   drawn,
+    key,     lines,   key,      drawn,   cleared,   drawn,     loaded,      whole,  pasted_in,
 };
 
 /* A text of all that can be read of the text area without memory. */

@@ -33,6 +33,9 @@ def command(r):
     return pick([
         lambda: f"delete_str {small()}",
         lambda: f"jump {small()} {small()}",
+        lambda: f"go_to {small()} {small()}",
+        lambda: f"insert_pasted {pick(TEXTS)}",
+        lambda: "text",
         lambda: f"scroll {r.randrange(-4, 5)} {r.randrange(-2, 3)}",
         lambda: f"page {pick(['PageDown', 'PageUp', 'HalfPageDown', 'HalfPageUp'])}",
         lambda: f"search_forward {pick(['true', 'false'])}",

@@ -66,14 +66,16 @@ class Replay:
             getattr(area, name)()
         elif name == "insert_char":
             area.insert_char(unescaped(words))
-        elif name == "insert_str":
-            return truth(area.insert_str(unescaped(words)))
+        elif name in ("insert_str", "insert_pasted"):
+            return truth(getattr(area, name)(unescaped(words)))
         elif name == "delete_str":
             return truth(area.delete_str(numbers[0]))
         elif name in ("search_forward", "search_back"):
             return truth(getattr(area, name)(words == "true"))
         elif name == "input":
             return truth(area.input(input_of(words)))
+        elif name == "text":
+            return "text " + escaped(area.text)
         elif name == "yank_text":
             return "text " + escaped(area.yank_text)
         elif name == "set_yank_text":
@@ -106,6 +108,8 @@ class Replay:
             area.move_cursor(Move[constant(words)])
         elif name == "jump":
             area.jump(*numbers)
+        elif name == "go_to":
+            area.go_to(*numbers)
         elif name == "scroll":
             area.scroll(*numbers)
         elif name == "page":

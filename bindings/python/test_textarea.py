@@ -21,6 +21,8 @@ class Calls(unittest.TestCase):
         area.set_lines(["a\nb", "é" * 200], (1, 999))
         self.assertEqual((area.lines, area.cursor), (["a\nb", "é" * 200], (1, 200)))
         self.assertEqual(TextArea.from_lines([]).lines, [""])
+        file = TextArea.from_text("a\r\nb\n\n")
+        self.assertEqual((file.lines, file.text), (["a", "b", ""], "a\nb\n"))
         self.assertEqual(TextArea.from_lines(str(i) for i in range(50)).line(49), "49")
         copy = area.copy_area()
         self.assertTrue(area.clear() and area.is_empty)
@@ -35,6 +37,8 @@ class Calls(unittest.TestCase):
         area.insert_newline()
         self.assertTrue(area.insert_str("b\r\nc") and area.insert_tab() and not area.insert_str(""))
         self.assertEqual(area.lines, ["a", "b", "c   "])
+        self.assertTrue(area.insert_pasted("x\ry\r\n") and area.undo())
+        self.assertFalse(area.insert_pasted(""))
         self.assertFalse(area.paste())
         area.yank_text = "x\ny"
         self.assertTrue(area.paste() and area.yank_text == "x\ny")
@@ -67,6 +71,9 @@ class Calls(unittest.TestCase):
         area.start_selection()
         area.move_cursor(Move.DOWN)
         self.assertEqual(area.selection_range, ((0, 4), (1, 4)))
+        area.go_to(1 << 40, 2)
+        self.assertEqual(area.cursor, (1, 2))
+        area.go_to(1, 4)
         area.copy()
         self.assertEqual(area.yank_text, "two\nthre")
         self.assertFalse(area.cut())
@@ -194,6 +201,8 @@ class Calls(unittest.TestCase):
         self.assertEqual((area.cell(11, 5).symbol, area.cells[0][1].fg), (long, Color.RED))
         area.set_screen_style(Area(11, 5, 1, 1), Style(Color.BLUE))
         self.assertEqual(area.cell(11, 5).fg, Color.BLUE)
+        area.clear_screen()
+        self.assertEqual((area.screen[0].strip(), area.cell(11, 5).fg), ("", Color.RESET))
 
     def test_documentation(self):
         self.assertEqual(doctest.testmod(textarea).failed, 0)

@@ -314,6 +314,14 @@ class TextArea:
             area.set_lines(lines)
         return area
 
+    @classmethod
+    def from_text(cls, text: str) -> TextArea:
+        """A text area with the text of a file: each line feed ends a line, and one at the text's end
+        begins no line; a carriage return directly before a line feed is dropped."""
+        area = cls()
+        area._call(_lib.ta_from_text, *_bytes(text))
+        return area
+
     def __del__(self):
         if hasattr(self, "_handle"):
             _lib.ta_free(self._handle)
@@ -399,7 +407,7 @@ class TextArea:
     @property
     def text(self) -> str:
         """The lines, with a line feed between two."""
-        return "\n".join(self.lines)
+        return self._text(_lib.ta_text)
 
     def line(self, row: int) -> Optional[str]:
         """The line of this row, or None if there is none."""
@@ -435,6 +443,12 @@ class TextArea:
         """Inserts the text at the cursor. Returns whether it inserted something or removed a
         selection."""
         return self._edit(_lib.ta_insert_str, *_bytes(text))
+
+    def insert_pasted(self, text: str) -> bool:
+        """Inserts a text that was pasted from outside: each line feed, carriage return, or carriage
+        return and line feed breaks the line. Returns whether it inserted something or removed a
+        selection."""
+        return self._edit(_lib.ta_insert_pasted, *_bytes(text))
 
     def insert_tab(self) -> bool:
         """Inserts a tab, or spaces up to the next tab stop. Returns whether it did something."""
@@ -537,6 +551,10 @@ class TextArea:
     def jump(self, row: int, column: int) -> None:
         """Moves the cursor to this row and column, or to the nearest position."""
         self._call(_lib.ta_jump, row, column)
+
+    def go_to(self, row: int, column: int) -> None:
+        """Moves the cursor as `jump` does, also past row and column 65535."""
+        self._call(_lib.ta_go_to, row, column)
 
     def scroll(self, rows: int, columns: int = 0) -> None:
         """Scrolls the viewport, down and to the right if positive, and moves the cursor into it."""
@@ -825,6 +843,10 @@ class TextArea:
     def reset_screen(self, area: Area) -> None:
         """Gives the screen the cells of this rectangle, each a blank."""
         self._call(_lib.ta_screen_reset, sys_.Area(*area))
+
+    def clear_screen(self) -> None:
+        """Makes each cell of the screen a blank."""
+        self._call(_lib.ta_screen_clear)
 
     @property
     def screen_area(self) -> Area:

@@ -157,6 +157,8 @@ class Block(Structure):
 def declare(library):
     library.ta_new.argtypes = [POINTER(Handle)]
     library.ta_new.restype = c_uint32
+    library.ta_from_text.argtypes = [POINTER(Handle), POINTER(c_uint8), c_size_t]
+    library.ta_from_text.restype = c_uint32
     library.ta_free.argtypes = [POINTER(Handle)]
     library.ta_free.restype = None
     library.ta_clone.argtypes = [POINTER(Handle), POINTER(Handle)]
@@ -169,6 +171,8 @@ def declare(library):
     library.ta_line.restype = c_uint32
     library.ta_lines.argtypes = [POINTER(Handle), POINTER(c_uint8), c_size_t, POINTER(c_size_t), POINTER(c_size_t), c_size_t, POINTER(c_size_t)]
     library.ta_lines.restype = c_uint32
+    library.ta_text.argtypes = [POINTER(Handle), POINTER(c_uint8), c_size_t, POINTER(c_size_t)]
+    library.ta_text.restype = c_uint32
     library.ta_is_empty.argtypes = [POINTER(Handle)]
     library.ta_is_empty.restype = c_uint32
     library.ta_insert_char.argtypes = [POINTER(Handle), c_uint32]
@@ -177,6 +181,8 @@ def declare(library):
     library.ta_insert_newline.restype = c_uint32
     library.ta_insert_str.argtypes = [POINTER(Handle), POINTER(c_uint8), c_size_t]
     library.ta_insert_str.restype = c_uint32
+    library.ta_insert_pasted.argtypes = [POINTER(Handle), POINTER(c_uint8), c_size_t]
+    library.ta_insert_pasted.restype = c_uint32
     library.ta_insert_tab.argtypes = [POINTER(Handle)]
     library.ta_insert_tab.restype = c_uint32
     library.ta_paste.argtypes = [POINTER(Handle)]
@@ -221,6 +227,8 @@ def declare(library):
     library.ta_move_cursor.restype = c_uint32
     library.ta_jump.argtypes = [POINTER(Handle), c_uint16, c_uint16]
     library.ta_jump.restype = c_uint32
+    library.ta_go_to.argtypes = [POINTER(Handle), c_size_t, c_size_t]
+    library.ta_go_to.restype = c_uint32
     library.ta_cursor.argtypes = [POINTER(Handle), POINTER(c_size_t), POINTER(c_size_t)]
     library.ta_cursor.restype = c_uint32
     library.ta_scroll.argtypes = [POINTER(Handle), c_int16, c_int16]
@@ -357,6 +365,8 @@ def declare(library):
     library.ta_max_rows.restype = c_uint32
     library.ta_screen_reset.argtypes = [POINTER(Handle), POINTER(Area)]
     library.ta_screen_reset.restype = c_uint32
+    library.ta_screen_clear.argtypes = [POINTER(Handle)]
+    library.ta_screen_clear.restype = c_uint32
     library.ta_screen_area.argtypes = [POINTER(Handle), POINTER(Area)]
     library.ta_screen_area.restype = c_uint32
     library.ta_screen_put.argtypes = [POINTER(Handle), c_uint16, c_uint16, POINTER(c_uint8), c_size_t, POINTER(Style)]

@@ -6,6 +6,7 @@ use std::fmt;
 use std::ops::Deref;
 
 /// A way to move the cursor.
+#[non_exhaustive]
 #[derive(Clone, Copy, Debug, PartialEq, Eq)]
 pub enum CursorMove {
     /// To the next position; from the end of a line, to the start of the next one.
@@ -41,6 +42,7 @@ pub enum CursorMove {
 }
 
 /// How far to scroll, and in which direction.
+#[non_exhaustive]
 #[derive(Clone, Copy, Debug, PartialEq, Eq)]
 pub enum Scrolling {
     /// By visual rows, down if positive, and by columns, to the right if positive.
@@ -76,6 +78,7 @@ pub enum WrapMode {
 }
 
 /// How the cell at the cursor is drawn.
+#[non_exhaustive]
 #[derive(Clone, Copy, Debug, Default, PartialEq, Eq)]
 pub enum CursorRenderMode {
     /// In the cursor's style.
@@ -125,6 +128,17 @@ pub enum AtomicRangeRejectReason {
     OverlapsPrevious,
 }
 
+impl fmt::Display for AtomicRangeRejectReason {
+    fn fmt(&self, f: &mut fmt::Formatter) -> fmt::Result {
+        f.write_str(match self {
+            AtomicRangeRejectReason::Empty => "it is empty",
+            AtomicRangeRejectReason::RowOutOfBounds => "the text has no such row",
+            AtomicRangeRejectReason::ColumnOutOfBounds => "the row has no such columns",
+            AtomicRangeRejectReason::OverlapsPrevious => "it overlaps the range before it",
+        })
+    }
+}
+
 /// A rejected atomic range, and why it is rejected.
 #[derive(Clone, Copy, Debug, PartialEq, Eq)]
 pub struct RejectedAtomicRange {
@@ -137,6 +151,20 @@ pub struct RejectedAtomicRange {
 pub struct AtomicRangeError {
     pub rejected: Vec<RejectedAtomicRange>,
 }
+
+impl fmt::Display for AtomicRangeError {
+    fn fmt(&self, f: &mut fmt::Formatter) -> fmt::Result {
+        f.write_str("rejected atomic ranges")?;
+        for (index, RejectedAtomicRange { range, reason }) in self.rejected.iter().enumerate() {
+            let separator = if index == 0 { ":" } else { ";" };
+            write!(f, "{separator} row {}, columns ", range.row)?;
+            write!(f, "{}..{} ({reason})", range.start_col, range.end_col)?;
+        }
+        Ok(())
+    }
+}
+
+impl Error for AtomicRangeError {}
 
 /// Measured heights, in screen rows.
 #[derive(Clone, Copy, Debug, PartialEq, Eq)]

@@ -29,6 +29,12 @@ impl Handle {
         Ok(handle)
     }
 
+    pub fn with_text(text: &str) -> Result<Handle, OutOfMemory> {
+        let handle = Handle(UnsafeCell::new(empty()));
+        handle.on(|h| unsafe { sys::ta_from_text(h, text.as_ptr(), text.len()) })?;
+        Ok(handle)
+    }
+
     pub fn copy(&self) -> Result<Handle, OutOfMemory> {
         let copy = Handle(UnsafeCell::new(empty()));
         self.on(|h| unsafe { sys::ta_clone(h, copy.0.get()) })?;
@@ -37,6 +43,7 @@ impl Handle {
 
     /// Makes a call, and returns whether its status is ok, or that memory ran out. The other
     /// statuses are for arguments that this crate never passes, or are asked for by `status`.
+    #[inline]
     pub fn on(&self, call: impl FnOnce(*mut sys::Handle) -> u32) -> Result<bool, OutOfMemory> {
         match call(self.0.get()) {
             sys::OK => Ok(true),
@@ -52,6 +59,7 @@ impl Handle {
     }
 
     /// Makes a call that takes no memory, and returns whether its status is ok.
+    #[inline]
     pub fn is(&self, call: impl FnOnce(*mut sys::Handle) -> u32) -> bool {
         must(self.on(call))
     }
@@ -105,6 +113,7 @@ impl Drop for Handle {
 }
 
 /// Returns the value. Out of memory ends the program, as in collections of `std`.
+#[inline]
 pub fn must<T>(result: Result<T, OutOfMemory>) -> T {
     match result {
         Ok(value) => value,

@@ -3,6 +3,7 @@
 use crate::sys;
 
 /// A key.
+#[non_exhaustive]
 #[derive(Clone, Copy, Debug, Default, PartialEq, Eq, Hash)]
 pub enum Key {
     /// A key that types a character.
@@ -38,12 +39,47 @@ pub enum Key {
 }
 
 /// A key with the modifiers that are pressed. The default is [`Key::Null`] without any.
-#[derive(Clone, Debug, Default, PartialEq, Eq, Hash)]
+#[derive(Clone, Copy, Debug, Default, PartialEq, Eq, Hash)]
 pub struct Input {
     pub key: Key,
     pub ctrl: bool,
     pub alt: bool,
     pub shift: bool,
+}
+
+impl Input {
+    /// Returns the input with Ctrl.
+    pub const fn ctrl(self) -> Input {
+        Input { ctrl: true, ..self }
+    }
+
+    /// Returns the input with Alt.
+    pub const fn alt(self) -> Input {
+        Input { alt: true, ..self }
+    }
+
+    /// Returns the input with Shift.
+    pub const fn shift(self) -> Input {
+        Input {
+            shift: true,
+            ..self
+        }
+    }
+}
+
+impl From<Key> for Input {
+    fn from(key: Key) -> Input {
+        Input {
+            key,
+            ..Input::default()
+        }
+    }
+}
+
+impl From<char> for Input {
+    fn from(c: char) -> Input {
+        Key::Char(c).into()
+    }
 }
 
 impl From<&Input> for sys::Input {

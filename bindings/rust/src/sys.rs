@@ -214,16 +214,19 @@ pub struct Block {
 
 unsafe extern "C" {
     pub fn ta_new(handle: *mut Handle) -> u32;
+    pub fn ta_from_text(handle: *mut Handle, text: *const u8, text_len: usize) -> u32;
     pub fn ta_free(handle: *mut Handle);
     pub fn ta_clone(handle: *mut Handle, copy: *mut Handle) -> u32;
     pub fn ta_set_lines(handle: *mut Handle, text: *const u8, text_len: usize, ends: *const usize, ends_len: usize, row: usize, column: usize) -> u32;
     pub fn ta_line_count(handle: *mut Handle, count: *mut usize) -> u32;
     pub fn ta_line(handle: *mut Handle, row: usize, out: *mut u8, out_len: usize, needed: *mut usize) -> u32;
     pub fn ta_lines(handle: *mut Handle, out: *mut u8, out_len: usize, needed: *mut usize, ends: *mut usize, ends_len: usize, count: *mut usize) -> u32;
+    pub fn ta_text(handle: *mut Handle, out: *mut u8, out_len: usize, needed: *mut usize) -> u32;
     pub fn ta_is_empty(handle: *mut Handle) -> u32;
     pub fn ta_insert_char(handle: *mut Handle, character: u32) -> u32;
     pub fn ta_insert_newline(handle: *mut Handle) -> u32;
     pub fn ta_insert_str(handle: *mut Handle, text: *const u8, text_len: usize) -> u32;
+    pub fn ta_insert_pasted(handle: *mut Handle, text: *const u8, text_len: usize) -> u32;
     pub fn ta_insert_tab(handle: *mut Handle) -> u32;
     pub fn ta_paste(handle: *mut Handle) -> u32;
     pub fn ta_delete_char(handle: *mut Handle) -> u32;
@@ -246,6 +249,7 @@ unsafe extern "C" {
     pub fn ta_set_now(handle: *mut Handle, nanoseconds: u64) -> u32;
     pub fn ta_move_cursor(handle: *mut Handle, cursor_move: u32) -> u32;
     pub fn ta_jump(handle: *mut Handle, row: u16, column: u16) -> u32;
+    pub fn ta_go_to(handle: *mut Handle, row: usize, column: usize) -> u32;
     pub fn ta_cursor(handle: *mut Handle, row: *mut usize, column: *mut usize) -> u32;
     pub fn ta_scroll(handle: *mut Handle, rows: i16, columns: i16) -> u32;
     pub fn ta_scroll_page(handle: *mut Handle, page: u32) -> u32;
@@ -314,6 +318,7 @@ unsafe extern "C" {
     pub fn ta_set_max_rows(handle: *mut Handle, rows: u16) -> u32;
     pub fn ta_max_rows(handle: *mut Handle, rows: *mut u16) -> u32;
     pub fn ta_screen_reset(handle: *mut Handle, area: *const Area) -> u32;
+    pub fn ta_screen_clear(handle: *mut Handle) -> u32;
     pub fn ta_screen_area(handle: *mut Handle, area: *mut Area) -> u32;
     pub fn ta_screen_put(handle: *mut Handle, x: u16, y: u16, text: *const u8, text_len: usize, style: *const Style) -> u32;
     pub fn ta_screen_set_style(handle: *mut Handle, area: *const Area, style: *const Style) -> u32;

@@ -7,10 +7,11 @@ mod texts;
 
 use crate::data::{OutOfMemory, Pattern};
 use crate::handle::{Handle, must};
+use crate::ratatui::layout::Rect;
 use crate::ratatui::text::Text;
 use crate::ratatui::widgets::Block;
 use crate::sys;
-use std::cell::OnceCell;
+use std::cell::{Cell, OnceCell};
 use std::fmt;
 use std::marker::PhantomData;
 use std::time::{Duration, Instant};
@@ -29,6 +30,10 @@ pub struct TextArea<'a> {
     pattern: OnceCell<Option<Pattern>>,
     ranges: OnceCell<Vec<crate::AtomicRange>>,
     clock: Clock,
+    /// Whether typed edits join into one, as in the core.
+    coalesces: bool,
+    /// The rectangle of the core's screen.
+    screen: Cell<Rect>,
     borrows: PhantomData<Block<'a>>,
 }
 
@@ -55,6 +60,19 @@ impl<'a> TextArea<'a> {
         Ok(area)
     }
 
+    /// Returns a text area with the text of a file and the cursor at the start. Each line feed ends a
+    /// line, and one at the text's end begins no line; a carriage return directly before a line feed
+    /// is dropped.
+    pub fn from_text(text: &str) -> TextArea<'a> {
+        must(TextArea::try_from_text(text))
+    }
+
+    /// As [`TextArea::from_text`], but returns that memory ran out.
+    pub fn try_from_text(text: &str) -> Result<TextArea<'a>, OutOfMemory> {
+        let core = Handle::with_text(text)?;
+        Ok(TextArea::of(core, Clock::Since(Instant::now())))
+    }
+
     fn of(core: Handle, clock: Clock) -> TextArea<'a> {
         TextArea {
             core,
@@ -64,13 +82,17 @@ impl<'a> TextArea<'a> {
             pattern: OnceCell::new(),
             ranges: OnceCell::new(),
             clock,
+            coalesces: false,
+            screen: Cell::new(Rect::ZERO),
             borrows: PhantomData,
         }
     }
 
     /// As `clone`, but returns that memory ran out.
     pub fn try_clone(&self) -> Result<TextArea<'a>, OutOfMemory> {
-        Ok(TextArea::of(self.core.copy()?, self.clock))
+        let mut copy = TextArea::of(self.core.copy()?, self.clock);
+        copy.coalesces = self.coalesces;
+        Ok(copy)
     }
 
     /// Sets the time of the edits that follow, from any fixed time, instead of a clock's. The pause
@@ -86,9 +108,10 @@ impl<'a> TextArea<'a> {
     }
 
     /// Makes a call that changes lines and ranges, and returns whether it did something.
+    #[inline]
     fn edit(&mut self, call: impl FnOnce(*mut sys::Handle) -> u32) -> Result<bool, OutOfMemory> {
         if let Clock::Since(start) = self.clock
-            && self.undo_coalescing()
+            && self.coalesces
         {
             self.tell(start.elapsed());
         }

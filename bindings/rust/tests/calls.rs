@@ -78,6 +78,9 @@ fn edits() {
     assert!(area.delete_next_word() && area.delete_line_by_end() && !area.delete_line_by_head());
     assert!(area.is_empty() && !area.clear() && area.undo() && area.redo() && !area.redo());
     assert_eq!(area.try_insert_str("z"), Ok(true));
+    assert!(area.insert_pasted("x\ry\r\n") && !area.insert_pasted(""));
+    assert_eq!(area.text(), "zx\ny\n");
+    assert_eq!(TextArea::from_text("a\r\nb\n\n").lines(), ["a", "b", ""]);
 }
 
 #[test]
@@ -89,6 +92,9 @@ fn moves_and_selection() {
     assert!(area.is_selecting());
     area.move_cursor(CursorMove::Down);
     assert_eq!(area.selection_range(), Some(((0, 4), (1, 4))));
+    area.go_to((usize::MAX, 2));
+    assert_eq!(area.cursor(), (1, 2));
+    area.go_to((1, 4));
     area.copy();
     assert_eq!(
         (area.yank_text(), area.is_selecting()),
@@ -122,7 +128,8 @@ fn inputs() {
     assert!(area.input(input(Key::Char('犬'), false)) && area.input(input(Key::Enter, false)));
     assert!(!area.input(Input::default()) && !area.input(input(Key::F(12), false)));
     assert_eq!(area.lines(), ["犬", ""]);
-    assert!(area.input(input(Key::Char('u'), true)));
+    assert_eq!(Input::from('u').ctrl(), input(Key::Char('u'), true));
+    assert!(area.input(Input::from('u').ctrl()));
     assert!(!area.input_without_shortcuts(input(Key::Char('u'), true)));
     assert!(area.input_without_shortcuts(input(Key::Backspace, true)));
     assert_eq!(area.lines(), [""]);
@@ -354,7 +361,7 @@ fn drawing() {
     assert_eq!(area.cursor_at_position(Position::new(12, 6)), Some((1, 2)));
     assert_eq!(area.cursor_at_position(Position::new(9, 5)), None);
     assert!(buffer[(10, 5)].modifier.contains(Modifier::REVERSED));
-    let long = "e\u{301}".repeat(1) + &"\u{301}".repeat(14);
+    let long = "e\u{301}".to_string() + &"\u{301}".repeat(14);
     area.move_cursor(CursorMove::End);
     area.insert_str(&long);
     (&area).render(place, &mut buffer);
@@ -395,4 +402,48 @@ fn buffers_of_lines() {
         (drawn[(3, 1)].symbol(), drawn[(3, 1)].fg),
         ("x", Color::Red)
     );
+}
+
+// The paths of a program that is written for ratatui.
+mod with_ratatuis_paths {
+    use ratatui::buffer::Buffer;
+    use ratatui::layout::Rect;
+    use ratatui::style::{Color, Modifier, Style, Stylize};
+    use ratatui::text::Line;
+    use ratatui::widgets::{Block, Borders, Widget as _};
+    use tui_textarea::TextArea;
+
+    #[test]
+    fn a_frame() {
+        let mut area = TextArea::default();
+        area.set_placeholder_text("name");
+        area.set_placeholder_style(Style::default().fg(Color::DarkGray));
+        area.set_block(Block::default().borders(Borders::ALL).title("Who?".bold()));
+        area.set_cursor_line_style(Style::default());
+        let place = Rect::new(0, 0, 8, 3);
+        let mut buffer = Buffer::empty(place);
+        area.render(place, &mut buffer);
+        let rows = ["┌Who?──┐", "│ name │", "└──────┘"];
+        for (y, row) in (0..).zip(rows) {
+            let found: String = (0..8).map(|x| buffer[(x, y)].symbol()).collect();
+            assert_eq!(found, row);
+        }
+        assert_eq!(buffer[(1, 0)].modifier, Modifier::BOLD);
+        assert_eq!(buffer.cell((2, 1)).unwrap().fg, Color::DarkGray);
+    }
+
+    #[test]
+    fn names_of_styles() {
+        assert_eq!(Style::new().red().on_light_blue().bold(), {
+            let style = Style::new().fg(Color::Red).bg(Color::LightBlue);
+            style.add_modifier(Modifier::BOLD)
+        });
+        let line = Line::from(vec!["a".green(), String::from("b").not_dim()]);
+        assert_eq!(line.spans[0].style, Style::from(Color::Green));
+        assert_eq!(
+            line.spans[1].style,
+            Style::new().remove_modifier(Modifier::DIM)
+        );
+        assert_eq!(line.reversed().style, Style::from(Modifier::REVERSED));
+    }
 }

@@ -1,9 +1,10 @@
 //! Does jobs with which the operations of a text area are timed, and prints the result of each.
 //!
-//! Each line of standard input is a job: its topic, which is `paint`, `wrap`, `typing`, `frames` or
-//! `terminal`, then one space and the fields that the topic's module describes.
+//! Each line of standard input is a job: its topic, which is `calls`, `paint`, `wrap`, `typing`,
+//! `frames` or `terminal`, then one space and the fields that the topic's module describes.
 #![tactic(auto)]
 
+mod calls;
 mod frames;
 mod paint;
 mod terminal;
@@ -16,6 +17,7 @@ use std::alloc::Global;
 /// A job of one of the topics.
 #[derive(Drop)]
 enum Job<'a> {
+    Calls(calls::CallJob),
     Paint(paint::PaintJob<'a>),
     Wrap(wrap::WrapJob<'a>),
     Typing(typing::TypingJob),
@@ -28,6 +30,7 @@ impl<'a> Job<'a> {
     fn parse(line: &'a str) -> Option<Job<'a>> {
         let (topic, job) = line.split_once(' ')?;
         match topic {
+            "calls" => Some(Job::Calls(calls::CallJob::parse(job)?)),
             "paint" => Some(Job::Paint(paint::PaintJob::parse(job)?)),
             "wrap" => Some(Job::Wrap(wrap::WrapJob::parse(job)?)),
             "typing" => Some(Job::Typing(typing::TypingJob::parse(job)?)),
@@ -40,6 +43,7 @@ impl<'a> Job<'a> {
     /// Does the job, and returns the text to print.
     fn run(&self, alloc: Global) -> Result<String> {
         match self {
+            Job::Calls(job) => Ok(format!(in alloc; "{}", job.run(alloc)?)?),
             Job::Paint(job) => Ok(job.run(alloc)?),
             Job::Wrap(job) => Ok(format!(in alloc; "{}", job.run(alloc)?)?),
             Job::Typing(job) => {

@@ -1,8 +1,9 @@
 -- The cells that C gets.
 use Rattle.std.specs.Prelude.{ℕ, zero, suc, ◌+◌, Some, List, [], ◌∷◌, ◌++◌, length, min, replicate, unwrap_or}
 use Rattle.textarea_screen.specs.Buffer.{area_of, cell_at}
-use Rattle.textarea_screen.specs.Cell.{CellView, fresh_cell}
+use Rattle.textarea_screen.specs.Cell.{CellView, cell_view, fresh_cell}
 use Rattle.textarea_screen.specs.declared.screen.buffer.Buffer.{Buffer}
+use Rattle.textarea_screen.specs.declared.screen.cell.Cell.{Cell as ScreenCell}
 use Rattle.textarea_c.specs.declared.plain.cell.Cell.{Cell}
 use Rattle.textarea_c.specs.Styles.{plain_color}
 use Rattle.textarea_c.specs.Copied.{written}
@@ -16,6 +17,9 @@ plain_cell cell = record {
   bytes = min (length cell.symbol) 65535;
   symbol = written (replicate 24 0) cell.symbol;
 }
+
+abbrev pub plain_screen_cell : ScreenCell → Cell
+plain_screen_cell cell = plain_cell (cell_view cell)
 
 -- this many cells of a row of the screen, from a column on
 abbrev pub plain_row : Buffer → ℕ → ℕ → ℕ → List Cell

@@ -1,7 +1,9 @@
 -- What is behind a handle at first.
-use Rattle.std.specs.Prelude.{◌≡◌, [], string_bytes}
+use Rattle.std.specs.Prelude.{ℕ, ◌≡◌, ◌≢◌, List, [], string_bytes, Option, IsSomeAnd, MatchOption}
+use Rattle.std.specs.Str.{chars}
 use Rattle.textarea_screen.specs.Buffer.{area_of}
-use Rattle.tui_textarea.specs.State.{State}
+use Rattle.textarea_text.specs.Fragment.{fragment_symbols, without_last_break}
+use Rattle.tui_textarea.specs.State.{State, new_state}
 use Rattle.textarea_c.specs.declared.editor.Editor.{Editor}
 
 -- this text area, with a screen that has no cells, and nothing rejected
@@ -11,3 +13,13 @@ pub record IsEditorOf (area : State) (editor : Editor) : Type 0 where
   pub no_rows : (area_of editor.screen).height ≡ 0
   pub ranges_are : editor.rejected.items ≡ []
   pub error_is : string_bytes editor.pattern_error ≡ []
+
+-- a new text area with the text of a file
+abbrev pub with_text : List ℕ → State
+with_text text = new_state (without_last_break (fragment_symbols (chars text)))
+
+-- with status 0 an editor with this text is behind the handle, and otherwise what was before
+abbrev pub Loads : Option (List ℕ) → Option Editor → ℕ → Option Editor → Type 0
+Loads text before status after =
+    MatchOption text ((status ≡ 6) × (after ≡ before))
+    (λ t. (status ≡ 0 → IsSomeAnd after (IsEditorOf (with_text t))) × (status ≢ 0 → (status ≡ 2) × (after ≡ before)))

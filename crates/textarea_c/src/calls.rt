@@ -1,7 +1,7 @@
 //! The exports. Each takes the editor behind the handle, makes one call on it, and puts it back.
 //!
-//! Each returns `TA_EMPTY_HANDLE` if the handle is empty, and writes its out-parameters only if it
-//! returns `TA_OK`, where its comment says nothing else.
+//! Each returns `TA_EMPTY_HANDLE` if the handle is empty, and leaves its out-parameters unchanged if
+//! it doesn't return `TA_OK`; the handle `copy` of `ta_clone` is empty then.
 
 pub mod appearance;
 pub mod edits;

@@ -10,7 +10,7 @@ pub const OK: u32 = 0;
 /// The call was made, and did nothing, or there is nothing to return.
 pub const FALSE: u32 = 1;
 
-/// Memory ran out. Out-parameters are unspecified.
+/// Memory ran out.
 pub const OUT_OF_MEMORY: u32 = 2;
 
 /// The search pattern is not one of `regex`.

@@ -21,6 +21,17 @@ impl<'a> Span<'a> {
             style: style.into(),
         }
     }
+
+    pub fn style<S: Into<Style>>(mut self, style: S) -> Span<'a> {
+        self.style = style.into();
+        self
+    }
+}
+
+impl fmt::Display for Span<'_> {
+    fn fmt(&self, f: &mut fmt::Formatter) -> fmt::Result {
+        f.write_str(&self.content)
+    }
 }
 
 impl<'a, T: Into<Cow<'a, str>>> From<T> for Span<'a> {
@@ -183,6 +194,16 @@ impl<'a> From<Vec<Line<'a>>> for Text<'a> {
             style: Style::new(),
             lines,
         }
+    }
+}
+
+impl fmt::Display for Text<'_> {
+    fn fmt(&self, f: &mut fmt::Formatter) -> fmt::Result {
+        for (row, line) in self.lines.iter().enumerate() {
+            let separator = if row == 0 { "" } else { "\n" };
+            write!(f, "{separator}{line}")?;
+        }
+        Ok(())
     }
 }
 

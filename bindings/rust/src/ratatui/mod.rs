@@ -5,6 +5,7 @@ mod block;
 mod cells;
 mod lines;
 mod styles;
+mod stylize;
 
 pub(crate) use lines::Parts;
 pub(crate) use styles::BLANK;
@@ -22,6 +23,7 @@ pub mod layout {
 /// Colours, modifiers and styles.
 pub mod style {
     pub use super::styles::{Color, Modifier, Style};
+    pub use super::stylize::{Styled, Stylize};
 }
 
 /// Styled texts.

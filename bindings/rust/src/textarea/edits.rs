@@ -99,11 +99,13 @@ impl TextArea<'_> {
     }
 
     /// Inserts the character at the cursor; `\n` and `\r` break the line.
+    #[inline]
     pub fn insert_char(&mut self, c: char) {
         must(self.try_insert_char(c));
     }
 
     /// As `insert_char`, but returns that memory ran out.
+    #[inline]
     pub fn try_insert_char(&mut self, c: char) -> Result<(), OutOfMemory> {
         self.edit(|h| unsafe { sys::ta_insert_char(h, c as u32) })?;
         Ok(())
@@ -130,6 +132,26 @@ impl TextArea<'_> {
     pub fn try_insert_str<S: AsRef<str>>(&mut self, s: S) -> Result<bool, OutOfMemory> {
         let text = s.as_ref();
         self.edit(|h| unsafe { sys::ta_insert_str(h, text.as_ptr(), text.len()) })
+    }
+
+    /// Inserts a text that was pasted from outside, and returns whether it inserted something or
+    /// removed a selection. Each line end breaks the line: a line feed, a carriage return, or a
+    /// carriage return and a line feed.
+    pub fn insert_pasted<S: AsRef<str>>(&mut self, s: S) -> bool {
+        must(self.try_insert_pasted(s))
+    }
+
+    /// As `insert_pasted`, but returns that memory ran out.
+    pub fn try_insert_pasted<S: AsRef<str>>(&mut self, s: S) -> Result<bool, OutOfMemory> {
+        let text = s.as_ref();
+        self.edit(|h| unsafe { sys::ta_insert_pasted(h, text.as_ptr(), text.len()) })
+    }
+
+    /// Moves the cursor to the position (row, column), or to the nearest one in the text. An open
+    /// selection follows it, and a run of typing ends. Unlike `CursorMove::Jump` it reaches every
+    /// row.
+    pub fn go_to(&mut self, (row, column): (usize, usize)) {
+        self.core.is(|h| unsafe { sys::ta_go_to(h, row, column) });
     }
 
     /// Moves the cursor. An open selection follows it, and a run of typing ends.
@@ -173,6 +195,7 @@ impl TextArea<'_> {
     }
 
     /// Returns the cursor's (row, column), which is always a position of the text.
+    #[inline]
     pub fn cursor(&self) -> (usize, usize) {
         let (mut row, mut column) = (0, 0);
         self.core
@@ -237,6 +260,7 @@ impl TextArea<'_> {
 
     /// Sets whether typed edits join into one edit, which is undone at once. A run of typing ends.
     pub fn set_undo_coalescing(&mut self, coalesce: bool) {
+        self.coalesces = coalesce;
         self.core
             .is(|h| unsafe { sys::ta_set_undo_coalescing(h, coalesce) });
     }

@@ -125,8 +125,7 @@ impl TextArea<'_> {
     /// the area may have been drawn.
     pub fn try_render(&self, area: Rect, buf: &mut Buffer) -> Result<(), OutOfMemory> {
         let part = area.intersection(buf.area);
-        self.core
-            .on(|h| unsafe { sys::ta_screen_reset(h, &part.into()) })?;
+        self.clear_screen(part)?;
         for y in part.top()..part.bottom() {
             for x in part.left()..part.right() {
                 self.lend(x, y, &buf[(x, y)])?;
@@ -135,6 +134,19 @@ impl TextArea<'_> {
         let drawn = self.core.on(|h| unsafe { sys::ta_render(h, &area.into()) });
         self.take_back(part, buf);
         drawn?;
+        Ok(())
+    }
+
+    /// Gives the core's screen the cells of this rectangle, each fresh. Takes memory only if it had
+    /// others.
+    fn clear_screen(&self, part: Rect) -> Result<(), OutOfMemory> {
+        if self.screen.get() == part {
+            self.core.is(|h| unsafe { sys::ta_screen_clear(h) });
+            return Ok(());
+        }
+        self.core
+            .on(|h| unsafe { sys::ta_screen_reset(h, &part.into()) })?;
+        self.screen.set(part);
         Ok(())
     }
 

@@ -30,7 +30,7 @@ impl<'a> TextArea<'a> {
         lines: Vec<String>,
         (row, column): (usize, usize),
     ) -> Result<(), OutOfMemory> {
-        assert!(!lines.is_empty(), "a text area has one line at least");
+        assert!(!lines.is_empty(), "lines must not be empty");
         let text = lines.concat();
         let mut end = 0;
         let ends: Vec<usize> = lines
@@ -52,6 +52,19 @@ impl<'a> TextArea<'a> {
             )
         })?;
         Ok(())
+    }
+
+    /// Returns the text: the lines, with a line feed between two.
+    pub fn text(&self) -> String {
+        must(self.try_text())
+    }
+
+    /// As `text`, but returns that memory ran out.
+    pub fn try_text(&self) -> Result<String, OutOfMemory> {
+        let text = self
+            .core
+            .text(|h, out, room, needed| unsafe { sys::ta_text(h, out, room, needed) })?;
+        Ok(text.unwrap_or_default())
     }
 
     /// Returns the lines, at least one.
@@ -95,6 +108,7 @@ impl<'a> TextArea<'a> {
     }
 
     /// Returns whether the text is one empty line.
+    #[inline]
     pub fn is_empty(&self) -> bool {
         self.core.is(|h| unsafe { sys::ta_is_empty(h) })
     }
@@ -192,7 +206,7 @@ impl<'a> TextArea<'a> {
         I: IntoIterator<Item = AtomicRange>,
     {
         if let Err(error) = self.try_set_atomic_ranges(ranges) {
-            panic!("the atomic ranges are not valid: {error:?}");
+            panic!("invalid atomic ranges: {error:?}");
         }
     }
 

@@ -1,5 +1,5 @@
 //! The mask, the cursor's cell, and custom highlights.
-ghost use Rattle.std.specs.Prelude.{◌≡◌, IfSome, MatchOption, None, Some};
+ghost use Rattle.std.specs.Prelude.{◌≡◌, ◌≢◌, IfSome, MatchOption, None, Some};
 ghost use Rattle.tui_textarea.specs.Drawing.{highlighted, unhighlighted, with_look_set};
 ghost use Rattle.textarea_c.specs.Calls.{Asks, Calls, ChangesBy, Reads, Sets, SetsBy};
 ghost use Rattle.textarea_c.specs.Inputs.{character_of};
@@ -55,6 +55,7 @@ pub extern "C" fn ta_mask_char(handle: &mut Handle, alloc: Global, mask: &mut u3
         (λ a b. Asks result a b) }
     ensures mask { IfSome handle.old.stored.content (λ a. MatchOption a.area.drawing.look.mask
         (result ≡ 1) (λ c. (result ≡ 0) × (mask.new ≡ c))) }
+    ensures unwritten { result ≢ 0 → mask.new ≡ mask.old }
 {
     on!(handle, alloc, editor => match editor.area.mask_char() {
         Some(found) => {
@@ -94,6 +95,7 @@ pub extern "C" fn ta_cursor_render_mode(handle: &mut Handle, alloc: Global, mode
         (λ a b. Reads result a b) }
     ensures mode { IfSome handle.old.stored.content
         (λ a. render_mode_of mode.new ≡ Some a.area.drawing.look.cursor_render_mode) }
+    ensures unwritten { result ≢ 0 → mode.new ≡ mode.old }
 {
     on!(handle, alloc, editor => {
         *mode = render_mode_number(editor.area.cursor_render_mode());

@@ -2,7 +2,7 @@
 //! is strictly inside an atomic range to the range's end.
 ghost use Rattle.std.specs.Str.{chars};
 ghost use Rattle.textarea_document.specs.Edits.{has_symbols};
-ghost use Rattle.textarea_text.specs.Fragment.{fragment_symbols};
+ghost use Rattle.textarea_text.specs.Fragment.{fragment_symbols, pasted_symbols};
 ghost use Rattle.tui_textarea.specs.Edits.{char_inserted, inserts_tab, inserts_text, newline_inserted, str_inserted, tab_inserted};
 ghost use Rattle.textarea_c.specs.Calls.{Calls, Given, Inserts, TriesToInsert};
 ghost use Rattle.textarea_c.specs.Inputs.{character_of};
@@ -55,6 +55,25 @@ pub extern "C" fn ta_insert_str(handle: &mut Handle, alloc: Global, text: &[u8])
 {
     on!(handle, alloc, editor => match text_of(text) {
         Some(text) => flag(editor.area.insert_str(text)),
+        None => INVALID_ARGUMENT,
+    })
+}
+
+/// Inserts a text that was pasted from outside, where `ta_insert_str` inserts. Each line end breaks
+/// the line: a line feed, a carriage return, or a carriage return and a line feed.
+///
+/// Statuses: ok (it inserted something or removed a selection), false, out of memory (the selected
+/// text may have been removed), invalid argument (the text is not UTF-8), empty handle.
+#[unsafe(no_mangle)]
+pub extern "C" fn ta_insert_pasted(handle: &mut Handle, alloc: Global, text: &[u8]) -> u32
+    ensures { Calls handle.old.stored.content result handle.new.stored.content
+        (λ a b. Given (text_in text.now) (λ t. TriesToInsert
+        (inserts_text a.area (pasted_symbols (chars t)))
+        (inserts_text a.area (pasted_symbols (chars t)))
+        (str_inserted a.area (pasted_symbols (chars t)))) result a b) }
+{
+    on!(handle, alloc, editor => match text_of(text) {
+        Some(text) => flag(editor.area.insert_pasted(text)),
         None => INVALID_ARGUMENT,
     })
 }

@@ -1,5 +1,5 @@
 //! Undo and redo.
-ghost use Rattle.std.specs.Prelude.{◌≡◌, IfSome, is_some};
+ghost use Rattle.std.specs.Prelude.{◌≡◌, ◌≢◌, IfSome, is_some};
 ghost use Rattle.textarea_history.specs.Log.{empty_log, newest, next};
 ghost use Rattle.textarea_document.specs.Outcomes.{after_redo, run_ended, after_undo};
 ghost use Rattle.tui_textarea.specs.State.{with_document};
@@ -68,6 +68,7 @@ pub extern "C" fn ta_max_histories(
         (λ a b. Reads result a b) }
     ensures value { IfSome handle.old.stored.content
         (λ a. max_histories.new ≡ a.area.document.log.maximum) }
+    ensures unwritten { result ≢ 0 → max_histories.new ≡ max_histories.old }
 {
     on!(handle, alloc, editor => {
         *max_histories = editor.area.max_histories();

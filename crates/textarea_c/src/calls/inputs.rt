@@ -14,8 +14,9 @@ use std::alloc::Global;
 /// target changes nothing.
 ///
 /// Statuses: ok (the text changed: a character or a line break was inserted, or the call of another
-/// edit, an undo or a redo did something), false, out of memory (the text area is as the call
-/// leaves it), invalid argument (there is no such key), empty handle.
+/// edit, an undo or a redo did something), false, out of memory (only for a key whose call may
+/// return it, which leaves the text area as that call does), invalid argument (there is no such
+/// key), empty handle.
 #[unsafe(no_mangle)]
 pub extern "C" fn ta_input(handle: &mut Handle, alloc: Global, input: &Input) -> u32
     ensures { Calls handle.old.stored.content result handle.new.stored.content

@@ -1,5 +1,5 @@
 //! Wrapping, line numbers, alignment and measuring.
-ghost use Rattle.std.specs.Prelude.{◌≡◌, IfSome, MatchOption, Some};
+ghost use Rattle.std.specs.Prelude.{◌≡◌, ◌≢◌, IfSome, MatchOption, Some};
 ghost use Rattle.tui_textarea.specs.LayoutCalls.{number_style, with_alignment, with_line_numbers, with_wrap_mode, without_line_numbers};
 ghost use Rattle.tui_textarea.specs.Measure.{IsMeasured};
 ghost use Rattle.textarea_c.specs.Calls.{Asks, Calls, Changes, ChangesBy, Copies, Reads};
@@ -40,6 +40,7 @@ pub extern "C" fn ta_wrap_mode(handle: &mut Handle, alloc: Global, mode: &mut u3
         (λ a b. Reads result a b) }
     ensures mode { IfSome handle.old.stored.content
         (λ a. wrap_mode_of mode.new ≡ Some a.area.document.layout.settings.mode) }
+    ensures unwritten { result ≢ 0 → mode.new ≡ mode.old }
 {
     on!(handle, alloc, editor => {
         *mode = wrap_mode_number(editor.area.wrap_mode());
@@ -81,6 +82,7 @@ pub extern "C" fn ta_line_number_style(handle: &mut Handle, alloc: Global, style
         (λ a b. Asks result a b) }
     ensures style { IfSome handle.old.stored.content (λ a. MatchOption (number_style a.area)
         (result ≡ 1) (λ s. (result ≡ 0) × (style_of style.new ≡ Some s))) }
+    ensures unwritten { result ≢ 0 → style.new ≡ style.old }
 {
     on!(handle, alloc, editor => match editor.area.line_number_style() {
         Some(found) => {
@@ -115,6 +117,7 @@ pub extern "C" fn ta_alignment(handle: &mut Handle, alloc: Global, alignment: &m
         (λ a b. Reads result a b) }
     ensures alignment { IfSome handle.old.stored.content
         (λ a. alignment_of alignment.new ≡ Some a.area.drawing.look.alignment) }
+    ensures unwritten { result ≢ 0 → alignment.new ≡ alignment.old }
 {
     on!(handle, alloc, editor => {
         *alignment = alignment_number(editor.area.alignment());
@@ -137,6 +140,7 @@ pub extern "C" fn ta_measure(
         (λ a b. Copies result a b) }
     ensures measured { result ≡ 0 → IfSome handle.old.stored.content
         (λ a. IsMeasured a.area width (measure_of measure.new)) }
+    ensures unwritten { result ≢ 0 → measure.new ≡ measure.old }
 {
     on!(handle, alloc, editor => match editor.area.measure(width) {
         Ok(found) => {

@@ -1,12 +1,14 @@
 //! Making, copying and freeing text areas.
-ghost use Rattle.std.specs.Prelude.{◌≡◌, [], IfOk, MatchOption, None};
+ghost use Rattle.std.specs.Prelude.{◌≡◌, [], IfOk, MatchOption, None, Some};
 ghost use Rattle.tui_textarea.specs.State.{new_state};
 ghost use Rattle.textarea_c.specs.Calls.{Calls};
-ghost use Rattle.textarea_c.specs.Fresh.{IsEditorOf};
+ghost use Rattle.textarea_c.specs.Fresh.{IsEditorOf, Loads, with_text};
+ghost use Rattle.textarea_c.specs.Texts.{text_in};
 
 use crate::editor::Editor;
 use crate::handle::Handle;
-use crate::status::{OK, OUT_OF_MEMORY, on};
+use crate::slices::text_of;
+use crate::status::{INVALID_ARGUMENT, OK, OUT_OF_MEMORY, on};
 use std::alloc::{AllocError, Global};
 use textarea_screen::screen::{Buffer, Rect};
 use tui_textarea::TextArea;
@@ -31,6 +33,14 @@ fn fresh_editor(alloc: Global) -> Result<Box<Editor>, AllocError>
     Ok(Box::new(alloc, editor_of(alloc, area)?)?)
 }
 
+// Returns an editor with this text, on the heap.
+fn editor_with(alloc: Global, text: &str) -> Result<Box<Editor>, AllocError>
+    ensures { IfOk result (λ editor. IsEditorOf (with_text text.now) editor.value) }
+{
+    let area = TextArea::from_text(alloc, text)?;
+    Ok(Box::new(alloc, editor_of(alloc, area)?)?)
+}
+
 // Returns an editor of a copy of the text area, on the heap.
 fn copied_editor(alloc: Global, area: &TextArea<'static>) -> Result<Box<Editor>, AllocError>
     ensures { IfOk result (λ editor. IsEditorOf area.now editor.value) }
@@ -51,6 +61,36 @@ pub extern "C" fn ta_new(handle: &mut Handle, alloc: Global) -> u32
     let _old = handle.take(alloc);
     match fresh_editor(alloc) {
         Ok(editor) => {
+            handle.put(editor);
+            OK
+        }
+        Err(_) => OUT_OF_MEMORY,
+    }
+}
+
+/// Makes a text area with the text of a file behind the handle, and the cursor at the start. Each
+/// line feed ends a line, and one at the text's end begins no line; a carriage return directly
+/// before a line feed is dropped. A text area that was behind the handle is freed.
+///
+/// Statuses: ok, out of memory, invalid argument (the text is not UTF-8). Where it is not ok, the
+/// handle stays as it was.
+#[unsafe(no_mangle)]
+pub extern "C" fn ta_from_text(handle: &mut Handle, alloc: Global, text: &[u8]) -> u32
+    ensures { Loads (text_in text.now) handle.old.stored.content result handle.new.stored.content }
+{
+    match text_of(text) {
+        Some(text) => load(handle, alloc, text),
+        None => INVALID_ARGUMENT,
+    }
+}
+
+// Replaces what is behind the handle by an editor with this text, and returns the status.
+fn load(handle: &mut Handle, alloc: Global, text: &str) -> u32
+    ensures { Loads (Some text.now) handle.old.stored.content result handle.new.stored.content }
+{
+    match editor_with(alloc, text) {
+        Ok(editor) => {
+            let _old = handle.take(alloc);
             handle.put(editor);
             OK
         }

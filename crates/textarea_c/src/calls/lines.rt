@@ -1,16 +1,18 @@
 //! The lines of a text area.
-ghost use Rattle.std.specs.Prelude.{◌≡◌, [], IfSome, length, option_map, slice_get};
+ghost use Rattle.std.specs.Prelude.{◌≡◌, ◌≢◌, [], IfSome, length, option_map, slice_get};
 ghost use Rattle.std.specs.List.{concat};
+ghost use Rattle.textarea_text.specs.Fragment.{fragment_text};
 ghost use Rattle.textarea_text.specs.Text.{lines, lines_of};
-ghost use Rattle.textarea_c.specs.Calls.{Asks, Calls, ChangesIf, Reads};
+ghost use Rattle.textarea_c.specs.Calls.{Asks, Calls, ChangesIf, Copies, Reads};
 ghost use Rattle.textarea_c.specs.Copied.{ends_of, written};
-ghost use Rattle.textarea_c.specs.Lines.{IsLineOut, texts_of, with_lines};
+ghost use Rattle.textarea_c.specs.Lines.{AreCharactersOut, IsLineOut, texts_of, with_lines};
 ghost use Rattle.textarea_c.specs.Split.{lines_between};
 ghost use Rattle.textarea_c.specs.Texts.{some_of};
 
 use crate::editor::Editor;
 use crate::handle::Handle;
 use crate::plain::lines::{copy_line, read_lines, write_lines};
+use crate::slices::copied_text;
 use crate::status::{INVALID_ARGUMENT, OK, OUT_OF_MEMORY, done, on, truth};
 use std::alloc::Global;
 
@@ -63,6 +65,7 @@ pub extern "C" fn ta_line_count(handle: &mut Handle, alloc: Global, count: &mut 
         (λ a b. Reads result a b) }
     ensures count { IfSome handle.old.stored.content
         (λ a. count.new ≡ length (lines a.area.document.text)) }
+    ensures unwritten { result ≢ 0 → count.new ≡ count.old }
 {
     on!(handle, alloc, editor => {
         *count = editor.area.lines().len();
@@ -87,6 +90,7 @@ pub extern "C" fn ta_line(
     ensures line { IfSome handle.old.stored.content
         (λ a. IsLineOut (slice_get (lines a.area.document.text) row) result out.old out.new
         needed.new) }
+    ensures unwritten { result ≢ 0 → (out.new ≡ out.old) × (needed.new ≡ needed.old) }
 {
     on!(handle, alloc, editor => copy_line(editor.area.lines(), row, out, needed))
 }
@@ -114,12 +118,40 @@ pub extern "C" fn ta_lines(
         × (needed.new ≡ length (concat (texts_of (lines a.area.document.text))))) }
     ensures ends { IfSome handle.old.stored.content
         (λ a. ends.new ≡ written ends.old (ends_of 0 (texts_of (lines a.area.document.text)))) }
+    ensures unwritten { result ≢ 0 → (out.new ≡ out.old) × (needed.new ≡ needed.old)
+        × (ends.new ≡ ends.old) × (count.new ≡ count.old) }
 {
     on!(handle, alloc, editor => {
         let lines = editor.area.lines();
         *needed = write_lines(lines, out, ends);
         *count = lines.len();
         OK
+    })
+}
+
+/// Returns the text: the lines, with a line feed between two. `out` gets the first of its bytes, as
+/// many as there is room for, and `needed` the number of all.
+///
+/// Statuses: ok, out of memory, empty handle.
+#[unsafe(no_mangle)]
+pub extern "C" fn ta_text(
+    handle: &mut Handle,
+    alloc: Global,
+    out: &mut [u8],
+    needed: &mut usize,
+) -> u32
+    ensures unchanged { Calls handle.old.stored.content result handle.new.stored.content
+        (λ a b. Copies result a b) }
+    ensures text { result ≡ 0 → IfSome handle.old.stored.content
+        (λ a. AreCharactersOut (fragment_text a.area.document.text) out.old out.new needed.new) }
+    ensures unwritten { result ≢ 0 → (out.new ≡ out.old) × (needed.new ≡ needed.old) }
+{
+    on!(handle, alloc, editor => match editor.area.text() {
+        Ok(text) => {
+            *needed = copied_text(text.as_str(), out);
+            OK
+        }
+        Err(_) => OUT_OF_MEMORY,
     })
 }
 

@@ -1,11 +1,12 @@
 //! Moves of the cursor, and scrolls.
-ghost use Rattle.std.specs.Prelude.{◌≡◌, IfSome};
+ghost use Rattle.std.specs.Prelude.{◌≡◌, ◌≢◌, IfSome};
 ghost use Rattle.textarea_data.specs.declared.cursor.CursorMove.TheVariants as move;
 ghost use Rattle.textarea_data.specs.declared.scroll.Scrolling.TheVariants as scrolling;
-ghost use Rattle.tui_textarea.specs.Moves.{IsMoved, IsScrolled};
-ghost use Rattle.textarea_c.specs.Calls.{Calls, Goes, GoesBy, Reads};
+ghost use Rattle.tui_textarea.specs.Moves.{IsMoved, IsScrolled, gone_to};
+ghost use Rattle.textarea_c.specs.Calls.{Calls, Goes, GoesBy, Reads, Sets};
 ghost use Rattle.textarea_c.specs.Numbers.{move_of, page_of};
 
+use crate::editor::Editor;
 use crate::handle::Handle;
 use crate::plain::numbers::{read_move, read_page};
 use crate::status::{INVALID_ARGUMENT, OK, on};
@@ -47,6 +48,28 @@ pub extern "C" fn ta_jump(handle: &mut Handle, alloc: Global, row: u16, column: 
     })
 }
 
+/// Moves the cursor to this row and column, both counted from 0, or to the nearest position: the row
+/// is at most the last, the column at most its line's length. A position strictly inside an atomic
+/// range is moved to the range's end. An open selection follows the cursor, and a run of typing
+/// ends. Unlike `ta_jump` it reaches every row.
+///
+/// Statuses: ok, empty handle.
+#[unsafe(no_mangle)]
+pub extern "C" fn ta_go_to(handle: &mut Handle, alloc: Global, row: usize, column: usize) -> u32
+    ensures { Calls handle.old.stored.content result handle.new.stored.content
+        (λ a b. Sets (gone_to a.area (row, column)) result a b) }
+{
+    on!(handle, alloc, editor => go_to_position(&mut editor, (row, column)))
+}
+
+// Moves the cursor to the position that is nearest to `place`, and returns the status.
+fn go_to_position(editor: &mut Editor, place: (usize, usize)) -> u32
+    ensures { Sets (gone_to editor.old.area place) result editor.old editor.new }
+{
+    editor.area.go_to(place);
+    OK
+}
+
 /// Returns the cursor's row and column, which is always a position of the text.
 ///
 /// Statuses: ok, empty handle.
@@ -61,6 +84,7 @@ pub extern "C" fn ta_cursor(
         (λ a b. Reads result a b) }
     ensures cursor { IfSome handle.old.stored.content
         (λ a. (row.new, column.new) ≡ a.area.document.cursor) }
+    ensures unwritten { result ≢ 0 → (row.new ≡ row.old) × (column.new ≡ column.old) }
 {
     on!(handle, alloc, editor => {
         (*row, *column) = editor.area.cursor();

@@ -80,6 +80,7 @@ pub extern "C" fn ta_rejected_ranges(
     ensures ranges { IfSome handle.old.stored.content
         (λ a. (needed.new ≡ length a.rejected.items)
         × (out.new ≡ written out.old (map plain_rejected a.rejected.items))) }
+    ensures unwritten { result ≢ 0 → (out.new ≡ out.old) × (needed.new ≡ needed.old) }
 {
     on!(handle, alloc, editor => {
         *needed = write_rejected(editor.rejected.as_slice(), out);
@@ -117,6 +118,7 @@ pub extern "C" fn ta_atomic_ranges(
     ensures ranges { IfSome handle.old.stored.content
         (λ a. (needed.new ≡ length a.area.document.ranges)
         × (out.new ≡ written out.old (map plain_range a.area.document.ranges))) }
+    ensures unwritten { result ≢ 0 → (out.new ≡ out.old) × (needed.new ≡ needed.old) }
 {
     on!(handle, alloc, editor => {
         *needed = write_ranges(editor.area.atomic_ranges(), out);
@@ -160,14 +162,16 @@ pub extern "C" fn ta_atomic_range_at_cursor(
         (λ a b. b ≡ a) }
     ensures range { IfSome handle.old.stored.content (λ a. MatchOption (direction_of direction)
         (result ≡ 6) (λ side. IsRangeOut (range_at_cursor a.area.document side) result range.new)) }
+    ensures unwritten { result ≢ 0 → range.new ≡ range.old }
 {
     on!(handle, alloc, editor => find_range(&editor, direction, range))
 }
 
 // Writes the atomic range at the cursor, if there is one, and returns the status.
 fn find_range(editor: &Editor, direction: u32, range: &mut Range) -> u32
-    ensures { MatchOption (direction_of direction) (result ≡ 6)
+    ensures range { MatchOption (direction_of direction) (result ≡ 6)
         (λ side. IsRangeOut (range_at_cursor editor.now.area.document side) result range.new) }
+    ensures unwritten { result ≢ 0 → range.new ≡ range.old }
 {
     match read_direction(direction) {
         Some(side) => write_range(editor.area.atomic_range_at_cursor(side), range),
@@ -195,6 +199,7 @@ pub extern "C" fn ta_delete_atomic_range_at_cursor(
     ensures range { IfSome handle.old.stored.content (λ a. MatchOption (direction_of direction)
         (result ≡ 6) (λ side. result ≢ 2
         → IsRangeOut (range_at_cursor a.area.document side) result range.new)) }
+    ensures unwritten { result ≢ 0 → range.new ≡ range.old }
 {
     on!(handle, alloc, editor => remove_numbered(&mut editor, direction, range))
 }
@@ -206,6 +211,7 @@ fn remove_numbered(editor: &mut Editor, direction: u32, range: &mut Range) -> u3
         (λ side. atomic_range_removed editor.old.area side) result editor.old editor.new }
     ensures range { MatchOption (direction_of direction) (result ≡ 6) (λ side. result ≢ 2
         → IsRangeOut (range_at_cursor editor.old.area.document side) result range.new) }
+    ensures unwritten { result ≢ 0 → range.new ≡ range.old }
 {
     match read_direction(direction) {
         Some(side) => remove_range(editor, side, range),
@@ -219,6 +225,7 @@ fn remove_range(editor: &mut Editor, direction: AtomicDeleteDirection, range: &m
         (atomic_range_removed editor.old.area direction) result editor.old editor.new }
     ensures range { result ≢ 2
         → IsRangeOut (range_at_cursor editor.old.area.document direction) result range.new }
+    ensures unwritten { result ≢ 0 → range.new ≡ range.old }
 {
     match editor.area.delete_atomic_range_at_cursor(direction) {
         Ok(removed) => write_range(removed, range),

@@ -46,6 +46,29 @@ pub extern "C" fn ta_screen_reset(handle: &mut Handle, alloc: Global, area: &Are
     })
 }
 
+/// Makes each cell of the screen a blank in the terminal's own colours.
+///
+/// Statuses: ok, empty handle.
+#[unsafe(no_mangle)]
+pub extern "C" fn ta_screen_clear(handle: &mut Handle, alloc: Global) -> u32
+    ensures { Calls handle.old.stored.content result handle.new.stored.content
+        (λ a b. Restyles (λ before after. Changes before.screen after.screen
+        (λ x y cell. fresh_cell)) result a b) }
+{
+    on!(handle, alloc, editor => {
+        clear_screen(&mut editor);
+        OK
+    })
+}
+
+// Makes each cell of the screen a blank in the terminal's own colours.
+fn clear_screen(editor: &mut Editor)
+    ensures screen { Changes editor.old.screen editor.new.screen (λ x y cell. fresh_cell) }
+    ensures rest { editor.new ≡ record editor.old { screen = editor.new.screen } }
+{
+    editor.screen.reset();
+}
+
 /// Returns the rectangle whose cells the screen has.
 ///
 /// Statuses: ok, empty handle.
@@ -54,6 +77,7 @@ pub extern "C" fn ta_screen_area(handle: &mut Handle, alloc: Global, area: &mut 
     ensures unchanged { Calls handle.old.stored.content result handle.new.stored.content
         (λ a b. Reads result a b) }
     ensures area { IfSome handle.old.stored.content (λ a. IsArea area.new (area_of a.screen)) }
+    ensures unwritten { result ≢ 0 → area.new ≡ area.old }
 {
     on!(handle, alloc, editor => {
         *area = Area::of(editor.screen.area());
@@ -136,6 +160,7 @@ pub extern "C" fn ta_screen_cell(
     ensures cell { IfSome handle.old.stored.content
         (λ a. MatchOption (cell_at a.screen x y) (result ≡ 1)
         (λ displayed. (result ≡ 0) × (cell.new ≡ plain_cell displayed))) }
+    ensures unwritten { result ≢ 0 → cell.new ≡ cell.old }
 {
     on!(handle, alloc, editor => match editor.screen.cell(x, y) {
         Some(found) => {
@@ -164,6 +189,7 @@ pub extern "C" fn ta_screen_symbol(
     ensures text { IfSome handle.old.stored.content
         (λ a. MatchOption (cell_at a.screen x y) (result ≡ 1) (λ cell. (result ≡ 0)
         × (out.new ≡ written out.old cell.symbol) × (needed.new ≡ length cell.symbol))) }
+    ensures unwritten { result ≢ 0 → (out.new ≡ out.old) × (needed.new ≡ needed.old) }
 {
     on!(handle, alloc, editor => match editor.screen.cell(x, y) {
         Some(found) => {
@@ -190,6 +216,7 @@ pub extern "C" fn ta_screen_cells(
     ensures cells { IfSome handle.old.stored.content
         (λ a. (out.new ≡ written out.old (plain_cells a.screen))
         × (needed.new ≡ length (plain_cells a.screen))) }
+    ensures unwritten { result ≢ 0 → (out.new ≡ out.old) × (needed.new ≡ needed.old) }
 {
     on!(handle, alloc, editor => {
         *needed = write_cells(&editor.screen, out);
@@ -249,6 +276,7 @@ pub extern "C" fn ta_rendered_cursor_position(
         (λ a b. Asks result a b) }
     ensures cell { IfSome handle.old.stored.content (λ a. MatchOption a.area.drawing.caret
         (result ≡ 1) (λ cell. (result ≡ 0) × ((x.new, y.new) ≡ cell))) }
+    ensures unwritten { result ≢ 0 → (x.new ≡ x.old) × (y.new ≡ y.old) }
 {
     on!(handle, alloc, editor => match editor.area.rendered_cursor_position() {
         Some(position) => {
@@ -281,6 +309,7 @@ pub extern "C" fn ta_cursor_at_position(
         (λ a. IsHitTest (widget_of a.area) x y (Some (row.new, column.new))) }
     ensures none { result ≡ 1 → IfSome handle.old.stored.content
         (λ a. IsHitTest (widget_of a.area) x y None) }
+    ensures unwritten { result ≢ 0 → (row.new ≡ row.old) × (column.new ≡ column.old) }
 {
     on!(handle, alloc, editor => find_position(&editor, Position { x, y }, row, column))
 }
@@ -291,6 +320,7 @@ fn find_position(editor: &Editor, cell: Position, row: &mut usize, column: &mut 
         → IsHitTest (widget_of editor.now.area) cell.x cell.y (Some (row.new, column.new)) }
     ensures none { result ≡ 1 → IsHitTest (widget_of editor.now.area) cell.x cell.y None }
     ensures status { result < 3 }
+    ensures unwritten { result ≢ 0 → (row.new ≡ row.old) × (column.new ≡ column.old) }
 {
     match editor.area.cursor_at_position(cell) {
         Ok(found) => write_place(found, row, column),
@@ -303,6 +333,7 @@ fn write_place(found: Option<(usize, usize)>, row: &mut usize, column: &mut usiz
     ensures status { result ≡ (if is_some found then 0 else 1) }
     ensures place { result ≡ 0 → found ≡ Some (row.new, column.new) }
     ensures none { result ≡ 1 → found ≡ None }
+    ensures unwritten { result ≢ 0 → (row.new ≡ row.old) × (column.new ≡ column.old) }
 {
     match found {
         Some(place) => {
@@ -335,6 +366,8 @@ pub extern "C" fn ta_viewport(
           width = width.new;
           height = height.new;
         }) }
+    ensures unwritten { result ≢ 0 → (row.new ≡ row.old) × (column.new ≡ column.old)
+        × (width.new ≡ width.old) × (height.new ≡ height.old) }
 {
     on!(handle, alloc, editor => {
         (*row, *column, *width, *height) = editor.area.viewport().rect();

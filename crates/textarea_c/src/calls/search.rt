@@ -72,6 +72,7 @@ pub extern "C" fn ta_pattern_error(
     ensures text { IfSome handle.old.stored.content
         (λ a. (out.new ≡ written out.old (string_bytes a.pattern_error))
         × (needed.new ≡ length (string_bytes a.pattern_error))) }
+    ensures unwritten { result ≢ 0 → (out.new ≡ out.old) × (needed.new ≡ needed.old) }
 {
     on!(handle, alloc, editor => {
         *needed = copied(editor.pattern_error.as_bytes(), out);
@@ -95,6 +96,7 @@ pub extern "C" fn ta_search_pattern(
     ensures text { IfSome handle.old.stored.content
         (λ a. MatchOption a.area.pattern (result ≡ 1) (λ text. (result ≡ 0)
         × (out.new ≡ written out.old text) × (needed.new ≡ length text))) }
+    ensures unwritten { result ≢ 0 → (out.new ≡ out.old) × (needed.new ≡ needed.old) }
 {
     on!(handle, alloc, editor => match editor.area.search_pattern() {
         Some(text) => {

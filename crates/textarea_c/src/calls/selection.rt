@@ -1,5 +1,5 @@
 //! The selection, copying and cutting, and the yanked text.
-ghost use Rattle.std.specs.Prelude.{◌≡◌, IfSome, MatchOption, is_some};
+ghost use Rattle.std.specs.Prelude.{◌≡◌, ◌≢◌, IfSome, MatchOption, is_some};
 ghost use Rattle.std.specs.Str.{chars};
 ghost use Rattle.textarea_document.specs.Selection.{is_selected, selection};
 ghost use Rattle.textarea_text.specs.Fragment.{fragment_symbols, fragment_text};
@@ -84,6 +84,9 @@ pub extern "C" fn ta_selection_range(
         (λ a. MatchOption (selection a.area.document) (result ≡ 1)
         (λ ends. (result ≡ 0) × ((start_row.new, start_column.new) ≡ ends.0)
         × ((end_row.new, end_column.new) ≡ ends.1))) }
+    ensures unwritten { result ≢ 0 → (start_row.new ≡ start_row.old)
+        × (start_column.new ≡ start_column.old) × (end_row.new ≡ end_row.old)
+        × (end_column.new ≡ end_column.old) }
 {
     on!(handle, alloc, editor => match editor.area.selection_range() {
         Some((start, end)) => {
@@ -132,6 +135,7 @@ pub extern "C" fn ta_yank_text(
         (λ a b. Copies result a b) }
     ensures text { result ≡ 0 → IfSome handle.old.stored.content
         (λ a. AreCharactersOut (fragment_text a.area.yank) out.old out.new needed.new) }
+    ensures unwritten { result ≢ 0 → (out.new ≡ out.old) × (needed.new ≡ needed.old) }
 {
     on!(handle, alloc, editor => match editor.area.yank_text() {
         Ok(text) => {

@@ -1,5 +1,5 @@
 //! Tabs.
-ghost use Rattle.std.specs.Prelude.{◌≡◌, IfSome, length};
+ghost use Rattle.std.specs.Prelude.{◌≡◌, ◌≢◌, IfSome, length};
 ghost use Rattle.tui_textarea.specs.LayoutCalls.{indent_of, tab_length, with_tab_length};
 ghost use Rattle.textarea_c.specs.Calls.{Answers, Calls, Changes, Reads, Sets};
 ghost use Rattle.textarea_c.specs.Copied.{written};
@@ -29,6 +29,7 @@ pub extern "C" fn ta_tab_length(handle: &mut Handle, alloc: Global, columns: &mu
         (λ a b. Reads result a b) }
     ensures value { IfSome handle.old.stored.content
         (λ a. columns.new ≡ tab_length a.area.document) }
+    ensures unwritten { result ≢ 0 → columns.new ≡ columns.old }
 {
     on!(handle, alloc, editor => {
         *columns = editor.area.tab_length();
@@ -82,6 +83,7 @@ pub extern "C" fn ta_indent(
     ensures text { IfSome handle.old.stored.content
         (λ a. (out.new ≡ written out.old (indent_of a.area))
         × (needed.new ≡ length (indent_of a.area))) }
+    ensures unwritten { result ≢ 0 → (out.new ≡ out.old) × (needed.new ≡ needed.old) }
 {
     on!(handle, alloc, editor => {
         *needed = copied(editor.area.indent().as_bytes(), out);

@@ -1,5 +1,5 @@
 //! The styles of a text area.
-ghost use Rattle.std.specs.Prelude.{◌≡◌, IfSome, Some};
+ghost use Rattle.std.specs.Prelude.{◌≡◌, ◌≢◌, IfSome, Some};
 ghost use Rattle.tui_textarea.specs.Drawing.{with_look_set};
 ghost use Rattle.textarea_c.specs.Calls.{Calls, Reads, SetsBy};
 ghost use Rattle.textarea_c.specs.Styles.{style_of};
@@ -36,6 +36,7 @@ pub extern "C" fn ta_style(handle: &mut Handle, alloc: Global, style: &mut Style
         (λ a b. Reads result a b) }
     ensures style { IfSome handle.old.stored.content
         (λ a. style_of style.new ≡ Some a.area.drawing.look.style) }
+    ensures unwritten { result ≢ 0 → style.new ≡ style.old }
 {
     on!(handle, alloc, editor => {
         *style = Style::of(editor.area.style());
@@ -70,6 +71,7 @@ pub extern "C" fn ta_cursor_style(handle: &mut Handle, alloc: Global, style: &mu
         (λ a b. Reads result a b) }
     ensures style { IfSome handle.old.stored.content
         (λ a. style_of style.new ≡ Some a.area.drawing.look.cursor_style) }
+    ensures unwritten { result ≢ 0 → style.new ≡ style.old }
 {
     on!(handle, alloc, editor => {
         *style = Style::of(editor.area.cursor_style());
@@ -105,6 +107,7 @@ pub extern "C" fn ta_cursor_line_style(handle: &mut Handle, alloc: Global, style
         (λ a b. Reads result a b) }
     ensures style { IfSome handle.old.stored.content
         (λ a. style_of style.new ≡ Some a.area.drawing.look.cursor_line_style) }
+    ensures unwritten { result ≢ 0 → style.new ≡ style.old }
 {
     on!(handle, alloc, editor => {
         *style = Style::of(editor.area.cursor_line_style());
@@ -140,6 +143,7 @@ pub extern "C" fn ta_selection_style(handle: &mut Handle, alloc: Global, style: 
         (λ a b. Reads result a b) }
     ensures style { IfSome handle.old.stored.content
         (λ a. style_of style.new ≡ Some a.area.drawing.look.selection_style) }
+    ensures unwritten { result ≢ 0 → style.new ≡ style.old }
 {
     on!(handle, alloc, editor => {
         *style = Style::of(editor.area.selection_style());
@@ -174,6 +178,7 @@ pub extern "C" fn ta_search_style(handle: &mut Handle, alloc: Global, style: &mu
         (λ a b. Reads result a b) }
     ensures style { IfSome handle.old.stored.content
         (λ a. style_of style.new ≡ Some a.area.drawing.look.search_style) }
+    ensures unwritten { result ≢ 0 → style.new ≡ style.old }
 {
     on!(handle, alloc, editor => {
         *style = Style::of(editor.area.search_style());

@@ -1,5 +1,5 @@
 //! The surround: a block around the text, a placeholder for an empty text, and height limits.
-ghost use Rattle.std.specs.Prelude.{◌≡◌, IfSome, MatchOption, None, Some, length, map, option_map};
+ghost use Rattle.std.specs.Prelude.{◌≡◌, ◌≢◌, IfSome, MatchOption, None, Some, length, map, option_map};
 ghost use Rattle.textarea_screen.specs.Block.{block_view};
 ghost use Rattle.textarea_screen.specs.Text.{text_view};
 ghost use Rattle.textarea_view.specs.SurroundState.{first_bytes, style_with_lines};
@@ -96,6 +96,9 @@ pub extern "C" fn ta_block(
     ensures title { IfSome handle.old.stored.content (λ a. IfSome a.area.surround.block
         (λ view. AreSpansOut (title_spans view.title) title.old title.new title_needed.new
         spans.old spans.new spans_needed.new)) }
+    ensures unwritten { result ≢ 0 → (block.new ≡ block.old) × (title.new ≡ title.old)
+        × (title_needed.new ≡ title_needed.old) × (spans.new ≡ spans.old)
+        × (spans_needed.new ≡ spans_needed.old) }
 {
     on!(handle, alloc, editor => match editor.area.block() {
         Some(found) => {
@@ -207,6 +210,10 @@ pub extern "C" fn ta_placeholder(
     ensures lines { IfSome handle.old.stored.content
         (λ a. (lines.new ≡ written lines.old (map plain_line a.area.surround.placeholder.lines))
         × (lines_needed.new ≡ length a.area.surround.placeholder.lines)) }
+    ensures unwritten { result ≢ 0 → (style.new ≡ style.old) × (text.new ≡ text.old)
+        × (text_needed.new ≡ text_needed.old) × (spans.new ≡ spans.old)
+        × (spans_needed.new ≡ spans_needed.old) × (lines.new ≡ lines.old)
+        × (lines_needed.new ≡ lines_needed.old) }
 {
     on!(handle, alloc, editor => {
         let found = editor.area.placeholder();
@@ -233,6 +240,7 @@ pub extern "C" fn ta_placeholder_text(
     ensures text { IfSome handle.old.stored.content
         (λ a. (out.new ≡ written out.old (first_bytes a.area.surround.placeholder.lines))
         × (needed.new ≡ length (first_bytes a.area.surround.placeholder.lines))) }
+    ensures unwritten { result ≢ 0 → (out.new ≡ out.old) × (needed.new ≡ needed.old) }
 {
     on!(handle, alloc, editor => {
         *needed = copied(editor.area.placeholder_text().as_bytes(), out);
@@ -251,6 +259,7 @@ pub extern "C" fn ta_placeholder_style(handle: &mut Handle, alloc: Global, style
         (λ a. MatchOption (style_with_lines a.area.surround.placeholder.lines
         a.area.surround.placeholder.style) (result ≡ 1)
         (λ s. (result ≡ 0) × (style_of style.new ≡ Some s))) }
+    ensures unwritten { result ≢ 0 → style.new ≡ style.old }
 {
     on!(handle, alloc, editor => match editor.area.placeholder_style() {
         Some(found) => {
@@ -284,6 +293,7 @@ pub extern "C" fn ta_min_rows(handle: &mut Handle, alloc: Global, rows: &mut u16
     ensures unchanged { Calls handle.old.stored.content result handle.new.stored.content
         (λ a b. Reads result a b) }
     ensures value { IfSome handle.old.stored.content (λ a. rows.new ≡ a.area.surround.min_rows) }
+    ensures unwritten { result ≢ 0 → rows.new ≡ rows.old }
 {
     on!(handle, alloc, editor => {
         *rows = editor.area.min_rows();
@@ -314,6 +324,7 @@ pub extern "C" fn ta_max_rows(handle: &mut Handle, alloc: Global, rows: &mut u16
     ensures unchanged { Calls handle.old.stored.content result handle.new.stored.content
         (λ a b. Reads result a b) }
     ensures value { IfSome handle.old.stored.content (λ a. rows.new ≡ a.area.surround.max_rows) }
+    ensures unwritten { result ≢ 0 → rows.new ≡ rows.old }
 {
     on!(handle, alloc, editor => {
         *rows = editor.area.max_rows();

@@ -1,7 +1,6 @@
-ghost use Rattle.std.specs.Prelude.{◌≡◌, ◌≤◌, [], ◌∷◌, length, unwrap_or};
-ghost use Rattle.textarea_screen.specs.Buffer.{area_of, cell_at};
-ghost use Rattle.textarea_screen.specs.Cell.{cell_view, fresh_cell};
-ghost use Rattle.textarea_c.specs.Cells.{plain_cell, plain_cells, plain_row};
+ghost use Rattle.std.specs.Prelude.{◌≡◌, ◌≤◌, [], ◌∷◌, length, map};
+ghost use Rattle.textarea_screen.specs.Cell.{cell_view};
+ghost use Rattle.textarea_c.specs.Cells.{plain_cell, plain_cells, plain_screen_cell};
 ghost use Rattle.textarea_c.specs.Copied.{written, written_at};
 
 use super::color::Color;
@@ -43,51 +42,32 @@ impl Cell {
 
 /// Writes the cells of a buffer, row after row, as many as there is room for, and returns the
 /// number of all.
+#[tactic(auto, using(crate::proofs::Cells::cells_are))]
 pub fn write_cells(buffer: &Buffer, out: &mut [Cell]) -> usize
     ensures needed { result ≡ length (plain_cells buffer.now) }
     ensures out { out.new ≡ written out.old (plain_cells buffer.now) }
 {
-    let area = buffer.area();
-    let mut count: usize = 0;
-    for y in area.y..area.y + area.height {
-        write_row(buffer, y, count, out);
-        count += usize::from(area.width);
-    }
-    count
+    let cells = buffer.cells();
+    write_all(cells, out);
+    cells.len()
 }
 
-// Writes the cells of a row to the index `start` and those after it, as many as there is room for.
-fn write_row(buffer: &Buffer, y: u16, start: usize, out: &mut [Cell])
-    requires { start ≤ 4294836225 }
-    ensures { out.new ≡ written_at start out.old
-        (plain_row buffer.now y (area_of buffer.now).x (area_of buffer.now).width) }
+// Writes the cells, as many as there is room for.
+fn write_all(cells: &[screen::Cell], out: &mut [Cell])
+    ensures { out.new ≡ written out.old (map plain_screen_cell cells.now) }
 {
-    let area = buffer.area();
-    let mut index = start;
-    for x in area.x..area.x + area.width {
-        put_cell(buffer, (x, y), index, out);
-        index += 1;
+    for (index, cell) in cells.iter().enumerate() {
+        write_at(cell, index, out);
     }
 }
 
-// Writes a cell of the buffer to an index of the slice, if there is room for it.
+// Writes a cell to an index of the slice, if there is room for it.
 #[tactic(auto, using(crate::proofs::Copied::set_is_written, crate::proofs::Copied::written_past))]
-fn put_cell(buffer: &Buffer, place: (u16, u16), index: usize, out: &mut [Cell])
-    ensures { out.new ≡ written_at index out.old
-        (plain_cell (unwrap_or (cell_at buffer.now place.0 place.1) fresh_cell) ∷ []) }
+fn write_at(cell: &screen::Cell, index: usize, out: &mut [Cell])
+    ensures out { out.new ≡ written_at index out.old (plain_screen_cell cell.now ∷ []) }
+    ensures room { length out.old ≤ 18446744073709551615 }
 {
     if index < out.len() {
-        show(buffer, place, &mut out[index]);
-    }
-}
-
-// Writes a cell of the buffer.
-fn show(buffer: &Buffer, place: (u16, u16), out: &mut Cell)
-    ensures { out.new
-        ≡ plain_cell (unwrap_or (cell_at buffer.now place.0 place.1) fresh_cell) }
-{
-    match buffer.cell(place.0, place.1) {
-        Some(cell) => out.set(cell),
-        None => out.set(&screen::Cell::fresh()),
+        out[index].set(cell);
     }
 }

@@ -1,4 +1,4 @@
-ghost use Rattle.std.specs.Prelude.{◌≡◌, ◌≤◌, IfOk, length, option_map, slice_get};
+ghost use Rattle.std.specs.Prelude.{◌≡◌, ◌≢◌, ◌≤◌, IfOk, length, option_map, slice_get};
 ghost use Rattle.std.specs.List.{concat};
 ghost use Rattle.textarea_text.specs.Size.{size_of};
 ghost use Rattle.textarea_text.specs.Text.{lines_of};
@@ -52,7 +52,8 @@ pub fn write_lines(lines: &[String], out: &mut [u8], ends: &mut [usize]) -> usiz
 
 /// Copies a line, if the row exists, and returns the status; `needed` gets the number of its bytes.
 pub fn copy_line(lines: &[String], row: usize, out: &mut [u8], needed: &mut usize) -> u32
-    ensures { IsLineOut (slice_get (lines_of lines.now) row) result out.old out.new needed.new }
+    ensures line { IsLineOut (slice_get (lines_of lines.now) row) result out.old out.new needed.new }
+    ensures unwritten { result ≢ 0 → (out.new ≡ out.old) × (needed.new ≡ needed.old) }
 {
     match lines.get(row) {
         Some(line) => {

@@ -1,4 +1,4 @@
-ghost use Rattle.std.specs.Prelude.{◌≡◌, map, IfOk, length};
+ghost use Rattle.std.specs.Prelude.{◌≡◌, ◌≢◌, map, IfOk, length};
 ghost use Rattle.textarea_c.specs.Copied.{written};
 ghost use Rattle.textarea_c.specs.Ranges.{IsRangeOut, plain_range, plain_rejected, range_of};
 
@@ -63,7 +63,8 @@ pub fn write_ranges(ranges: &[AtomicRange], out: &mut [Range]) -> usize
 
 /// Writes the range, if there is one, and returns the status.
 pub fn write_range(found: Option<AtomicRange>, range: &mut Range) -> u32
-    ensures { IsRangeOut found result range.new }
+    ensures range { IsRangeOut found result range.new }
+    ensures unwritten { result ≢ 0 → range.new ≡ range.old }
 {
     match found {
         Some(found) => {

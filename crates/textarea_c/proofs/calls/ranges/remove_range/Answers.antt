@@ -10,10 +10,10 @@ pub returns-in-Ok-clause-area : goal.returns-in-Ok-clause-area
 returns-in-Ok-clause-area c =
     let a = c.args.editor.now in
     range_removed c.in-Ok.removed (range_at_cursor a.area.document c.args.direction) c.write_range.result c.write_range.new.range (atomic_range_removed a.area c.args.direction) a
-    c.delete_atomic_range_at_cursor.new.self c.in-Ok.ensures.removed c.in-Ok.ensures.ok c.write_range.ensures
+    c.delete_atomic_range_at_cursor.new.self c.in-Ok.ensures.removed c.in-Ok.ensures.ok c.write_range.ensures.range
 
 pub returns-in-Ok-clause-range : goal.returns-in-Ok-clause-range
-returns-in-Ok-clause-range c = λ _. subst (λ (found : Option AtomicRange). IsRangeOut found c.write_range.result c.write_range.new.range) c.in-Ok.ensures.removed c.write_range.ensures
+returns-in-Ok-clause-range c = λ _. subst (λ (found : Option AtomicRange). IsRangeOut found c.write_range.result c.write_range.new.range) c.in-Ok.ensures.removed c.write_range.ensures.range
 
 pub returns-in-Err-clause-area : goal.returns-in-Err-clause-area
 returns-in-Err-clause-area c =

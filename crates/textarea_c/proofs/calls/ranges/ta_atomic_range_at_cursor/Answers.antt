@@ -10,4 +10,4 @@ returns-clause-range c =
     let status = c.find_range-status.result in
     seen_in c.args.handle.now.stored.content
     (λ a. MatchOption (direction_of c.args.direction) (status ≡ 6) (λ side. IsRangeOut (range_at_cursor a.area.document side) status c.find_range-status.new.range))
-    c.in-Some.editor.value c.deref.result.now c.in-Some.ensures.taken c.deref.ensures c.find_range-status.ensures
+    c.in-Some.editor.value c.deref.result.now c.in-Some.ensures.taken c.deref.ensures c.find_range-status.ensures.range
