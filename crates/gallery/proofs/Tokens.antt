@@ -1,0 +1,168 @@
+-- Mentions stay whole over inputs, and a new one covers its name.
+use Rattle.std.proofs.Common.{◌≡◌, ℕ, ◌+◌, ◌-◌, ◌<◌, ◌≤◌, ◌⊎◌, inl, inr, Bool, true, false, cond, Bor, IsAscii, List, [], ◌∷◌, ◌++◌, length, take, drop, refl, sym, ap, ◌∙◌, subst, arith, rules}
+use Rattle.std.specs.Prelude.{All, Contains, Result, Ok, Err, IfOk, OnOk, OnErr}
+use Rattle.std.specs.Str.{chars}
+use Rattle.std.proofs.lemmas.Str.{chars-IsAscii}
+use Rattle.std.proofs.lemmas.List.Elements.{All-contains, All-from_recursion, recursion_from_All, All-push}
+use Rattle.textarea_data.specs.declared.range.AtomicRange.{AtomicRange}
+use Rattle.textarea_screen.specs.declared.screen.rect.Rect.{Rect}
+use Rattle.textarea_text.specs.Fragment.{fragment_symbols}
+use Rattle.textarea_text.specs.Place.{Place, end, index_of}
+use Rattle.textarea_text.specs.Splice.{CanApply, Fits, Splice, applied}
+use Rattle.textarea_text.specs.Text.{Symbol, characters, lines}
+use Rattle.textarea_text.proofs.Befores.{pair_is}
+use Rattle.textarea_text.proofs.Splices.{end-characters}
+use Rattle.textarea_text.proofs.TextPlaces.{place_of-index}
+use Rattle.textarea_ranges.specs.Lookup.{range_start}
+use Rattle.textarea_ranges.specs.Moved.{covered_characters}
+use Rattle.textarea_ranges.proofs.Moving.{occurs}
+use Rattle.textarea_ranges.proofs.OrderLemmas.{each-in_order}
+use Rattle.textarea_calls.specs.declared.action.Action.{Action}
+use Rattle.textarea_calls.specs.declared.action.Action.TheVariants as action
+use Rattle.textarea_calls.specs.declared.kind.Edit.TheVariants as edit
+use Rattle.textarea_document.specs.DocumentState.{DocumentState}
+use Rattle.textarea_document.specs.Edits.{Insert, Remove, between_removed, insertion, insertion_place, splice_of_step}
+use Rattle.textarea_document.specs.RangesOverSplices.{RangesFollowSplices, RangesStayWhole}
+use Rattle.textarea_document.specs.Selection.{is_selected, selection_end, selection_start}
+use Rattle.textarea_document.specs.Sound.{IsSound}
+use Rattle.textarea_document.specs.Splices.{selected_splices}
+use Rattle.textarea_document.proofs.RangesOverSplices.{all_stem}
+use Rattle.tui_textarea.specs.CallSplices.{OfSplicesOutOfMemory}
+use Rattle.tui_textarea.specs.Drawing.{IsRendered}
+use Rattle.tui_textarea.specs.DrawnFrame.{WidgetState}
+use Rattle.tui_textarea.specs.Edits.{str_inserted}
+use Rattle.tui_textarea.specs.Ranges.{ranges_accepted}
+use Rattle.tui_textarea.specs.RangesOverActions.{RangesFollowAction}
+use Rattle.tui_textarea.specs.Selection.{unselected}
+use Rattle.tui_textarea.specs.Splices.{str_splices}
+use Rattle.tui_textarea.specs.State.{State}
+use Rattle.gallery.specs.Mentions.{AreWhole, names}
+
+-- a reference to a value
+abbrev pub at : {X : Type 0} → X → Bor X
+at x = record { ref_ptr = (0, 0); now = x }
+
+-- ---- ranges that move with the text
+
+pub whole_over : (old new : State) (splices : List Splice) → IsSound old.document → RangesFollowSplices old.document splices new.document → AreWhole old → AreWhole new
+whole_over old new splices sound follow whole k d within =
+    let stem = all_stem old.document new.document splices sound follow k d within in
+    subst (Contains names) (sym stem.covers.same)
+    (All-contains (λ (range : AtomicRange). Contains names (covered_characters (lines old.document.text) range)) old.document.ranges stem.origin whole stem.stored)
+
+follows_action : (asked : Action) (old new : DocumentState) (splices : List Splice) → RangesFollowAction asked old splices new → RangesFollowSplices old splices new
+follows_action (action.Edit edit.Undo) old new splices h = h
+follows_action (action.Edit edit.Redo) old new splices h = h
+follows_action asked old new splices h = h.0
+
+-- after an input with this action
+pub whole_after : (asked : Action) (old new : State) (splices : List Splice) → IsSound old.document → RangesFollowAction asked old.document splices new.document → AreWhole old → AreWhole new
+whole_after asked old new splices sound follow whole =
+    whole_over old new splices sound (follows_action asked old.document new.document splices follow) whole
+
+-- after a call that ran out of memory
+pub whole_out_of_memory : (old new : State) → IsSound old.document → OfSplicesOutOfMemory old (λ splices. RangesStayWhole old.document splices new.document) → AreWhole old → AreWhole new
+whole_out_of_memory old new sound (inl left) whole = whole_over old new [] sound left.0 whole
+whole_out_of_memory old new sound (inr left) whole = whole_over old new (selected_splices old.document) sound left.0 whole
+
+-- ---- a new mention
+
+-- a name has characters, all of ASCII and none a line feed
+pub record IsPlainName (name : List ℕ) : Type 0 where
+  pub some : 0 < length name
+  pub ascii : chars name ≡ name
+  pub plain : fragment_symbols name ≡ characters name
+
+pub plain_name : (name : List ℕ) → Contains names name → IsPlainName name
+plain_name name named =
+    let is_plain : (cs : List ℕ) → 0 < length cs → IsAscii cs → fragment_symbols cs ≡ characters cs → IsPlainName cs =
+    λ cs some ascii plain. record { some = some; ascii = chars-IsAscii cs ascii; plain = plain } in
+    All-contains IsPlainName names name
+    (All-from_recursion IsPlainName names
+    (is_plain _ (omega arith) (search rules) refl, (is_plain _ (omega arith) (search rules) refl, (is_plain _ (omega arith) (search rules) refl, tt)))) named
+
+fits_by_case : (selects : Bool) (document gone : DocumentState) (removal : Splice) (symbols : List Symbol) → gone.text ≡ applied document.text removal →
+    CanApply document.text (cond selects (removal ∷ []) [] ++ splice_of_step (cond selects gone document) (Insert symbols) ∷ []) →
+    Fits (cond selects gone document).text (splice_of_step (cond selects gone document) (Insert symbols))
+fits_by_case true document gone removal symbols is can = subst (λ (text : List Symbol). Fits text (splice_of_step gone (Insert symbols))) (sym is) can.1.0
+fits_by_case false document gone removal symbols is can = can.0
+
+-- the insertion after the removal of the selected text fits
+fits_after : (state : State) (symbol : Symbol) (symbols : List Symbol) → CanApply state.document.text (str_splices state (symbol ∷ symbols)) →
+    Fits (unselected state).document.text (insertion (insertion_place (unselected state).document) (symbol ∷ symbols))
+unfolding between_removed
+fits_after state symbol symbols can =
+    let document = state.document in
+    fits_by_case (is_selected document) document (between_removed document (selection_start document) (selection_end document) state.time)
+    (splice_of_step document (Remove (selection_start document) (selection_end document))) (symbol ∷ symbols) refl can
+
+-- a range that ends at the cursor after the insertion of a name, and has as many characters
+pub covers_name : (state : State) (name : List ℕ) (range : AtomicRange) → 0 < length name → CanApply state.document.text (str_splices state (characters name)) →
+    range.row ≡ (str_inserted state (characters name)).document.cursor.0 → range.end_col ≡ (str_inserted state (characters name)).document.cursor.1 →
+    range.start_col + length name ≡ range.end_col →
+    covered_characters (lines (str_inserted state (characters name)).document.text) range ≡ name
+covers_name state [] range some can row column start = absurd (omega arith)
+covers_name state (c ∷ cs) range some can row column start =
+    let document = (unselected state).document in
+    let place = insertion_place document in
+    let index = index_of document.text place in
+    let fits = fits_after state _ _ can in
+    let after : end place (characters (c ∷ cs)) ≡ (place.0, place.1 + length (c ∷ cs)) = end-characters place.0 place.1 (c ∷ cs) in
+    let rows : place.0 ≡ range.row = sym (row ∙ ap (λ (p : Place). p.0) after) in
+    let columns : range.end_col ≡ place.1 + length (c ∷ cs) = column ∙ ap (λ (p : Place). p.1) after in
+    let starts : place ≡ range_start range = pair_is place range.row range.start_col rows (omega (arith, columns, start)) in
+    (occurs (str_inserted state (characters (c ∷ cs))).document.text (take index document.text) (drop index document.text) (c ∷ cs) range refl
+    (place_of-index document.text place fits.is_place ∙ starts) start (omega arith)).is
+
+-- the cursor after the insertion is after the name's characters
+pub fits_before : (state : State) (name : List ℕ) → 0 < length name → length name ≤ (str_inserted state (characters name)).document.cursor.1
+fits_before state [] some = omega arith
+fits_before state (c ∷ cs) some =
+    let place = insertion_place (unselected state).document in
+    omega (arith, ap (λ (p : Place). p.1) (end-characters place.0 place.1 (c ∷ cs)))
+
+-- the range of the characters before the cursor, after the insertion of a name, covers the name
+pub covers_mention : (old mid : State) (name : List ℕ) (range : AtomicRange) → Contains names name → mid ≡ str_inserted old (fragment_symbols (chars name)) →
+    CanApply old.document.text (str_splices old (fragment_symbols (chars name))) → range.row ≡ mid.document.cursor.0 → range.end_col ≡ mid.document.cursor.1 →
+    range.start_col ≡ range.end_col - length name → Contains names (covered_characters (lines mid.document.text) range)
+covers_mention old mid name range named inserted can row column start =
+    let plain = plain_name name named in
+    let symbols : fragment_symbols (chars name) ≡ characters name = ap fragment_symbols plain.ascii ∙ plain.plain in
+    let is : mid ≡ str_inserted old (characters name) = inserted ∙ ap (str_inserted old) symbols in
+    let fits = fits_before old name plain.some in
+    let end_is : range.end_col ≡ (str_inserted old (characters name)).document.cursor.1 = column ∙ ap (λ (s : State). s.document.cursor.1) is in
+    let covered = covers_name old name range plain.some (subst (λ (ss : List Symbol). CanApply old.document.text (str_splices old ss)) symbols can)
+    (row ∙ ap (λ (s : State). s.document.cursor.0) is) end_is (omega (arith, start, end_is, fits)) in
+    subst (Contains names) (sym (ap (λ (s : State). covered_characters (lines s.document.text) range) is ∙ covered)) named
+
+-- the name's range is added to the others
+pub whole_with : (state : State) (range : AtomicRange) → AreWhole state → Contains names (covered_characters (lines state.document.text) range) →
+    AreWhole (ranges_accepted state (state.document.ranges ++ range ∷ []))
+whole_with state range whole named =
+    let Named = λ (other : AtomicRange). Contains names (covered_characters (lines state.document.text) other) in
+    All-from_recursion Named _ (each-in_order Named _ (recursion_from_All Named _ (All-push Named state.document.ranges range whole named)))
+
+-- ---- the ends of calls
+
+-- a fact that holds after either end of a call
+pub by_result : {A E : Type 0} (result : Result A E) (made left fact : Type 0) → OnOk result made → OnErr result left → (made → fact) → (left → fact) → fact
+by_result (Ok value) made left fact ok err then otherwise = then ok
+by_result (Err error) made left fact ok err then otherwise = otherwise err
+
+-- ranges are set, or rejected, or memory ran out
+pub whole_if_set : {A E F : Type 0} (result : Result (Result A E) F) (old new : State) (ranges : List AtomicRange) → IfOk result (λ outcome. OnOk outcome (new ≡ ranges_accepted old ranges)) →
+    IfOk result (λ outcome. OnErr outcome (new ≡ old)) → OnErr result (new ≡ old) → AreWhole old → AreWhole (ranges_accepted old ranges) → AreWhole new
+whole_if_set (Ok (Ok value)) old new ranges set rejected err whole accepted = subst AreWhole (sym set) accepted
+whole_if_set (Ok (Err error)) old new ranges set rejected err whole accepted = subst AreWhole (sym rejected) whole
+whole_if_set (Err error) old new ranges set rejected err whole accepted = subst AreWhole (sym err) whole
+
+-- ---- a drawing
+
+abbrev WholeIn : DocumentState → Type 0
+WholeIn document = All (λ (range : AtomicRange). Contains names (covered_characters (lines document.text) range)) document.ranges
+
+pub whole_same : (old new : State) → new.document ≡ old.document → AreWhole old → AreWhole new
+whole_same old new same whole = subst WholeIn (sym same) whole
+
+pub whole_drawn : (old new : State) (area : Rect) → IsRendered old area new → AreWhole old → AreWhole new
+whole_drawn old new area rendered whole = subst WholeIn (sym (ap (λ (widget : WidgetState). widget.document) rendered.widget.new_is)) whole

@@ -1,0 +1,56 @@
+//! An editor with line numbers, soft wrap, a lit cursor line, a selection and a status.
+ghost use Rattle.gallery.specs.Ends.{EndsByEsc};
+
+use anyhow::Result;
+use std::alloc::Global;
+use tui_textarea::{Block, Buffer, Input, Key, Line, Rect, Style, TextArea, WrapMode};
+
+const TEXT: &str = "# Notes\n\nA line that is longer than the screen goes on in the next row, \
+    and has one number.\n\n- 漢字 and other wide characters\n- a selection from here to there";
+
+#[derive(Drop)]
+pub struct Editor {
+    alloc: Global,
+    area: TextArea<'static>,
+    is_changed: bool,
+}
+
+impl Editor {
+    pub fn new(alloc: Global) -> Result<Editor> {
+        let mut area = TextArea::from_text(alloc, TEXT)?;
+        area.set_line_number_style(Style::new().dark_gray())?;
+        area.set_wrap_mode(WrapMode::Word)?;
+        area.set_cursor_line_style(Style::new().on_dark_gray());
+        area.set_selection_style(Style::new().black().on_cyan());
+        let is_changed = false;
+        Ok(Editor {
+            alloc,
+            area,
+            is_changed,
+        })
+    }
+
+    /// The keys are those of the text area. Esc ends the program.
+    pub fn take(&mut self, input: Input) -> Result<bool>
+        ensures ends { EndsByEsc input.key result }
+    {
+        if input.key == Key::Esc {
+            return Ok(false);
+        }
+        let is_changed = self.area.input(input)?;
+        self.is_changed = self.is_changed || is_changed;
+        Ok(true)
+    }
+
+    /// Draws the status in the top row, and the text below it.
+    pub fn draw(&mut self, screen: Rect, buffer: &mut Buffer) -> Result<()> {
+        let mark = if self.is_changed { "*" } else { "" };
+        let line = self.area.cursor().0.saturating_add(1);
+        let status = format!(in self.alloc; " notes.md{mark}, line {line}")?;
+        self.area.set_block(Block::new().title(Line::raw(status)?));
+        self.area.render(screen, buffer)?;
+        let top = Rect::new(screen.x, screen.y, screen.width, 1);
+        buffer.set_style(top.intersection(screen), Style::new().reversed());
+        Ok(())
+    }
+}

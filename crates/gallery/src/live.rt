@@ -1,0 +1,105 @@
+//! A program in a terminal, which is in raw mode, and whose reads return after a while if no byte
+//! comes. `tools/gallery-live` prepares it so.
+
+use crate::program::Program;
+use anyhow::Result;
+use std::alloc::Global;
+use std::env;
+use std::io::{Read, Write};
+use std::time::{Duration, Instant};
+use textarea_terminal::input::{Decoder, Event};
+use textarea_terminal::output::Painter;
+use tui_textarea::{Buffer, Rect};
+
+/// The number of reads without bytes, one after another, that took no time, after which the terminal
+/// is gone.
+const MOST_EMPTY_READS: u32 = 100;
+
+/// A program, and the terminal that it runs in.
+#[derive(Drop)]
+struct Session {
+    alloc: Global,
+    program: Program,
+    decoder: Decoder,
+    painter: Painter,
+    screen: Rect,
+}
+
+/// Runs the program of this name until it ends, or until the terminal is gone.
+pub fn run(rt: &HostRuntime, name: &str) -> Result<()> {
+    let screen = Rect::new(0, 0, size_in(rt, "COLUMNS", 80), size_in(rt, "LINES", 24));
+    let mut session = Session {
+        alloc: rt.alloc(),
+        program: Program::new(rt.alloc(), name)?,
+        decoder: Decoder::new(rt.alloc()),
+        painter: Painter::new(rt.alloc(), screen)?,
+        screen,
+    };
+    session.run(rt)
+}
+
+fn size_in(rt: &HostRuntime, variable: &str, other: u16) -> u16 {
+    match env::var(rt, variable) {
+        Ok(text) => text.parse::<u16>().unwrap_or(other),
+        Err(_) => other,
+    }
+}
+
+impl Session {
+    fn run(&mut self, rt: &HostRuntime) -> Result<()> {
+        let begin = Instant::now(rt)?;
+        let mut empty_reads = 0u32;
+        self.show(rt)?;
+        for _ in 0..u64::MAX {
+            let mut bytes = [0u8; 4096];
+            let asked = Instant::now(rt)?;
+            let count = rt.stdin().read(&mut bytes)?;
+            let now = Instant::now(rt)?;
+            let is_there = count > 0 || now.duration_since(asked) > Duration::from_millis(5);
+            empty_reads = if is_there {
+                0
+            } else {
+                empty_reads.saturating_add(1)
+            };
+            let goes_on = self.take(rt, &bytes[..count], now.duration_since(begin))?;
+            if !goes_on || empty_reads > MOST_EMPTY_READS {
+                break;
+            }
+        }
+        Ok(())
+    }
+
+    // Takes bytes of the terminal, or none after a while, and returns whether the program goes on.
+    fn take(&mut self, rt: &HostRuntime, bytes: &[u8], now: Duration) -> Result<bool> {
+        let mut events = Vec::new(self.alloc);
+        if bytes.is_empty() {
+            self.decoder.idle(&mut events)?;
+        } else {
+            self.decoder.feed(bytes, &mut events)?;
+        }
+        for event in &events {
+            if let Event::Size { columns, rows } = event {
+                self.screen = Rect::new(0, 0, *columns, *rows);
+                self.painter.resize(self.screen)?;
+            }
+            if !self.program.take(event, now)? {
+                return Ok(false);
+            }
+        }
+        if !events.is_empty() {
+            self.show(rt)?;
+        }
+        Ok(true)
+    }
+
+    fn show(&mut self, rt: &HostRuntime) -> Result<()> {
+        let mut buffer = Buffer::empty(self.alloc, self.screen)?;
+        self.program.draw(self.screen, &mut buffer)?;
+        let mut out = Vec::new(self.alloc);
+        self.painter.paint(&buffer, None, &mut out)?;
+        let mut terminal = rt.stdout();
+        terminal.write_all(out.as_slice())?;
+        terminal.flush()?;
+        Ok(())
+    }
+}

@@ -1,0 +1,52 @@
+//! A password: one masked line in a block with a title, and a placeholder while it is empty.
+ghost use Rattle.gallery.specs.Ends.{EndsOnlyByEscOrEnter};
+
+use crate::program::{checked_style, titled};
+use std::alloc::{AllocError, Global};
+use tui_textarea::{Buffer, Input, Key, Rect, Style, TextArea};
+
+#[derive(Drop)]
+pub struct Password {
+    alloc: Global,
+    area: TextArea<'static>,
+}
+
+impl Password {
+    pub fn new(alloc: Global) -> Result<Password, AllocError> {
+        let mut area = TextArea::try_default(alloc)?;
+        area.set_mask_char('•');
+        area.set_cursor_line_style(Style::new());
+        area.set_placeholder_text("at least 8 characters")?;
+        area.set_placeholder_style(Style::new().dark_gray());
+        Ok(Password { alloc, area })
+    }
+
+    fn is_long(&self) -> bool {
+        self.area.lines()[0].chars().count() >= 8
+    }
+
+    /// Tab shows the text or masks it. Enter ends the program if the text is long enough, and Esc.
+    pub fn take(&mut self, input: Input) -> Result<bool, AllocError>
+        ensures ends { EndsOnlyByEscOrEnter input.key result }
+    {
+        match (input.key, self.area.mask_char()) {
+            (Key::Esc, _) => return Ok(false),
+            (Key::Enter, _) => return Ok(!self.is_long()),
+            (Key::Tab, Some(_)) => self.area.clear_mask_char(),
+            (Key::Tab, None) => self.area.set_mask_char('•'),
+            _ => {
+                self.area.input_without_shortcuts(input)?;
+            }
+        }
+        Ok(true)
+    }
+
+    /// Draws the field in the three rows at the top of the screen.
+    pub fn draw(&mut self, screen: Rect, buffer: &mut Buffer) -> Result<(), AllocError> {
+        let style = checked_style(self.is_long());
+        let block = titled(self.alloc, " Password ")?;
+        self.area.set_block(block.border_style(style));
+        let field = Rect::new(screen.x, screen.y, screen.width, 3);
+        self.area.render(field.intersection(screen), buffer)
+    }
+}
