@@ -12,3 +12,4 @@ pub mod WholeRowLemmas
 pub mod SpanLemmas
 pub mod PartLemmas
 pub mod SeamLemmas
+pub mod MarkLemmas

@@ -8,5 +8,6 @@ pub mod Split
 pub mod Numbers
 pub mod Highlights
 pub mod Row
+pub mod Marks
 pub mod Seams
 pub mod Seen

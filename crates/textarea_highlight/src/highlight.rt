@@ -4,8 +4,10 @@ mod borders;
 mod brackets;
 mod display;
 mod highlighter;
+mod marks;
 mod numbers;
 mod seams;
 mod split;
 
 pub use highlighter::{CursorCellRender, LineHighlighter, RowPart};
+pub use marks::{ROW_START, RowMark};

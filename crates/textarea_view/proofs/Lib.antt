@@ -8,3 +8,4 @@ mod Placeholder
 mod RowSettings
 mod Visible
 pub mod Layers
+pub mod RowMarks

@@ -7,12 +7,14 @@ ghost use Rattle.textarea_screen.specs.Text.{line_view, span_view};
 ghost use Rattle.textarea_highlight.specs.Split.{IsAscending};
 ghost use Rattle.textarea_highlight.specs.Borders.{ArePlaced, IsEmptyAt, MarkNothing};
 ghost use Rattle.textarea_highlight.specs.Highlights.{AddsNoCursor, AddsNoRange, byte_of, plain_row, with_number, with_placeholder, with_base, with_cursor_line, with_matches, with_range, with_selection, with_segment, end_style};
+ghost use Rattle.textarea_highlight.specs.Marks.{IsRowMark};
 ghost use Rattle.textarea_highlight.specs.Seen.{IsPartBetween, ShowsBetween};
 ghost use Rattle.textarea_highlight.specs.Row.{AddsPart, IsPartOf, ShowsNothing, ShowsPart, ShowsRow, part_end, whole_row};
 
 use super::borders::{Border, borders_of_matches, push_highlight, sort};
 use super::brackets::OpenStyles;
 use super::display::Display;
+use super::marks::{ROW_START, RowMark, bytes_of_character};
 use super::numbers::number_text;
 use super::seams::part_between;
 use super::split::{push_end_cell, split};
@@ -66,6 +68,8 @@ const SELECTION_RANK: u8 = 10;
 pub struct LineHighlighter<'a> {
     alloc: Global,
     row: &'a str,
+    /// A known position of the row, from which it is read.
+    mark: RowMark,
     spans: Vec<Span<'a>>,
     borders: Vec<Border>,
     styles: OpenStyles,
@@ -83,6 +87,7 @@ impl<'a> Model for LineHighlighter<'a> {
     ghost use Rattle.textarea_highlight.specs.Borders.{ArePlaced};
     ghost use Rattle.textarea_screen.specs.Text.{span_view};
     ghost use Rattle.textarea_highlight.specs.Highlights.{Highlights};
+    ghost use Rattle.textarea_highlight.specs.Marks.{IsRowMark};
 
     ghost Value = { Highlights };
 
@@ -99,7 +104,8 @@ impl<'a> Model for LineHighlighter<'a> {
       select_style = h.select_style;
     } };
 
-    ghost invariant = { λ h. ArePlaced h.row.now h.borders.items };
+    ghost invariant = { λ h. ArePlaced h.row.now h.borders.items
+        × IsRowMark h.row.now h.tab_len h.mark };
 }
 
 impl<'a> LineHighlighter<'a> {
@@ -118,6 +124,7 @@ impl<'a> LineHighlighter<'a> {
         LineHighlighter {
             alloc,
             row: line,
+            mark: ROW_START,
             spans: Vec::new(alloc),
             borders: Vec::new(alloc),
             styles: OpenStyles::new(alloc, Style::new()),
@@ -143,6 +150,7 @@ impl<'a> LineHighlighter<'a> {
         ensures { self.new ≡ plain_row line.now cursor_cell tab_len mask select_style }
     {
         self.row = line;
+        self.mark = ROW_START;
         self.spans.clear();
         self.borders.clear();
         self.base = Style::new();
@@ -152,6 +160,14 @@ impl<'a> LineHighlighter<'a> {
         self.mask = mask;
         self.break_is_selected = false;
         self.select_style = select_style;
+    }
+
+    /// Sets a known position of the row. So a long row isn't read from its start.
+    pub fn set_mark(&mut self, mark: RowMark)
+        requires { IsRowMark self.old.row self.old.tab_len mark }
+        ensures { self.new ≡ self.old }
+    {
+        self.mark = mark;
     }
 
     /// Puts the number of the line with this index in front of the row: `row + 1` at the right of
@@ -186,7 +202,7 @@ impl<'a> LineHighlighter<'a> {
         ensures nothing { AddsNoCursor self.old cursor_column → IsOk result }
         ensures unchanged { OnErr result (self.new ≡ self.old) }
     {
-        match bytes_of_character(self.row, cursor_column) {
+        match bytes_of_character(self.row, self.mark, cursor_column) {
             Some((start, end)) => {
                 if let CursorCellRender::Draw(cursor_style) = self.cursor_cell {
                     push_highlight(
@@ -390,7 +406,7 @@ impl<'a> LineHighlighter<'a> {
         if self.mask.is_some() || self.tab_len == 0 || !is_short(row) {
             whole_row(row)
         } else {
-            part_between(row, self.tab_len, left, right)
+            part_between(row, self.tab_len, self.mark, left, right)
         }
     }
 
@@ -453,15 +469,4 @@ fn whole_row(row: &str) -> RowPart
         to: row.len(),
         column: 0,
     }
-}
-
-/// Returns the bytes at which the character of this column begins and ends, if the row has it.
-fn bytes_of_character(row: &str, column: usize) -> Option<(usize, usize)>
-    ensures found { IfSome result (λ bytes. bytes
-        ≡ (byte_of row.now column, byte_of row.now (column + 1))) }
-    ensures within { IfSome result (λ _. column < length (chars row.now)) }
-    ensures none { IfNone result (length (chars row.now) ≤ column) }
-{
-    let (start, c) = row.char_indices().nth(column)?;
-    Some((start, start + c.len_utf8()))
 }

@@ -1,9 +1,11 @@
 //! Offsets at which a row can be split so that its cells stay the same.
 ghost use Rattle.std.specs.Prelude.{◌≡◌, ◌⊎◌, ◌+◌, ◌*◌, ◌^◌, ◌<◌, ◌≤◌, ◌↔◌, length, slice_index, IsCharBoundary, IsTrue, IsUtf8};
 ghost use Rattle.textarea_highlight.specs.Columns.{column_of};
+ghost use Rattle.textarea_highlight.specs.Marks.{IsRowMark};
 ghost use Rattle.textarea_highlight.specs.Seams.{IsBetweenSeams, IsColumnAt, IsSeam, IsVisible, IsWalk};
 
 use super::highlighter::RowPart;
+use super::marks::{ROW_START, RowMark};
 use textarea_wrap::wrap::columns::column_after_text;
 
 /// An offset in a row, in bytes, with its column, counted from the start of the row.
@@ -25,13 +27,16 @@ pub struct Walk {
 
 /// Returns the part of a row that has the columns from `left` up to `right`. It begins at the row's
 /// start or at a seam before the column `left`, and ends at the first seam at or after the column
-/// `right`, or at the row's end. A seam is an offset between two visible characters of ASCII.
-pub fn part_between(row: &str, tab_len: u8, left: usize, right: usize) -> RowPart
-    requires { 255 * length row.now < 2 ^ 63 }
+/// `right`, or at the row's end. A seam is an offset between two visible characters of ASCII. If a
+/// seam follows the mark, nothing before the mark is read.
+pub fn part_between(row: &str, tab_len: u8, mark: RowMark, left: usize, right: usize) -> RowPart
+    requires room { 255 * length row.now < 2 ^ 63 }
+    requires tabs { 0 < tab_len }
+    requires mark { IsRowMark row.now tab_len mark }
     ensures part { IsBetweenSeams row.now tab_len left right result }
     ensures text { IsUtf8 row.now }
 {
-    let start = last_seam(row, tab_len, left);
+    let start = last_seam(row, tab_len, mark, left);
     RowPart {
         from: start.offset,
         to: seam_after(row, tab_len, start, right),
@@ -39,16 +44,35 @@ pub fn part_between(row: &str, tab_len: u8, left: usize, right: usize) -> RowPar
     }
 }
 
-// Returns the last seam before a column, or the row's start.
-fn last_seam(row: &str, tab_len: u8, column: usize) -> RowOffset
-    requires { 255 * length row.now < 2 ^ 63 }
+// Returns the last seam before a column, or the row's start. Looks for one from the mark on first.
+fn last_seam(row: &str, tab_len: u8, mark: RowMark, column: usize) -> RowOffset
+    requires room { 255 * length row.now < 2 ^ 63 }
+    requires tabs { 0 < tab_len }
+    requires mark { IsRowMark row.now tab_len mark }
     ensures at { IsColumnAt row.now tab_len result }
     ensures seam { 0 < result.offset → IsSeam row.now result.offset }
     ensures left { 0 < result.offset → result.column < column }
 {
+    let near = seam_from(row, tab_len, mark, column);
+    if mark.offset == 0 || mark.offset < near.offset {
+        return near;
+    }
+    seam_from(row, tab_len, ROW_START, column)
+}
+
+// Returns the last seam before a column and after a mark, or the mark.
+fn seam_from(row: &str, tab_len: u8, mark: RowMark, column: usize) -> RowOffset
+    requires room { 255 * length row.now < 2 ^ 63 }
+    requires tabs { 0 < tab_len }
+    requires mark { IsRowMark row.now tab_len mark }
+    ensures at { IsColumnAt row.now tab_len result }
+    ensures seam { mark.offset < result.offset → IsSeam row.now result.offset }
+    ensures left { mark.offset < result.offset → result.column < column }
+    ensures order { mark.offset ≤ result.offset }
+{
     let mut walk = walk_from(RowOffset {
-        offset: 0,
-        column: 0,
+        offset: mark.offset,
+        column: mark.column,
     });
     'walking: while walk.at.offset < row.len() && walk.at.column < column {
         walk = next_character(row, tab_len, walk);

@@ -1,13 +1,14 @@
 //! The highlights of a row, added one after another.
 ghost use Rattle.std.specs.Prelude.{◌≡◌, ◌<◌, chars, encode_utf8_all, length, OnOk};
-ghost use Rattle.textarea_view.specs.Prelude.{row_total, row_at, row_of_texts, IsPlaceOf, lines_of, byte_place, from_in, holds_place, matches_in, with_row_number, segment_in, searched_lines, to_in, with_cursor, with_customs, with_search_matches, with_range_segment, with_selected};
+ghost use Rattle.textarea_view.specs.Prelude.{row_total, row_at, row_of_texts, IsPlaceOf, byte_place, from_in, holds_place, matches_in, with_row_number, segment_in, searched_lines, to_in, with_cursor, with_customs, with_search_matches, with_range_segment, with_selected};
 
 use super::row_context::RowContext;
 use std::alloc::AllocError;
 use textarea_highlight::highlight::LineHighlighter;
 use textarea_screen::screen::Style;
 use textarea_screen_map::screen_map::RowText;
-use textarea_text::rows::{byte_offset, column_count};
+use textarea_screen_map::view::TextLayoutView;
+use textarea_text::rows::column_count;
 use textarea_wrap::layout::num_digits;
 
 /// A range of the text by (line, byte offset in that line): its start and its end.
@@ -16,11 +17,11 @@ pub(super) type Range = ((usize, usize), (usize, usize));
 const SEARCH_RANK: u8 = 20;
 
 /// Returns a position as its line and the byte offset in that line.
-pub(super) fn byte_place(lines: &[String], place: (usize, usize)) -> (usize, usize)
-    requires { IsPlaceOf (lines_of lines.now) place }
-    ensures { result ≡ byte_place (lines_of lines.now) place }
+pub(super) fn byte_place(rows: &TextLayoutView<'_>, place: (usize, usize)) -> (usize, usize)
+    requires { IsPlaceOf rows.now.lines place }
+    ensures { result ≡ byte_place rows.now.lines place }
 {
-    (place.0, byte_offset(lines[place.0].as_str(), place.1))
+    (place.0, rows.offset_of(place))
 }
 
 impl RowContext<'_, '_> {

@@ -1,5 +1,6 @@
 //! Visual rows that are split into styled spans, one after another.
 ghost use Rattle.std.specs.Prelude.{◌≡◌, ◌+◌, ◌<◌, chars, encode_utf8_all, length, IfOk, IfSome, OnOk};
+ghost use Rattle.textarea_screen_map.specs.LineMarks.{IsMark};
 ghost use Rattle.textarea_view.specs.Prelude.{AreNumbers, IsDrawnAs, Left, VisualRow, highlights_of, plain_row, ShowsRow, row_total, row_at, row_of_texts, line_view, cursor_cell, matches_in, row_highlights, searched_lines, HasPlaces};
 
 use super::Scene;
@@ -7,11 +8,16 @@ use super::highlighting::{Range, byte_place};
 use super::matches::LineMatches;
 use std::alloc::{AllocError, Global};
 use std::marker::Model;
-use textarea_highlight::highlight::LineHighlighter;
+use textarea_highlight::highlight::{LineHighlighter, RowMark};
 use textarea_paint::paint::row::RowArea;
 use textarea_screen::screen::{Alignment, Line};
+use textarea_screen_map::line_marks::Mark;
 use textarea_screen_map::screen_map::RowText;
 use textarea_wrap::layout::num_digits;
+
+/// The number of columns before the first one in view from which a long row is read: among so many
+/// characters it mostly has a place at which it can be split.
+const COLUMNS_BEFORE: usize = 64;
 
 /// A scene with the data that each of its rows needs: the visual row of the cursor, and the byte
 /// offsets in their lines at which the selection starts and ends.
@@ -38,9 +44,10 @@ impl<'f, 'a> RowContext<'f, 'a> {
         requires { HasPlaces scene.now }
         ensures { result ≡ scene.now }
     {
-        let lines = scene.rows.lines();
+        let rows = &scene.rows;
+        let _lines = rows.lines(); // which ensures that the rows are those of the lines
         let selected = match scene.selection {
-            Some((start, end)) => Some((byte_place(lines, start), byte_place(lines, end))),
+            Some((start, end)) => Some((byte_place(rows, start), byte_place(rows, end))),
             None => None,
         };
         let cursor_row = scene.rows.visual_position(scene.cursor).row;
@@ -78,7 +85,7 @@ impl<'f, 'a> RowContext<'f, 'a> {
             (ShowsRow (row_highlights self.now row) (line_view line.new)) }
         ensures same { matches.new.searched ≡ matches.old.searched }
     {
-        self.set_row_at(highlighter, row, matches)?;
+        self.set_row_at(highlighter, row, 0, matches)?;
         highlighter.show_in(line)
     }
 
@@ -99,7 +106,7 @@ impl<'f, 'a> RowContext<'f, 'a> {
             IsDrawnAs (row_highlights self.now row) rows left (line_view line.new)) }
         ensures same { matches.new.searched ≡ matches.old.searched }
     {
-        let number_columns = self.set_row_at(highlighter, row, matches)?;
+        let number_columns = self.set_row_at(highlighter, row, rows.left, matches)?;
         show_visible(line, rows, number_columns, highlighter)
     }
 
@@ -120,12 +127,14 @@ impl<'f, 'a> RowContext<'f, 'a> {
         Ok(line)
     }
 
-    // Restarts the highlighter with the visual row of this number, and adds all its highlights.
-    // Returns the number of columns in front of the row.
+    // Restarts the highlighter with the visual row of this number, and adds all its highlights. The
+    // row is read from some columns before `left` on. Returns the number of columns in front of the
+    // row.
     fn set_row_at(
         &self,
         highlighter: &mut LineHighlighter<'a>,
         row: usize,
+        left: usize,
         matches: &mut LineMatches<'_, '_>,
     ) -> Result<usize, AllocError>
         requires row { row < row_total self.now.rows.rows }
@@ -138,7 +147,11 @@ impl<'f, 'a> RowContext<'f, 'a> {
         let scene = self.scene;
         let displayed = scene.rows.row_at(row);
         matches.search_line(displayed.line)?;
-        self.set_row(highlighter, row, displayed, matches.as_slice())
+        let first = left.saturating_sub(self.number_columns(displayed.line));
+        let mark = scene
+            .rows
+            .mark_before(row, first.saturating_sub(COLUMNS_BEFORE));
+        self.set_row(highlighter, row, displayed, mark, matches.as_slice())
     }
 
     // Returns the number of columns in front of the rows of a line, 0 without line numbers.
@@ -161,9 +174,11 @@ impl<'f, 'a> RowContext<'f, 'a> {
         highlighter: &mut LineHighlighter<'t>,
         row: usize,
         displayed: RowText<'t>,
+        mark: Mark,
         matches: &[(usize, usize)],
     ) -> Result<usize, AllocError>
         requires row { row < row_total self.now.rows.rows }
+        requires mark { IsMark self.now.rows.wrapping.tab_len (chars displayed.text.now) mark }
         requires displayed { row_of_texts displayed ≡ row_at self.now.rows.lines self.now.rows.rows
             row }
         requires line { displayed.line < length self.now.rows.lines }
@@ -172,7 +187,7 @@ impl<'f, 'a> RowContext<'f, 'a> {
         ensures numbers { IfOk result (λ columns.
             AreNumbers (row_highlights self.now row).numbers columns) }
     {
-        self.begin(highlighter, displayed.text);
+        self.begin(highlighter, displayed.text, mark);
         self.add_number(highlighter, displayed)?;
         self.add_cursor(highlighter, row, displayed)?;
         self.add_matches(highlighter, displayed, matches)?;
@@ -181,8 +196,9 @@ impl<'f, 'a> RowContext<'f, 'a> {
         Ok(self.number_columns(displayed.line))
     }
 
-    // Restarts the highlighter with a row of this text, without highlights.
-    fn begin<'t>(&self, highlighter: &mut LineHighlighter<'t>, text: &'t str)
+    // Restarts the highlighter with a row of this text and a mark of it, without highlights.
+    fn begin<'t>(&self, highlighter: &mut LineHighlighter<'t>, text: &'t str, mark: Mark)
+        requires { IsMark self.now.rows.wrapping.tab_len (chars text.now) mark }
         ensures { highlighter.new ≡ plain_row (encode_utf8_all (chars text.now))
             (cursor_cell self.now.look) self.now.rows.wrapping.tab_len self.now.look.mask
             self.now.look.selection_style }
@@ -194,7 +210,12 @@ impl<'f, 'a> RowContext<'f, 'a> {
             scene.rows.tab_len(),
             scene.look.mask,
             scene.look.selection_style,
-        )
+        );
+        highlighter.set_mark(RowMark {
+            characters: mark.column,
+            offset: mark.offset,
+            column: mark.display,
+        });
     }
 }
 

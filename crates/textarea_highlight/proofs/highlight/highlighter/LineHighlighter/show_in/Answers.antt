@@ -17,7 +17,7 @@ pub returns-clause-displayed : goal.returns-clause-displayed
 returns-clause-displayed c =
     let h = c.args.self.now in
     let utf8 = subst (λ (k : Highlights). IsUtf8 k.row) c.self.view_is c.whole_row-whole.ensures.text in
-    let placed = subst (λ (k : Highlights). ArePlaced k.row k.borders) c.self.view_is c.self.invariant in
+    let placed = subst (λ (k : Highlights). ArePlaced k.row k.borders) c.self.view_is c.self.invariant.0 in
     on_ok_weaker c.show_part_in.result
     (λ shown.
     row_displayed h c.whole_row-whole.result _ (ap (λ (part : RowPart). part.from) c.whole_row-whole.ensures.part)

@@ -13,7 +13,7 @@ use Rattle.textarea_highlight.proofs.highlight.highlighter.LineHighlighter.show_
 
 pub invariant_of-self-2 : goal.invariant_of-self-2
 invariant_of-self-2 c =
-    All-permutation (λ (border : Border). IsCharBoundary c.self.inside.row.now border.offset) _ _ c.in_ok-sort.ensures.permutation c.self.invariant
+    (All-permutation (λ (border : Border). IsCharBoundary c.self.inside.row.now border.offset) _ _ c.in_ok-sort.ensures.permutation c.self.invariant.0, c.self.invariant.1)
 
 pub push_part-requires-clause-ordered : goal.push_part-requires-clause-ordered
 push_part-requires-clause-ordered c = ascending c.sort.new.borders.items c.in_ok-sort.ensures.sorted

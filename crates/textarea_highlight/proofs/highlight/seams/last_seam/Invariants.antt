@@ -1,9 +1,0 @@
-use Rattle.std.proofs.Common.{◌-◌, ◌<◌, length}
-use Rattle.textarea_highlight.specs.Seams.{IsSeam, IsWalk}
-use Rattle.textarea_highlight.proofs.highlight.seams.last_seam.Given as goal
-
-abbrev pub invariant-walking : goal.invariant-walking
-invariant-walking l = IsWalk l.row l.tab_len l.walk × (0 < l.walk.seam.offset → IsSeam l.row l.walk.seam.offset) × (0 < l.walk.seam.offset → l.walk.seam.column < l.column)
-
-abbrev pub decreases-walking : goal.decreases-walking
-decreases-walking l = length l.row - l.walk.at.offset
