@@ -7,7 +7,7 @@ use Rattle.textarea_lines.specs.View.{IsViewOf}
 use Rattle.textarea_document.specs.DocumentRows.{text_and_layout}
 use Rattle.textarea_view.specs.Frame.{shows_placeholder}
 use Rattle.textarea_view.specs.Measure.{saturated_u16, width_inside}
-use Rattle.textarea_view.specs.declared.surround.measure.TextAreaMeasure.{TextAreaMeasure}
+use Rattle.textarea_data.specs.declared.measure.TextAreaMeasure.{TextAreaMeasure}
 use Rattle.tui_textarea.specs.Drawing.{widget_of}
 use Rattle.tui_textarea.specs.DrawnFrame.{frame_of}
 use Rattle.tui_textarea.specs.Measure.{IsMeasured}

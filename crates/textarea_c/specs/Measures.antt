@@ -1,5 +1,5 @@
 -- The measured heights that C gets.
-use Rattle.textarea_view.specs.declared.surround.measure.TextAreaMeasure.{TextAreaMeasure}
+use Rattle.textarea_data.specs.declared.measure.TextAreaMeasure.{TextAreaMeasure}
 use Rattle.textarea_c.specs.declared.measure.Measure.{Measure}
 
 abbrev pub measure_of : Measure → TextAreaMeasure

@@ -1,7 +1,7 @@
 -- The numbers of the modes of wrapping and of the cursor's cell.
 use Rattle.std.specs.Prelude.{ℕ, List, [], ◌∷◌, Option}
-use Rattle.textarea_view.specs.declared.look.CursorRenderMode.{CursorRenderMode}
-use Rattle.textarea_view.specs.declared.look.CursorRenderMode.TheVariants as render
+use Rattle.textarea_data.specs.declared.cursor.CursorRenderMode.{CursorRenderMode}
+use Rattle.textarea_data.specs.declared.cursor.CursorRenderMode.TheVariants as render
 use Rattle.textarea_wrap.specs.declared.wrap.WrapMode.{WrapMode}
 use Rattle.textarea_wrap.specs.declared.wrap.WrapMode.TheVariants as mode
 use Rattle.textarea_c.specs.Tables.{value_of_number}

@@ -1,7 +1,7 @@
 ghost use Rattle.std.specs.Prelude.{◌≡◌};
 ghost use Rattle.textarea_c.specs.Measures.{measure_of};
 
-use textarea_view::TextAreaMeasure;
+use textarea_data::measure::TextAreaMeasure;
 
 /// Measured heights, in screen rows: those of the text, or of the placeholder if that is drawn; the
 /// height of the whole area that shows it, from `min_rows` to `max_rows`; and these two, which are

@@ -2,7 +2,7 @@
 ghost use Rattle.std.specs.Prelude.{◌≡◌, Some};
 ghost use Rattle.textarea_c.specs.Modes.{render_mode_of, wrap_mode_of};
 
-use textarea_view::look::CursorRenderMode;
+use textarea_data::cursor::CursorRenderMode;
 use textarea_wrap::wrap::WrapMode;
 
 /// Returns the wrap mode of this number.

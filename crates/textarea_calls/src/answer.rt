@@ -1,8 +1,8 @@
 //! The results of calls, as values that can be printed and compared.
+use textarea_data::cursor::CursorRenderMode;
+use textarea_data::measure::TextAreaMeasure;
 use textarea_data::range::{AtomicRange, RejectedAtomicRange};
 use textarea_screen::screen::{Alignment, Position, Style};
-use textarea_view::TextAreaMeasure;
-use textarea_view::look::CursorRenderMode;
 use textarea_wrap::wrap::WrapMode;
 
 /// The result of a call.

@@ -3,12 +3,11 @@ ghost use Rattle.std.specs.Prelude.{◌↔◌, IsTrue};
 ghost use Rattle.textarea_calls.specs.Possible.{CanBeMade};
 
 use std::time::Duration;
-use textarea_data::cursor::CursorMove;
+use textarea_data::cursor::{CursorMove, CursorRenderMode};
 use textarea_data::input::Input;
 use textarea_data::range::{AtomicCursorBias, AtomicDeleteDirection, AtomicRange};
 use textarea_data::scroll::Scrolling;
 use textarea_screen::screen::{Alignment, Block, Position, Rect, Style, Text};
-use textarea_view::look::CursorRenderMode;
 use textarea_wrap::wrap::WrapMode;
 
 /// One call on a text area, with its arguments.

@@ -4,12 +4,11 @@ ghost use Rattle.textarea_calls.specs.CallGroups.{call_of, draws, is_drawing};
 
 use crate::call::Call;
 use std::time::Duration;
-use textarea_data::cursor::CursorMove;
+use textarea_data::cursor::{CursorMove, CursorRenderMode};
 use textarea_data::input::Input;
 use textarea_data::range::{AtomicCursorBias, AtomicDeleteDirection, AtomicRange};
 use textarea_data::scroll::Scrolling;
 use textarea_screen::screen::{Alignment, Block, Position, Rect, Style, Text};
-use textarea_view::look::CursorRenderMode;
 use textarea_wrap::wrap::WrapMode;
 
 /// A call by its group, with its arguments.

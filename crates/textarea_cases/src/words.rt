@@ -5,10 +5,10 @@ ghost use Rattle.textarea_calls.specs.Possible.{CanBeMade};
 use crate::styles::style_named;
 use std::alloc::{AllocError, Global};
 use textarea_calls::Call;
+use textarea_data::cursor::CursorRenderMode;
 use textarea_data::input::{Input, Key};
 use textarea_data::range::{AtomicCursorBias, AtomicDeleteDirection};
 use textarea_screen::screen::{Alignment, Block, Borders, Line, Style, Text};
-use textarea_view::look::CursorRenderMode;
 
 /// The values that these calls borrow.
 #[derive(Drop)]

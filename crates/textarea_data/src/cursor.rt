@@ -1,4 +1,4 @@
-//! Cursor moves and positions.
+//! Cursor moves and positions, and how the cursor is drawn.
 
 ghost use Rattle.std.specs.Prelude.{◌≡◌};
 ghost use Rattle.textarea_data.specs.Cursor.{cursor_of, place_of_cursor};
@@ -59,5 +59,24 @@ impl From<DataCursor> for (usize, usize) {
 
     fn from(cursor: DataCursor) -> (usize, usize) {
         (cursor.0, cursor.1)
+    }
+}
+
+/// How the cell at the cursor is drawn.
+#[derive(Clone, Copy, Debug, PartialEq, Eq)]
+pub enum CursorRenderMode {
+    /// The cell is drawn in the cursor's style.
+    Cell,
+    /// The cell is drawn as any other, for the terminal's own cursor.
+    Hidden,
+}
+
+impl Default for CursorRenderMode {
+    ghost use Rattle.textarea_data.specs.declared.cursor.CursorRenderMode.TheVariants.{Cell};
+
+    ghost is_default = { λ mode. mode ≡ Cell };
+
+    fn default() -> CursorRenderMode {
+        CursorRenderMode::Cell
     }
 }

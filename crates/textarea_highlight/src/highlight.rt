@@ -10,4 +10,4 @@ mod seams;
 mod split;
 
 pub use highlighter::{CursorCellRender, LineHighlighter, RowPart};
-pub use marks::{ROW_START, RowMark};
+pub use marks::RowMark;

@@ -4,7 +4,7 @@ use Rattle.textarea_screen.specs.Style.{empty_style}
 use Rattle.textarea_screen.specs.declared.screen.alignment.Alignment.TheVariants.{Left}
 use Rattle.textarea_screen.specs.declared.screen.color.Color.TheVariants.{Blue, LightBlue}
 use Rattle.textarea_screen.specs.declared.screen.style.Style.{Style}
-use Rattle.textarea_view.specs.declared.look.CursorRenderMode.TheVariants.{Cell}
+use Rattle.textarea_data.specs.declared.cursor.CursorRenderMode.TheVariants.{Cell}
 use Rattle.textarea_view.specs.declared.look.Look.{Look}
 
 -- the style of the cursor: reversed, which is the modifier 64

@@ -3,7 +3,7 @@ use Rattle.std.specs.Prelude.{ℕ, ◌+◌, ◌-◌, Bool, if◌then◌else◌, 
 use Rattle.textarea_screen.specs.Block.{BlockView, inner_height, inner_width}
 use Rattle.textarea_screen.specs.Text.{LineView}
 use Rattle.textarea_view.specs.SurroundState.{SurroundState}
-use Rattle.textarea_view.specs.declared.surround.measure.TextAreaMeasure.{TextAreaMeasure}
+use Rattle.textarea_data.specs.declared.measure.TextAreaMeasure.{TextAreaMeasure}
 
 -- the width and height inside a block, if there is one, of an area of this size; at least 0
 abbrev pub width_inside : Option BlockView → ℕ → ℕ

@@ -12,8 +12,8 @@ use Rattle.textarea_highlight.specs.Borders.{search_rank}
 use Rattle.textarea_highlight.specs.Highlights.{Highlights, Range, is_in_range, plain_row, with_base, with_cursor_line, with_highlight, with_number, with_placeholder, with_segment}
 use Rattle.textarea_highlight.specs.declared.highlight.highlighter.CursorCellRender.{CursorCellRender}
 use Rattle.textarea_highlight.specs.declared.highlight.highlighter.CursorCellRender.TheVariants.{Draw, Hidden}
-use Rattle.textarea_view.specs.declared.look.CursorRenderMode.{CursorRenderMode}
-use Rattle.textarea_view.specs.declared.look.CursorRenderMode.TheVariants as render
+use Rattle.textarea_data.specs.declared.cursor.CursorRenderMode.{CursorRenderMode}
+use Rattle.textarea_data.specs.declared.cursor.CursorRenderMode.TheVariants as render
 use Rattle.textarea_view.specs.declared.look.CustomHighlight.{CustomHighlight}
 use Rattle.textarea_view.specs.declared.look.Look.{Look}
 use Rattle.textarea_view.specs.Scene.{SceneState, IsCursorRow}

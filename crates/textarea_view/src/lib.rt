@@ -12,7 +12,7 @@ pub mod viewport;
 
 pub use row_view::RowView;
 pub use surround::Surround;
-pub use surround::measure::TextAreaMeasure;
+pub use textarea_data::measure::TextAreaMeasure;
 pub use viewport::Viewport;
 
 /// Cursor moves and positions.

@@ -2,26 +2,8 @@
 ghost use Rattle.std.specs.Prelude.{◌≡◌};
 ghost use Rattle.textarea_view.specs.Look.{default_look};
 
+use textarea_data::cursor::CursorRenderMode;
 use textarea_screen::screen::{Alignment, Color, Modifier, Style};
-
-/// How the cell at the cursor is drawn.
-#[derive(Clone, Copy, Debug, PartialEq, Eq)]
-pub enum CursorRenderMode {
-    /// The cell is drawn in the cursor's style.
-    Cell,
-    /// The cell is drawn as any other, for the terminal's own cursor.
-    Hidden,
-}
-
-impl Default for CursorRenderMode {
-    ghost use Rattle.textarea_view.specs.declared.look.CursorRenderMode.TheVariants.{Cell};
-
-    ghost is_default = { λ mode. mode ≡ Cell };
-
-    fn default() -> CursorRenderMode {
-        CursorRenderMode::Cell
-    }
-}
 
 /// The appearance of a text area, without its text and what surrounds it.
 #[derive(Clone, Copy, Debug, PartialEq, Eq)]

@@ -8,11 +8,12 @@ mod row_context;
 ghost use Rattle.std.specs.Prelude.{◌≡◌, ◌≢◌, ◌+◌, ◌-◌, ◌^◌, ◌<◌, ◌≤◌, min, List, IfOk, OnErr, OnOk};
 ghost use Rattle.textarea_view.specs.Prelude.{ShowsRow, row_total, area_of, Changes, KeepsOutside, contains, is_in_row, LineView, line_view, row_cell, DrawnTo, FillsArea, IsRowStart, lines_change, rows_above_end, cursor_cell, row_highlights, searched_lines, HasPlaces};
 
-use crate::look::{CursorRenderMode, CustomHighlight, Look};
+use crate::look::{CustomHighlight, Look};
 use matches::LineMatches;
 use row_context::RowContext;
 use std::alloc::{AllocError, Global};
 use std::marker::Model;
+use textarea_data::cursor::CursorRenderMode;
 use textarea_highlight::highlight::CursorCellRender;
 use textarea_paint::paint::row::{RowArea, draw_row, row_start};
 use textarea_screen::screen::{Alignment, Buffer, Line, Rect};

@@ -21,7 +21,7 @@ use Rattle.textarea_screen.specs.Text.{LineView}
 use Rattle.textarea_screen.specs.declared.screen.rect.Rect.{Rect}
 use Rattle.textarea_view.specs.Measure.{measure_of, visible_row_count, saturated_u16, width_inside}
 use Rattle.textarea_view.specs.SurroundState.{SurroundState}
-use Rattle.textarea_view.specs.declared.surround.measure.TextAreaMeasure.{TextAreaMeasure}
+use Rattle.textarea_data.specs.declared.measure.TextAreaMeasure.{TextAreaMeasure}
 use Rattle.tui_textarea.specs.Drawing.{IsRendered, widget_of}
 use Rattle.tui_textarea.specs.Frames.{HasLayoutFor}
 use Rattle.tui_textarea.specs.Measure.{IsMeasured, IsMeasuredAround}

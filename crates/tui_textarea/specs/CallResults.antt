@@ -4,12 +4,12 @@ use Rattle.std.specs.Prelude.{ℕ, Bool, List, Option, string_bytes}
 use Rattle.std.specs.Option.{option_map}
 use Rattle.std.specs.Str.{chars}
 use Rattle.textarea_view.specs.Placements.{cell_of_position}
-use Rattle.textarea_view.specs.declared.look.CursorRenderMode as modes
+use Rattle.textarea_data.specs.declared.cursor.CursorRenderMode as modes
 use Rattle.textarea_data.specs.declared.range.AtomicRange.{AtomicRange}
 use Rattle.textarea_data.specs.declared.range.RejectedAtomicRange.{RejectedAtomicRange}
 use Rattle.textarea_screen.specs.declared.screen.alignment.Alignment as alignments
 use Rattle.textarea_screen.specs.declared.screen.style.Style as styles
-use Rattle.textarea_view.specs.declared.surround.measure.TextAreaMeasure.{TextAreaMeasure}
+use Rattle.textarea_data.specs.declared.measure.TextAreaMeasure.{TextAreaMeasure}
 use Rattle.textarea_text.specs.Place as places
 use Rattle.textarea_wrap.specs.declared.wrap.WrapMode as modes_of_wrapping
 use Rattle.textarea_calls.specs.declared.answer.Answer.{Answer}

@@ -2,7 +2,7 @@
 use Rattle.std.specs.Prelude.{◌≡◌, ◌⊎◌, ℕ, Bool, not}
 use Rattle.textarea_lines.specs.TextLayout.{is_wrapped_at}
 use Rattle.textarea_view.specs.Measure.{measure_of, width_inside}
-use Rattle.textarea_view.specs.declared.surround.measure.TextAreaMeasure.{TextAreaMeasure}
+use Rattle.textarea_data.specs.declared.measure.TextAreaMeasure.{TextAreaMeasure}
 use Rattle.textarea_document.specs.Edits.{has_symbols}
 use Rattle.textarea_document.specs.DocumentRows.{HasRowsAt, text_and_layout}
 use Rattle.tui_textarea.specs.State.{State}

@@ -41,7 +41,7 @@ pub use Rattle.textarea_view.specs.Measure.{saturated_u16, width_inside}
 pub use Rattle.textarea_view.specs.Outcomes.{with_max_rows, with_min_rows, with_placeholder_style, with_placeholder_text}
 pub use Rattle.textarea_view.specs.Placements.{cell_of_position}
 pub use Rattle.textarea_view.specs.SurroundState.{AreBounds, first_bytes, style_with_lines}
-pub use Rattle.textarea_view.specs.declared.surround.measure.TextAreaMeasure.{TextAreaMeasure}
+pub use Rattle.textarea_data.specs.declared.measure.TextAreaMeasure.{TextAreaMeasure}
 pub use Rattle.textarea_calls.specs.CallGroups.{call_of_edit}
 pub use Rattle.textarea_calls.specs.declared.action.Action.{Action}
 pub use Rattle.textarea_calls.specs.declared.call.Call.{Call}

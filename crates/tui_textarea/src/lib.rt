@@ -9,8 +9,9 @@ pub mod util;
 pub mod worked;
 
 pub use textarea::TextArea;
-pub use textarea_data::cursor::{CursorMove, DataCursor};
+pub use textarea_data::cursor::{CursorMove, CursorRenderMode, DataCursor};
 pub use textarea_data::input::{Input, Key};
+pub use textarea_data::measure::TextAreaMeasure;
 pub use textarea_data::range::{
     AtomicCursorBias, AtomicDeleteDirection, AtomicRange, AtomicRangeError,
     AtomicRangeRejectReason, RejectedAtomicRange,
@@ -23,8 +24,6 @@ pub use textarea_screen::screen::{
 };
 pub use textarea_screen_map::layout::{VisualPosition, Wrapping};
 pub use textarea_view::Viewport;
-pub use textarea_view::look::CursorRenderMode;
-pub use textarea_view::surround::measure::TextAreaMeasure;
 pub use textarea_wrap::wrap::WrapMode;
 
 /// The spans of a visual row, as it is drawn.

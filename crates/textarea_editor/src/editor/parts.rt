@@ -9,8 +9,8 @@ use crate::file_text::{LineEnd, line_end_of, lines_of};
 use crate::help::help_lines;
 use std::alloc::{AllocError, Global};
 use textarea_calls::Call;
+use textarea_data::cursor::CursorRenderMode;
 use textarea_screen::screen::{Color, Modifier, Style};
-use textarea_view::look::CursorRenderMode;
 use textarea_wrap::wrap::WrapMode;
 use tui_textarea::TextArea;
 

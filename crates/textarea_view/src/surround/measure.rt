@@ -3,20 +3,8 @@ ghost use Rattle.std.specs.Prelude.{◌≡◌, ◌≤◌, ℕ, IsTrue};
 ghost use Rattle.textarea_view.specs.Prelude.{contains, IsInner, AreBounds, chrome_of, measure_of, visible_row_count, width_inside};
 
 use crate::surround::Surround;
+use textarea_data::measure::TextAreaMeasure;
 use textarea_screen::screen::Rect;
-
-/// Measured heights, in screen rows.
-#[derive(Clone, Copy, Debug, PartialEq, Eq)]
-pub struct TextAreaMeasure {
-    /// The rows of the text, or of the placeholder if that is drawn.
-    pub content_rows: u16,
-    /// The height of the whole area that shows the content, from `min_rows` to `max_rows`.
-    pub preferred_rows: u16,
-    /// The least height: the one that is set, or the block's rows and one more if that is greater.
-    pub min_rows: u16,
-    /// The greatest height: the one that is set, or the least if that is greater.
-    pub max_rows: u16,
-}
 
 impl<'a> Surround<'a> {
     /// Returns the area inside the block, or all of the area without a block.

@@ -4,8 +4,9 @@ ghost use Rattle.tui_textarea.specs.Drawing.{highlighted, unhighlighted, with_lo
 
 use crate::textarea::TextArea;
 use std::alloc::AllocError;
+use textarea_data::cursor::CursorRenderMode;
 use textarea_screen::screen::Style;
-use textarea_view::look::{CursorRenderMode, CustomHighlight, Look};
+use textarea_view::look::{CustomHighlight, Look};
 
 impl TextArea<'_> {
     /// Sets the style of each cell of the inner area, under all others; a placeholder has its own.

@@ -4,7 +4,7 @@ ghost use Rattle.tui_textarea.specs.Prelude.{AreBounds, IsMeasured, reads_rows};
 
 use crate::textarea::TextArea;
 use std::alloc::AllocError;
-use textarea_view::surround::measure::TextAreaMeasure;
+use textarea_data::measure::TextAreaMeasure;
 
 impl TextArea<'_> {
     /// Returns the height that an area of this width, in columns, needs for the block and all
