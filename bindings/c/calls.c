@@ -11,7 +11,7 @@ static int same_style(ta_style_t a, ta_style_t b) { return memcmp(&a, &b, sizeof
 static void handles(void) {
     ta_handle_t area = {0}, copy = {0};
     size_t row = 7, column = 8;
-    CHECK(ta_insert_char(&area, 'a') == TA_EMPTY_HANDLE);
+    CHECK(ta_insert_char(&area, 'a') == TA_EMPTY_HANDLE && ta_undo(&area) == TA_EMPTY_HANDLE);
     CHECK(ta_cursor(&area, &row, &column) == TA_EMPTY_HANDLE && row == 7 && column == 8);
     CHECK(ta_clone(&area, &copy) == TA_EMPTY_HANDLE && !copy.full);
     CHECK(ta_from_text(&area, (const uint8_t *)"\xff", 1) == TA_INVALID_ARGUMENT && !area.full);

@@ -11,5 +11,3 @@ pub mod plain;
 mod slices;
 mod status;
 mod stored;
-#[cfg(test)]
-mod tests;
