@@ -8,7 +8,7 @@ use tui_textarea::TextArea;
 const TEXT: &str = "one two three\nfour\nfive six";
 
 /// The call that is made.
-#[derive(Clone, Copy, Debug)]
+#[derive(Clone, Copy)]
 enum CallKind {
     InsertChar,
     Cursor,
@@ -16,7 +16,7 @@ enum CallKind {
 }
 
 /// The call, and how often it is made.
-#[derive(Clone, Copy, Debug)]
+#[derive(Clone, Copy)]
 pub struct CallJob {
     kind: CallKind,
     count: usize,

@@ -27,7 +27,7 @@ const AREA: Rect = Rect {
 const PATTERN: &str = "[a-z]{6,}";
 
 /// The content of a frame, and the work before it.
-#[derive(Clone, Copy, Debug)]
+#[derive(Clone, Copy)]
 enum FrameKind {
     /// A key is typed before each frame, with this wrap mode.
     Keys(WrapMode),
@@ -38,7 +38,7 @@ enum FrameKind {
 }
 
 /// The kind of frame, the number of lines, and the number of frames after the first one.
-#[derive(Clone, Copy, Debug)]
+#[derive(Clone, Copy)]
 pub struct FrameJob {
     kind: FrameKind,
     lines: usize,

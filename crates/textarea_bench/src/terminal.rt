@@ -10,7 +10,7 @@ use textarea_terminal::input::Decoder;
 use textarea_terminal::output::Painter;
 
 /// The bytes to decode.
-#[derive(Clone, Copy, Debug)]
+#[derive(Clone, Copy)]
 pub enum Sent {
     Letters,
     Accents,
@@ -20,7 +20,7 @@ pub enum Sent {
 }
 
 /// The frames that follow each other.
-#[derive(Clone, Copy, Debug)]
+#[derive(Clone, Copy)]
 pub enum Frames {
     /// The same frame.
     Same,
@@ -35,7 +35,7 @@ pub enum Frames {
 }
 
 /// The work, on how many bytes or cells, and how often.
-#[derive(Clone, Copy, Debug)]
+#[derive(Clone, Copy)]
 pub enum TerminalJob {
     Decode {
         sent: Sent,

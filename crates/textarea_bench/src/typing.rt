@@ -35,7 +35,7 @@ const FULL_ROW: &str =
 const INNER_WIDTH: u16 = 81;
 
 /// The work.
-#[derive(Clone, Copy, Debug)]
+#[derive(Clone, Copy)]
 enum Work {
     /// Types into a long wrapped line: in turns a hundred characters and a hundred times Backspace.
     Text,
@@ -60,7 +60,7 @@ enum Work {
 }
 
 /// A long line, and where it is edited.
-#[derive(Clone, Copy, Debug)]
+#[derive(Clone, Copy)]
 enum Line {
     /// Characters of one byte, at the end.
     Ascii,
@@ -81,7 +81,7 @@ impl Line {
 }
 
 /// The work, the size of the text in lines or characters, and the number of times.
-#[derive(Clone, Copy, Debug)]
+#[derive(Clone, Copy)]
 pub struct TypingJob {
     work: Work,
     size: usize,

@@ -70,15 +70,23 @@ pub struct Escaped<'a>(pub &'a str);
 
 impl fmt::Display for Escaped<'_> {
     fn fmt<W: fmt::Write>(&self, f: &mut fmt::Formatter<W>) -> fmt::Result {
-        for c in self.0.chars() {
-            match c {
-                '\\' => write!(f, "\\\\")?,
-                '\n' => write!(f, "\\n")?,
-                '\r' => write!(f, "\\r")?,
-                '\t' => write!(f, "\\t")?,
-                _ => write!(f, "{c}")?,
-            }
+        for part in self.0.split_inclusive(['\\', '\n', '\r', '\t']) {
+            write_part(f, part)?;
         }
         Ok(())
     }
+}
+
+// Writes a text of which at most the last character has an escape.
+fn write_part<W: fmt::Write>(f: &mut fmt::Formatter<W>, part: &str) -> fmt::Result {
+    let mut front = part.chars();
+    let escape = match front.next_back() {
+        Some('\\') => "\\\\",
+        Some('\n') => "\\n",
+        Some('\r') => "\\r",
+        Some('\t') => "\\t",
+        _ => return f.write_str(part),
+    };
+    f.write_str(front.as_str())?;
+    f.write_str(escape)
 }

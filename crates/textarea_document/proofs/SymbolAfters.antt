@@ -1,15 +1,16 @@
 -- The symbol directly after a position.
-use Rattle.std.proofs.Common.{◌≡◌, ◌≢◌, ℕ, Bool, false, cond, ◌==◌, ◌+◌, ◌-◌, ◌≤◌, ◌<◌, List, [], ◌∷◌, ◌++◌, length, take, drop, get_or, sym, ap, refl, ◌∙◌, arith, String, subst, Option, Some, None, ◌^◌, encode_utf8, encode_utf8_all}
+use Rattle.std.proofs.Common.{◌≡◌, ◌≢◌, ℕ, Bool, false, cond, ◌==◌, ◌+◌, ◌-◌, ◌≤◌, ◌<◌, List, [], ◌∷◌, ◌++◌, length, take, drop, get_or, sym, ap, refl, ◌∙◌, arith, String, subst, Option, Some, None, inl, inr, ◌^◌, encode_utf8, encode_utf8_all}
 use Rattle.std.specs.Str.{IsCharBoundary}
 use Rattle.std.proofs.lemmas.List.{drop_all, length-drop}
 use Rattle.std.proofs.lemmas.Str.{length-le-encodes}
-use Rattle.textarea_text.proofs.Columns.{IsCharBoundary-column, offset_in}
+use Rattle.textarea_text.proofs.Columns.{IsCharBoundary-column, length_split, offset_in}
 use Rattle.textarea_text.proofs.Befores.{next_is}
 use Rattle.textarea_document.proofs.Area.{column_bound}
 use Rattle.textarea_document.specs.Prelude.{MatchOption, chars, IsUtf8, Symbol, Character, Break, joined, lines, lines_of, text_of, Place, IsPlace, IsPlaceOf, IsSymbolBefore, OccursAt, index_of, line_end, Fits, inserts_of, symbols_of, EditKind, DocumentState, after_edit, unanchored, IsSymbolAfter, break_removal, symbol_removal, symbol_removed_before, symbol_removed_after}
 use Rattle.textarea_text.proofs.Befores.{break_occurs, character_occurs}
 use Rattle.textarea_history.specs.Edit.{splice_of}
 use Rattle.textarea_text.proofs.TextPlaces.{joined-lines, place_of-index}
+use Rattle.std.proofs.lemmas.Bool.{cases_lt}
 use Rattle.std.proofs.lemmas.Bool.Decides.{nat_tests}
 
 -- an index with a symbol is not the text's end
@@ -36,6 +37,28 @@ boundary_of line column offset utf8 e = subst (IsCharBoundary line) (sym e) (IsC
 pub symbol_after_is : (Same : Type 0) (cs was rest : List ℕ) (column : ℕ) (found : Option ℕ) → column ≤ length cs → was ≡ encode_utf8_all (drop column cs) → MatchOption found ((length was ≡ 0) × Same) (λ d. was ≡ encode_utf8 d ++ rest) → MatchOption found (column ≡ length cs) (λ c. drop column cs ≡ c ∷ drop (column + 1) cs)
 symbol_after_is Same cs was rest column None within e h = omega (arith, h.0, ap length e, length-le-encodes (drop column cs), length-drop column cs)
 symbol_after_is Same cs was rest column (Some c) within e h = next_is Same cs was rest column c (Some c) e h refl
+
+-- a column has a character if and only if its byte offset is before the line's end
+pub is_before_end : (bs cs : List ℕ) (column offset : ℕ) → IsUtf8 bs → chars bs ≡ cs → offset ≡ offset_in cs column → offset < length bs → column < length cs
+is_before_end bs cs column offset utf8 e at within =
+    elim (cases_lt column (length cs)) [
+      | inl inside ↦ inside
+      | inr past ↦
+          let none : length (encode_utf8_all (drop column cs)) ≡ 0 = ap (λ rest. length (encode_utf8_all rest)) (drop_all column cs (omega (arith, past))) in
+          absurd (omega (arith, at, within, none, subst (λ c. offset_in c column + length (encode_utf8_all (drop column c)) ≡ length bs) e (length_split bs column utf8)))
+    ]
+
+pub is_line_end : (bs cs : List ℕ) (column offset : ℕ) → IsUtf8 bs → chars bs ≡ cs → offset ≡ offset_in cs column → column ≤ length cs → length bs ≤ offset → column ≡ length cs
+is_line_end bs cs column offset utf8 e at within past =
+    omega (
+      arith,
+      at,
+      within,
+      past,
+      subst (λ c. offset_in c column + length (encode_utf8_all (drop column c)) ≡ length bs) e (length_split bs column utf8),
+      length-le-encodes (drop column cs),
+      length-drop column cs,
+    )
 
 -- one can be added to a column of a string without overflow
 pub column_in_string : {Z : Type 0} (items : List (String Z)) (place : Place) → IsPlaceOf (lines_of items) place → place.1 + 1 < 2 ^ 64

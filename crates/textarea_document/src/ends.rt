@@ -1,14 +1,16 @@
 //! The neighbours of a position, and the ends of a word's removal.
 ghost use Rattle.std.specs.Prelude.{◌≡◌, ◌+◌, ◌<◌, ◌≤◌, length, IfSome, MatchOption};
-ghost use Rattle.textarea_document.specs.Prelude.{chars, lines_of, text_of, IsPlaceOf, index_of, next_place, previous_place, word_end_after, word_start_before};
+ghost use Rattle.textarea_document.specs.Prelude.{chars, lines_of, text_of, IsPlaceOf, index_of, next_place, offset_at, previous_place, word_end_after, word_start_before};
 
-use textarea_text::places::{line_end, line_length};
+use textarea_text::places::{line_end, line_of};
 use textarea_text::rows::column_count;
 use textarea_text::word::{find_word_exclusive_end_forward, find_word_start_backward};
 
-/// Returns the position after the symbol at this position; `None` at the text's end.
-pub fn next_place(lines: &[String], place: (usize, usize)) -> Option<(usize, usize)>
-    requires { IsPlaceOf (lines_of lines.now) place }
+/// Returns the position after the symbol at this position, whose byte offset in its line is
+/// `offset`; `None` at the text's end. Reads no character.
+pub fn next_place(lines: &[String], place: (usize, usize), offset: usize) -> Option<(usize, usize)>
+    requires place { IsPlaceOf (lines_of lines.now) place }
+    requires offset { offset ≡ offset_at (lines_of lines.now) place }
     ensures value { result ≡ next_place (text_of lines.now) place }
     ensures place { IfSome result (λ next. IsPlaceOf (lines_of lines.now) next) }
     ensures index { MatchOption result
@@ -16,7 +18,7 @@ pub fn next_place(lines: &[String], place: (usize, usize)) -> Option<(usize, usi
         (λ next. index_of (text_of lines.now) next ≡ index_of (text_of lines.now) place + 1) }
 {
     let (row, column) = place;
-    if column < line_length(lines, row) {
+    if offset < line_of(lines, row).len() {
         return Some((row, column + 1));
     }
     if row + 1 < lines.len() {

@@ -20,7 +20,7 @@ const SELECTION: u8 = 4;
 const CUSTOM: u8 = 5;
 
 /// A call of a row's highlighter. Each uses the style of its kind.
-#[derive(Clone, Copy, Debug)]
+#[derive(Clone, Copy)]
 enum Call {
     /// The number of row 123, in five digits.
     Number,

@@ -13,7 +13,7 @@ use textarea_screen::screen::{
 };
 
 /// What is drawn.
-#[derive(Clone, Copy, Debug)]
+#[derive(Clone, Copy)]
 enum Drawing {
     /// Two spans with their alignment and their first column in view, in a row of six cells: the
     /// area has this number of columns, from column 1 on.

@@ -17,7 +17,7 @@ const TALL: Sides = (Borders::NONE, false, (0, 0, 65535, 65535));
 const FRAMED: Sides = (Borders::ALL, true, (0, 0, 0, 0));
 
 /// A call that changes the state, or a check of a getter's result.
-#[derive(Clone, Copy, Debug)]
+#[derive(Clone, Copy)]
 enum Step {
     SetMinRows(u16),
     SetMaxRows(u16),

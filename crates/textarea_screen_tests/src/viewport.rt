@@ -9,7 +9,7 @@ use textarea_screen::screen::{Position, Rect};
 use textarea_view::{RowView, Viewport};
 
 /// One step of scrolling.
-#[derive(Clone, Copy, Debug)]
+#[derive(Clone, Copy)]
 enum Scroll {
     /// By this number of rows.
     Rows(i16),

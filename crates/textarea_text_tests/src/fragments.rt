@@ -10,7 +10,7 @@ use textarea_text::tab::spaces_to_stop;
 use textarea_text::text_slice::between;
 
 /// What is written of a fragment.
-#[derive(Clone, Copy, Debug)]
+#[derive(Clone, Copy)]
 enum Written {
     /// All of it, and the number of its lines.
     Whole(&'static str, usize),

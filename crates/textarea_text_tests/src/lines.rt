@@ -27,7 +27,7 @@ const NINE_LINES: [&str; 9] = ["abcdefg"; 9];
 const TWO_LINES: [&str; 2] = ["abcdef", "gh"];
 
 /// A step over lines, and what it must lead to.
-#[derive(Clone, Copy, Debug)]
+#[derive(Clone, Copy)]
 enum Step {
     /// Whether there is just one empty line.
     Empty(bool),
@@ -417,13 +417,19 @@ fn is_right(text_layout: &mut TextLayout) -> Result<bool, AllocError> {
     Ok(is_as_fresh(text_layout)? && type_and_take_back(text_layout)?.is_some())
 }
 
-// The same in a shape, there also with a break, in another one, and for lines that replace others.
+// The same in a shape and in another one, and for lines that replace others.
 fn is_right_in(alloc: Global, (shape, other): &(Shape, Shape)) -> Result<bool, AllocError> {
     let mut text_layout = text_layout(alloc, &NINE_LINES, *shape)?;
-    let was_right = is_right(&mut text_layout)? && break_and_take_back(&mut text_layout)?.is_some();
-    text_layout.set_layout_settings(settings(*other))?;
-    let is_right = is_right(&mut text_layout)? && was_right;
-    Ok(are_put(alloc, text_layout.into_lines(), *shape)? && is_right)
+    let is_right = is_right_in_turn(&mut text_layout, *other);
+    let are_put = are_put(alloc, text_layout.into_lines(), *shape)?;
+    Ok(is_right? && are_put)
+}
+
+// The same for the present shape, there also with a break, and then for another one.
+fn is_right_in_turn(text_layout: &mut TextLayout, other: Shape) -> Result<bool, AllocError> {
+    let was_right = is_right(text_layout)? && break_and_take_back(text_layout)?.is_some();
+    text_layout.set_layout_settings(settings(other))?;
+    Ok(is_right(text_layout)? && was_right)
 }
 
 static SHAPES: [(Shape, Shape); 4] = [

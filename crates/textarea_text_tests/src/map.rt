@@ -27,7 +27,7 @@ const GLYPHS: Shape = (WrapMode::Glyph, 4, 4);
 const WIDE_WORDS: Shape = (WrapMode::Word, 9, 4);
 
 /// A fact about the map of some lines.
-#[derive(Clone, Copy, Debug)]
+#[derive(Clone, Copy)]
 enum Fact {
     /// The number of visual rows.
     RowCount(usize),

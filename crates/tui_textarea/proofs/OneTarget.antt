@@ -6,7 +6,7 @@ use Rattle.textarea_data.specs.declared.cursor.CursorMove.{CursorMove}
 use Rattle.textarea_data.specs.declared.cursor.CursorMove.TheVariants as move
 use Rattle.textarea_document.specs.DocumentRows.{IsAboveCursor, IsBelowCursor}
 use Rattle.textarea_document.specs.DocumentState.{DocumentState}
-use Rattle.textarea_document.specs.Target.{VisualTargets, is_visual, target}
+use Rattle.textarea_document.specs.Target.{VisualTargets, is_visual, next_place, target}
 use Rattle.tui_textarea.specs.Hit.{IsNearestVisible}
 use Rattle.textarea_view.specs.Viewport.{ViewportState}
 use Rattle.tui_textarea.specs.Moves.{IsTarget}
@@ -61,6 +61,16 @@ level_target state cursor_move found text cursor not_up not_down not_inside valu
       ∙ ap (λ t. target nowhere t cursor cursor_move) text_is
       ∙ ap (λ p. target nowhere state.document.text p cursor_move) cursor_is;
 }
+
+-- the move forward has the target that is found for it
+pub forward_target : (state : State) (cursor_move : CursorMove) (found : Option Place) → cursor_move ≡ move.Forward → found ≡ next_place state.document.text state.document.cursor → IsTarget state cursor_move found
+forward_target state cursor_move found is value = subst (λ (m : CursorMove). IsTarget state m found) (sym is) (record {
+  visual = nowhere;
+  above_is = λ e. cc e;
+  below_is = λ e. cc e;
+  inside_is = λ e. cc e;
+  found_is = value;
+})
 
 -- a move over visual rows has the target that is found for it
 pub up_target : (state : State) (cursor_move : CursorMove) (found : Option Place) → cursor_move ≡ move.Up → IsAboveCursor state.document found → IsTarget state cursor_move found

@@ -5,7 +5,7 @@ use Rattle.textarea_text.specs.Splice.{Splice}
 use Rattle.textarea_text.specs.Text.{Symbol, Break, Character}
 use Rattle.textarea_document.specs.Edits.{cursor_index, range_before, range_after, has_symbols}
 use Rattle.textarea_document.specs.Selection.{is_selected}
-use Rattle.textarea_document.specs.Splices.{after_splices, before_splices, break_splices, insertion_splices, range_splices_or, redo_splices, removal_splices, selected_splices, undo_splices}
+use Rattle.textarea_document.specs.Splices.{after_splices, break_splices, insertion_splices, range_splices_or, removal_splices, selected_splices}
 use Rattle.textarea_document.specs.DocumentState.{DocumentState}
 use Rattle.textarea_document.specs.Target.{word_end_after, word_start_before}
 use Rattle.tui_textarea.specs.Edits.{breaks_line, spaces_to_stop}

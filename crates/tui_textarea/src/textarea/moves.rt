@@ -68,6 +68,7 @@ impl TextArea<'_> {
         ensures target { IsTarget self.now cursor_move result }
     {
         match cursor_move {
+            CursorMove::Forward => self.document.after_cursor(),
             CursorMove::Up => self.document.above(),
             CursorMove::Down => self.document.below(),
             CursorMove::InViewport => Some(self.drawing.nearest_visible_place(&self.document)),
