@@ -1,7 +1,6 @@
 -- The text between two positions, and its lines.
 use Rattle.std.proofs.Common.{◌≡◌, ℕ, zero, suc, ◌+◌, ◌-◌, ◌<◌, ◌≤◌, List, [], ◌∷◌, ◌++◌, length, take, drop, get_or, refl, sym, ap, ◌∙◌, arith, String}
 use Rattle.std.proofs.lemmas.Grind.{common_steps}
-use Rattle.std.proofs.Math.Nat.{add-zero}
 use Rattle.std.proofs.lemmas.Bool.Decides.{nat_tests}
 use Rattle.std.proofs.lemmas.List.{append-nil, append_assoc, drop_more, length-append, length-drop}
 use Rattle.textarea_text.specs.Text.{Symbol, characters, characters_of, following, joined, lines_of, text_of}
@@ -115,10 +114,6 @@ between_from_lines lines fragment_lines from to h h' before e = ap joined e ∙ 
 
 pub line_in_between : {Z : Type 0} (lines : List (String Z)) (start count i : ℕ) (line : String Z) → start + count ≤ length lines → i < count → line ≡ get_or (take count (drop start lines)) i line → get_or (lines_of lines) (start + i) [] ≡ characters_of line
 line_in_between lines start count i line within below is = grind (arith, common_steps, nat_tests)
-
-pub column_within : (rows : List (List ℕ)) (from : Place) (i column : ℕ) → IsPlaceOf rows from → (i ≡ 0 → column ≡ from.1) → (0 < i → column ≡ 0) → column ≤ length (get_or rows (from.0 + i) [])
-column_within rows from zero column h first later = omega (arith, first refl, h.1, ap (λ n. length (get_or rows n [])) (add-zero from.0))
-column_within rows from (suc i) column h first later = omega (arith, later (omega arith))
 
 pub column_within_last : (from to : Place) (i column : ℕ) → IsUpTo from to → from.0 + i ≡ to.0 → (i ≡ 0 → column ≡ from.1) → (0 < i → column ≡ 0) → column ≤ to.1
 column_within_last from to zero column up e first later = omega (arith, first refl, up.1 (omega arith))

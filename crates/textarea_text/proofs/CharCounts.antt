@@ -24,10 +24,10 @@ unfolding char_count
 char_count-le-length [] = omega arith
 char_count-le-length (x ∷ xs) = one_more-le (is_char_start x) (char_count xs) (length xs) (char_count-le-length xs)
 
-begins-ascii : (b : ℕ) → b < 128 → is_char_start b ≡ true
+pub begins-ascii : (b : ℕ) → b < 128 → is_char_start b ≡ true
 begins-ascii b h = grind (arith, nat_tests)
 
-begins-wide : (b : ℕ) → 192 ≤ b → is_char_start b ≡ true
+pub begins-wide : (b : ℕ) → 192 ≤ b → is_char_start b ≡ true
 begins-wide b h = grind (arith, nat_tests)
 
 continues : (b : ℕ) → 128 ≤ b → b < 192 → is_char_start b ≡ false
@@ -52,7 +52,7 @@ char_count-encode c =
     (begins-wide (192 + c / 64) (omega arith)) (begins-wide (224 + c / 4096) (omega arith)) (begins-wide (240 + c / 262144) (omega arith))
     (follows c) (follows (c / 64)) (follows (c / 4096))
 
-char_count-encodes : (cs : List ℕ) → char_count (encode_utf8_all cs) ≡ length cs
+pub char_count-encodes : (cs : List ℕ) → char_count (encode_utf8_all cs) ≡ length cs
 unfolding char_count
 char_count-encodes [] = refl
 char_count-encodes (c ∷ cs) = omega (arith, char_count-append (encode c) (encode_utf8_all cs), char_count-encode c, char_count-encodes cs)

@@ -11,6 +11,7 @@ pub mod EmptyTexts
 pub mod Copies
 pub mod PlacesAfterSplice
 pub mod CharCounts
+mod StartLemmas
 pub mod FragmentLemmas
 pub mod BetweenLemmas
 pub mod PlaceLemmas

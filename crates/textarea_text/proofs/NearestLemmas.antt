@@ -1,5 +1,5 @@
 -- The nearest index that passes a test: what a search knows on its way, and its result.
-use Rattle.std.proofs.Common.{◌≡◌, ℕ, zero, suc, ◌+◌, ◌-◌, ◌<◌, ◌≤◌, inl, inr, Bool, true, false, Some, None, arith, refl, sym, ap, subst, add-one}
+use Rattle.std.proofs.Common.{◌≡◌, ℕ, zero, suc, ◌+◌, ◌-◌, ◌<◌, ◌≤◌, inl, inr, Bool, true, false, Some, None, arith, refl, sym, ap, subst, add-one, ◌∙◌}
 use Rattle.std.proofs.lemmas.Grind.{common_steps}
 use Rattle.std.proofs.lemmas.Bool.{cases_lt}
 use Rattle.textarea_text.specs.Nearest.{IsGreatest, least_below, greatest_below}
@@ -66,3 +66,37 @@ IsLeast-none test n failed past e = elim (cases_lt e n) [ inl earlier ↦ failed
 pub failed_before : (test : ℕ → Bool) (n : ℕ) → ((e : ℕ) → suc e < n → test e ≡ false) → test (n - 1) ≡ false → (e : ℕ) → e < n → test e ≡ false
 failed_before test n failed here e below =
     elim (cases_lt (suc e) n) [ inl earlier ↦ failed e earlier | inr last ↦ let same : e ≡ n - 1 = omega arith in rw same here ]
+
+-- ---- a search from a later start: its indices count from there, and no index before it passes
+
+shifted : (test inner : ℕ → Bool) (start : ℕ) → ((k : ℕ) → test (start + k) ≡ inner k) → (e : ℕ) → start ≤ e → test e ≡ inner (e - start)
+shifted test inner start same e from =
+    let at : start + (e - start) ≡ e = omega arith in
+    subst (λ n. test n ≡ inner (e - start)) at (same (e - start))
+
+-- if no index passes there, none passes
+pub least_shifted-none : (test inner : ℕ → Bool) (start : ℕ) → ((e : ℕ) → e < start → test e ≡ false) → ((k : ℕ) → test (start + k) ≡ inner k) →
+    ((k : ℕ) → inner k ≡ false) → (e : ℕ) → test e ≡ false
+least_shifted-none test inner start before same none e =
+    elim (cases_lt e start) [ inl earlier ↦ before e earlier | inr later ↦ shifted test inner start same e later ∙ none (e - start) ]
+
+-- no index passes before the first that passes there
+pub least_shifted-before : (test inner : ℕ → Bool) (start least : ℕ) → ((e : ℕ) → e < start → test e ≡ false) → ((k : ℕ) → test (start + k) ≡ inner k) →
+    ((k : ℕ) → k < least → inner k ≡ false) → (e : ℕ) → e < start + least → test e ≡ false
+least_shifted-before test inner start least before same failed e earlier_than =
+    elim (cases_lt e start) [
+      | inl earlier ↦ before e earlier
+      | inr later ↦ shifted test inner start same e later ∙ failed (e - start) (omega arith)
+    ]
+
+-- the greatest index that passes there is the greatest of all
+pub greatest_shifted-after : (test inner : ℕ → Bool) (start greatest : ℕ) → ((k : ℕ) → 0 < k → test (start + k) ≡ inner k) →
+    ((k : ℕ) → greatest < k → inner k ≡ false) → (e : ℕ) → start + greatest < e → test e ≡ false
+greatest_shifted-after test inner start greatest same failed e later =
+    let at : start + (e - start) ≡ e = omega arith in
+    subst (λ n. test n ≡ false) at (same (e - start) (omega arith) ∙ failed (e - start) (omega arith))
+
+-- the value of a search whose greatest index is known
+pub greatest_below-found : (test : ℕ → Bool) (n m : ℕ) → test n ≡ true → ((e : ℕ) → n < e → test e ≡ false) → n < m → greatest_below test m ≡ Some n
+greatest_below-found test n m here failed within =
+    greatest_below-past test (n + 1) m (omega arith) (λ e past. failed e (omega arith)) ∙ greatest_below-here test n here

@@ -1,5 +1,5 @@
 //! Lines that replace others: built beside the old lines, then put in without allocating.
-ghost use Rattle.std.specs.Prelude.{◌≡◌, ◌+◌, ◌-◌, ◌<◌, ◌≤◌, ◌++◌, ◌∷◌, ◌↔◌, [], length, string_bytes, take, drop, MatchOption, encode_utf8_all, vec_len, vec_capacity, min, IfOk, IsOk, OnOk, OnErr};
+ghost use Rattle.std.specs.Prelude.{◌≡◌, ◌+◌, ◌-◌, ◌<◌, ◌≤◌, ◌++◌, ◌∷◌, ◌↔◌, [], length, string_bytes, take, drop, MatchOption, encode_utf8_all, vec_len, vec_capacity, min, IfOk, IsOk, OnOk, OnErr, slice_index, true};
 ghost use Rattle.std.specs.Str.{chars};
 ghost use Rattle.std.specs.Fmt.{char_count, is_char_start};
 ghost use Rattle.textarea_util.specs.Limit.{size_limit};
@@ -48,11 +48,7 @@ fn offset_ahead(line: &str, from: usize, offset: usize, column: usize) -> usize
     requires column { column ≤ length (chars line.now) }
     ensures { result ≡ length (encode_utf8_all (take column (chars line.now))) }
 {
-    let mut rest = line[offset..].chars();
-    for _index in from..column {
-        rest.next();
-    }
-    line.len() - rest.as_str().len()
+    offset + offset_within(&line[offset..], column - from)
 }
 
 // The same for a column at or before the known one.
@@ -69,6 +65,52 @@ fn offset_back(line: &str, from: usize, offset: usize, column: usize) -> usize
         at -= 1;
     }
     bytes
+}
+
+/// Returns the byte offset of a column, or the line's length for a column past its end. The
+/// characters before it are counted, and not decoded.
+pub(crate) fn offset_within(line: &str, column: usize) -> usize
+    ensures { result ≡ length (encode_utf8_all (take column (chars line.now))) }
+{
+    if line.len() <= column {
+        return line.len();
+    }
+    start_after(line.as_bytes(), column)
+}
+
+// Returns the index of the first byte that begins a character and has `count` characters before
+// it, or the number of bytes if there is none.
+fn start_after(bytes: &[u8], count: usize) -> usize
+    ensures within { result ≤ length bytes.now }
+    ensures count { char_count (take result bytes.now) ≡ min count (char_count bytes.now) }
+    ensures start { result < length bytes.now
+        → is_char_start (slice_index bytes.now result) ≡ true }
+{
+    let (skipped, mut left) = skipped_stretches(bytes, count);
+    for index in skipped..bytes.len() {
+        if begins_character(bytes[index]) {
+            if left == 0 {
+                return index;
+            }
+            left -= 1;
+        }
+    }
+    bytes.len()
+}
+
+// Returns a number of bytes in which at most `count` characters begin, and how many fewer than
+// `count` these are.
+fn skipped_stretches(bytes: &[u8], count: usize) -> (usize, usize)
+    ensures within { result.0 ≤ length bytes.now }
+    ensures left { char_count (take result.0 bytes.now) + result.1 ≡ count }
+{
+    let mut left = count;
+    let mut at = 0;
+    'skipping: while COUNTED_AT_ONCE <= left && COUNTED_AT_ONCE <= bytes.len() - at {
+        left -= usize::from(count_of_starts(&bytes[at..at + COUNTED_AT_ONCE]));
+        at += COUNTED_AT_ONCE;
+    }
+    (at, left)
 }
 
 /// Returns the number of characters in the line. They aren't decoded.

@@ -5,7 +5,7 @@ ghost use Rattle.textarea_text.specs.Text.{lines_of, text_of};
 ghost use Rattle.textarea_text.specs.Place.{IsPlaceOf, index_of};
 ghost use Rattle.textarea_text.specs.Between.{symbols_between};
 
-use crate::rows::{byte_offset, byte_offset_from};
+use crate::rows::{byte_offset, byte_offset_from, offset_within};
 use std::alloc::{AllocError, Global};
 
 /// Returns the text between two positions as a fragment, one string for each row that it touches.
@@ -56,12 +56,11 @@ pub(crate) fn text_before(line: &str, column: usize) -> &str
     &line[..byte_offset(line, column)]
 }
 
-// The text of a line from the column on.
-fn text_from(line: &str, column: usize) -> &str
-    requires { column ≤ length (chars line.now) }
+/// The text of a line from the column on, which is empty for a column past the line's end.
+pub(crate) fn text_from(line: &str, column: usize) -> &str
     ensures { chars result.now ≡ drop column (chars line.now) }
 {
-    &line[byte_offset(line, column)..]
+    &line[offset_within(line, column)..]
 }
 
 // The text of a line between two columns.

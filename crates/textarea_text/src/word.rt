@@ -1,13 +1,15 @@
 //! The classes of characters, and searches for the words of a line.
 //!
 //! A word is a longest sequence of characters of one class other than [`CharKind::Space`]. Columns
-//! count characters from 0. A search walks the line once, and accepts any start column, even past
-//! the line's end.
+//! count characters from 0. A search reads the classes of characters only from its start column on,
+//! or back from there, and accepts any start column, even past the line's end.
 
 ghost use Rattle.std.specs.Prelude.{◌≡◌, ◌<◌, ◌≤◌, length, IfSome};
 ghost use Rattle.std.specs.Str.{chars};
 ghost use Rattle.textarea_text.specs.Nearest.{IsLeast, IsGreatest};
 ghost use Rattle.textarea_text.specs.Words.{class_of, begins, ends, lies_between, is_later_edge, next_edge, is_later_word_start, next_word_start, is_later_past_word, next_past_word, is_word_last_from, next_word_last, is_earlier_word_start, previous_word_start};
+
+use crate::text_slice::text_from;
 
 /// The class of a character.
 #[derive(Clone, Copy, Debug, PartialEq, Eq)]
@@ -75,10 +77,21 @@ fn find_edge_forward(line: &str, start_column: usize, edge: Edge) -> Option<usiz
     ensures value { result ≡ next_edge edge (chars line.now) start_column }
     ensures within { IfSome result (λ e. (start_column < e) × (e < length (chars line.now))) }
 {
+    match find_edge(text_from(line, start_column), edge) {
+        Some(column) => Some(start_column + column),
+        None => None,
+    }
+}
+
+/// Returns the least column after 0 that has this edge of a word.
+fn find_edge(text: &str, edge: Edge) -> Option<usize>
+    ensures least { IsLeast (is_later_edge edge (chars text.now) 0) result }
+    ensures within { IfSome result (λ e. (0 < e) × (e < length (chars text.now))) }
+{
     let mut before = CharKind::Space;
-    for (column, c) in line.chars().enumerate() {
+    for (column, c) in text.chars().enumerate() {
         let kind = CharKind::new(c);
-        if start_column < column && edge.lies_between(before, kind) {
+        if 0 < column && edge.lies_between(before, kind) {
             return Some(column);
         }
         before = kind;
@@ -110,32 +123,66 @@ pub fn find_word_inclusive_end_forward(line: &str, start_column: usize) -> Optio
     ensures value { result ≡ next_word_last (chars line.now) start_column }
     ensures within { IfSome result (λ e. (start_column ≤ e) × (e < length (chars line.now))) }
 {
+    match find_word_last(text_from(line, start_column)) {
+        Some(column) => Some(start_column + column),
+        None => None,
+    }
+}
+
+/// Returns the least column that has a word's last character.
+fn find_word_last(text: &str) -> Option<usize>
+    ensures least { IsLeast (is_word_last_from (chars text.now) 0) result }
+    ensures within { IfSome result (λ e. e < length (chars text.now)) }
+{
     let mut before = CharKind::Space;
     let mut count = 0;
-    for c in line.chars() {
+    for c in text.chars() {
         let kind = CharKind::new(c);
-        if start_column < count && before.ends_word(kind) {
+        if 0 < count && before.ends_word(kind) {
             return Some(count - 1);
         }
         before = kind;
         count += 1;
     }
-    if start_column < count && before.ends_word(CharKind::Space) {
+    if 0 < count && before.ends_word(CharKind::Space) {
         Some(count - 1)
     } else {
         None
     }
 }
 
-/// Returns the greatest column before `start_column` at which a word begins.
+// The number of columns before a start column in which a search backward looks first.
+const NEAR: usize = 64;
+
+/// Returns the greatest column before `start_column` at which a word begins. Reads the columns near
+/// `start_column`, and ever more of those before it until a word begins in them.
 pub fn find_word_start_backward(line: &str, start_column: usize) -> Option<usize>
     ensures greatest { IsGreatest (is_earlier_word_start (chars line.now) start_column) result }
     ensures value { result ≡ previous_word_start (chars line.now) start_column }
     ensures within { IfSome result (λ e. (e < start_column) × (e < length (chars line.now))) }
 {
+    let mut near = NEAR;
+    'widening: while near < start_column {
+        let from = start_column - near;
+        if let Some(column) = find_last_word_start(text_from(line, from), near) {
+            if 0 < column {
+                return Some(from + column);
+            }
+        }
+        near = near.saturating_mul(8);
+    }
+    find_last_word_start(line, start_column)
+}
+
+/// Returns the greatest column before `end` at which a word begins. Reads the text from its start.
+fn find_last_word_start(text: &str, end: usize) -> Option<usize>
+    ensures greatest { IsGreatest (is_earlier_word_start (chars text.now) end) result }
+    ensures value { result ≡ previous_word_start (chars text.now) end }
+    ensures within { IfSome result (λ e. (e < end) × (e < length (chars text.now))) }
+{
     let mut found = None;
     let mut before = CharKind::Space;
-    for (column, c) in line.chars().take(start_column).enumerate() {
+    for (column, c) in text.chars().take(end).enumerate() {
         let kind = CharKind::new(c);
         if kind.begins_word(before) {
             found = Some(column);

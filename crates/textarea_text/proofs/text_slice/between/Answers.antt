@@ -3,7 +3,7 @@ use Rattle.std.proofs.lemmas.Grind.{common_steps}
 use Rattle.std.specs.Str.{chars}
 use Rattle.textarea_text.specs.Text.{lines_of}
 use Rattle.textarea_text.proofs.StringRows.{line_at, row_within}
-use Rattle.textarea_text.proofs.BetweenLemmas.{up_to_from_index, column_within, column_within_last, line_in_between, between_from_lines, lines_done, lines_more, lines_none}
+use Rattle.textarea_text.proofs.BetweenLemmas.{up_to_from_index, column_within_last, line_in_between, between_from_lines, lines_done, lines_more, lines_none}
 use Rattle.textarea_text.proofs.text_slice.between.Goals as goal
 
 pub slice_bounds-line-items-count : goal.slice_bounds-line-items-count
@@ -13,10 +13,6 @@ slice_bounds-line-items-count c =
 pub slice_bounds-line-items-start : goal.slice_bounds-line-items-start
 slice_bounds-line-items-start c =
     (up_to_from_index (lines_of c.args.lines.now) c.args.from c.args.to c.requires.from c.requires.to c.requires.ordered).0
-
-pub text_from-requires : goal.text_from-requires
-text_from-requires c =
-    grind (arith, common_steps, up_to_from_index (lines_of c.args.lines.now) c.args.from c.args.to c.requires.from c.requires.to c.requires.ordered, line_in_between, row_within c.args.lines.now c.args.to c.requires.to, column_within (lines_of c.args.lines.now) c.args.from c.loop-line.line-index c.loop-line.start c.requires.from c.loop-line.invariant.first c.loop-line.invariant.later)
 
 pub loop-line-preserved : goal.loop-line-preserved
 loop-line-preserved c =

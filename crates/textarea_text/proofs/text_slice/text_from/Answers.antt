@@ -6,7 +6,7 @@ use Rattle.textarea_text.proofs.text_slice.text_from.Goals as goal
 
 pub range_from-requires : goal.range_from-requires
 range_from-requires c =
-    λ _. subst (IsCharBoundary c.args.line.now) (sym c.byte_offset.ensures) (IsCharBoundary-column c.args.line.now c.args.column c.utf8.line)
+    λ _. subst (IsCharBoundary c.args.line.now) (sym c.offset_within.ensures) (IsCharBoundary-column c.args.line.now c.args.column c.utf8.line)
 
 pub returns : goal.returns
 returns c =

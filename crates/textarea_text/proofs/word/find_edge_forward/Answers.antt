@@ -1,50 +1,44 @@
-use Rattle.std.proofs.Common.{◌≡◌, true, false, Some, length, arith, sym, ◌∙◌, ap}
-use Rattle.std.proofs.lemmas.Iterator.{YieldsList-from_chars}
-use Rattle.std.proofs.lemmas.Iterator.Consumers.{YieldsList-turn, YieldsList-end, YieldsList-from_enumerate}
-use Rattle.std.proofs.lemmas.List.{length_push}
-use Rattle.std.proofs.lemmas.List.FromFn.{length-enumerate_from}
+use Rattle.std.proofs.Common.{◌≡◌, ℕ, ◌+◌, ◌<◌, true, length, arith, sym, ◌∙◌, ap}
+use Rattle.std.proofs.lemmas.List.{length-drop}
 use Rattle.std.specs.Str.{chars}
 use Rattle.textarea_text.specs.Words.{is_later_edge}
-use Rattle.textarea_text.proofs.NearestLemmas.{failed_more, least_below-none, least_below-found, IsLeast-none}
-use Rattle.textarea_text.proofs.WordLemmas.{IsTurn-enumerate_from, class_before-more, is_later_edge-turn, is_later_edge-early, is_later_edge-past}
+use Rattle.textarea_text.proofs.NearestLemmas.{least_below-none, least_below-found, least_shifted-none, least_shifted-before}
+use Rattle.textarea_text.proofs.StartLemmas.{length-chars}
+use Rattle.textarea_text.proofs.WordLemmas.{is_later_edge-drop, is_later_edge-before}
 use Rattle.textarea_text.proofs.word.find_edge_forward.Goals as goal
-use Rattle.textarea_text.proofs.word.find_edge_forward.Goals.{else-start_column-column-via-then-start_column-column+else-lies_between, else-start_column-column-via-else-start_column-column}
 
-pub returns-then-lies_between : goal.returns-then-lies_between
-returns-then-lies_between c =
+pub overflow_add-result : goal.overflow_add-result
+overflow_add-result c =
+    omega (arith, c.in-Some.ensures.within.1, length-drop c.args.start_column (chars c.args.line.now), ap length c.text_from.ensures, length-chars c.args.line.now c.utf8.line)
+
+pub returns-in-Some : goal.returns-in-Some
+returns-in-Some c =
     let line = chars c.args.line.now in
-    let t = YieldsList-turn (YieldsList-from_enumerate (YieldsList-from_chars c.args.line.now c.utf8.line cc) cc) c.loop-column.yielded _ c.loop-column.yielded_by _ _ (c.in-Some.column, c.in-Some.c) c.in-Some.is c.next.ensures.steps in
-    let turn = IsTurn-enumerate_from line (length c.loop-column.yielded) c.in-Some.column c.in-Some.c c.new-kind.result t.0 t.1 c.new-kind.ensures in
-    let here = is_later_edge-turn c.args.edge line c.args.start_column _ _ _ _ true c.if-start_column-column.true turn c.loop-column.invariant.before (sym c.lies_between.ensures ∙ c.if-lies_between.true) in
+    let start = c.args.start_column in
+    let test = is_later_edge c.args.edge line start in
+    let inner = is_later_edge c.args.edge (chars c.text_from.result.now) 0 in
+    let same : (k : ℕ) → test (start + k) ≡ inner k =
+    λ k. is_later_edge-drop c.args.edge line start k ∙ ap (λ cs. is_later_edge c.args.edge cs 0 k) (sym c.text_from.ensures) in
+    let here : test (start + c.in-Some.column) ≡ true = same c.in-Some.column ∙ c.in-Some.ensures.least.0 in
+    let failed = least_shifted-before test inner start c.in-Some.column (is_later_edge-before c.args.edge line start) same c.in-Some.ensures.least.1 in
+    let within : start + c.in-Some.column < length line = omega (arith, c.in-Some.ensures.within.1, length-drop start line, ap length c.text_from.ensures) in
     record {
-      least = rw turn.column_is (here, c.loop-column.invariant.failed);
-      value = ap Some turn.column_is ∙ sym (least_below-found (is_later_edge c.args.edge line c.args.start_column) (length c.loop-column.yielded) (length line) c.loop-column.invariant.failed here turn.within);
-      within = (c.if-start_column-column.true, rw turn.column_is turn.within);
+      least = (here, failed);
+      value = sym (least_below-found test (start + c.in-Some.column) (length line) failed here within);
+      within = (omega (arith, c.in-Some.ensures.within.0), within);
     }
 
-pub loop-column-preserved : goal.loop-column-preserved
-loop-column-preserved c =
+pub returns-in-None : goal.returns-in-None
+returns-in-None c =
     let line = chars c.args.line.now in
-    let t = YieldsList-turn (YieldsList-from_enumerate (YieldsList-from_chars c.args.line.now c.utf8.line cc) cc) c.loop-column.yielded _ c.loop-column.yielded_by _ _ (c.in-Some.column, c.in-Some.c) c.in-Some.is c.next.ensures.steps in
-    let turn = IsTurn-enumerate_from line (length c.loop-column.yielded) c.in-Some.column c.in-Some.c c.new-kind.result t.0 t.1 c.new-kind.ensures in
-    let here : is_later_edge c.args.edge line c.args.start_column (length c.loop-column.yielded) ≡ false =
-    elim c.else-start_column-column.branch [
-      | else-start_column-column-via-then-start_column-column+else-lies_between w ↦
-          is_later_edge-turn c.args.edge line c.args.start_column _ _ _ _ false w.if-start_column-column.true turn c.loop-column.invariant.before (sym w.lies_between.ensures ∙ w.if-lies_between.false)
-      | else-start_column-column-via-else-start_column-column w ↦ is_later_edge-early c.args.edge line c.args.start_column _ _ _ w.if-start_column-column.false turn
-    ] in
+    let start = c.args.start_column in
+    let test = is_later_edge c.args.edge line start in
+    let inner = is_later_edge c.args.edge (chars c.text_from.result.now) 0 in
+    let same : (k : ℕ) → test (start + k) ≡ inner k =
+    λ k. is_later_edge-drop c.args.edge line start k ∙ ap (λ cs. is_later_edge c.args.edge cs 0 k) (sym c.text_from.ensures) in
+    let none = least_shifted-none test inner start (is_later_edge-before c.args.edge line start) same c.in-None.ensures.least in
     record {
-      before = class_before-more line c.loop-column.yielded _ _ _ turn;
-      failed = rw (length_push c.loop-column.yielded (c.in-Some.column, c.in-Some.c)) (failed_more (is_later_edge c.args.edge line c.args.start_column) (length c.loop-column.yielded) c.loop-column.invariant.failed here);
-    }
-
-pub returns : goal.returns
-returns c =
-    let line = chars c.args.line.now in
-    let t = YieldsList-end (YieldsList-from_enumerate (YieldsList-from_chars c.args.line.now c.utf8.line cc) cc) c.loop-column.yielded _ c.loop-column.yielded_by _ _ c.in-None.is c.next.ensures.steps in
-    let whole : length c.loop-column.yielded ≡ length line = t.1 ∙ length-enumerate_from 0 line in
-    record {
-      least = IsLeast-none (is_later_edge c.args.edge line c.args.start_column) (length c.loop-column.yielded) c.loop-column.invariant.failed (λ e past. is_later_edge-past c.args.edge line c.args.start_column e (omega arith));
-      value = sym (least_below-none (is_later_edge c.args.edge line c.args.start_column) (length line) (λ e below. c.loop-column.invariant.failed e (omega arith)));
+      least = none;
+      value = sym (least_below-none test (length line) (λ e below. none e));
       within = tt;
     }

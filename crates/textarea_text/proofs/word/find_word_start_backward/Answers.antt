@@ -1,47 +1,27 @@
-use Rattle.std.proofs.Common.{◌≡◌, true, false, Some, length, take, min, subst, arith, sym, ◌∙◌, ap}
-use Rattle.std.proofs.lemmas.Iterator.{YieldsList-from_chars, YieldsList-from_take}
-use Rattle.std.proofs.lemmas.Iterator.Consumers.{YieldsList-turn, YieldsList-end, YieldsList-from_enumerate}
-use Rattle.std.proofs.lemmas.List.{length_push, length-take}
-use Rattle.std.proofs.lemmas.List.FromFn.{length-enumerate_from}
-use Rattle.textarea_text.specs.Nearest.{IsGreatest}
+use Rattle.std.proofs.Common.{◌≡◌, ℕ, ◌+◌, ◌-◌, ◌<◌, true, length, arith, sym, ◌∙◌, ap}
+use Rattle.std.proofs.lemmas.List.{length-drop}
 use Rattle.std.specs.Str.{chars}
 use Rattle.textarea_text.specs.Words.{is_earlier_word_start}
-use Rattle.textarea_text.proofs.NearestLemmas.{IsGreatest-greatest_below, greatest_below-here, greatest_below-more, greatest_below-past}
-use Rattle.textarea_text.proofs.WordLemmas.{IsTurn-enumerate_from, IsTurn-take, class_before-more, is_earlier_word_start-turn, is_earlier_word_start-past, IsGreatest-within}
+use Rattle.textarea_text.proofs.NearestLemmas.{greatest_below-found, greatest_shifted-after}
+use Rattle.textarea_text.proofs.WordLemmas.{is_earlier_word_start-drop}
 use Rattle.textarea_text.proofs.word.find_word_start_backward.Goals as goal
 
-pub loop-column-preserved-then-begins_word : goal.loop-column-preserved-then-begins_word
-loop-column-preserved-then-begins_word c =
+pub returns-then-column-gt0 : goal.returns-then-column-gt0
+returns-then-column-gt0 c =
     let line = chars c.args.line.now in
-    let t = YieldsList-turn (YieldsList-from_enumerate (YieldsList-from_take c.args.start_column (YieldsList-from_chars c.args.line.now c.utf8.line cc) cc) cc) c.loop-column.yielded _ c.loop-column.yielded_by _ _ (c.in-Some.column, c.in-Some.c) c.in-Some.is c.next.ensures.steps in
-    let front = IsTurn-enumerate_from (take c.args.start_column line) (length c.loop-column.yielded) c.in-Some.column c.in-Some.c c.new-kind.result t.0 t.1 c.new-kind.ensures in
-    let turn = IsTurn-take line c.args.start_column _ _ _ front in
-    let tells = is_earlier_word_start-turn line c.args.start_column _ _ _ _ true turn.0 turn.1 c.loop-column.invariant.before (sym c.begins_word.ensures ∙ c.if-begins_word.true) in
+    let start = c.args.start_column in
+    let near = c.widening.near in
+    let from = start - near in
+    let at : from + near ≡ start = omega arith in
+    let test = is_earlier_word_start line start in
+    let inner = is_earlier_word_start (chars c.text_from.result.now) near in
+    let same : (k : ℕ) → 0 < k → test (from + k) ≡ inner k =
+    λ k some. is_earlier_word_start-drop line from near start k at some ∙ ap (λ cs. is_earlier_word_start cs near k) (sym c.text_from.ensures) in
+    let here : test (from + c.in-Some.column) ≡ true = same c.in-Some.column c.if-column-gt0.true ∙ c.in-Some.ensures.greatest.0 in
+    let failed = greatest_shifted-after test inner from c.in-Some.column same c.in-Some.ensures.greatest.1 in
+    let within : from + c.in-Some.column < length line = omega (arith, c.in-Some.ensures.within.1, length-drop from line, ap length c.text_from.ensures) in
     record {
-      before = class_before-more line c.loop-column.yielded _ _ _ turn.1;
-      found = rw (length_push c.loop-column.yielded (c.in-Some.column, c.in-Some.c)) (ap Some turn.1.column_is ∙ sym (greatest_below-here (is_earlier_word_start line c.args.start_column) (length c.loop-column.yielded) tells));
-    }
-
-pub loop-column-preserved : goal.loop-column-preserved
-loop-column-preserved c =
-    let line = chars c.args.line.now in
-    let t = YieldsList-turn (YieldsList-from_enumerate (YieldsList-from_take c.args.start_column (YieldsList-from_chars c.args.line.now c.utf8.line cc) cc) cc) c.loop-column.yielded _ c.loop-column.yielded_by _ _ (c.in-Some.column, c.in-Some.c) c.in-Some.is c.next.ensures.steps in
-    let front = IsTurn-enumerate_from (take c.args.start_column line) (length c.loop-column.yielded) c.in-Some.column c.in-Some.c c.new-kind.result t.0 t.1 c.new-kind.ensures in
-    let turn = IsTurn-take line c.args.start_column _ _ _ front in
-    let tells = is_earlier_word_start-turn line c.args.start_column _ _ _ _ false turn.0 turn.1 c.loop-column.invariant.before (sym c.begins_word.ensures ∙ c.if-begins_word.false) in
-    record {
-      before = class_before-more line c.loop-column.yielded _ _ _ turn.1;
-      found = rw (length_push c.loop-column.yielded (c.in-Some.column, c.in-Some.c)) (c.loop-column.invariant.found ∙ sym (greatest_below-more (is_earlier_word_start line c.args.start_column) (length c.loop-column.yielded) tells));
-    }
-
-pub returns : goal.returns
-returns c =
-    let line = chars c.args.line.now in
-    let t = YieldsList-end (YieldsList-from_enumerate (YieldsList-from_take c.args.start_column (YieldsList-from_chars c.args.line.now c.utf8.line cc) cc) cc) c.loop-column.yielded _ c.loop-column.yielded_by _ _ c.in-None.is c.next.ensures.steps in
-    let whole : length c.loop-column.yielded ≡ min c.args.start_column (length line) = t.1 ∙ length-enumerate_from 0 (take c.args.start_column line) ∙ length-take c.args.start_column line in
-    let greatest : IsGreatest (is_earlier_word_start line c.args.start_column) c.loop-column.found = subst (IsGreatest (is_earlier_word_start line c.args.start_column)) (sym c.loop-column.invariant.found) (IsGreatest-greatest_below (is_earlier_word_start line c.args.start_column) (length c.loop-column.yielded) (λ e past. is_earlier_word_start-past line c.args.start_column e (omega arith))) in
-    record {
-      greatest = greatest;
-      value = c.loop-column.invariant.found ∙ sym (greatest_below-past (is_earlier_word_start line c.args.start_column) (length c.loop-column.yielded) (length line) (omega arith) (λ e past. is_earlier_word_start-past line c.args.start_column e (omega arith)));
-      within = IsGreatest-within line c.args.start_column c.loop-column.found greatest;
+      greatest = (here, failed);
+      value = sym (greatest_below-found test (from + c.in-Some.column) (length line) here failed within);
+      within = (omega (arith, c.in-Some.ensures.within.0, at), within);
     }

@@ -1,12 +1,8 @@
-use Rattle.std.proofs.Common.{◌≡◌, length}
-use Rattle.std.specs.Str.{chars}
-use Rattle.textarea_text.specs.Nearest.{greatest_below}
-use Rattle.textarea_text.specs.Words.{is_earlier_word_start}
-use Rattle.textarea_text.proofs.WordLemmas.{class_before}
+use Rattle.std.proofs.Common.{◌-◌, ◌<◌}
 use Rattle.textarea_text.proofs.word.find_word_start_backward.Given as goal
 
-abbrev pub invariant-loop-column : goal.invariant-loop-column
-invariant-loop-column l = record {
-  before : l.before ≡ class_before (chars l.line) (length l.yielded);
-  found : l.found ≡ greatest_below (is_earlier_word_start (chars l.line) l.start_column) (length l.yielded);
-}
+abbrev pub invariant-widening : goal.invariant-widening
+invariant-widening l = 0 < l.near
+
+abbrev pub decreases-widening : goal.decreases-widening
+decreases-widening l = l.start_column - l.near

@@ -2,10 +2,10 @@ use Rattle.std.proofs.Common.{◌≡◌, ℕ, ◌<◌, false, length}
 use Rattle.std.specs.Str.{chars}
 use Rattle.textarea_text.specs.Words.{is_later_edge}
 use Rattle.textarea_text.proofs.WordLemmas.{class_before}
-use Rattle.textarea_text.proofs.word.find_edge_forward.Given as goal
+use Rattle.textarea_text.proofs.word.find_edge.Given as goal
 
 abbrev pub invariant-loop-column : goal.invariant-loop-column
 invariant-loop-column l = record {
-  before : l.before ≡ class_before (chars l.line) (length l.yielded);
-  failed : (e : ℕ) → e < length l.yielded → is_later_edge l.edge (chars l.line) l.start_column e ≡ false;
+  before : l.before ≡ class_before (chars l.text) (length l.yielded);
+  failed : (e : ℕ) → e < length l.yielded → is_later_edge l.edge (chars l.text) 0 e ≡ false;
 }

@@ -1,0 +1,12 @@
+use Rattle.std.proofs.Common.{◌≡◌, length}
+use Rattle.std.specs.Str.{chars}
+use Rattle.textarea_text.specs.Nearest.{greatest_below}
+use Rattle.textarea_text.specs.Words.{is_earlier_word_start}
+use Rattle.textarea_text.proofs.WordLemmas.{class_before}
+use Rattle.textarea_text.proofs.word.find_last_word_start.Given as goal
+
+abbrev pub invariant-loop-column : goal.invariant-loop-column
+invariant-loop-column l = record {
+  before : l.before ≡ class_before (chars l.text) (length l.yielded);
+  found : l.found ≡ greatest_below (is_earlier_word_start (chars l.text) l.end) (length l.yielded);
+}
