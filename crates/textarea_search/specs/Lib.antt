@@ -3,3 +3,4 @@ pub mod PatternErrors
 pub mod Matches
 pub mod Spans
 pub mod Starts
+pub mod BytePairs

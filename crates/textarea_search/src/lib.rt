@@ -1,6 +1,8 @@
 //! Patterns that are compiled from a text, and searches for them in lines.
 #![tactic(auto)]
 
+mod byte_pair;
 pub mod error;
+mod line_finder;
 pub mod pattern;
 pub mod search;

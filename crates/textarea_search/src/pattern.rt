@@ -6,7 +6,7 @@ ghost use Rattle.textarea_search.specs.Spans.{IsNeedleOf, ListsMatchesOf};
 ghost use Rattle.textarea_search.specs.Starts.{IsTreeOf};
 
 use crate::error::SearchError;
-use memchr::memmem::Finder;
+use crate::line_finder::LineFinder;
 use regex::{Matcher, Regex, escape};
 use std::alloc::{AllocError, Global};
 use std::marker::Model;
@@ -98,12 +98,12 @@ impl Pattern {
     }
 
     /// Returns a finder of a text that each match has: the pattern itself, if it has no syntax.
-    pub(crate) fn finder(&self) -> Option<Finder<'_>>
+    pub(crate) fn finder(&self) -> Option<LineFinder<'_>>
         ensures { IfSome result (λ needle. (tree : Re) → ListsMatchesOf self.now tree →
             IsNeedleOf needle tree) }
     {
         if self.plain {
-            Some(Finder::new(self.text().as_bytes()))
+            Some(LineFinder::new(self.text().as_bytes()))
         } else {
             None
         }

@@ -4,15 +4,15 @@ ghost use Rattle.regex.specs.Strings.{matcher_pattern};
 ghost use Rattle.textarea_search.specs.Spans.{IsNeedleOf, columns_in};
 ghost use Rattle.textarea_search.specs.Starts.{along, bytes_at, is_ahead_in_line, starts_by, found_start, IsPlaceFrom, IsPlaceIn};
 
+use crate::line_finder::LineFinder;
 use crate::search::direction::Direction;
 use crate::search::listed::{column_ahead, end_column_with};
-use memchr::memmem::Finder;
 use regex::Matcher;
 
 /// Returns the first position in these lines at which a match starts.
 fn first_start(
     matcher: &mut Matcher<'_>,
-    needle: &Option<Finder<'_>>,
+    needle: &Option<LineFinder<'_>>,
     lines: &[String],
     first_row: usize,
 ) -> Option<(usize, usize)>
@@ -34,7 +34,7 @@ fn first_start(
 /// Returns the last position in these lines at which a match starts.
 fn last_start(
     matcher: &mut Matcher<'_>,
-    needle: &Option<Finder<'_>>,
+    needle: &Option<LineFinder<'_>>,
     lines: &[String],
     first_row: usize,
 ) -> Option<(usize, usize)>
@@ -59,7 +59,7 @@ fn last_start(
 /// at it. It wraps around at either end of the text.
 pub(crate) fn found_start(
     matcher: &mut Matcher<'_>,
-    needle: &Option<Finder<'_>>,
+    needle: &Option<LineFinder<'_>>,
     direction: Direction,
     lines: &[String],
     cursor: (usize, usize),
@@ -82,7 +82,7 @@ pub(crate) fn found_start(
 /// the search's direction from it.
 pub(crate) fn start_beyond(
     matcher: &mut Matcher<'_>,
-    needle: &Option<Finder<'_>>,
+    needle: &Option<LineFinder<'_>>,
     direction: Direction,
     lines: &[String],
     row: usize,

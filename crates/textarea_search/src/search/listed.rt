@@ -7,8 +7,8 @@ ghost use Rattle.textarea_search.specs.Columns.{column_of_byte};
 ghost use Rattle.textarea_search.specs.Spans.{IsNeedleOf, spans_after, columns_in};
 ghost use Rattle.textarea_search.specs.Starts.{along, is_ahead_in_line, is_past};
 
+use crate::line_finder::LineFinder;
 use crate::search::direction::Direction;
-use memchr::memmem::Finder;
 use regex::{Match, Matcher};
 use std::alloc::AllocError;
 use textarea_text::rows::{byte_offset, column_count};
@@ -219,7 +219,7 @@ pub(crate) fn column_ahead(
 /// Does the same as `end_column`, but passes over a line that lacks a text that each match has.
 pub(crate) fn end_column_with(
     matcher: &mut Matcher<'_>,
-    needle: &Option<Finder<'_>>,
+    needle: &Option<LineFinder<'_>>,
     line: &str,
     direction: Direction,
 ) -> Option<usize>
