@@ -25,49 +25,11 @@
 # that of this repository. A row whose program is missing has dashes. A run takes some twenty
 # minutes.
 # usage: bench/table.sh [CRATES] > bench/RESULTS.md
-set -e
-crates=${1:-$(dirname "$0")/../crates}
+. "$(dirname "$0")/measure.sh"
 sizes=(1000 10000 100000 1000000)
-script=$(mktemp /tmp/bench_table.XXXXXX)
-trap 'rm -f "$script" "$script.held"' EXIT
-
-program() { echo "$crates/$1/out/$1"; }
-
-# the nanoseconds of processor time that one run of a program takes on the script
-run_time() {
-    local TIMEFORMAT='%U %S'
-    { time "$1" < "$script" > /dev/null 2>&1; } 2>&1 | awk '{ printf "%.0f", ($1 + $2) * 1e9 }'
-}
-
-# the same, for the fastest of $2 runs
-best() {
-    local fastest= taken
-    for (( turn = 0; turn < $2; turn++ )); do
-        taken=$(run_time "$1")
-        if [ -z "$fastest" ] || [ "$taken" -lt "$fastest" ]; then fastest=$taken; fi
-    done
-    echo "$fastest"
-}
 
 # the number of runs at a size
 turns() { if [ "$1" -ge 1000000 ]; then echo 3; else echo 8; fi; }
-
-# a row: its label, its unit, and a value for each size
-row() {
-    local what=$1 unit=$2 first= last=
-    shift 2
-    printf '| %s | %s |' "$what" "$unit"
-    for value in "$@"; do
-        printf ' %s |' "$value"
-        if [ "$value" != - ]; then first=${first:-$value}; last=$value; fi
-    done
-    awk -v first="$first" -v last="$last" 'BEGIN { if (first > 0) printf " %.2f |\n", last / first; else print " - |" }'
-}
-
-# a row that isn't measured
-unmeasured() { row "$1" "$2" - - - -; }
-
-quotient() { awk -v n="$1" -v d="$2" 'BEGIN { printf "%.2f", n / d }'; }
 
 # the microseconds of one job: its topic, its word, the size, and the number of times it is done
 once() {
@@ -262,12 +224,10 @@ run_row() {
     row "$1" "bytes a byte" "${held[@]}"
 }
 
-model=$(sed -n 's/^model name[^:]*: //p' /proc/cpuinfo | head -n 1)
 cat << END
 # Measurements
 
-Made by \`bench/table.sh > bench/RESULTS.md\` on $(date -u +%F), with commit
-$(git -C "$(dirname "$0")" rev-parse --short HEAD), on $(nproc) processors: ${model:-unknown}.
+$(made_by 'bench/table.sh > bench/RESULTS.md')
 
 Times are processor time, the fastest of some runs, less the time of the same program with nothing
 to do. The last column is the last value divided by the first. A dash: not measured.
