@@ -21,14 +21,6 @@ pub struct Handle {
 }
 
 impl Handle {
-    #[cfg(test)]
-    pub(crate) fn empty(alloc: Global) -> Handle {
-        Handle {
-            stored: Held::empty(alloc),
-            full: false,
-        }
-    }
-
     /// Takes the editor behind the handle, which is empty then.
     pub(crate) fn take(&mut self, alloc: Global) -> Option<Box<Editor>>
         ensures taken { option_map box_value result ≡ self.old.stored.content }
