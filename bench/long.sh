@@ -10,6 +10,7 @@
 #   lines.
 # - In a line that is wrapped at each 80 columns, and in wrapped lines of ten characters, at the
 #   end: the position that a cell shows, and Up and Down.
+# - Forward and Back in a line that isn't wrapped, by characters and by words.
 # - A key and then a frame of 80 by 24, and only a frame. A key is in turns a character and
 #   Backspace.
 # - Forward and Back over the ranges of a line, and a call that sets them all.
@@ -118,7 +119,7 @@ ranges() {
 moves_over_ranges() {
     ranged_line "$1"
     ranges "$1"
-    again "$2" <<< $'move Forward\nmove Back'
+    again "$2" <<< "$there_and_back"
 }
 
 set_ranges() {
@@ -153,6 +154,8 @@ frames() {
 
 frame='render 0 0 80 24'
 key=$'input - Char a\n'$frame$'\ninput - Backspace\n'$frame
+there_and_back=$'move Forward\nmove Back'
+by_words=$'move WordForward\nmove WordBack\nmove WordEnd\nmove WordBack'
 up_down=$'move Up\nmove Up\nmove Down\nmove Down'
 glyph=$'set_wrap_mode Glyph\n'$frame
 forward='search_forward false'
@@ -187,6 +190,8 @@ size_row "the same at the end of wrapped lines, by lines" microseconds 1000 1000
 size_row "Up or Down at the end of a wrapped line, by its length" microseconds 4000 10000000 in_line 'word ' size-20 "$glyph" "$up_down"
 size_row "the same, of characters of two bytes" microseconds 4000 10000000 in_line 'éàüöß' size-20 "$glyph" "$up_down"
 size_row "the same at the end of wrapped lines, by lines" microseconds 4000 1000000 in_lines size-1 '' "$glyph" "$up_down"
+size_row "Forward or Back in a line's middle, by its length" microseconds 2000 10000000 in_line 'word ' size/2 '' "$there_and_back"
+size_row "the same by words" microseconds 4000 10000000 in_line 'word ' size/2 '' "$by_words"
 size_row "a key and a frame, not wrapped, at the line's end, by its length" microseconds 2000 10000000 in_line 'word ' size "$frame" "$key"
 size_row "the same in its middle" microseconds 2000 10000000 in_line 'word ' size/2 "$frame" "$key"
 size_row "the same at the end, wrapped at words" microseconds 2000 10000000 in_line 'word ' size $'set_wrap_mode Word\n'"$frame" "$key"
