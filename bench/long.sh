@@ -1,10 +1,10 @@
 #!/bin/bash
 # Prints a part of the page bench/RESULTS.md: what scripts of `tascript` cost where a line is long,
 # or a text has many lines, matches, ranges or bytes, by their number, from 1,000 to 10,000,000. In
-# a long line the cursor is at the end or in the middle, and stays near there. Times are processor
-# time, the fastest of some runs, less that of the same script without the calls of the row, and
-# less that of reading the commands; the printing of a call's result is in it. A row makes its calls
-# as often as takes at least 50 ms.
+# a long line the cursor begins at the end or in the middle; only searches move it on. Times are
+# processor time, the fastest of some runs, less that of the same script without the calls of the
+# row, and less that of reading the commands; the printing of a call's result is in it. A row makes
+# its calls as often as takes at least 50 ms.
 # - In a line full of matches: the next match, forward and back, where the match before was found in
 #   the same line; and a pattern that is set, and its first search. Then a text in the last of all
 #   lines.
