@@ -1,8 +1,8 @@
 #!/bin/bash
-# Prints the page bench/RESULTS.md: one table of what keys, frames, cuts and scripts cost, at 1,000,
-# 10,000, 100,000 and 1,000,000 lines, characters or commands, and the last time divided by the
-# first. Times are processor time, the fastest of some runs, less the time of the same program on
-# the same text with nothing done to it.
+# Prints the first part of the page bench/RESULTS.md: one table of what keys, frames, cuts and
+# scripts cost, at 1,000, 10,000, 100,000 and 1,000,000 lines, characters or commands, and the last
+# time divided by the first. Times are processor time, the fastest of some runs, less the time of
+# the same program on the same text with nothing done to it.
 # - A key in a wrapped text of lines of 80 columns: into a line of some 1,000 characters, which is
 #   wrapped from scratch; one that gives a line a second row, or removes it; and in turns a line
 #   break and Backspace, in the first line, which moves all lines after it, and in the last one,
@@ -22,9 +22,9 @@
 #   many lines of 100 bytes, and that many short commands. If GNU time is installed, also the peak
 #   memory for each byte of the script, and the same if the `set_lines` is run and printed.
 # CRATES is the folder of the crates in which `rt run` built textarea_bench and tascript, by default
-# that of this repository. A row whose program is missing has dashes. A run takes some twenty
+# that of this repository. A row whose program is missing has dashes. A run takes some ten
 # minutes.
-# usage: bench/table.sh [CRATES] > bench/RESULTS.md
+# usage: bench/table.sh [CRATES]
 . "$(dirname "$0")/measure.sh"
 sizes=(1000 10000 100000 1000000)
 
@@ -227,7 +227,7 @@ run_row() {
 cat << END
 # Measurements
 
-$(made_by 'bench/table.sh > bench/RESULTS.md')
+$(made_by 'bench/table.sh')
 
 Times are processor time, the fastest of some runs, less the time of the same program with nothing
 to do. The last column is the last value divided by the first. A dash: not measured.
