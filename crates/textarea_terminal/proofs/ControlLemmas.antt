@@ -1,9 +1,10 @@
 -- Controls one after another, and what was written of them.
-use Rattle.std.proofs.Common.{◌≡◌, ℕ, ◌+◌, arith, List, [], ◌∷◌, ◌++◌, refl, sym, ap, ◌∙◌, append_assoc}
-use Rattle.std.proofs.lemmas.List.{append-nil}
+use Rattle.std.proofs.Common.{◌≡◌, ℕ, ◌+◌, arith, List, [], ◌∷◌, ◌++◌, length, refl, sym, ap, ◌∙◌, append_assoc}
+use Rattle.std.proofs.lemmas.List.{append-nil, length-append}
+use Rattle.std.proofs.lemmas.List.Elements.{filter-append, filter_map-append}
+use Rattle.std.specs.List.{filter}
 use Rattle.textarea_terminal.specs.Control.{Control, control_bytes, bytes_of}
-use Rattle.textarea_terminal.specs.Control.Control.{Print, MoveTo, SetPen, EraseAll, ShowCursor, HideCursor, BeginUpdate, EndUpdate}
-use Rattle.textarea_terminal.specs.Paint.{Wrote, prints_of, moves_of, pens_of}
+use Rattle.textarea_terminal.specs.Paint.{Wrote, printed_text, prints_of, is_move, moves_of, is_pen_change, pens_of}
 use Rattle.textarea_terminal.specs.Screen.{Terminal, apply_control, run}
 
 pub bytes_of-append : (xs ys : List Control) → bytes_of (xs ++ ys) ≡ bytes_of xs ++ bytes_of ys
@@ -15,37 +16,13 @@ run-append [] ys terminal = refl
 run-append (x ∷ xs) ys terminal = run-append xs ys (apply_control x terminal)
 
 pub prints_of-append : (xs ys : List Control) → prints_of (xs ++ ys) ≡ prints_of xs ++ prints_of ys
-prints_of-append [] ys = refl
-prints_of-append (Print text ∷ xs) ys = ap (λ texts. text ∷ texts) (prints_of-append xs ys)
-prints_of-append (MoveTo row column ∷ xs) ys = prints_of-append xs ys
-prints_of-append (SetPen renditions ∷ xs) ys = prints_of-append xs ys
-prints_of-append (EraseAll ∷ xs) ys = prints_of-append xs ys
-prints_of-append (ShowCursor ∷ xs) ys = prints_of-append xs ys
-prints_of-append (HideCursor ∷ xs) ys = prints_of-append xs ys
-prints_of-append (BeginUpdate ∷ xs) ys = prints_of-append xs ys
-prints_of-append (EndUpdate ∷ xs) ys = prints_of-append xs ys
+prints_of-append = filter_map-append printed_text
 
 pub moves_of-append : (xs ys : List Control) → moves_of (xs ++ ys) ≡ moves_of xs + moves_of ys
-moves_of-append [] ys = omega arith
-moves_of-append (Print text ∷ xs) ys = moves_of-append xs ys
-moves_of-append (MoveTo row column ∷ xs) ys = omega (arith, moves_of-append xs ys)
-moves_of-append (SetPen renditions ∷ xs) ys = moves_of-append xs ys
-moves_of-append (EraseAll ∷ xs) ys = moves_of-append xs ys
-moves_of-append (ShowCursor ∷ xs) ys = moves_of-append xs ys
-moves_of-append (HideCursor ∷ xs) ys = moves_of-append xs ys
-moves_of-append (BeginUpdate ∷ xs) ys = moves_of-append xs ys
-moves_of-append (EndUpdate ∷ xs) ys = moves_of-append xs ys
+moves_of-append xs ys = ap length (filter-append is_move xs ys) ∙ length-append (filter is_move xs) (filter is_move ys)
 
 pub pens_of-append : (xs ys : List Control) → pens_of (xs ++ ys) ≡ pens_of xs + pens_of ys
-pens_of-append [] ys = omega arith
-pens_of-append (Print text ∷ xs) ys = pens_of-append xs ys
-pens_of-append (MoveTo row column ∷ xs) ys = pens_of-append xs ys
-pens_of-append (SetPen renditions ∷ xs) ys = omega (arith, pens_of-append xs ys)
-pens_of-append (EraseAll ∷ xs) ys = pens_of-append xs ys
-pens_of-append (ShowCursor ∷ xs) ys = pens_of-append xs ys
-pens_of-append (HideCursor ∷ xs) ys = pens_of-append xs ys
-pens_of-append (BeginUpdate ∷ xs) ys = pens_of-append xs ys
-pens_of-append (EndUpdate ∷ xs) ys = pens_of-append xs ys
+pens_of-append xs ys = ap length (filter-append is_pen_change xs ys) ∙ length-append (filter is_pen_change xs) (filter is_pen_change ys)
 
 -- one control was written
 pub Wrote-one : {before after : List ℕ} {holds : List Control → Type 0} (control : Control) → after ≡ before ++ control_bytes control → holds (control ∷ []) → Wrote before after holds

@@ -1,5 +1,6 @@
 -- What painting does to a terminal, and which bytes it takes.
 use Rattle.std.specs.Prelude.{◌≡◌, ℕ, ◌+◌, ◌%◌, ◌<◌, ◌≤◌, true, false, Bool, not, ◌&&◌, ◌==◌, List, [], ◌∷◌, ◌++◌, ◌⊎◌, ◌≢◌, length, take, drop, replicate, Option, None, Some, IfSome, is_some, if◌then◌else◌}
+use Rattle.std.specs.List.{filter, filter_map}
 use Rattle.std.specs.Option.{option_or}
 use Rattle.textarea_screen.specs.Cell.{CellView, fresh_cell}
 use Rattle.textarea_terminal.specs.Control.{Control, bytes_of}
@@ -16,41 +17,32 @@ pub record Wrote (before after : List ℕ) (holds : List Control → Type 0) : T
   pub bytes : after ≡ before ++ bytes_of controls
   pub with_ranges : holds controls
 
+-- the text that a control prints
+abbrev pub printed_text : Control → Option (List ℕ)
+printed_text (Print text) = Some text
+printed_text control = None
+
 -- the texts that controls print, in order
 abbrev pub prints_of : List Control → List (List ℕ)
-prints_of [] = []
-prints_of (Print text ∷ controls) = text ∷ prints_of controls
-prints_of (MoveTo row column ∷ controls) = prints_of controls
-prints_of (SetPen renditions ∷ controls) = prints_of controls
-prints_of (EraseAll ∷ controls) = prints_of controls
-prints_of (ShowCursor ∷ controls) = prints_of controls
-prints_of (HideCursor ∷ controls) = prints_of controls
-prints_of (BeginUpdate ∷ controls) = prints_of controls
-prints_of (EndUpdate ∷ controls) = prints_of controls
+prints_of controls = filter_map printed_text controls
+
+-- whether a control moves the cursor
+abbrev pub is_move : Control → Bool
+is_move (MoveTo row column) = true
+is_move control = false
 
 -- the number of moves of the cursor
 abbrev pub moves_of : List Control → ℕ
-moves_of [] = 0
-moves_of (Print text ∷ controls) = moves_of controls
-moves_of (MoveTo row column ∷ controls) = moves_of controls + 1
-moves_of (SetPen renditions ∷ controls) = moves_of controls
-moves_of (EraseAll ∷ controls) = moves_of controls
-moves_of (ShowCursor ∷ controls) = moves_of controls
-moves_of (HideCursor ∷ controls) = moves_of controls
-moves_of (BeginUpdate ∷ controls) = moves_of controls
-moves_of (EndUpdate ∷ controls) = moves_of controls
+moves_of controls = length (filter is_move controls)
+
+-- whether a control changes the pen
+abbrev pub is_pen_change : Control → Bool
+is_pen_change (SetPen renditions) = true
+is_pen_change control = false
 
 -- the number of changes of the pen
 abbrev pub pens_of : List Control → ℕ
-pens_of [] = 0
-pens_of (Print text ∷ controls) = pens_of controls
-pens_of (MoveTo row column ∷ controls) = pens_of controls
-pens_of (SetPen renditions ∷ controls) = pens_of controls + 1
-pens_of (EraseAll ∷ controls) = pens_of controls
-pens_of (ShowCursor ∷ controls) = pens_of controls
-pens_of (HideCursor ∷ controls) = pens_of controls
-pens_of (BeginUpdate ∷ controls) = pens_of controls
-pens_of (EndUpdate ∷ controls) = pens_of controls
+pens_of controls = length (filter is_pen_change controls)
 
 -- ---- the steps of painting
 
