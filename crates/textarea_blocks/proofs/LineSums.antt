@@ -1,9 +1,7 @@
 -- Sums over lines, of their visual rows and of their sizes, as lines are replaced.
 use Rattle.std.proofs.Common.{◌≡◌, ℕ, ◌+◌, ◌-◌, ◌<◌, ◌≤◌, List, [], ◌∷◌, ◌++◌, length, take, drop, get_or, sym, ap, ◌∙◌, arith}
 use Rattle.std.proofs.lemmas.List.{take_more, take-append-drop, drop-drop}
-use Rattle.textarea_wrap.specs.RowsView.{RowsView}
-use Rattle.textarea_util.specs.Replaced.{replaced}
-use Rattle.textarea_blocks.specs.Sums.{line_bytes, row_total, size_total}
+use Rattle.textarea_blocks.specs.Prelude.{RowsView, replaced, line_bytes, row_total, size_total}
 use Rattle.textarea_blocks.proofs.Numbers.{row_total-append}
 
 pub size_total-append : (rows more : List RowsView) → size_total (rows ++ more) ≡ size_total rows + size_total more

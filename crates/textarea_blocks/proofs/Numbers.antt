@@ -1,13 +1,11 @@
 -- The number of visual rows of lines, as lines are replaced.
 use Rattle.std.proofs.lemmas.Grind.{common_steps}
-use Rattle.std.proofs.Common.{◌≡◌, ℕ, ◌+◌, ◌-◌, ◌≤◌, ◌<◌, List, [], ◌∷◌, ◌++◌, length, take, drop, get_or, map, sum_by, sym, ap, refl, ◌∙◌, arith}
+use Rattle.std.proofs.Common.{◌≡◌, ℕ, ◌+◌, ◌≤◌, ◌<◌, List, [], ◌∷◌, ◌++◌, length, take, drop, get_or, map, sum_by, sym, ap, refl, ◌∙◌, arith}
 use Rattle.std.proofs.lemmas.List.{take_all, take_more, take-append-drop}
 use Rattle.std.proofs.lemmas.Bool.{cases_lt}
 use Rattle.std.proofs.lemmas.List.Sums.{sum_by-cons}
 use Rattle.std.proofs.Math.Seq.{take-add}
-use Rattle.textarea_wrap.specs.RowsView.{RowsView}
-use Rattle.textarea_blocks.specs.Sums.{row_total}
-use Rattle.textarea_util.specs.Replaced.{replaced}
+use Rattle.textarea_blocks.specs.Prelude.{RowsView, row_total, replaced}
 
 pub row_total-append : (rows more : List RowsView) → row_total (rows ++ more) ≡ row_total rows + row_total more
 row_total-append [] more = omega arith

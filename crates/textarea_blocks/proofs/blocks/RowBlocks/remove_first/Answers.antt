@@ -1,11 +1,8 @@
 use Rattle.std.proofs.lemmas.Grind.{common_steps}
 use Rattle.std.proofs.Common.{◌≡◌, ◌+◌, ◌-◌, ◌<◌, ◌≤◌, ◌∙◌, List, [], ap, arith, get_or, length, set, ℕ}
 use Rattle.std.proofs.lemmas.List.{length-set}
-use Rattle.textarea_util.specs.Replaced.{replaced}
+use Rattle.textarea_blocks.specs.Prelude.{replaced, RowsView, BlocksView, all_rows, lines_before, row_total}
 use Rattle.textarea_util.proofs.Replacing.{length-replaced}
-use Rattle.textarea_wrap.specs.RowsView.{RowsView}
-use Rattle.textarea_blocks.specs.Blocks.{BlocksView, all_rows, lines_before}
-use Rattle.textarea_blocks.specs.Sums.{row_total}
 use Rattle.textarea_blocks.proofs.Exchanging.{first_removed}
 use Rattle.textarea_blocks.proofs.InBlocks.{before_more, before_ordered, before_set, before_within, block_count, block_ordered, block_replaced, blocks_replaced, lines_sum, rows_are, rows_sum}
 use Rattle.textarea_blocks.proofs.Numbers.{row_total-replaced, row_total-span}
