@@ -2,7 +2,7 @@
 use Rattle.std.proofs.lemmas.Grind.{common_steps}
 use Rattle.std.proofs.Common.{◌≡◌, ℕ, ◌+◌, ◌-◌, ◌^◌, ◌<◌, ◌≤◌, inl, inr, List, [], ◌∷◌, ◌++◌, length, take, drop, get_or, set, sym, ap, refl, ◌∙◌, arith}
 use Rattle.std.proofs.lemmas.Bool.{cases_lt}
-use Rattle.std.proofs.lemmas.List.{drop-set-lt, get_or-append-add, get_or-append_right, get_or_append_left, get_or-drop, get_or-set_same, get_or-take, length-append, length-set, length-take-le, take-append-le, take-set-le, take-take}
+use Rattle.std.proofs.lemmas.List.{drop-set-lt, get_or-append-add, get_or-append_right, get_or_append_left, get_or-drop, get_or-set_same, get_or-take, length-append, length-set, length-take-le, take-append-drop, take-append-le, take-set-le, take-take}
 use Rattle.std.proofs.Math.Seq.{take-append-add}
 use Rattle.textarea_blocks.specs.Prelude.{RowsView, replaced, Exchanged, all_rows, AreExchanged, AreShifted, AreTotals, CanShift}
 use Rattle.textarea_util.proofs.Replacing.{length-replaced}
@@ -54,6 +54,19 @@ total_set total sum blocks block k rows within after =
 pub all_set : (total : Sum) → IsSum total → (blocks : List (List RowsView)) (block : ℕ) (rows : List RowsView) → block < length blocks → total (all_rows (set blocks block rows)) + total (get_or blocks block []) ≡ total (all_rows blocks) + total rows
 all_set total sum blocks block rows within =
     grind (arith, common_steps, total_set total sum blocks block (length blocks) rows within within, before_all, length-set blocks block rows)
+
+-- which is not more if its first lines are removed
+pub all_cut : (total : Sum) → IsSum total → (blocks : List (List RowsView)) (block count : ℕ) → block < length blocks → total (all_rows (set blocks block (replaced (get_or blocks block []) 0 count []))) ≤ total (all_rows blocks)
+all_cut total sum blocks block count within =
+    let here = get_or blocks block [] in
+    let size : 0 + count ≡ count = omega arith in
+    omega (
+      arith,
+      all_set total sum blocks block (replaced here 0 count []) within,
+      ap (λ n. total (drop n here)) size,
+      ap total (take-append-drop count here),
+      sum (take count here) (drop count here),
+    )
 
 pub totals_set : (total : Sum) → IsSum total → (blocks : List (List RowsView)) (numbers now : List ℕ) (block gone come : ℕ) (rows : List RowsView) → AreTotals total blocks numbers → block < length blocks → total rows + gone ≡ total (get_or blocks block []) + come → AreShifted numbers now (block + 1) gone come → AreTotals total (set blocks block rows) now
 totals_set total sum blocks numbers now block gone come rows h within turned shifted =
