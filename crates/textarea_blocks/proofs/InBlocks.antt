@@ -1,14 +1,10 @@
 -- Rows in blocks: totals before a block, the block of a line, and all rows after one block changed.
 use Rattle.std.proofs.lemmas.Grind.{common_steps}
 use Rattle.std.proofs.Common.{◌≡◌, ℕ, zero, suc, ◌+◌, ◌-◌, ◌<◌, ◌≤◌, inl, inr, List, Result, Ok, Err, cond, [], ◌∷◌, ◌++◌, Vec, length, take, drop, get_or, set, vec_len, vec_capacity, sym, ap, refl, ◌∙◌, arith}
-use Rattle.std.specs.Result.{IsOk, is_ok}
+use Rattle.textarea_blocks.specs.Prelude.{IsOk, is_ok, RowsView, replaced, IsBlockOf, IsEdge, all_rows, lines_before, rows_of_each, spare_of_each, marks_at, ranges_at, row_total}
 use Rattle.std.proofs.lemmas.Bool.{cases_lt}
 use Rattle.std.proofs.lemmas.List.{append-nil, append_assoc, drop-append-le, drop_all, drop_at, drop-drop, drop_more, get_or-append-add, get_or_append_left, get_or-map, get_or-set_same, length-append, length-drop, length-map, map-append, length-set, map-set, set_split, take_all, take-append-drop, take-append-le, take-map, take_more, take_more_set, take-set-le, drop-map, drop-set-lt}
 use Rattle.std.proofs.Math.Seq.{take-add, take-append-add}
-use Rattle.textarea_wrap.specs.RowsView.{RowsView}
-use Rattle.textarea_util.specs.Replaced.{replaced}
-use Rattle.textarea_blocks.specs.Blocks.{IsBlockOf, IsEdge, all_rows, lines_before, rows_of_each, spare_of_each}
-use Rattle.textarea_blocks.specs.Sums.{marks_at, ranges_at, row_total}
 use Rattle.textarea_blocks.proofs.Numbers.{row_total-append}
 use Rattle.textarea_blocks.proofs.LineSums.{IsSum, Sum}
 

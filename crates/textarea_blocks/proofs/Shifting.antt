@@ -1,9 +1,9 @@
 -- Numbers stored as items, with a pending difference from one index on.
 use Rattle.std.proofs.lemmas.Grind.{common_steps}
-use Rattle.std.proofs.Common.{◌≡◌, ℕ, zero, suc, ◌+◌, ◌-◌, ◌^◌, ◌<◌, ◌≤◌, List, [], ◌∷◌, Vec, length, get_or, vec_len, sym, ap, refl, ◌∙◌, arith}
+use Rattle.std.proofs.Common.{◌≡◌, ℕ, zero, suc, ◌+◌, ◌-◌, ◌<◌, ◌≤◌, List, [], ◌∷◌, length, get_or, sym, ap, refl, ◌∙◌, arith}
 use Rattle.std.proofs.lemmas.Bool.{cases_lt}
 use Rattle.std.proofs.lemmas.Grind.{same_number_lists}
-use Rattle.textarea_blocks.specs.Shifted.{CanShift, shifted_numbers}
+use Rattle.textarea_blocks.specs.Shifted.{AreShifted, CanShift, shifted_numbers}
 
 -- ---- the numbers one by one
 
@@ -37,33 +37,33 @@ not_turned zero (item ∷ items) = grind (arith, common_steps, not_turned zero i
 not_turned (suc from) (item ∷ items) = ap (λ t. item ∷ t) (not_turned from items)
 
 -- once the difference is added, the items are the numbers
-pub settled : {A : Type 0} (items now : Vec ℕ A) (from less more : ℕ) → vec_len now ≡ vec_len items → ((k : ℕ) → k < from → get_or now.items k 0 ≡ get_or items.items k 0) → ((k : ℕ) → from ≤ k → k < vec_len items → get_or now.items k 0 + less ≡ get_or items.items k 0 + more) → now.items ≡ shifted_numbers from less more items.items
-settled {A} items now from less more size above moved =
-    grind (arith, common_steps, same_number_lists, length-turned from less more items.items, cases_lt, turned_above, shifted_after)
+pub settled : (items now : List ℕ) (from less more : ℕ) → AreShifted items now from less more → now ≡ shifted_numbers from less more items
+settled items now from less more turned =
+    grind (arith, common_steps, same_number_lists, length-turned from less more items, cases_lt, turned_above, shifted_after)
 
 -- ---- a second difference from the same index on
 
 -- the numbers with both differences: `l` and `m` combine them
 pub record AreJoined (items old : List ℕ) (from gone come l m : ℕ) : Type 0 where
   pub can : CanShift items from l m
-  pub above : (k : ℕ) → k < from → get_or (shifted_numbers from l m items) k 0 ≡ get_or old k 0
-  pub moved : (k : ℕ) → from ≤ k → k < length old → get_or (shifted_numbers from l m items) k 0 + gone ≡ get_or old k 0 + come
-  pub len : length (shifted_numbers from l m items) ≡ length old
+  pub shifted : AreShifted old (shifted_numbers from l m items) from gone come
 
-pub joined : (items old : List ℕ) (from less more gone come l m : ℕ) → shifted_numbers from less more items ≡ old → CanShift items from less more → ((k : ℕ) → from ≤ k → k < length old → gone ≤ get_or old k 0 + come) → ((k : ℕ) → from ≤ k → k < length old → get_or old k 0 + come < 2 ^ 64) → l ≡ less + gone - (more + come) → m ≡ more + come - (less + gone) → AreJoined items old from gone come l m
-joined items old from less more gone come l m is can enough small l_is m_is =
+pub joined : (items old : List ℕ) (from less more gone come l m : ℕ) → shifted_numbers from less more items ≡ old → CanShift items from less more → CanShift old from gone come → l ≡ less + gone - (more + come) → m ≡ more + come - (less + gone) → AreJoined items old from gone come l m
+joined items old from less more gone come l m is can more_can l_is m_is =
     let size : length items ≡ length old = sym (length-turned from less more items) ∙ ap length is in
     record {
       can = record {
         enough = λ k after there.
-            omega (arith, l_is, m_is, can.enough k after there, enough k after (omega (arith, there, size)), shifted_after from less more items k after there, ap (λ t. get_or t k 0) is);
+            omega (arith, l_is, m_is, can.enough k after there, more_can.enough k after (omega (arith, there, size)), shifted_after from less more items k after there, ap (λ t. get_or t k 0) is);
         small = λ k after there.
-            omega (arith, l_is, m_is, can.enough k after there, can.small k after there, small k after (omega (arith, there, size)), shifted_after from less more items k after there, ap (λ t. get_or t k 0) is);
+            omega (arith, l_is, m_is, can.enough k after there, can.small k after there, more_can.small k after (omega (arith, there, size)), shifted_after from less more items k after there, ap (λ t. get_or t k 0) is);
       };
-      above = λ k before.
-          turned_above from l m items k before ∙ sym (turned_above from less more items k before) ∙ ap (λ t. get_or t k 0) is;
-      moved = λ k after there.
-          let inside : k < length items = omega (arith, there, size) in
-          omega (arith, l_is, m_is, can.enough k after inside, enough k after there, shifted_after from less more items k after inside, ap (λ t. get_or t k 0) is, shifted_after from l m items k after inside);
-      len = length-turned from l m items ∙ size;
+      shifted = record {
+        len = length-turned from l m items ∙ size;
+        above = λ k before.
+            turned_above from l m items k before ∙ sym (turned_above from less more items k before) ∙ ap (λ t. get_or t k 0) is;
+        moved = λ k after there.
+            let inside : k < length items = omega (arith, there, size) in
+            omega (arith, l_is, m_is, can.enough k after inside, more_can.enough k after there, shifted_after from less more items k after inside, ap (λ t. get_or t k 0) is, shifted_after from l m items k after inside);
+      };
     }

@@ -1,16 +1,12 @@
 -- The numbers of lines and of visual rows before blocks, as blocks change.
 use Rattle.std.proofs.lemmas.Grind.{common_steps}
-use Rattle.std.proofs.Common.{◌≡◌, ℕ, ◌+◌, ◌-◌, ◌<◌, ◌≤◌, inl, inr, List, [], ◌∷◌, ◌++◌, length, take, drop, get_or, set, sym, ap, refl, ◌∙◌, arith}
+use Rattle.std.proofs.Common.{◌≡◌, ℕ, ◌+◌, ◌-◌, ◌^◌, ◌<◌, ◌≤◌, inl, inr, List, [], ◌∷◌, ◌++◌, length, take, drop, get_or, set, sym, ap, refl, ◌∙◌, arith}
 use Rattle.std.proofs.lemmas.Bool.{cases_lt}
-use Rattle.std.proofs.lemmas.List.{drop-set-lt, get_or-append-add, get_or-append_right, get_or_append_left, get_or-drop, get_or-set_same, get_or-take, length-append, length-set, length-take-le, take-append-le, take-set-le, take-take}
+use Rattle.std.proofs.lemmas.List.{drop-set-lt, get_or-append-add, get_or-append_right, get_or_append_left, get_or-drop, get_or-set_same, get_or-take, length-append, length-set, length-take-le, take-append-drop, take-append-le, take-set-le, take-take}
 use Rattle.std.proofs.Math.Seq.{take-append-add}
-use Rattle.textarea_wrap.specs.RowsView.{RowsView}
-use Rattle.textarea_util.specs.Replaced.{replaced}
+use Rattle.textarea_blocks.specs.Prelude.{RowsView, replaced, Exchanged, all_rows, AreExchanged, AreShifted, AreTotals, CanShift}
 use Rattle.textarea_util.proofs.Replacing.{length-replaced}
-use Rattle.textarea_blocks.specs.declared.blocks.numbers.Exchanged.{Exchanged}
-use Rattle.textarea_blocks.specs.Blocks.{all_rows}
-use Rattle.textarea_blocks.specs.Numbered.{AreExchanged, AreTotals}
-use Rattle.textarea_blocks.proofs.InBlocks.{all_rows-append, before_all, before_further, before_more, total_before}
+use Rattle.textarea_blocks.proofs.InBlocks.{all_rows-append, before_all, before_further, before_more, before_ordered, before_within, total_before}
 use Rattle.textarea_blocks.proofs.LineSums.{IsSum, Sum}
 
 -- the block that a number is in, found by a search
@@ -27,6 +23,13 @@ located_at total sum blocks numbers number block h within from next there = (
 pub number_after : (total : Sum) → IsSum total → (blocks : List (List RowsView)) (numbers : List ℕ) (block number : ℕ) (rows : List RowsView) → AreTotals total blocks numbers → block < length blocks → number ≡ get_or numbers block 0 → rows ≡ get_or blocks block [] → number + total rows ≡ total_before total blocks (block + 1)
 number_after total sum blocks numbers block number rows h within is rows_are =
     omega (arith, before_more total sum blocks block within, h.right block within, is, ap total rows_are)
+
+-- the numbers from a block on can be shifted
+pub totals_can_shift : (total : Sum) → IsSum total → (blocks : List (List RowsView)) (numbers : List ℕ) (from gone come : ℕ) → AreTotals total blocks numbers → gone ≤ total_before total blocks from + come → total (all_rows blocks) + come < 2 ^ 64 → CanShift numbers from gone come
+totals_can_shift total sum blocks numbers from gone come h enough small = record {
+  enough = λ k after there. omega (arith, h.right k (omega (arith, h.len)), before_ordered total sum blocks from k after);
+  small = λ k after there. omega (arith, h.right k (omega (arith, h.len)), before_within total sum blocks k);
+}
 
 -- ---- one block is replaced
 
@@ -52,16 +55,29 @@ pub all_set : (total : Sum) → IsSum total → (blocks : List (List RowsView)) 
 all_set total sum blocks block rows within =
     grind (arith, common_steps, total_set total sum blocks block (length blocks) rows within within, before_all, length-set blocks block rows)
 
-pub totals_set : (total : Sum) → IsSum total → (blocks : List (List RowsView)) (numbers now : List ℕ) (block gone come : ℕ) (rows : List RowsView) → AreTotals total blocks numbers → block < length blocks → total rows + gone ≡ total (get_or blocks block []) + come → length now ≡ length numbers → ((k : ℕ) → k < block + 1 → get_or now k 0 ≡ get_or numbers k 0) → ((k : ℕ) → block + 1 ≤ k → k < length numbers → get_or now k 0 + gone ≡ get_or numbers k 0 + come) → AreTotals total (set blocks block rows) now
-totals_set total sum blocks numbers now block gone come rows h within turned size above moved =
+-- which is not more if its first lines are removed
+pub all_cut : (total : Sum) → IsSum total → (blocks : List (List RowsView)) (block count : ℕ) → block < length blocks → total (all_rows (set blocks block (replaced (get_or blocks block []) 0 count []))) ≤ total (all_rows blocks)
+all_cut total sum blocks block count within =
+    let here = get_or blocks block [] in
+    let size : 0 + count ≡ count = omega arith in
+    omega (
+      arith,
+      all_set total sum blocks block (replaced here 0 count []) within,
+      ap (λ n. total (drop n here)) size,
+      ap total (take-append-drop count here),
+      sum (take count here) (drop count here),
+    )
+
+pub totals_set : (total : Sum) → IsSum total → (blocks : List (List RowsView)) (numbers now : List ℕ) (block gone come : ℕ) (rows : List RowsView) → AreTotals total blocks numbers → block < length blocks → total rows + gone ≡ total (get_or blocks block []) + come → AreShifted numbers now (block + 1) gone come → AreTotals total (set blocks block rows) now
+totals_set total sum blocks numbers now block gone come rows h within turned shifted =
     let same = length-set blocks block rows in
     record {
-      len = omega (arith, same, h.len);
+      len = omega (arith, same, h.len, shifted.len);
       right = λ k there. elim (cases_lt block k) [
         | inl after ↦
-            omega (arith, moved k (omega arith) (omega (arith, same, h.len)), h.right k (omega (arith, same)), total_set total sum blocks block k rows within after)
+            omega (arith, shifted.moved k (omega arith) (omega (arith, same, h.len)), h.right k (omega (arith, same)), total_set total sum blocks block k rows within after)
         | inr before ↦
-            above k (omega arith) ∙ h.right k (omega (arith, same)) ∙ ap (λ t. total (all_rows t)) (sym (take-set-le k blocks block rows before))
+            shifted.above k (omega arith) ∙ h.right k (omega (arith, same)) ∙ ap (λ t. total (all_rows t)) (sym (take-set-le k blocks block rows before))
       ];
     }
 
@@ -158,8 +174,10 @@ totals_exchanged total sum blocks new numbers news now exchanged h more ordered 
     }
 
 -- numbers that are adjusted and then replaced
-pub numbers_exchanged : (old new turned counted now : List ℕ) (exchanged : Exchanged) → exchanged.from ≤ exchanged.to → exchanged.to ≤ length old → length turned ≡ length old → length counted ≡ length new → ((k : ℕ) → k < exchanged.to → get_or turned k 0 ≡ get_or old k 0) → ((k : ℕ) → exchanged.to ≤ k → k < length old → get_or turned k 0 + exchanged.gone ≡ get_or old k 0 + exchanged.come) → ((k : ℕ) → 0 ≤ k → k < length new → get_or counted k 0 + 0 ≡ get_or new k 0 + exchanged.before) → now ≡ replaced turned exchanged.from (exchanged.to - exchanged.from) counted → AreExchanged old new exchanged now
-numbers_exchanged old new turned counted now exchanged ordered within size size_new above moved moved_new is =
+pub numbers_exchanged : (old new turned counted now : List ℕ) (exchanged : Exchanged) → exchanged.from ≤ exchanged.to → exchanged.to ≤ length old → AreShifted old turned exchanged.to exchanged.gone exchanged.come → AreShifted new counted 0 0 exchanged.before → now ≡ replaced turned exchanged.from (exchanged.to - exchanged.from) counted → AreExchanged old new exchanged now
+numbers_exchanged old new turned counted now exchanged ordered within shifted shifted_new is =
+    let size = shifted.len in
+    let size_new = shifted_new.len in
     let from = exchanged.from in
     let to = exchanged.to in
     let front = take from turned in
@@ -168,14 +186,14 @@ numbers_exchanged old new turned counted now exchanged ordered within size size_
     record {
       len = omega (arith, ap length is, length-replaced turned from (to - from) counted (omega arith));
       above = λ k before.
-          ap (λ (t : List ℕ). get_or t k 0) is ∙ get_or_append_left front (counted ++ rest) 0 k (omega (arith, first)) ∙ get_or-take from turned k 0 before ∙ above k (omega arith);
+          ap (λ (t : List ℕ). get_or t k 0) is ∙ get_or_append_left front (counted ++ rest) 0 k (omega (arith, first)) ∙ get_or-take from turned k 0 before ∙ shifted.above k (omega arith);
       between = λ k there.
           let at : from + k - from ≡ k = omega arith in
           let here = ap (λ (t : List ℕ). get_or t (from + k) 0) is
           ∙ get_or-append_right front (counted ++ rest) from (from + k) 0 first (omega arith)
           ∙ ap (λ n. get_or (counted ++ rest) n 0) at
           ∙ get_or_append_left counted rest 0 k (omega arith) in
-          omega (arith, here, moved_new k (omega arith) there);
+          omega (arith, here, shifted_new.moved k (omega arith) there);
       after = λ k last there.
           let n = k - to + (from + length new) in
           let at : from + (to - from) + (n - from - length counted) ≡ k = omega arith in
@@ -184,5 +202,5 @@ numbers_exchanged old new turned counted now exchanged ordered within size size_
           ∙ get_or-append_right counted rest (length counted) (n - from) 0 refl (omega arith)
           ∙ get_or-drop (from + (to - from)) turned (n - from - length counted) 0
           ∙ ap (λ m. get_or turned m 0) at in
-          omega (arith, here, moved k last there);
+          omega (arith, here, shifted.moved k last there);
     }

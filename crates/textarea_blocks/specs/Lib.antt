@@ -2,3 +2,4 @@ pub mod Blocks
 pub mod Numbered
 pub mod Sums
 pub mod Shifted
+pub mod Prelude

@@ -3,8 +3,7 @@
 //! blocks. Of the later blocks only these two numbers change, and not even they while successive
 //! changes are in one block.
 ghost use Rattle.std.specs.Prelude.{◌≡◌, ◌+◌, ◌≤◌, ◌++◌, ◌∷◌, [], length, OnOk};
-ghost use Rattle.textarea_blocks.specs.Blocks.{all_rows};
-ghost use Rattle.textarea_blocks.specs.Sums.{row_total};
+ghost use Rattle.textarea_blocks.specs.Prelude.{all_rows, row_total};
 
 use self::numbers::Numbers;
 use crate::sums::count_rows;

@@ -3,11 +3,9 @@ use Rattle.std.proofs.Common.{◌≡◌, ℕ, zero, suc, ◌+◌, ◌-◌, ◌<�
 use Rattle.std.proofs.lemmas.Grind.{common_steps}
 use Rattle.std.proofs.lemmas.Bool.Decides.{nat_tests}
 use Rattle.std.proofs.lemmas.List.{append-nil, append_assoc, drop_more, length-append, length-drop}
-use Rattle.textarea_text.specs.Text.{Symbol, characters, characters_of, following, joined, lines_of, text_of}
-use Rattle.textarea_text.specs.Place.{Place, IsPlaceOf, IsUpTo, index_of}
+use Rattle.textarea_text.specs.Prelude.{Symbol, characters, characters_of, following, joined, lines_of, text_of, Place, IsPlaceOf, IsUpTo, index_of, symbols_between}
 use Rattle.textarea_text.proofs.Splices.{joined-append}
 use Rattle.textarea_text.proofs.TextPlaces.{parted_rows, index_parted}
-use Rattle.textarea_text.specs.Between.{symbols_between}
 
 -- ---- the lines up to a position
 

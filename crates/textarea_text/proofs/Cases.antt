@@ -1,10 +1,7 @@
 -- Worked cases of the definitions.
 use Rattle.std.proofs.Common.{◌≡◌, [], ◌∷◌, refl}
-use Rattle.textarea_text.specs.Text.{Character, Break}
-use Rattle.textarea_text.specs.Fragment.{fragment_symbols, fragment_text}
-use Rattle.textarea_text.specs.Between.{symbols_between, clip}
+use Rattle.textarea_text.specs.Prelude.{Character, Break, fragment_symbols, fragment_text, symbols_between, clip, width_of}
 use Rattle.unicode_width.specs.Width.{char_width}
-use Rattle.textarea_text.specs.Tab.{width_of}
 
 -- "a\r\nb\r"
 fragment_with_return : fragment_symbols (97 ∷ 13 ∷ 10 ∷ 98 ∷ 13 ∷ []) ≡ Character 97 ∷ Break ∷ Character 98 ∷ Character 13 ∷ []

@@ -3,8 +3,7 @@ use Rattle.std.proofs.Common.{true, false, Bool, ◌≡◌, ℕ, ◌+◌, ◌/�
 use mathlib.Core.Bool.{cond}
 use lib.Dec.{T, ltb, ltb→lt}
 use lib.Utf8.{encode, next}
-use Rattle.std.specs.Fmt.{char_count, is_char_start}
-use Rattle.std.specs.Str.{chars, IsUtf8}
+use Rattle.textarea_text.specs.Prelude.{char_count, is_char_start, chars, IsUtf8}
 use Rattle.std.proofs.lemmas.Bool.Decides.{nat_tests}
 use mir.Val.{bool_byte}
 use Rattle.std.proofs.lemmas.List.{length-take-le, take_more, take-append-drop}

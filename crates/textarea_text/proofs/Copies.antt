@@ -1,8 +1,6 @@
 -- Copies of some lines hold the same characters.
 use Rattle.std.proofs.Common.{◌≡◌, List, [], ◌∷◌, ap, refl, ◌∙◌, String, string_bytes}
-use Rattle.std.specs.List.{AllZip}
-use Rattle.std.specs.Str.{chars}
-use Rattle.textarea_text.specs.Text.{lines_of}
+use Rattle.textarea_text.specs.Prelude.{AllZip, chars, lines_of}
 
 pub lines_copied : {Z : Type 0} (fragment_lines copies : List (String Z)) → AllZip (λ s t. string_bytes t ≡ string_bytes s) fragment_lines copies → lines_of copies ≡ lines_of fragment_lines
 lines_copied [] [] h = refl

@@ -3,9 +3,7 @@ use Rattle.std.proofs.Common.{◌≡◌, ℕ, zero, suc, ◌+◌, ◌-◌, ◌<�
 use Rattle.std.proofs.lemmas.Grind.{common_steps}
 use Rattle.std.proofs.lemmas.List.{append-nil, drop_all, length-append, length-take-le, take_all, take_more, take_at}
 use Rattle.std.proofs.lemmas.Str.{encodes-chars, IsUtf8-string_bytes, length-le-encodes}
-use Rattle.textarea_text.specs.Text.{Break, characters, characters_of, following, joined, leading, lines_of}
-use Rattle.textarea_text.specs.Place.{Place, IsPlace, IsPlaceOf, end, index_of, place_of, row_start}
-use Rattle.textarea_text.specs.Size.{size_of}
+use Rattle.textarea_text.specs.Prelude.{Break, characters, characters_of, following, joined, leading, lines_of, Place, IsPlace, IsPlaceOf, end, index_of, place_of, row_start, size_of}
 use Rattle.textarea_text.proofs.Splices.{end-append, end-characters, end-leading, joined-append, lines-joined}
 use Rattle.textarea_text.proofs.TextPlaces.{parted_rows, index_parted}
 use Rattle.textarea_text.proofs.Befores.{break_occurs}

@@ -2,8 +2,7 @@
 use Rattle.std.proofs.Common.{◌≡◌, ℕ, ◌+◌, ◌<◌, List, [], ◌∷◌, ◌++◌, length, take, drop, sym, ap, ◌∙◌, arith, get_or}
 use Rattle.std.proofs.lemmas.Grind.{common_steps}
 use Rattle.std.proofs.lemmas.List.{append-nil, take-append-drop, drop_more, length-take-le}
-use Rattle.textarea_text.specs.Text.{Symbol, characters, joined}
-use Rattle.textarea_text.specs.Place.{Place, OccursAt, index_of}
+use Rattle.textarea_text.specs.Prelude.{Symbol, characters, joined, Place, OccursAt, index_of}
 use Rattle.textarea_text.proofs.Splices.{characters-append, spliced_occurs}
 
 -- the lines around a row

@@ -3,9 +3,7 @@ use Rattle.std.proofs.Common.{◌≡◌, ℕ, ◌+◌, ◌≤◌, ◌<◌, List,
 use Rattle.std.proofs.lemmas.Grind.{common_steps}
 use Rattle.std.proofs.lemmas.List.{take-append-drop, take_more, drop-drop, length-append, reverse-append}
 use Rattle.std.proofs.lemmas.Str.{encodes-chars, IsUtf8-string_bytes}
-use Rattle.textarea_text.specs.Text.{Symbol, Character, Break, characters, characters_of, following, lines_of, text_of}
-use Rattle.textarea_text.specs.Place.{Place, OccursAt, index_of, inserted, removed}
-use Rattle.textarea_text.specs.Size.{size_of, weight}
+use Rattle.textarea_text.specs.Prelude.{Symbol, Character, Break, characters, characters_of, following, lines_of, text_of, Place, OccursAt, index_of, inserted, removed, size_of, weight}
 use Rattle.textarea_text.proofs.Splices.{characters-append}
 
 pub size_of-append : {Z : Type 0} (above below : List (String Z)) → size_of (above ++ below) ≡ size_of above + size_of below

@@ -2,8 +2,7 @@
 use Rattle.std.proofs.Common.{◌≡◌, ℕ, suc, ◌+◌, ◌<◌, List, [], ◌∷◌, ◌++◌, length, sym, ap, refl, ◌∙◌, arith, zero-add}
 use Rattle.std.proofs.lemmas.Grind.{common_steps}
 use Rattle.std.proofs.lemmas.List.{take_at, drop_at, append_assoc, length-append}
-use Rattle.textarea_text.specs.Text.{Symbol, Character, Break, characters, following, leading, joined, lines, on_first}
-use Rattle.textarea_text.specs.Place.{Place, end, row_start, index_of, inserted, removed, OccursAt}
+use Rattle.textarea_text.specs.Prelude.{Symbol, Character, Break, characters, following, leading, joined, lines, on_first, Place, end, row_start, index_of, inserted, removed, OccursAt}
 
 -- ---- lines and text
 

@@ -5,8 +5,7 @@ use Rattle.std.proofs.lemmas.Bool.{cases_lt}
 use Rattle.std.proofs.lemmas.List.{take_all, take-take, length-take, length-append}
 use Rattle.std.proofs.Math.Seq.{take-add}
 use Rattle.std.proofs.lemmas.Str.{encodes-append, encodes-chars}
-use Rattle.std.specs.Fmt.{char_count, is_char_start}
-use Rattle.std.specs.Str.{chars, IsCharBoundary, IsUtf8}
+use Rattle.textarea_text.specs.Prelude.{char_count, is_char_start, chars, IsCharBoundary, IsUtf8}
 use Rattle.textarea_text.proofs.CharCounts.{begins-ascii, begins-wide, char_count-append, char_count-encodes, char_count-is, char_count-le-length, char_count-more, char_count-parts}
 use Rattle.textarea_text.proofs.Columns.{IsCharBoundary-column, length_split, offset_in, take_offset}
 

@@ -1,12 +1,9 @@
 -- Lines of `String`s that are read, split and joined.
 use Rattle.std.proofs.Common.{subst, encode_utf8_all, ◌≡◌, ℕ, ◌+◌, ◌<◌, ◌≤◌, List, [], ◌∷◌, ◌++◌, length, take, drop, sym, ap, ◌∙◌, arith, get_or, String, string_bytes, ◌^◌}
 use Rattle.std.proofs.lemmas.Grind.{common_steps}
-use Rattle.std.specs.Str.{chars, IsCharBoundary}
-use Rattle.textarea_util.specs.Replaced.{replaced}
+use Rattle.textarea_text.specs.Prelude.{chars, IsCharBoundary, replaced, Symbol, Character, Break, characters, following, leading, joined, characters_of, lines_of, text_of, Place, IsPlaceOf, IsPlace, OccursAt, end, index_of, changed, removed, ReplacesRows}
 use Rattle.std.proofs.lemmas.List.{append-nil, append_assoc, length-append, take-append-drop, map-append, get_or-map, take_all, take_more, take_at, drop_at, take-map, drop-map, length-map}
 use Rattle.std.proofs.lemmas.Str.{IsUtf8-string_bytes, encodes-chars, length-le-encodes}
-use Rattle.textarea_text.specs.Text.{Symbol, Character, Break, characters, following, leading, joined, characters_of, lines_of, text_of}
-use Rattle.textarea_text.specs.Place.{Place, IsPlaceOf, IsPlace, OccursAt, end, index_of, changed, removed, ReplacesRows}
 use Rattle.textarea_text.proofs.Columns.{IsCharBoundary-column, offset_in}
 use Rattle.textarea_text.proofs.Splices.{joined-append, joined-append_below, characters-append, following-append, whole, lines-joined, end-append}
 use Rattle.textarea_text.proofs.TextPlaces.{parted_rows, index_parted, parted, standing, place_parted}

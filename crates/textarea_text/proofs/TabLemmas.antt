@@ -2,9 +2,8 @@
 use Rattle.std.proofs.Common.{◌≡◌, ◌<◌, ℕ, ◌+◌, ◌%◌, List, [], ◌∷◌, add_assoc, arith, false}
 use Rattle.std.proofs.Math.Nat.{mod-add-mod}
 use Rattle.std.proofs.lemmas.Grind.{common_steps}
-use Rattle.std.specs.Option.{unwrap_or}
+use Rattle.textarea_text.specs.Prelude.{unwrap_or, width_of}
 use Rattle.unicode_width.specs.Width.{char_width}
-use Rattle.textarea_text.specs.Tab.{width_of}
 
 -- one character more
 pub width_of_more : (stop was now width c : ℕ) (text cs : List ℕ) (whole : ℕ) → (was + width_of text) % stop ≡ whole % stop → text ≡ c ∷ cs → width ≡ unwrap_or (char_width false c) 0 → now ≡ (was + width) % stop → (now + width_of cs) % stop ≡ whole % stop

@@ -3,17 +3,10 @@ use Rattle.std.proofs.Common.{Option, Some, None, ◌≡◌, ℕ, zero, suc, ◌
 use Rattle.std.proofs.lemmas.Grind.{common_steps}
 use Rattle.std.proofs.Math.Bool.{and-true, and-false}
 use Rattle.std.proofs.lemmas.Bool.{cases_lt, ltb-true}
-use Rattle.std.specs.Option.{IfSome}
-use Rattle.textarea_text.specs.Nearest.{IsGreatest}
+use Rattle.textarea_text.specs.Prelude.{IfSome, IsGreatest, enumerate_from, class_of, class_at, is_space_class, begins, ends, is_edge, is_word_start, is_past_word, is_word_last, is_later_edge, is_word_last_from, is_earlier_word_start, lies_between, CharKind, Space, Punct, Other, Edge, Start, Past}
 use Rattle.std.proofs.lemmas.List.{length_push, get_or_default, get_or-take, get_or-drop, length-take, length-drop}
-use Rattle.std.specs.List.{enumerate_from}
 use Rattle.std.proofs.lemmas.Bool.Decides.{nat_tests}
 use Rattle.std.proofs.lemmas.List.FromFn.{get_or-enumerate_from, length-enumerate_from}
-use Rattle.textarea_text.specs.Words.{class_of, class_at, is_space_class, begins, ends, is_edge, is_word_start, is_past_word, is_word_last, is_later_edge, is_word_last_from, is_earlier_word_start, lies_between}
-use Rattle.textarea_text.specs.declared.word.CharKind.{CharKind}
-use Rattle.textarea_text.specs.declared.word.CharKind.TheVariants.{Space, Punct, Other}
-use Rattle.textarea_text.specs.declared.word.Edge.{Edge}
-use Rattle.textarea_text.specs.declared.word.Edge.TheVariants.{Start, Past}
 
 -- the class of the character before a column, or Space at the line's start
 abbrev pub class_before : List ℕ → ℕ → CharKind

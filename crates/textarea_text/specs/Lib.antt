@@ -11,3 +11,4 @@ pub mod Tab
 pub mod Nearest
 pub mod Paragraphs
 pub mod Words
+pub mod Prelude

@@ -1,8 +1,6 @@
 //! Fragments: texts with line feeds, split into one string for each line.
 ghost use Rattle.std.specs.Prelude.{◌≡◌, ◌<◌, ◌++◌, ◌∷◌, [], length, vec_len, string_bytes, IfOk, OnOk, MatchOption};
-ghost use Rattle.std.specs.Str.{chars};
-ghost use Rattle.textarea_text.specs.Text.{Break, characters, lines_of, text_of};
-ghost use Rattle.textarea_text.specs.Fragment.{fragment_symbols, fragment_text, unified, without_last_break};
+ghost use Rattle.textarea_text.specs.Prelude.{chars, Break, characters, lines_of, text_of, fragment_symbols, fragment_text, unified, without_last_break};
 
 use std::alloc::{AllocError, Global};
 

@@ -1,9 +1,6 @@
 //! Changes inside one line, in place.
 ghost use Rattle.std.specs.Prelude.{◌≡◌, ◌+◌, ◌^◌, ◌<◌, ◌≤◌, [], string_bytes, string_capacity, string_len, vec_len, OnOk, OnErr};
-ghost use Rattle.std.specs.Str.{chars};
-ghost use Rattle.textarea_text.specs.Text.{characters, lines_of, text_of};
-ghost use Rattle.textarea_text.specs.Offset.{offset_at};
-ghost use Rattle.textarea_text.specs.Place.{IsPlaceOf, changed, inserted};
+ghost use Rattle.textarea_text.specs.Prelude.{chars, characters, lines_of, text_of, offset_at, IsPlaceOf, changed, inserted};
 
 use std::alloc::AllocError;
 

@@ -1,9 +1,6 @@
 //! Laws of positions, each stated as the contract of a function without a body.
 ghost use Rattle.std.specs.Prelude.{List};
-ghost use Rattle.textarea_text.specs.Text.{Symbol};
-ghost use Rattle.textarea_text.specs.Place.{IsPlace, IsUpTo, Place};
-ghost use Rattle.textarea_text.specs.Splice.{Fits, Splice, place_before};
-ghost use Rattle.textarea_text.specs.PlacesAfterSplice.{FollowsText, Stays};
+ghost use Rattle.textarea_text.specs.Prelude.{Symbol, IsPlace, IsUpTo, Place, Fits, Splice, place_before, FollowsText, Stays};
 
 /// A position at or before the start of a splice that fits stays, with the text before it. One at
 /// or after its end moves with the text after it. Both are positions of the text after the splice.

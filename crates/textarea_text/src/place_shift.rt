@@ -1,7 +1,6 @@
 //! Where a splice moves a position (a row and a column in characters, both from 0).
 ghost use Rattle.std.specs.Prelude.{◌≡◌, ◌+◌, ◌≤◌};
-ghost use Rattle.textarea_text.specs.Place.{IsUpTo};
-ghost use Rattle.textarea_text.specs.PlacesAfterSplice.{is_up_to, shifted};
+ghost use Rattle.textarea_text.specs.Prelude.{IsUpTo, is_up_to, shifted};
 
 /// Returns whether `one` is before `other` or the same position.
 pub fn is_up_to(one: (usize, usize), other: (usize, usize)) -> bool

@@ -1,10 +1,6 @@
 //! Positions in lines. A position is a row and a column, both from 0, the column in characters.
 ghost use Rattle.std.specs.Prelude.{◌≡◌, ◌+◌, ◌^◌, ◌<◌, ◌≤◌, length, min};
-ghost use Rattle.std.specs.Str.{chars};
-ghost use Rattle.textarea_text.specs.Text.{lines_of, text_of};
-ghost use Rattle.textarea_text.specs.Place.{IsPlaceOf, end, index_of, last_row, line_end, line_of, place_of};
-ghost use Rattle.textarea_text.specs.Size.{size_of};
-ghost use Rattle.textarea_text.specs.Between.{clip};
+ghost use Rattle.textarea_text.specs.Prelude.{chars, lines_of, text_of, IsPlaceOf, end, index_of, last_row, line_end, line_of, place_of, size_of, clip};
 
 use crate::rows::column_count;
 

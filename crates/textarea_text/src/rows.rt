@@ -1,14 +1,6 @@
 //! Lines that replace others: built beside the old lines, then put in without allocating.
 ghost use Rattle.std.specs.Prelude.{◌≡◌, ◌+◌, ◌-◌, ◌<◌, ◌≤◌, ◌++◌, ◌∷◌, ◌↔◌, [], length, string_bytes, take, drop, MatchOption, encode_utf8_all, vec_len, vec_capacity, min, IfOk, IsOk, OnOk, OnErr, slice_index, true};
-ghost use Rattle.std.specs.Str.{chars};
-ghost use Rattle.std.specs.Fmt.{char_count, is_char_start};
-ghost use Rattle.textarea_util.specs.Limit.{size_limit};
-ghost use Rattle.textarea_text.specs.Text.{characters, following, joined, lines_of, symbol_in, text_of};
-ghost use Rattle.textarea_text.specs.Offset.{offset_at};
-ghost use Rattle.textarea_text.specs.Place.{IsPlaceOf, IsSymbolBefore, ReplacesRows, index_of};
-ghost use Rattle.textarea_util.specs.Replaced.{replaced};
-ghost use Rattle.textarea_text.specs.Size.{size_of};
-ghost use Rattle.textarea_text.specs.Touched.{ReplacesBetween};
+ghost use Rattle.textarea_text.specs.Prelude.{chars, char_count, is_char_start, size_limit, characters, following, joined, lines_of, symbol_in, text_of, offset_at, IsPlaceOf, IsSymbolBefore, ReplacesRows, index_of, replaced, size_of, ReplacesBetween};
 
 use std::alloc::{AllocError, Global};
 use textarea_util::limit::within_limit;

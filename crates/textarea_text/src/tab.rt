@@ -1,7 +1,6 @@
 //! Spaces up to the next tab stop.
 ghost use Rattle.std.specs.Prelude.{◌≡◌, ◌-◌, ◌%◌, ◌<◌, ◌≤◌, length, take};
-ghost use Rattle.std.specs.Str.{chars};
-ghost use Rattle.textarea_text.specs.Tab.{width_of};
+ghost use Rattle.textarea_text.specs.Prelude.{chars, width_of};
 
 use crate::text_slice::text_before;
 use unicode_width::UnicodeWidthChar;

@@ -1,9 +1,6 @@
 //! Copies of the text between two positions.
 ghost use Rattle.std.specs.Prelude.{◌≡◌, ◌+◌, ◌≤◌, ◌++◌, ◌∷◌, length, take, drop, vec_len, IfOk, OnOk, []};
-ghost use Rattle.std.specs.Str.{chars};
-ghost use Rattle.textarea_text.specs.Text.{lines_of, text_of};
-ghost use Rattle.textarea_text.specs.Place.{IsPlaceOf, index_of};
-ghost use Rattle.textarea_text.specs.Between.{symbols_between};
+ghost use Rattle.textarea_text.specs.Prelude.{chars, lines_of, text_of, IsPlaceOf, index_of, symbols_between};
 
 use crate::rows::{byte_offset, byte_offset_from, offset_within};
 use std::alloc::{AllocError, Global};

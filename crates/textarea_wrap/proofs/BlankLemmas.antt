@@ -3,10 +3,8 @@ use Rattle.std.proofs.lemmas.Grind.{common_steps}
 use Rattle.std.proofs.Common.{◌≡◌, ℕ, zero, suc, ◌+◌, ◌<◌, ◌≤◌, Bool, true, false, cond, not, ◌&&◌, ◌||◌, ◌==◌, nat_lt, unwrap_or, List, [], ◌∷◌, ◌++◌, map, length, refl, sym, ap, ap₂, subst, ◌∙◌, ⊎_elim, arith}
 use Rattle.std.proofs.lemmas.Bool.{false≢true, and_parts, or_cases, cases_order, cond_both}
 use Rattle.std.proofs.lemmas.Str.{chars-encodes}
-use Rattle.std.specs.List.{flat_map, list_all, AllByRecursion}
-use Rattle.std.specs.Char.{is_whitespace}
+use Rattle.textarea_wrap.specs.Prelude.{flat_map, list_all, AllByRecursion, is_whitespace, chars, is_blank, units_of_segment, line_units, Stretch}
 use Rattle.std.specs.Prelude.{encode_utf8_all}
-use Rattle.std.specs.Str.{chars}
 use borrow.Author.Tests.{ltb-true, eqb-true}
 use lib.Utf8.{scalar, scalars}
 use Rattle.unicode_segmentation.specs.GraphemeClusterBreak.{grapheme_cluster_break}
@@ -15,8 +13,6 @@ use Rattle.unicode_segmentation.specs.Grapheme.{graphemes, is_grapheme_break, br
 use Rattle.unicode_segmentation.specs.Segments.{prepend, cut, segments}
 use Rattle.unicode_segmentation.specs.Word.{word_bounds}
 use Rattle.unicode_segmentation.proofs.Computing.{unicode_segmentation}
-use Rattle.textarea_wrap.specs.Units.{is_blank, units_of_segment, line_units}
-use Rattle.textarea_wrap.specs.WrapRules.{Stretch}
 use Rattle.textarea_wrap.proofs.Alls.{all_append}
 use Rattle.textarea_wrap.proofs.FewestWordLemmas.{AreBlanksClusters, BlankIsCluster}
 

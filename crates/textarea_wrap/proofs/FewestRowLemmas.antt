@@ -1,10 +1,8 @@
 -- A line has the fewest visual rows that its mode allows.
 use Rattle.std.proofs.lemmas.Grind.{common_steps}
 use Rattle.std.proofs.Common.{◌≡◌, ℕ, suc, ◌+◌, ◌<◌, List, [], ◌∷◌, length, refl, ap, arith}
-use Rattle.textarea_wrap.specs.declared.wrap.WrapMode.{WrapMode}
+use Rattle.textarea_wrap.specs.Prelude.{WrapMode, ranges_from, IsWrapping, IsWrapped, HasFewestRows}
 use Rattle.textarea_wrap.specs.declared.wrap.WrapMode.TheVariants as mode
-use Rattle.textarea_wrap.specs.WrapRules.{ranges_from}
-use Rattle.textarea_wrap.specs.WrapResult.{IsWrapping, IsWrapped, HasFewestRows}
 use Rattle.textarea_wrap.proofs.BlankLemmas.{AreBlanksClusters-line_units}
 use Rattle.textarea_wrap.proofs.FewestLemmas.{HasFewestGlyphRows-wrapping}
 use Rattle.textarea_wrap.proofs.FewestWordLemmas.{HasFewestWordRows-wrapping}

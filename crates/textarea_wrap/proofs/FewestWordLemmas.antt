@@ -3,11 +3,8 @@ use Rattle.std.proofs.lemmas.Grind.{common_steps}
 use Rattle.std.proofs.Common.{◌≡◌, ℕ, ◌<◌, ◌≤◌, ◌⊎◌, inl, inr, true, List, [], ◌∷◌, ◌++◌, length, refl, sym, ap, subst, ◌∙◌, ⊎_elim, append_assoc, append-nil, length-append, arith}
 use Rattle.std.proofs.lemmas.Bool.{cases_lt}
 use Rattle.std.proofs.lemmas.List.{length-map, nil_from_length}
-use Rattle.std.specs.List.{concat, flat_map, AllByRecursion}
+use Rattle.textarea_wrap.specs.Prelude.{concat, flat_map, AllByRecursion, stretch_width, is_blank, line_units, Stretch, UnitBlock, shared, split, stretches_of, units_of, rows_of, FitsAfter, IsFittingStretch, IsBlock, AreBlocks, IsGlyphWrapping, IsWordWrapping, AreFittingRows, IsFittingBlock, AreFittingBlocks, HasFewestWordRows}
 use Rattle.unicode_segmentation.specs.Grapheme.{graphemes}
-use Rattle.textarea_wrap.specs.Columns.{stretch_width}
-use Rattle.textarea_wrap.specs.Units.{is_blank, line_units}
-use Rattle.textarea_wrap.specs.WrapRules.{Stretch, UnitBlock, shared, split, stretches_of, units_of, rows_of, FitsAfter, IsFittingStretch, IsBlock, AreBlocks, IsGlyphWrapping, IsWordWrapping, AreFittingRows, IsFittingBlock, AreFittingBlocks, HasFewestWordRows}
 use Rattle.textarea_wrap.proofs.Alls.{all_split}
 use Rattle.textarea_wrap.proofs.ColumnLemmas.{stretch_width-front, stretch_width-back}
 use Rattle.textarea_wrap.proofs.FewestLemmas.{fronts, greedy_ahead}

@@ -5,17 +5,10 @@ use Rattle.std.proofs.lemmas.Bool.Decides.{nat_tests}
 use Rattle.std.proofs.lemmas.Grind.{flat_map-append}
 use Rattle.std.proofs.lemmas.Str.{chars-nil}
 use Rattle.std.proofs.lemmas.List.{take_at, take-append-drop}
-use Rattle.std.specs.List.{concat, flat_map, AllByRecursion}
-use Rattle.std.specs.Str.{IsUtf8, chars}
+use Rattle.textarea_wrap.specs.Prelude.{concat, flat_map, AllByRecursion, IsUtf8, chars, plain_width, column_after, end_column, stretch_width, Stretch, UnitBlock, shared, split, stretches_of, units_of, rows_of, begins_with_content, AreGlyphRows, IsGlyphWrapping, HangsOver, IsBlock, AreBlocks, IsWordWrapping, full_width, IsFittingCluster, AreFittingClusters, HasFittingClusters, is_blank, AreRowTexts, IsWrapping, WrapMode}
 use Rattle.unicode_segmentation.specs.Grapheme.{graphemes, is_grapheme_break}
 use Rattle.unicode_segmentation.proofs.SegmentsLemmas.{concat-segments}
 use Rattle.unicode_width.proofs.Rules.{width_or_zero-le}
-use Rattle.textarea_wrap.specs.Columns.{plain_width, column_after, end_column, stretch_width}
-use Rattle.textarea_wrap.specs.WrapRules.{Stretch, UnitBlock, shared, split, stretches_of, units_of, rows_of, begins_with_content, AreGlyphRows, IsGlyphWrapping, HangsOver, IsBlock, AreBlocks, IsWordWrapping}
-use Rattle.textarea_wrap.specs.Fitting.{full_width, IsFittingCluster, AreFittingClusters, HasFittingClusters}
-use Rattle.textarea_wrap.specs.Units.{is_blank}
-use Rattle.textarea_wrap.specs.WrapResult.{AreRowTexts, IsWrapping}
-use Rattle.textarea_wrap.specs.declared.wrap.WrapMode.{WrapMode}
 use Rattle.textarea_wrap.specs.declared.wrap.WrapMode.TheVariants as mode
 use Rattle.textarea_wrap.proofs.Alls.{all_split}
 use Rattle.textarea_wrap.proofs.BlankLemmas.{AreBlanksClusters-line_units}

@@ -3,12 +3,9 @@ use Rattle.std.proofs.lemmas.Grind.{common_steps}
 use Rattle.std.proofs.Common.{◌≡◌, ℕ, ◌+◌, ◌<◌, ◌≤◌, ◌⊎◌, inl, inr, true, List, [], ◌∷◌, ◌++◌, map, length, refl, sym, ap, subst, ◌∙◌, ⊎_elim, append_assoc, append-nil, length-append, arith}
 use Rattle.std.proofs.lemmas.List.{map-append}
 use Rattle.std.proofs.lemmas.List.Folds.{concat-append}
-use Rattle.std.specs.List.{concat}
-use Rattle.std.specs.Str.{chars, IsUtf8}
+use Rattle.textarea_wrap.specs.Prelude.{concat, chars, IsUtf8, end_column, stretch_width, Stretch, stretches_of, ranges_from, IsGlyphRow, AreGlyphRows, IsGlyphWrapping}
 use Rattle.unicode_segmentation.specs.Grapheme.{graphemes, is_grapheme_break}
 use Rattle.unicode_segmentation.proofs.SegmentsLemmas.{AllPieces, concat-segments}
-use Rattle.textarea_wrap.specs.Columns.{end_column, stretch_width}
-use Rattle.textarea_wrap.specs.WrapRules.{Stretch, stretches_of, ranges_from, IsGlyphRow, AreGlyphRows, IsGlyphWrapping}
 use Rattle.textarea_wrap.proofs.ColumnLemmas.{stretch_width-one, stretch_width-push}
 
 pub stretches_of-append : (stretches others : List Stretch) → stretches_of (stretches ++ others) ≡ stretches_of stretches ++ stretches_of others

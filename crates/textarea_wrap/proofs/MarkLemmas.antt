@@ -4,12 +4,7 @@ use Rattle.std.proofs.Math.Seq.{take-add}
 use Rattle.std.proofs.lemmas.List.{append_assoc, drop_at, length-append, take_at}
 use Rattle.std.proofs.lemmas.List.FromFn.{length-map-range_with_len, map-range_with_len_more}
 use Rattle.std.proofs.lemmas.Str.{IsUtf8-take, chars-append, encodes-chars, length-le-encodes}
-use Rattle.std.specs.List.{range_with_len}
-use Rattle.std.specs.Str.{IsCharBoundary, IsUtf8, chars}
-use Rattle.textarea_wrap.specs.Marks.{mark_at, marks_of, range_count}
-use Rattle.textarea_wrap.specs.WrapRules.{ranges_from}
-use Rattle.textarea_wrap.specs.WrapResult.{IsWrapped}
-use Rattle.textarea_wrap.specs.declared.wrap.WrapMode.{WrapMode}
+use Rattle.textarea_wrap.specs.Prelude.{range_with_len, IsCharBoundary, IsUtf8, chars, mark_at, marks_of, range_count, ranges_from, IsWrapped, WrapMode}
 
 -- ---- ranges and marks together
 

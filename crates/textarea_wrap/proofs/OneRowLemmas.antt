@@ -1,17 +1,11 @@
 -- A line that isn't wrapped or is no wider than the width takes one row, whatever its units are.
 use Rattle.std.proofs.lemmas.Grind.{common_steps}
-use Rattle.std.proofs.Common.{◌≡◌, ℕ, ◌<◌, ◌≤◌, inl, true, List, [], ◌∷◌, ◌++◌, length, refl, sym, ap, subst, ◌∙◌, ⊎_elim, append-nil, arith}
+use Rattle.std.proofs.Common.{◌≡◌, ℕ, ◌<◌, ◌≤◌, inl, true, List, [], ◌∷◌, ◌++◌, length, refl, sym, ap, subst, ◌∙◌, append-nil, arith}
 use Rattle.std.proofs.lemmas.Str.{chars-nil, chars-append}
-use Rattle.std.specs.List.{concat, flat_map}
-use Rattle.std.specs.Str.{IsUtf8, chars}
+use Rattle.textarea_wrap.specs.Prelude.{concat, flat_map, IsUtf8, chars, end_column, stretch_width, line_units, Stretch, shared, IsFittingStretch, ranges_from, WrapMode, IsWrapped, TakesOneRow}
 use Rattle.unicode_segmentation.specs.Grapheme.{graphemes, is_grapheme_break}
 use Rattle.unicode_segmentation.proofs.SegmentsLemmas.{concat-segments}
-use Rattle.textarea_wrap.specs.Columns.{end_column, stretch_width}
-use Rattle.textarea_wrap.specs.Units.{line_units}
-use Rattle.textarea_wrap.specs.WrapRules.{Stretch, shared, IsFittingStretch, ranges_from}
-use Rattle.textarea_wrap.specs.declared.wrap.WrapMode.{WrapMode}
 use Rattle.textarea_wrap.specs.declared.wrap.WrapMode.TheVariants as mode
-use Rattle.textarea_wrap.specs.WrapResult.{IsWrapped, TakesOneRow}
 use Rattle.textarea_wrap.proofs.GlyphLemmas.{nonempty_from_bytes}
 use Rattle.textarea_wrap.proofs.OneWrappingLemmas.{one_wrapping}
 use Rattle.textarea_wrap.proofs.RowLemmas.{AreSegments, AreSegments-segments, AreSegments-line_units, concat-line_units, IsWrapped-empty, IsWrapped-whole, IsWrapped-glyphs, IsWrapped-units}

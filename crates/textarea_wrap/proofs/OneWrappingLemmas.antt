@@ -1,11 +1,7 @@
 -- A text has one greedy wrapping: of two rows that begin together neither ends before the other.
 use Rattle.std.proofs.Common.{◌≡◌, ℕ, ◌≤◌, ◌⊎◌, List, [], ◌∷◌, ◌++◌, map, length, refl, sym, ap, ap₂, subst, ◌∙◌, ⊎_elim, append-nil, length-append, arith}
-use Rattle.std.specs.List.{concat, flat_map}
-use Rattle.textarea_wrap.specs.Columns.{stretch_width}
-use Rattle.textarea_wrap.specs.WrapRules.{Stretch, UnitBlock, shared, split, stretches_of, units_of, rows_of, ranges_from, IsGlyphRow, AreGlyphRows, IsGlyphWrapping, AreFittingRows, IsBlock, AreBlocks, IsWordWrapping, IsFittingBlock}
-use Rattle.textarea_wrap.specs.declared.wrap.WrapMode.{WrapMode}
+use Rattle.textarea_wrap.specs.Prelude.{concat, flat_map, stretch_width, Stretch, UnitBlock, shared, split, stretches_of, units_of, rows_of, ranges_from, IsGlyphRow, AreGlyphRows, IsGlyphWrapping, AreFittingRows, IsBlock, AreBlocks, IsWordWrapping, IsFittingBlock, WrapMode, AreRowTexts, IsWrapping, IsWrapped}
 use Rattle.textarea_wrap.specs.declared.wrap.WrapMode.TheVariants as mode
-use Rattle.textarea_wrap.specs.WrapResult.{AreRowTexts, IsWrapping, IsWrapped}
 use Rattle.textarea_wrap.proofs.FewestLemmas.{fronts, not_shorter}
 use Rattle.textarea_wrap.proofs.FewestWordLemmas.{block_reaches, block_some, wide_ends}
 

@@ -2,9 +2,7 @@
 use Rattle.std.proofs.lemmas.Grind.{common_steps}
 use Rattle.std.proofs.Common.{◌≡◌, ℕ, ◌<◌, ◌⊎◌, inl, inr, List, [], ◌∷◌, ◌++◌, length, refl, sym, ap, subst, ⊎_elim, length-append, arith}
 use Rattle.std.proofs.lemmas.Bool.{cases_lt}
-use Rattle.textarea_wrap.specs.Columns.{stretch_width}
-use Rattle.textarea_wrap.specs.WrapRules.{Stretch, IsBlankCluster, IsFittingRow, IsFittingStretch}
-use Rattle.textarea_wrap.specs.Units.{line_units}
+use Rattle.textarea_wrap.specs.Prelude.{stretch_width, Stretch, IsBlankCluster, IsFittingRow, IsFittingStretch, line_units}
 use Rattle.textarea_wrap.proofs.Alls.{all_split}
 use Rattle.textarea_wrap.proofs.BlankLemmas.{AreBlanksClusters-line_units}
 use Rattle.textarea_wrap.proofs.ColumnLemmas.{stretch_width-back}

@@ -4,17 +4,12 @@ use Rattle.std.proofs.lemmas.Str.{IsUtf8-nil, IsUtf8-append, IsUtf8-between, IsC
 use Rattle.std.proofs.lemmas.Bool.{cond_both}
 use Rattle.std.proofs.lemmas.List.Folds.{concat-append}
 use Rattle.std.proofs.lemmas.List.Elements.{All-head, All-rest}
-use Rattle.std.specs.List.{concat, flat_map, All, AllByRecursion}
-use Rattle.std.specs.Str.{IsUtf8, IsCharBoundary}
+use Rattle.textarea_wrap.specs.Prelude.{concat, flat_map, All, AllByRecursion, IsUtf8, IsCharBoundary, is_blank, units_of_segment, line_units, Stretch, UnitBlock, shared, split, stretches_of, units_of, rows_of, ranges_from, AreGlyphRows, IsGlyphWrapping, IsBlock, AreBlocks, IsWordWrapping, WrapMode, IsWrapping, IsRowRange, IsWrapped}
 use Rattle.unicode_segmentation.specs.Grapheme.{graphemes, is_grapheme_break}
 use Rattle.unicode_segmentation.specs.Segments.{Rule, segments, with_offsets}
 use Rattle.unicode_segmentation.specs.Word.{word_bounds, is_word_break}
 use Rattle.unicode_segmentation.proofs.SegmentsLemmas.{AllPieces, IsPieceOf, All-IsPieceOf, segments_nonempty, concat-segments}
-use Rattle.textarea_wrap.specs.Units.{is_blank, units_of_segment, line_units}
-use Rattle.textarea_wrap.specs.WrapRules.{Stretch, UnitBlock, shared, split, stretches_of, units_of, rows_of, ranges_from, AreGlyphRows, IsGlyphWrapping, IsBlock, AreBlocks, IsWordWrapping}
-use Rattle.textarea_wrap.specs.declared.wrap.WrapMode.{WrapMode}
 use Rattle.textarea_wrap.specs.declared.wrap.WrapMode.TheVariants as mode
-use Rattle.textarea_wrap.specs.WrapResult.{IsWrapping, IsRowRange, IsWrapped}
 use Rattle.textarea_wrap.proofs.Alls.{all_append, all_split}
 use Rattle.textarea_wrap.proofs.GlyphLemmas.{concat-stretches_of}
 

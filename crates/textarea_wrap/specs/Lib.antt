@@ -7,3 +7,4 @@ pub mod Units
 pub mod WordWalk
 pub mod WrapResult
 pub mod RowsView
+pub mod Prelude

@@ -1,11 +1,7 @@
 //! Laws of wrapping. Each is the contract of a function with an empty body.
 ghost use Rattle.std.specs.Prelude.{◌≡◌, ◌<◌, ◌≤◌, ◌⊎◌, ◌++◌, ℕ, List, length};
-ghost use Rattle.textarea_wrap.specs.declared.wrap.WrapMode.{WrapMode};
+ghost use Rattle.textarea_wrap.specs.Prelude.{WrapMode, end_column, stretch_width, HasFewestGlyphRows, HasFewestWordRows, IsBlankCluster, IsFittingRow, IsFittingStretch, Stretch, line_units, IsWrapped};
 ghost use Rattle.textarea_wrap.specs.declared.wrap.WrapMode.TheVariants as mode;
-ghost use Rattle.textarea_wrap.specs.Columns.{end_column, stretch_width};
-ghost use Rattle.textarea_wrap.specs.WrapRules.{HasFewestGlyphRows, HasFewestWordRows, IsBlankCluster, IsFittingRow, IsFittingStretch, Stretch};
-ghost use Rattle.textarea_wrap.specs.Units.{line_units};
-ghost use Rattle.textarea_wrap.specs.WrapResult.{IsWrapped};
 
 /// A line wraps in only one way in each mode, at each width and tab length.
 pub fn one_wrapping()

@@ -1,7 +1,6 @@
 //! The width of line numbers, and the width that remains for visual rows.
 ghost use Rattle.std.specs.Prelude.{◌≡◌, ◌+◌, ◌≤◌, ℕ, length};
-ghost use Rattle.std.specs.Fmt.{decimal};
-ghost use Rattle.textarea_wrap.specs.Metrics.{line_number_columns, columns_for_rows};
+ghost use Rattle.textarea_wrap.specs.Prelude.{decimal, line_number_columns, columns_for_rows};
 
 use crate::wrap::WrapMode;
 use std::marker::Model;

@@ -1,8 +1,6 @@
 //! Wrapping of one line into visual rows.
 ghost use Rattle.std.specs.Prelude.{◌≡◌, ◌+◌, ◌<◌, ◌≤◌, ◌↔◌, ◌++◌, ℕ, List, max, length, IsTrue, IsOk, IfOk, OnOk};
-ghost use Rattle.textarea_util.specs.Limit.{size_limit};
-ghost use Rattle.textarea_wrap.specs.Marks.{marks_of};
-ghost use Rattle.textarea_wrap.specs.WrapResult.{HasFewestRows, IsWrapped, TakesOneRow};
+ghost use Rattle.textarea_wrap.specs.Prelude.{size_limit, marks_of, HasFewestRows, IsWrapped, TakesOneRow};
 
 use self::columns::fits_width;
 use self::glyphs::push_glyph_rows;

@@ -1,10 +1,7 @@
 //! Changes of blocks: replacing rows in one block or by whole blocks, which allocates nothing, and
 //! the calls that prepare room and block edges for that.
 ghost use Rattle.std.specs.Prelude.{◌≡◌, ◌+◌, ◌-◌, ◌*◌, ◌<◌, ◌≤◌, ◌++◌, ◌∷◌, [], length, take, drop, get_or, set, vec_len, IfOk, OnErr, OnOk};
-ghost use Rattle.textarea_util.specs.Limit.{size_limit};
-ghost use Rattle.textarea_util.specs.Replaced.{replaced};
-ghost use Rattle.textarea_blocks.specs.Blocks.{FitsInBlock, IsEdge, all_rows, lines_before};
-ghost use Rattle.textarea_blocks.specs.Sums.{row_total};
+ghost use Rattle.textarea_blocks.specs.Prelude.{size_limit, replaced, FitsInBlock, IsEdge, all_rows, lines_before, row_total};
 
 use super::RowBlocks;
 use super::numbers::Exchanged;

@@ -1,7 +1,6 @@
 //! Look-ups in blocks: the line at an index, its visual rows, and the totals before it.
 ghost use Rattle.std.specs.Prelude.{◌≡◌, ◌+◌, ◌<◌, ◌≤◌, [], length, take, drop, get_or, min};
-ghost use Rattle.textarea_blocks.specs.Blocks.{IsBlockOf, IsEdge, all_rows, lines_before};
-ghost use Rattle.textarea_blocks.specs.Sums.{marks_at, ranges_at, row_total, size_total};
+ghost use Rattle.textarea_blocks.specs.Prelude.{IsBlockOf, IsEdge, all_rows, lines_before, marks_at, ranges_at, row_total, size_total};
 
 use super::RowBlocks;
 use crate::sums::{count_rows, size_of_rows};

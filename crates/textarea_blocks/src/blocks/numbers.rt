@@ -1,6 +1,6 @@
 //! For each block, the number of items (lines or visual rows) before it.
 ghost use Rattle.std.specs.Prelude.{◌≡◌, ℕ, ◌+◌, ◌-◌, ◌<◌, ◌≤◌, ◌++◌, ◌∷◌, [], length, get_or, vec_len, vec_capacity, OnOk};
-ghost use Rattle.textarea_blocks.specs.Numbered.{AreExchanged};
+ghost use Rattle.textarea_blocks.specs.Prelude.{AreExchanged, AreShifted, CanShift};
 
 use std::alloc::{AllocError, Global};
 use std::marker::Model;
@@ -128,15 +128,8 @@ impl Numbers {
     /// difference with the same `from` is combined with this one, unless a sum overflows. Otherwise
     /// it is added to the items, and this one is pending.
     pub(super) fn shift_from(&mut self, from: usize, gone: usize, come: usize)
-        requires enough { (k : ℕ) → from ≤ k → k < length self.old.numbers
-            → gone ≤ get_or self.old.numbers k 0 + come }
-        requires small { (k : ℕ) → from ≤ k → k < length self.old.numbers
-            → get_or self.old.numbers k 0 + come ≤ usize.MAX }
-        ensures above { (k : ℕ) → k < from
-            → get_or self.new.numbers k 0 ≡ get_or self.old.numbers k 0 }
-        ensures moved { (k : ℕ) → from ≤ k → k < length self.old.numbers
-            → get_or self.new.numbers k 0 + gone ≡ get_or self.old.numbers k 0 + come }
-        ensures len { length self.new.numbers ≡ length self.old.numbers }
+        requires { CanShift self.old.numbers from gone come }
+        ensures shifted { AreShifted self.old.numbers self.new.numbers from gone come }
         ensures room { self.new.spare ≡ self.old.spare }
     {
         if gone == come {
@@ -162,10 +155,7 @@ impl Numbers {
         requires ordered { exchanged.from ≤ exchanged.to }
         requires within { exchanged.to ≤ length self.old.numbers }
         requires room { length new.numbers ≤ self.old.spare + (exchanged.to - exchanged.from) }
-        requires enough { (k : ℕ) → exchanged.to ≤ k → k < length self.old.numbers
-            → exchanged.gone ≤ get_or self.old.numbers k 0 + exchanged.come }
-        requires small { (k : ℕ) → exchanged.to ≤ k → k < length self.old.numbers
-            → get_or self.old.numbers k 0 + exchanged.come ≤ usize.MAX }
+        requires after { CanShift self.old.numbers exchanged.to exchanged.gone exchanged.come }
         requires small_new { (k : ℕ) → k < length new.numbers
             → get_or new.numbers k 0 + exchanged.before ≤ usize.MAX }
         ensures { AreExchanged self.old.numbers new.numbers exchanged self.new.numbers }
@@ -187,28 +177,16 @@ impl Numbers {
 
 // Adds `come` to each number from `from` on, and subtracts `gone`.
 fn move_numbers(numbers: &mut Vec<usize>, from: usize, gone: usize, come: usize)
-    requires enough { (k : ℕ) → from ≤ k → k < vec_len numbers.old
-        → gone ≤ get_or numbers.old.items k 0 + come }
-    requires small { (k : ℕ) → from ≤ k → k < vec_len numbers.old
-        → get_or numbers.old.items k 0 + come ≤ usize.MAX }
-    ensures above { (k : ℕ) → k < from
-        → get_or numbers.new.items k 0 ≡ get_or numbers.old.items k 0 }
-    ensures moved { (k : ℕ) → from ≤ k → k < vec_len numbers.old
-        → get_or numbers.new.items k 0 + gone ≡ get_or numbers.old.items k 0 + come }
-    ensures len { vec_len numbers.new ≡ vec_len numbers.old }
+    requires { CanShift numbers.old.items from gone come }
+    ensures shifted { AreShifted numbers.old.items numbers.new.items from gone come }
     ensures capacity { vec_capacity numbers.new ≡ vec_capacity numbers.old }
 {
     move_slice(numbers.as_mut_slice(), from, gone, come);
 }
 
 fn move_slice(numbers: &mut [usize], from: usize, gone: usize, come: usize)
-    requires enough { (k : ℕ) → from ≤ k → k < length numbers.old
-        → gone ≤ get_or numbers.old k 0 + come }
-    requires small { (k : ℕ) → from ≤ k → k < length numbers.old
-        → get_or numbers.old k 0 + come ≤ usize.MAX }
-    ensures above { (k : ℕ) → k < from → get_or numbers.new k 0 ≡ get_or numbers.old k 0 }
-    ensures moved { (k : ℕ) → from ≤ k → k < length numbers.old
-        → get_or numbers.new k 0 + gone ≡ get_or numbers.old k 0 + come }
+    requires { CanShift numbers.old from gone come }
+    ensures { AreShifted numbers.old numbers.new from gone come }
 {
     if gone == come {
         return;
@@ -224,10 +202,7 @@ fn exchange_numbers(numbers: &mut Vec<usize>, mut new: Vec<usize>, exchanged: Ex
     requires within { exchanged.to ≤ vec_len numbers.old }
     requires room { vec_len numbers.old + vec_len new
         ≤ vec_capacity numbers.old + (exchanged.to - exchanged.from) }
-    requires enough { (k : ℕ) → exchanged.to ≤ k → k < vec_len numbers.old
-        → exchanged.gone ≤ get_or numbers.old.items k 0 + exchanged.come }
-    requires small { (k : ℕ) → exchanged.to ≤ k → k < vec_len numbers.old
-        → get_or numbers.old.items k 0 + exchanged.come ≤ usize.MAX }
+    requires after { CanShift numbers.old.items exchanged.to exchanged.gone exchanged.come }
     requires small_new { (k : ℕ) → k < vec_len new
         → get_or new.items k 0 + exchanged.before ≤ usize.MAX }
     ensures { AreExchanged numbers.old.items new.items exchanged numbers.new.items }

@@ -1,7 +1,6 @@
 //! Wrapping at the ends of grapheme clusters.
 ghost use Rattle.std.specs.Prelude.{◌≡◌, ℕ, ◌+◌, ◌*◌, ◌^◌, ◌<◌, ◌≤◌, List, ◌++◌, length, OnOk};
-ghost use Rattle.std.specs.List.{concat};
-ghost use Rattle.textarea_wrap.specs.WrapRules.{IsGlyphWrapping, ranges_from};
+ghost use Rattle.textarea_wrap.specs.Prelude.{concat, IsGlyphWrapping, ranges_from};
 
 use super::Ranges;
 use super::columns::column_after_text;

@@ -1,8 +1,6 @@
 //! Marks of a line's rows: positions whose column and byte offset are both known.
 ghost use Rattle.std.specs.Prelude.{◌≡◌, ◌<◌, ◌≤◌, ◌++◌, ℕ, chars, get_or, length, IsOk, OnOk};
-ghost use Rattle.std.specs.List.{AllByRecursion};
-ghost use Rattle.textarea_wrap.specs.Marks.{marks_of};
-ghost use Rattle.textarea_wrap.specs.WrapResult.{IsRowRange};
+ghost use Rattle.textarea_wrap.specs.Prelude.{AllByRecursion, marks_of, IsRowRange};
 
 use super::Ranges;
 use std::alloc::AllocError;

@@ -1,8 +1,6 @@
 //! Wrapping at the ends of units.
 ghost use Rattle.std.specs.Prelude.{◌≡◌, ℕ, ◌+◌, ◌*◌, ◌^◌, ◌<◌, ◌≤◌, ◌↔◌, List, [], ◌∷◌, ◌++◌, length, map, IsTrue, IfOk, OnOk};
-ghost use Rattle.std.specs.List.{concat, flat_map, AllByRecursion};
-ghost use Rattle.textarea_wrap.specs.WrapRules.{Stretch, UnitBlock, AreBlocks, HangsOver, begins_with_content, units_of, rows_of, ranges_from};
-ghost use Rattle.textarea_wrap.specs.WordWalk.{IsWordWalk};
+ghost use Rattle.textarea_wrap.specs.Prelude.{concat, flat_map, AllByRecursion, Stretch, UnitBlock, AreBlocks, HangsOver, begins_with_content, units_of, rows_of, ranges_from, IsWordWalk};
 
 use super::Ranges;
 use super::columns::column_after_text;

@@ -1,4 +1,4 @@
-use Rattle.std.proofs.Common.{◌≡◌, ◌∙◌, ◌-◌, ℕ, ap, sym, arith, get_or, length, take}
+use Rattle.std.proofs.Common.{◌≡◌, ◌∙◌, ◌-◌, ap, sym, arith, get_or, length, take}
 use Rattle.textarea_text.specs.Text.{characters_of, text_of}
 use Rattle.textarea_text.proofs.EmptyTexts.{empty-string, filled-string}
 use Rattle.textarea_text.proofs.FragmentLemmas.{text_of-full_end, text_of-one_line, text_of-without_end}

@@ -1,7 +1,6 @@
 use Rattle.std.proofs.Common.{arith, rules, ap}
 use Rattle.std.proofs.lemmas.Grind.{common_steps}
-use Rattle.std.specs.Str.{chars}
-use Rattle.textarea_text.specs.Fragment.{fragment_symbols}
+use Rattle.textarea_text.specs.Prelude.{chars, fragment_symbols}
 use Rattle.textarea_text.proofs.FragmentLemmas.{fragment_more, fragment_done}
 use Rattle.textarea_text.proofs.fragment.fragment_of.Goals as goal
 

@@ -1,9 +1,7 @@
 use Rattle.std.proofs.Common.{◌≡◌, ◌++◌, length}
 use denote.Text.{Utf8}
 use denote.Shadow.{shadow}
-use Rattle.std.specs.Str.{chars}
-use Rattle.textarea_text.specs.Text.{leading, lines_of}
-use Rattle.textarea_text.specs.Fragment.{fragment_symbols}
+use Rattle.textarea_text.specs.Prelude.{chars, leading, lines_of, fragment_symbols}
 use Rattle.textarea_text.proofs.fragment.fragment_of.Given as goal
 
 -- the lines so far, each with its break, and the rest are the whole text

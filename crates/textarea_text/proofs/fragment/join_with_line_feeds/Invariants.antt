@@ -1,6 +1,5 @@
 use Rattle.std.proofs.Common.{◌≡◌, ◌++◌, take}
-use Rattle.textarea_text.specs.Text.{characters_of, following, lines_of}
-use Rattle.textarea_text.specs.Fragment.{fragment_text}
+use Rattle.textarea_text.specs.Prelude.{characters_of, following, lines_of, fragment_text}
 use Rattle.textarea_text.proofs.fragment.join_with_line_feeds.Given as goal
 
 abbrev pub invariant-loop-fragment_line : goal.invariant-loop-fragment_line

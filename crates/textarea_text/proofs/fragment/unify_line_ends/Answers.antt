@@ -1,8 +1,7 @@
 use Rattle.std.proofs.Common.{◌++◌, ◌∙◌, ap, rules, string_bytes, sym}
-use Rattle.std.specs.Str.{chars}
+use Rattle.textarea_text.specs.Prelude.{chars, unified}
 use Rattle.std.proofs.lemmas.Str.{IsUtf8-string_bytes, chars-nil}
 use Rattle.textarea_text.proofs.Columns.{chars-push_str}
-use Rattle.textarea_text.specs.Fragment.{unified}
 use Rattle.textarea_text.proofs.fragment.unify_line_ends.Goals as goal
 
 pub loop-before-init : goal.loop-before-init

@@ -1,8 +1,7 @@
 use Rattle.std.proofs.Common.{◌≡◌, ◌++◌, length, string_bytes}
 use denote.Text.{Utf8}
 use denote.Shadow.{shadow}
-use Rattle.std.specs.Str.{chars}
-use Rattle.textarea_text.specs.Fragment.{unified}
+use Rattle.textarea_text.specs.Prelude.{chars, unified}
 use Rattle.textarea_text.proofs.fragment.unify_line_ends.Given as goal
 
 -- the text so far and what the rest gives are the whole

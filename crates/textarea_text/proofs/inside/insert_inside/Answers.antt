@@ -1,9 +1,8 @@
 use Rattle.std.proofs.Common.{◌≡◌, ◌∙◌, ◌++◌, ap, arith, sym, take, drop, string_bytes}
 use Rattle.std.proofs.lemmas.Grind.{common_steps}
-use Rattle.std.specs.Str.{chars}
+use Rattle.textarea_text.specs.Prelude.{chars, characters_of}
 use Rattle.std.proofs.lemmas.Result.{on_err_weaker}
 use Rattle.std.proofs.lemmas.Str.{IsUtf8-string_bytes}
-use Rattle.textarea_text.specs.Text.{characters_of}
 use Rattle.textarea_text.proofs.Columns.{offset_in}
 use Rattle.textarea_text.proofs.Insides.{always_ok, chars_between, line_changed, offset_of_place, place_unchanged, split_point}
 use Rattle.textarea_text.proofs.inside.insert_inside.Goals as goal

@@ -1,7 +1,6 @@
 use Rattle.std.proofs.Common.{◌+◌, ◌-◌, ◌∙◌, ap, arith, length, min}
 use Rattle.std.proofs.lemmas.List.{length-map}
-use Rattle.textarea_text.specs.Text.{characters_of, lines_of, text_of}
-use Rattle.textarea_text.specs.Place.{index_of}
+use Rattle.textarea_text.specs.Prelude.{characters_of, lines_of, text_of, index_of}
 use Rattle.textarea_text.proofs.PlaceLemmas.{IsAt, ahead_inside, ahead_last, row_start-next}
 use Rattle.textarea_text.proofs.places.ahead.Goals as goal
 

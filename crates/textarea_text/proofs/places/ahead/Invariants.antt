@@ -1,6 +1,5 @@
 use Rattle.std.proofs.Common.{◌≡◌, ◌+◌, ◌≤◌, [], get_or, length}
-use Rattle.textarea_text.specs.Text.{lines_of, text_of}
-use Rattle.textarea_text.specs.Place.{index_of, row_start}
+use Rattle.textarea_text.specs.Prelude.{lines_of, text_of, index_of, row_start}
 use Rattle.textarea_text.proofs.places.ahead.Given as goal
 
 -- the rest counts from the column of the row

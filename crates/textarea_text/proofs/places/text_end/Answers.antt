@@ -1,7 +1,6 @@
 use Rattle.std.proofs.Common.{◌∙◌, ap, arith, length}
 use Rattle.std.proofs.lemmas.List.{length-map}
-use Rattle.textarea_text.specs.Text.{characters_of, lines_of, text_of}
-use Rattle.textarea_text.specs.Place.{index_of, line_of}
+use Rattle.textarea_text.specs.Prelude.{characters_of, lines_of, text_of, index_of, line_of}
 use Rattle.textarea_text.proofs.PlaceLemmas.{IsAt, is_at_end}
 use Rattle.textarea_text.proofs.places.text_end.Goals as goal
 

@@ -1,7 +1,6 @@
 use Rattle.std.proofs.Common.{◌+◌, ◌-◌, ◌++◌, arith, refl}
 use Rattle.std.proofs.lemmas.List.{length-map}
-use Rattle.std.specs.Str.{chars}
-use Rattle.textarea_text.specs.Text.{characters, characters_of, following, lines_of}
+use Rattle.textarea_text.specs.Prelude.{chars, characters, characters_of, following, lines_of}
 use Rattle.textarea_text.proofs.StringRows.{rows_in_place}
 use Rattle.textarea_text.proofs.Touching.{breaks_of-append, breaks_of-characters, breaks_of-following}
 use Rattle.textarea_text.proofs.rows.prepare_replacement.Goals as goal

@@ -1,7 +1,5 @@
 use Rattle.std.proofs.Common.{◌≡◌, ◌+◌, ◌%◌, ◌<◌, take}
-use Rattle.std.specs.Str.{chars, IsUtf8}
-use Rattle.std.specs.Str.Iter.{chars_rest}
-use Rattle.textarea_text.specs.Tab.{width_of}
+use Rattle.textarea_text.specs.Prelude.{chars, IsUtf8, chars_rest, width_of}
 use Rattle.textarea_text.proofs.tab.spaces_to_stop.Given as goal
 
 -- the width so far, modulo the tab length, and the width of the remaining characters

@@ -1,7 +1,6 @@
 use Rattle.std.proofs.Common.{◌∙◌, ◌-◌, ◌+◌, ◌<◌, add-zero, ap, arith, refl, sym, drop}
 use Rattle.std.proofs.lemmas.Grind.{common_steps}
-use Rattle.std.specs.Str.{chars}
-use Rattle.textarea_text.specs.Text.{lines_of}
+use Rattle.textarea_text.specs.Prelude.{chars, lines_of}
 use Rattle.textarea_text.proofs.StringRows.{line_at, row_within}
 use Rattle.textarea_text.proofs.BetweenLemmas.{up_to_from_index, column_within_last, line_in_between, between_from_lines, lines_done, lines_more, lines_none}
 use Rattle.textarea_text.proofs.text_slice.between.Goals as goal

@@ -3,8 +3,7 @@ use Rattle.std.proofs.lemmas.Iterator.{YieldsList-from_chars}
 use Rattle.std.proofs.lemmas.Iterator.Consumers.{YieldsList-turn, YieldsList-end, YieldsList-from_enumerate}
 use Rattle.std.proofs.lemmas.List.{length_push}
 use Rattle.std.proofs.lemmas.List.FromFn.{length-enumerate_from}
-use Rattle.std.specs.Str.{chars}
-use Rattle.textarea_text.specs.Words.{is_later_edge}
+use Rattle.textarea_text.specs.Prelude.{chars, is_later_edge}
 use Rattle.textarea_text.proofs.NearestLemmas.{failed_more, IsLeast-none}
 use Rattle.textarea_text.proofs.WordLemmas.{IsTurn-enumerate_from, class_before-more, is_later_edge-turn, is_later_edge-early, is_later_edge-past}
 use Rattle.textarea_text.proofs.word.find_edge.Goals as goal

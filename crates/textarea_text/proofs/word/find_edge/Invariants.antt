@@ -1,6 +1,5 @@
 use Rattle.std.proofs.Common.{◌≡◌, ℕ, ◌<◌, false, length}
-use Rattle.std.specs.Str.{chars}
-use Rattle.textarea_text.specs.Words.{is_later_edge}
+use Rattle.textarea_text.specs.Prelude.{chars, is_later_edge}
 use Rattle.textarea_text.proofs.WordLemmas.{class_before}
 use Rattle.textarea_text.proofs.word.find_edge.Given as goal
 

@@ -1,7 +1,6 @@
 use Rattle.std.proofs.Common.{◌≡◌, ℕ, ◌+◌, ◌<◌, true, length, arith, sym, ◌∙◌, ap}
 use Rattle.std.proofs.lemmas.List.{length-drop}
-use Rattle.std.specs.Str.{chars}
-use Rattle.textarea_text.specs.Words.{is_later_edge}
+use Rattle.textarea_text.specs.Prelude.{chars, is_later_edge}
 use Rattle.textarea_text.proofs.NearestLemmas.{least_below-none, least_below-found, least_shifted-none, least_shifted-before}
 use Rattle.textarea_text.proofs.StartLemmas.{length-chars}
 use Rattle.textarea_text.proofs.WordLemmas.{is_later_edge-drop, is_later_edge-before}

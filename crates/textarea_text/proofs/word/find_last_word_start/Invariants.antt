@@ -1,7 +1,5 @@
 use Rattle.std.proofs.Common.{◌≡◌, length}
-use Rattle.std.specs.Str.{chars}
-use Rattle.textarea_text.specs.Nearest.{greatest_below}
-use Rattle.textarea_text.specs.Words.{is_earlier_word_start}
+use Rattle.textarea_text.specs.Prelude.{chars, greatest_below, is_earlier_word_start}
 use Rattle.textarea_text.proofs.WordLemmas.{class_before}
 use Rattle.textarea_text.proofs.word.find_last_word_start.Given as goal
 

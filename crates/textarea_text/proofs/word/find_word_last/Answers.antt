@@ -2,8 +2,7 @@ use Rattle.std.proofs.Common.{◌≡◌, ℕ, ◌+◌, ◌<◌, true, false, len
 use Rattle.std.proofs.lemmas.Iterator.{YieldsList-from_chars}
 use Rattle.std.proofs.lemmas.Iterator.Consumers.{YieldsList-turn, YieldsList-end}
 use Rattle.std.proofs.lemmas.List.{length_push}
-use Rattle.std.specs.Str.{chars}
-use Rattle.textarea_text.specs.Words.{is_word_last_from}
+use Rattle.textarea_text.specs.Prelude.{chars, is_word_last_from}
 use Rattle.textarea_text.proofs.NearestLemmas.{failed_before, IsLeast-none}
 use Rattle.textarea_text.proofs.WordLemmas.{IsTurn-chars, class_before-after, is_word_last_from-turn, is_word_last_from-end, is_word_last_from-early, is_word_last_from-past}
 use Rattle.textarea_text.proofs.word.find_word_last.Goals as goal

@@ -1,6 +1,5 @@
 use Rattle.std.proofs.Common.{◌≡◌, ℕ, suc, ◌<◌, false, length}
-use Rattle.std.specs.Str.{chars}
-use Rattle.textarea_text.specs.Words.{is_word_last_from}
+use Rattle.textarea_text.specs.Prelude.{chars, is_word_last_from}
 use Rattle.textarea_text.proofs.WordLemmas.{class_before}
 use Rattle.textarea_text.proofs.word.find_word_last.Given as goal
 

@@ -1,7 +1,6 @@
 use Rattle.std.proofs.Common.{◌≡◌, ℕ, ◌+◌, ◌-◌, ◌<◌, true, length, arith, sym, ◌∙◌, ap}
 use Rattle.std.proofs.lemmas.List.{length-drop}
-use Rattle.std.specs.Str.{chars}
-use Rattle.textarea_text.specs.Words.{is_earlier_word_start}
+use Rattle.textarea_text.specs.Prelude.{chars, is_earlier_word_start}
 use Rattle.textarea_text.proofs.NearestLemmas.{greatest_below-found, greatest_shifted-after}
 use Rattle.textarea_text.proofs.WordLemmas.{is_earlier_word_start-drop}
 use Rattle.textarea_text.proofs.word.find_word_start_backward.Goals as goal

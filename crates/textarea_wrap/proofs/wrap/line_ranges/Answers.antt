@@ -1,8 +1,5 @@
 use Rattle.std.proofs.Common.{length, max, sym, subst, ◌≡◌, ◌↔◌, ◌∙◌, ◌++◌, refl, List, Result, Ok, Err, ℕ, take, drop}
-use Rattle.std.specs.Result.{IfOk, IsOk}
-use Rattle.textarea_wrap.specs.Marks.{marks_of, range_count}
-use Rattle.textarea_wrap.specs.RowsView.{RowsView}
-use Rattle.textarea_wrap.specs.WrapResult.{HasFewestRows, IsWrapped}
+use Rattle.textarea_wrap.specs.Prelude.{IfOk, IsOk, marks_of, range_count, RowsView, IsWrapped}
 use Rattle.textarea_wrap.proofs.FewestRowLemmas.{HasFewestRows-wrapped}
 use Rattle.textarea_wrap.proofs.MarkLemmas.{marks_among, ranges_among}
 use Rattle.textarea_wrap.proofs.wrap.line_ranges.Goals as goal

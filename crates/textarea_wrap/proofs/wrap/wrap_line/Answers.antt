@@ -1,10 +1,7 @@
 use Rattle.std.proofs.Common.{rules, false, sym, ◌≡◌, ℕ, ◌<◌, List, [], ◌∷◌, ◌++◌, map, length, ap, ◌∙◌, inl, inr, arith, Bor}
 use Rattle.std.proofs.lemmas.Bool.{false≢true}
-use Rattle.std.specs.List.{flat_map}
-use Rattle.textarea_wrap.specs.WrapRules.{units_of, rows_of, ranges_from}
-use Rattle.textarea_wrap.specs.Units.{line_units}
+use Rattle.textarea_wrap.specs.Prelude.{flat_map, units_of, rows_of, ranges_from, line_units, TakesOneRow}
 use Rattle.textarea_wrap.specs.declared.wrap.WrapMode.TheVariants as mode
-use Rattle.textarea_wrap.specs.WrapResult.{TakesOneRow}
 use Rattle.textarea_wrap.proofs.OneRowLemmas.{IsWrapped-one_row, nonempty_unless_fits}
 use Rattle.textarea_wrap.proofs.RowLemmas.{AreNonempty-word_segments, AreSegments-line_units, concat-line_units, IsWrapped-glyphs, IsWrapped-units}
 use Rattle.textarea_wrap.proofs.wrap.wrap_line.Goals as goal

@@ -1,5 +1,5 @@
 use Rattle.std.proofs.lemmas.Grind.{common_steps}
-use Rattle.std.proofs.Common.{arith, length, ◌∙◌}
+use Rattle.std.proofs.Common.{arith, length}
 use Rattle.textarea_blocks.proofs.InBlocks.{before_within, edge_there, lines_sum, before_all}
 use Rattle.textarea_blocks.proofs.blocks.RowBlocks.edge_of.Goals as goal
 

@@ -1,13 +1,10 @@
 use Rattle.std.proofs.lemmas.Grind.{common_steps}
 use Rattle.std.proofs.Common.{◌≡◌, ◌+◌, ◌<◌, ◌≤◌, ◌∙◌, List, [], ap, arith, get_or, length, ℕ}
-use Rattle.textarea_util.specs.Replaced.{replaced}
+use Rattle.textarea_blocks.specs.Prelude.{replaced, RowsView, BlocksView, all_rows, rows_of_each, row_total}
 use Rattle.textarea_util.proofs.Replacing.{length-replaced}
-use Rattle.textarea_wrap.specs.RowsView.{RowsView}
-use Rattle.textarea_blocks.specs.Blocks.{BlocksView, all_rows, rows_of_each}
-use Rattle.textarea_blocks.specs.Sums.{row_total}
-use Rattle.textarea_blocks.proofs.InBlocks.{before_more, before_ordered, before_within, block_count, blocks_set, lines_sum, rows_are, rows_sum}
-use Rattle.textarea_blocks.proofs.LineSums.{rows_exchanged}
-use Rattle.textarea_blocks.proofs.Totals.{all_set, totals_set}
+use Rattle.textarea_blocks.proofs.InBlocks.{before_more, before_within, block_count, blocks_set, lines_sum, rows_are, rows_sum}
+use Rattle.textarea_blocks.proofs.Numbers.{rows_exchanged}
+use Rattle.textarea_blocks.proofs.Totals.{all_set, totals_can_shift, totals_set}
 use Rattle.textarea_blocks.proofs.blocks.RowBlocks.exchange.Goals as goal
 use Rattle.textarea_blocks.proofs.blocks.RowBlocks.exchange.Goals.{After-replace_items}
 
@@ -40,33 +37,24 @@ exchanged c =
       within = within;
       inside = inside;
       now_is = now;
-      segment = omega (arith, c.count_rows-rows_gone.ensures, sums.segment);
-      turned = omega (arith, c.count_rows-rows_gone.ensures, sums.segment, sums.after, ap row_total now, come, whole, all, c.self.invariant.few_rows);
+      segment = omega (arith, c.count_rows-rows_gone.ensures, sums.0);
+      turned = omega (arith, c.count_rows-rows_gone.ensures, sums.0, sums.1, ap row_total now, come, whole, all, c.self.invariant.few_rows);
       come_is = come;
     }
 
-pub shift_from-requires-clause-enough : goal.shift_from-requires-clause-enough
-shift_from-requires-clause-enough c = λ k is_after there.
-    let known = exchanged (goal.at.shift_from-requires-clause-enough c).After-replace_items in
+pub shift_from-requires : goal.shift_from-requires
+shift_from-requires c =
+    let known = exchanged (goal.at.shift_from-requires c).After-replace_items in
     let blocks = rows_of_each c.self.inside.blocks.items in
-    omega (arith, known.inside, c.self.invariant.lines_are.right k (omega (arith, there, c.self.invariant.lines_are.len)), before_ordered length lines_sum blocks (c.args.block + 1) k is_after, before_more length lines_sum blocks c.args.block known.within)
+    let lines = before_more length lines_sum blocks c.args.block known.within in
+    totals_can_shift length lines_sum blocks c.self.inside.lines.numbers (c.args.block + 1) c.args.count c.len-come.result c.self.invariant.lines_are (omega (arith, known.inside, lines)) (omega (arith, c.self.invariant.few_lines, c.requires.lines, c.len-come.ensures))
 
-pub shift_from-requires-clause-small : goal.shift_from-requires-clause-small
-shift_from-requires-clause-small c = λ k is_after there.
+pub shift_from-requires-2 : goal.shift_from-requires-2
+shift_from-requires-2 c =
+    let known = exchanged (goal.at.shift_from-requires-2 c).After-replace_items in
     let blocks = rows_of_each c.self.inside.blocks.items in
-    omega (arith, c.self.invariant.lines_are.right k (omega (arith, there, c.self.invariant.lines_are.len)), before_within length lines_sum blocks k, c.self.invariant.few_lines, c.requires.lines, c.len-come.ensures)
-
-pub shift_from-requires-2-clause-enough : goal.shift_from-requires-2-clause-enough
-shift_from-requires-2-clause-enough c = λ k is_after there.
-    let known = exchanged (goal.at.shift_from-requires-2-clause-enough c).After-replace_items in
-    let blocks = rows_of_each c.self.inside.blocks.items in
-    omega (arith, known.segment, c.self.invariant.rows_are.right k (omega (arith, there, c.self.invariant.rows_are.len)), before_ordered row_total rows_sum blocks (c.args.block + 1) k is_after, before_more row_total rows_sum blocks c.args.block known.within)
-
-pub shift_from-requires-2-clause-small : goal.shift_from-requires-2-clause-small
-shift_from-requires-2-clause-small c = λ k is_after there.
-    let known = exchanged (goal.at.shift_from-requires-2-clause-small c).After-replace_items in
-    let blocks = rows_of_each c.self.inside.blocks.items in
-    omega (arith, c.self.invariant.rows_are.right k (omega (arith, there, c.self.invariant.rows_are.len)), before_within row_total rows_sum blocks k, c.self.invariant.few_rows, c.requires.rows, known.come_is)
+    let rows = before_more row_total rows_sum blocks c.args.block known.within in
+    totals_can_shift row_total rows_sum blocks c.self.inside.rows.numbers (c.args.block + 1) c.count_rows-rows_gone.result c.count_rows-rows_come.result c.self.invariant.rows_are (omega (arith, known.segment, rows)) (omega (arith, c.self.invariant.few_rows, c.requires.rows, known.come_is))
 
 pub invariant_of-self : goal.invariant_of-self
 invariant_of-self c =
@@ -81,8 +69,8 @@ invariant_of-self c =
     let rows = c.self.invariant.rows_are in
     rw (blocks_set inside.blocks.items block c.replace_items.new.items)
     (record {
-      lines_are = totals_set length lines_sum blocks inside.lines.numbers c.shift_from.new.self.numbers block c.args.count c.len-come.result now lines known.within size c.shift_from.ensures.len c.shift_from.ensures.above c.shift_from.ensures.moved;
-      rows_are = totals_set row_total rows_sum blocks inside.rows.numbers c.shift_from-2.new.self.numbers block c.count_rows-rows_gone.result c.count_rows-rows_come.result now rows known.within known.turned c.shift_from-2.ensures.len c.shift_from-2.ensures.above c.shift_from-2.ensures.moved;
+      lines_are = totals_set length lines_sum blocks inside.lines.numbers c.shift_from.new.self.numbers block c.args.count c.len-come.result now lines known.within size c.shift_from.ensures.shifted;
+      rows_are = totals_set row_total rows_sum blocks inside.rows.numbers c.shift_from-2.new.self.numbers block c.count_rows-rows_gone.result c.count_rows-rows_come.result now rows known.within known.turned c.shift_from-2.ensures.shifted;
       few_lines = omega (arith, all_set length lines_sum blocks block now known.within, size, c.requires.lines, c.len-come.ensures, ap (λ (v : BlocksView). length (all_rows v.blocks)) c.self.view_is);
       few_rows = omega (arith, all_set row_total rows_sum blocks block now known.within, known.turned, known.come_is, c.requires.rows, ap (λ (v : BlocksView). row_total (all_rows v.blocks)) c.self.view_is);
     })

@@ -1,10 +1,8 @@
 use Rattle.std.proofs.lemmas.Grind.{common_steps}
 use Rattle.std.proofs.Common.{◌≡◌, ◌-◌, ◌≤◌, ◌∙◌, ap, arith, length}
-use Rattle.textarea_blocks.specs.Blocks.{BlocksView, all_rows, lines_before, rows_of_each}
-use Rattle.textarea_blocks.specs.Sums.{row_total}
-use Rattle.textarea_blocks.specs.declared.blocks.numbers.Exchanged.{Exchanged}
+use Rattle.textarea_blocks.specs.Prelude.{BlocksView, all_rows, lines_before, rows_of_each, row_total, Exchanged}
 use Rattle.textarea_blocks.proofs.InBlocks.{before_ordered, before_within, blocks_exchanged, lines_sum, rows_sum, total_before, block_count}
-use Rattle.textarea_blocks.proofs.Totals.{all_exchanged, totals_exchanged}
+use Rattle.textarea_blocks.proofs.Totals.{all_exchanged, totals_can_shift, totals_exchanged}
 use Rattle.textarea_blocks.proofs.blocks.RowBlocks.exchange_blocks.Goals as goal
 use Rattle.textarea_blocks.proofs.blocks.RowBlocks.exchange_blocks.Goals.{After-lines_before, After-rows_before}
 
@@ -36,32 +34,20 @@ overflow_sub-rows_exchanged c =
     let known = (goal.at.overflow_sub-rows_exchanged c).After-rows_before in
     omega (arith, rows_from known, rows_to known, before_ordered row_total rows_sum (rows_of_each c.self.inside.blocks.items) c.args.from c.args.to c.requires.ordered)
 
-pub exchange-requires-clause-enough : goal.exchange-requires-clause-enough
-exchange-requires-clause-enough c = λ k after there.
-    let known = (goal.at.exchange-requires-clause-enough c).After-lines_before in
-    let blocks = rows_of_each c.self.inside.blocks.items in
-    omega (arith, lines_to known, before_ordered length lines_sum blocks c.args.to k after, c.self.invariant.lines_are.right k (omega (arith, there, c.self.invariant.lines_are.len)))
-
-pub exchange-requires-clause-small : goal.exchange-requires-clause-small
-exchange-requires-clause-small c = λ k after there.
-    let blocks = rows_of_each c.self.inside.blocks.items in
-    omega (arith, before_within length lines_sum blocks k, c.self.invariant.lines_are.right k (omega (arith, there, c.self.invariant.lines_are.len)), c.self.invariant.few_lines, c.line_count.ensures, c.requires.lines)
+pub exchange-requires-clause-after : goal.exchange-requires-clause-after
+exchange-requires-clause-after c =
+    let to = lines_to (goal.at.exchange-requires-clause-after c).After-lines_before in
+    totals_can_shift length lines_sum (rows_of_each c.self.inside.blocks.items) c.self.inside.lines.numbers c.args.to _ c.line_count.result c.self.invariant.lines_are (omega (arith, to)) (omega (arith, c.self.invariant.few_lines, c.line_count.ensures, c.requires.lines))
 
 pub exchange-requires-clause-small_new : goal.exchange-requires-clause-small_new
 exchange-requires-clause-small_new c = λ k there.
     let known = (goal.at.exchange-requires-clause-small_new c).After-lines_before in
     omega (arith, lines_from known, before_within length lines_sum (rows_of_each c.self.inside.blocks.items) c.args.from, c.self.invariant.few_lines, before_within length lines_sum (rows_of_each c.new.inside.blocks.items) k, c.new.invariant.lines_are.right k (omega (arith, there, c.new.invariant.lines_are.len)), c.new.invariant.few_lines)
 
-pub exchange-requires-2-clause-enough : goal.exchange-requires-2-clause-enough
-exchange-requires-2-clause-enough c = λ k after there.
-    let known = (goal.at.exchange-requires-2-clause-enough c).After-rows_before in
-    let blocks = rows_of_each c.self.inside.blocks.items in
-    omega (arith, rows_to known, before_ordered row_total rows_sum blocks c.args.to k after, c.self.invariant.rows_are.right k (omega (arith, there, c.self.invariant.rows_are.len)))
-
-pub exchange-requires-2-clause-small : goal.exchange-requires-2-clause-small
-exchange-requires-2-clause-small c = λ k after there.
-    let blocks = rows_of_each c.self.inside.blocks.items in
-    omega (arith, before_within row_total rows_sum blocks k, c.self.invariant.rows_are.right k (omega (arith, there, c.self.invariant.rows_are.len)), c.self.invariant.few_rows, c.row_count.ensures, c.requires.rows)
+pub exchange-requires-2-clause-after : goal.exchange-requires-2-clause-after
+exchange-requires-2-clause-after c =
+    let to = rows_to (goal.at.exchange-requires-2-clause-after c).After-rows_before in
+    totals_can_shift row_total rows_sum (rows_of_each c.self.inside.blocks.items) c.self.inside.rows.numbers c.args.to _ c.row_count.result c.self.invariant.rows_are (omega (arith, to)) (omega (arith, c.self.invariant.few_rows, c.row_count.ensures, c.requires.rows))
 
 pub exchange-requires-2-clause-small_new : goal.exchange-requires-2-clause-small_new
 exchange-requires-2-clause-small_new c = λ k there.

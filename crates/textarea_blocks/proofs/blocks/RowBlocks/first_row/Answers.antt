@@ -1,6 +1,5 @@
 use Rattle.std.proofs.Common.{◌≡◌, ◌+◌, ◌<◌, ◌∙◌, [], ap, arith, get_or, length, take}
-use Rattle.textarea_blocks.specs.Blocks.{BlocksView, all_rows, lines_before, rows_of_each}
-use Rattle.textarea_blocks.specs.Sums.{row_total}
+use Rattle.textarea_blocks.specs.Prelude.{BlocksView, all_rows, lines_before, rows_of_each, row_total}
 use Rattle.textarea_blocks.proofs.InBlocks.{block_count, rows_are, rows_sum, total_in_block}
 use Rattle.textarea_blocks.proofs.Numbers.{row_total-take_le}
 use Rattle.textarea_blocks.proofs.blocks.RowBlocks.first_row.Goals as goal

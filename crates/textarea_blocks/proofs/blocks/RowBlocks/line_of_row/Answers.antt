@@ -1,8 +1,6 @@
 use Rattle.std.proofs.lemmas.Grind.{common_steps}
 use Rattle.std.proofs.Common.{◌≡◌, ◌+◌, ◌-◌, ◌<◌, ◌≤◌, ◌∙◌, List, [], ap, arith, get_or, length, take, ℕ}
-use Rattle.textarea_wrap.specs.RowsView.{RowsView}
-use Rattle.textarea_blocks.specs.Blocks.{BlocksView, all_rows, lines_before, rows_of_each}
-use Rattle.textarea_blocks.specs.Sums.{row_total}
+use Rattle.textarea_blocks.specs.Prelude.{RowsView, BlocksView, all_rows, lines_before, rows_of_each, row_total}
 use Rattle.textarea_blocks.proofs.InBlocks.{before_more, block_count, line_there, rows_are, rows_sum, total_before, total_in_block}
 use Rattle.textarea_blocks.proofs.Totals.{located_at}
 use Rattle.textarea_blocks.proofs.blocks.RowBlocks.line_of_row.Goals as goal

@@ -1,5 +1,5 @@
 use Rattle.std.proofs.lemmas.Grind.{common_steps}
-use Rattle.std.proofs.Common.{◌≡◌, ◌+◌, ◌<◌, ◌∙◌, [], arith}
+use Rattle.std.proofs.Common.{arith}
 use Rattle.textarea_blocks.proofs.InBlocks.{block_count, marks_in_block, rows_are}
 use Rattle.textarea_blocks.proofs.blocks.RowBlocks.marks_of.Goals as goal
 

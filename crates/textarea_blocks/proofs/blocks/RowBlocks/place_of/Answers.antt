@@ -1,6 +1,6 @@
 use Rattle.std.proofs.lemmas.Grind.{common_steps}
-use Rattle.std.proofs.Common.{◌<◌, [], ap, arith, get_or, length, subst}
-use Rattle.textarea_blocks.specs.Blocks.{BlocksView, all_rows, rows_of_each, IsBlockOf}
+use Rattle.std.proofs.Common.{◌<◌, [], ap, arith, get_or, length}
+use Rattle.textarea_blocks.specs.Blocks.{BlocksView, all_rows, rows_of_each}
 use Rattle.textarea_blocks.proofs.InBlocks.{before_more, lines_sum}
 use Rattle.textarea_blocks.proofs.Totals.{located_at}
 use Rattle.textarea_blocks.proofs.blocks.RowBlocks.place_of.Goals as goal
@@ -30,9 +30,4 @@ returns-clause-line c = grind (arith, common_steps)
 
 pub returns-clause-block : goal.returns-clause-block
 returns-clause-block c =
-    let blocks = rows_of_each c.self.inside.blocks.items in
-    let block = c.last_at_most-block.result in
-    let there : c.args.line < length (all_rows blocks) = omega (arith, c.requires, ap (λ (v : BlocksView). length (all_rows v.blocks)) c.self.view_is) in
-    let found = located_at length lines_sum blocks c.self.inside.lines.numbers c.args.line block c.self.invariant.lines_are c.last_at_most-block.ensures.within c.last_at_most-block.ensures.from c.last_at_most-block.ensures.next there in
-    let within : block < length blocks = omega (arith, c.last_at_most-block.ensures.within, c.self.invariant.lines_are.len) in
-    subst (λ (v : BlocksView). IsBlockOf v.blocks c.args.line block) c.self.view_is (record { within = within; from = found.0; to = found.1 })
+    grind (arith, common_steps, located_at, lines_sum)

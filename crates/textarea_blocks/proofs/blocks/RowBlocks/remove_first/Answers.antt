@@ -1,15 +1,10 @@
 use Rattle.std.proofs.lemmas.Grind.{common_steps}
 use Rattle.std.proofs.Common.{◌≡◌, ◌+◌, ◌-◌, ◌<◌, ◌≤◌, ◌∙◌, List, [], ap, arith, get_or, length, set, ℕ}
 use Rattle.std.proofs.lemmas.List.{length-set}
-use Rattle.textarea_util.specs.Replaced.{replaced}
-use Rattle.textarea_util.proofs.Replacing.{length-replaced}
-use Rattle.textarea_wrap.specs.RowsView.{RowsView}
-use Rattle.textarea_blocks.specs.Blocks.{BlocksView, all_rows, lines_before}
-use Rattle.textarea_blocks.specs.Sums.{row_total}
+use Rattle.textarea_blocks.specs.Prelude.{replaced, RowsView, BlocksView, all_rows, lines_before, row_total}
 use Rattle.textarea_blocks.proofs.Exchanging.{first_removed}
 use Rattle.textarea_blocks.proofs.InBlocks.{before_more, before_ordered, before_set, before_within, block_count, block_ordered, block_replaced, blocks_replaced, lines_sum, rows_are, rows_sum}
-use Rattle.textarea_blocks.proofs.Numbers.{row_total-replaced, row_total-span}
-use Rattle.textarea_blocks.proofs.Totals.{all_set}
+use Rattle.textarea_blocks.proofs.Totals.{all_cut}
 use Rattle.textarea_blocks.proofs.blocks.RowBlocks.remove_first.Goals as goal
 use Rattle.textarea_blocks.proofs.blocks.RowBlocks.remove_first.Goals.{After-len, After-exchange}
 
@@ -67,34 +62,13 @@ pub exchange_blocks-requires-2-clause-lines : goal.exchange_blocks-requires-2-cl
 exchange_blocks-requires-2-clause-lines c =
     let at = goal.at.exchange_blocks-requires-2-clause-lines c in
     let known = last_place at.After-len in
-    let blocks = c.args.self.now.blocks in
-    let last = c.place_of-last.result.0 in
-    let here = get_or blocks last [] in
-    omega (
-      arith,
-      known.few_lines,
-      ap (λ t. length (all_rows t)) (exchanged_is at.After-exchange),
-      all_set length lines_sum blocks last (replaced here 0 (c.place_of-last.result.1 + 1) []) known.within,
-      length-replaced here 0 (c.place_of-last.result.1 + 1) [] (omega (arith, known.inside)),
-      ap (λ t. length (all_rows t)) c.new-3.ensures,
-    )
+    omega (arith, known.few_lines, ap (λ t. length (all_rows t)) (exchanged_is at.After-exchange), all_cut length lines_sum c.args.self.now.blocks c.place_of-last.result.0 (c.place_of-last.result.1 + 1) known.within, ap (λ t. length (all_rows t)) c.new-3.ensures)
 
 pub exchange_blocks-requires-2-clause-rows : goal.exchange_blocks-requires-2-clause-rows
 exchange_blocks-requires-2-clause-rows c =
     let at = goal.at.exchange_blocks-requires-2-clause-rows c in
     let known = last_place at.After-len in
-    let blocks = c.args.self.now.blocks in
-    let last = c.place_of-last.result.0 in
-    let here = get_or blocks last [] in
-    omega (
-      arith,
-      known.few_rows,
-      ap (λ t. row_total (all_rows t)) (exchanged_is at.After-exchange),
-      all_set row_total rows_sum blocks last (replaced here 0 (c.place_of-last.result.1 + 1) []) known.within,
-      row_total-replaced here [] 0 (c.place_of-last.result.1 + 1),
-      row_total-span here 0 (c.place_of-last.result.1 + 1),
-      ap (λ t. row_total (all_rows t)) c.new-3.ensures,
-    )
+    omega (arith, known.few_rows, ap (λ t. row_total (all_rows t)) (exchanged_is at.After-exchange), all_cut row_total rows_sum c.args.self.now.blocks c.place_of-last.result.0 (c.place_of-last.result.1 + 1) known.within, ap (λ t. row_total (all_rows t)) c.new-3.ensures)
 
 pub returns : goal.returns
 returns c =

@@ -1,9 +1,7 @@
 use Rattle.std.proofs.Common.{◌≡◌, ◌+◌, ◌-◌, ◌<◌, ◌≤◌, ◌∙◌, inl, inr, List, [], ap, arith, get_or, length, min, ℕ}
 use Rattle.std.proofs.lemmas.Bool.{cases_lt}
-use Rattle.textarea_util.specs.Replaced.{replaced}
+use Rattle.textarea_blocks.specs.Prelude.{replaced, RowsView, BlocksView, all_rows, lines_before}
 use Rattle.textarea_util.proofs.Replacing.{length-replaced}
-use Rattle.textarea_wrap.specs.RowsView.{RowsView}
-use Rattle.textarea_blocks.specs.Blocks.{BlocksView, all_rows, lines_before}
 use Rattle.textarea_blocks.proofs.Exchanging.{none_removed, rest_removed}
 use Rattle.textarea_blocks.proofs.InBlocks.{before_more, before_within, after_set, block_count, block_replaced, lines_sum, rows_are}
 use Rattle.textarea_blocks.proofs.Totals.{all_set}

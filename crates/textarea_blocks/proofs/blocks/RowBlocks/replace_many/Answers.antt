@@ -1,7 +1,7 @@
-use Rattle.std.proofs.Common.{◌≡◌, ◌+◌, ◌-◌, ◌∙◌, [], ap, arith, length}
-use Rattle.textarea_util.specs.Replaced.{replaced}
+use Rattle.std.proofs.Common.{◌≡◌, ◌+◌, ◌-◌, ap, arith, length}
+use Rattle.std.proofs.lemmas.Grind.{common_steps}
+use Rattle.textarea_blocks.specs.Prelude.{all_rows, lines_before}
 use Rattle.textarea_util.proofs.Replacing.{length-replaced}
-use Rattle.textarea_blocks.specs.Blocks.{all_rows, lines_before}
 use Rattle.textarea_blocks.proofs.Exchanging.{rest_removed}
 use Rattle.textarea_blocks.proofs.InBlocks.{blocks_replaced, lines_sum}
 use Rattle.textarea_blocks.proofs.Totals.{all_exchanged, total_after}
@@ -29,24 +29,4 @@ remove_first-requires-clause-count c =
 
 pub returns : goal.returns
 returns c =
-    let known = next (goal.at.returns c).After-block_count-2 in
-    let blocks = c.args.self.now.blocks in
-    let new = c.args.rows.blocks in
-    let rows = all_rows blocks in
-    let coming = all_rows new in
-    let row = c.args.row in
-    let count = c.args.count in
-    let block = c.edge_of-block.result in
-    let now = c.exchange_blocks.new.self.blocks in
-    let at = c.edge_of-block.ensures.edge in
-    let none : lines_before blocks block - lines_before blocks block ≡ 0 = omega arith in
-    let turned : all_rows now ≡ replaced rows row 0 coming =
-    ap all_rows c.exchange_blocks.ensures ∙ blocks_replaced blocks new block block (omega arith) c.edge_of-block.ensures.within
-    ∙ ap (λ n. replaced rows (lines_before blocks block) n coming) none
-    ∙ ap (λ n. replaced rows n 0 coming) at in
-    let sum : 0 + count ≡ count = omega arith in
-    c.remove_first.ensures
-    ∙ ap (λ n. replaced (all_rows now) n count []) (ap (lines_before now) known.0 ∙ known.1)
-    ∙ ap (λ t. replaced t (row + length coming) count []) turned
-    ∙ rest_removed rows coming row 0 count (omega (arith, c.requires.within))
-    ∙ ap (λ n. replaced rows row n coming) sum
+    grind (arith, common_steps, next, blocks_replaced, rest_removed)

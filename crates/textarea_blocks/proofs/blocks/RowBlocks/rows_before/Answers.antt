@@ -1,6 +1,5 @@
 use Rattle.std.proofs.Common.{◌≡◌, ◌+◌, ◌-◌, ◌<◌, ◌∙◌, ap, arith, length}
-use Rattle.textarea_blocks.specs.Blocks.{BlocksView, rows_of_each}
-use Rattle.textarea_blocks.specs.Sums.{row_total}
+use Rattle.textarea_blocks.specs.Prelude.{BlocksView, rows_of_each, row_total}
 use Rattle.textarea_blocks.proofs.InBlocks.{before_within, block_count, rows_are, rows_sum, total_before}
 use Rattle.textarea_blocks.proofs.Totals.{number_after}
 use Rattle.textarea_blocks.proofs.blocks.RowBlocks.rows_before.Goals as goal

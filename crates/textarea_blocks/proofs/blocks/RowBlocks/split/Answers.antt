@@ -2,9 +2,7 @@ use Rattle.std.proofs.lemmas.Grind.{common_steps}
 use Rattle.std.proofs.Common.{◌≡◌, ◌+◌, ◌-◌, ◌≤◌, ◌∷◌, ◌∙◌, List, [], ap, arith, drop, get_or, length, set, take, ℕ}
 use Rattle.std.proofs.lemmas.List.{append-nil, length-drop, length-set, length-take-le}
 use Rattle.textarea_util.proofs.Replacing.{length-replaced}
-use Rattle.textarea_wrap.specs.RowsView.{RowsView}
-use Rattle.textarea_blocks.specs.Blocks.{BlocksView, all_rows, lines_before}
-use Rattle.textarea_blocks.specs.Sums.{row_total}
+use Rattle.textarea_blocks.specs.Prelude.{RowsView, BlocksView, all_rows, lines_before, row_total}
 use Rattle.textarea_blocks.proofs.InBlocks.{after_set, block_count, block_split, lines_sum, rows_sum}
 use Rattle.textarea_blocks.proofs.Numbers.{row_total-take_drop}
 use Rattle.textarea_blocks.proofs.Totals.{all_set, take_above}

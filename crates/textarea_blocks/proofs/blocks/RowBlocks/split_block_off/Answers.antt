@@ -1,12 +1,10 @@
 use Rattle.std.proofs.lemmas.Grind.{common_steps}
 use Rattle.std.proofs.Common.{◌≡◌, ◌+◌, ◌<◌, ◌≤◌, ◌∙◌, List, [], ap, arith, drop, get_or, length, take, ℕ}
 use Rattle.std.proofs.lemmas.List.{length-drop, length-take-le}
-use Rattle.textarea_wrap.specs.RowsView.{RowsView}
-use Rattle.textarea_blocks.specs.Blocks.{BlocksView, rows_of_each}
-use Rattle.textarea_blocks.specs.Sums.{row_total}
-use Rattle.textarea_blocks.proofs.InBlocks.{before_more, before_ordered, before_within, block_count, blocks_set, lines_sum, rows_are, rows_sum}
+use Rattle.textarea_blocks.specs.Prelude.{RowsView, BlocksView, rows_of_each, row_total}
+use Rattle.textarea_blocks.proofs.InBlocks.{before_more, before_within, block_count, blocks_set, lines_sum, rows_are, rows_sum}
 use Rattle.textarea_blocks.proofs.Numbers.{row_total-take_drop}
-use Rattle.textarea_blocks.proofs.Totals.{all_set, totals_set}
+use Rattle.textarea_blocks.proofs.Totals.{all_set, totals_can_shift, totals_set}
 use Rattle.textarea_blocks.proofs.blocks.RowBlocks.split_block_off.Goals as goal
 use Rattle.textarea_blocks.proofs.blocks.RowBlocks.split_block_off.Goals.{After-len}
 
@@ -40,25 +38,19 @@ split_off_is c =
       row_sum = omega (arith, ap row_total retained, ap row_total rest, row_total-take_drop at here);
     }
 
-pub shift_from-requires-clause-enough : goal.shift_from-requires-clause-enough
-shift_from-requires-clause-enough c = λ k after there.
-    let known = split_off_is (goal.at.shift_from-requires-clause-enough c).After-len in
+pub shift_from-requires : goal.shift_from-requires
+shift_from-requires c =
+    let known = split_off_is (goal.at.shift_from-requires c).After-len in
     let blocks = rows_of_each c.self.inside.blocks.items in
-    omega (arith, known.line_sum, c.self.invariant.lines_are.right k (omega (arith, there, c.self.invariant.lines_are.len)), before_ordered length lines_sum blocks (c.args.block + 1) k after, before_more length lines_sum blocks c.args.block known.within)
+    let lines = before_more length lines_sum blocks c.args.block known.within in
+    totals_can_shift length lines_sum blocks c.self.inside.lines.numbers (c.args.block + 1) c.len.result 0 c.self.invariant.lines_are (omega (arith, known.line_sum, lines)) (omega (arith, c.self.invariant.few_lines))
 
-pub shift_from-requires-clause-small : goal.shift_from-requires-clause-small
-shift_from-requires-clause-small c = λ k after there.
-    omega (arith, c.self.invariant.lines_are.right k (omega (arith, there, c.self.invariant.lines_are.len)), before_within length lines_sum (rows_of_each c.self.inside.blocks.items) k, c.self.invariant.few_lines)
-
-pub shift_from-requires-2-clause-enough : goal.shift_from-requires-2-clause-enough
-shift_from-requires-2-clause-enough c = λ k after there.
-    let known = split_off_is (goal.at.shift_from-requires-2-clause-enough c).After-len in
+pub shift_from-requires-2 : goal.shift_from-requires-2
+shift_from-requires-2 c =
+    let known = split_off_is (goal.at.shift_from-requires-2 c).After-len in
     let blocks = rows_of_each c.self.inside.blocks.items in
-    omega (arith, known.row_sum, c.count_rows-rows_gone.ensures, ap row_total c.as_slice.ensures.value, c.self.invariant.rows_are.right k (omega (arith, there, c.self.invariant.rows_are.len)), before_ordered row_total rows_sum blocks (c.args.block + 1) k after, before_more row_total rows_sum blocks c.args.block known.within)
-
-pub shift_from-requires-2-clause-small : goal.shift_from-requires-2-clause-small
-shift_from-requires-2-clause-small c = λ k after there.
-    omega (arith, c.self.invariant.rows_are.right k (omega (arith, there, c.self.invariant.rows_are.len)), before_within row_total rows_sum (rows_of_each c.self.inside.blocks.items) k, c.self.invariant.few_rows)
+    let rows = before_more row_total rows_sum blocks c.args.block known.within in
+    totals_can_shift row_total rows_sum blocks c.self.inside.rows.numbers (c.args.block + 1) c.count_rows-rows_gone.result 0 c.self.invariant.rows_are (omega (arith, known.row_sum, c.count_rows-rows_gone.ensures, ap row_total c.as_slice.ensures.value, rows)) (omega (arith, c.self.invariant.few_rows))
 
 pub invariant_of-self-2 : goal.invariant_of-self-2
 invariant_of-self-2 c =
@@ -72,8 +64,8 @@ invariant_of-self-2 c =
     omega (arith, c.count_rows-rows_gone.ensures, ap row_total c.as_slice.ensures.value, known.row_sum, before_more row_total rows_sum blocks block known.within, before_within row_total rows_sum blocks (block + 1), c.self.invariant.few_rows) in
     rw (blocks_set inside.blocks.items block c.split_off.new.self)
     (record {
-      lines_are = totals_set length lines_sum blocks inside.lines.numbers c.shift_from.new.self.numbers block c.len.result 0 now c.self.invariant.lines_are known.within (omega (arith, known.line_sum)) c.shift_from.ensures.len c.shift_from.ensures.above c.shift_from.ensures.moved;
-      rows_are = totals_set row_total rows_sum blocks inside.rows.numbers c.shift_from-2.new.self.numbers block c.count_rows-rows_gone.result 0 now c.self.invariant.rows_are known.within (omega (arith, known.row_sum, gone)) c.shift_from-2.ensures.len c.shift_from-2.ensures.above c.shift_from-2.ensures.moved;
+      lines_are = totals_set length lines_sum blocks inside.lines.numbers c.shift_from.new.self.numbers block c.len.result 0 now c.self.invariant.lines_are known.within (omega (arith, known.line_sum)) c.shift_from.ensures.shifted;
+      rows_are = totals_set row_total rows_sum blocks inside.rows.numbers c.shift_from-2.new.self.numbers block c.count_rows-rows_gone.result 0 now c.self.invariant.rows_are known.within (omega (arith, known.row_sum, gone)) c.shift_from-2.ensures.shifted;
       few_lines = omega (arith, all_set length lines_sum blocks block now known.within, known.line_sum, c.self.invariant.few_lines);
       few_rows = omega (arith, all_set row_total rows_sum blocks block now known.within, known.row_sum, c.self.invariant.few_rows);
     })

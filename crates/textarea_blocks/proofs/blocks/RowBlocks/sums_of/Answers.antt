@@ -1,8 +1,7 @@
 use Rattle.std.proofs.lemmas.Grind.{common_steps}
 use Rattle.std.proofs.Common.{◌≡◌, ◌+◌, ◌-◌, ◌<◌, ◌≤◌, ◌∙◌, inl, inr, [], ap, arith, drop, get_or, length, sym, take}
 use Rattle.std.proofs.lemmas.Bool.{cases_lt}
-use Rattle.textarea_blocks.specs.Blocks.{BlocksView, all_rows, rows_of_each}
-use Rattle.textarea_blocks.specs.Sums.{row_total, size_total}
+use Rattle.textarea_blocks.specs.Prelude.{BlocksView, all_rows, rows_of_each, row_total, size_total}
 use Rattle.textarea_blocks.proofs.InBlocks.{before_all, before_more, block_count, lines_sum, rows_are, rows_sum, total_further}
 use Rattle.textarea_blocks.proofs.Numbers.{row_total-take_drop, row_total-take_le}
 use Rattle.textarea_blocks.proofs.LineSums.{IsSum, Sum, size_total-append}

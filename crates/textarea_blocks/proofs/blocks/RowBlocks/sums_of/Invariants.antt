@@ -1,6 +1,5 @@
 use Rattle.std.proofs.Common.{◌≡◌, ◌+◌, ◌-◌, ◌^◌, ◌<◌, ◌≤◌, [], drop, get_or, length, min, take}
-use Rattle.textarea_blocks.specs.Blocks.{all_rows, lines_before, rows_of_each}
-use Rattle.textarea_blocks.specs.Sums.{row_total, size_total}
+use Rattle.textarea_blocks.specs.Prelude.{all_rows, lines_before, rows_of_each, row_total, size_total}
 use Rattle.textarea_blocks.proofs.blocks.RowBlocks.sums_of.Given as goal
 
 -- the sums of the lines so far; while lines remain, the next of them is at the index in the block

@@ -1,7 +1,5 @@
 use Rattle.std.proofs.Common.{◌≡◌, ◌∷◌, ◌∙◌, List, [], Vec, ap, refl, vec_len}
-use Rattle.std.specs.List.{AllZip}
-use Rattle.textarea_wrap.specs.RowsView.{RowsView}
-use Rattle.textarea_blocks.specs.Blocks.{BlocksView, rows_of_each}
+use Rattle.textarea_blocks.specs.Prelude.{AllZip, RowsView, BlocksView, rows_of_each}
 use Rattle.textarea_blocks.proofs.blocks.RowBlocksClone.clone.Goals as goal
 
 all_same : {X : Type 0} (items copies : List X) → AllZip (λ a b. b ≡ a) items copies → copies ≡ items

@@ -3,18 +3,9 @@ use Rattle.textarea_blocks.proofs.Totals.{numbers_exchanged}
 use Rattle.textarea_blocks.proofs.blocks.numbers.exchange_numbers.Goals as goal
 
 pub replace_items-requires-clause-room : goal.replace_items-requires-clause-room
-replace_items-requires-clause-room c = omega (arith, c.requires.room, c.move_numbers.ensures.len, c.move_numbers-2.ensures.len, c.move_numbers-2.ensures.capacity)
+replace_items-requires-clause-room c =
+    omega (arith, c.requires.room, c.move_numbers.ensures.shifted.len, c.move_numbers-2.ensures.shifted.len, c.move_numbers-2.ensures.capacity, c.args.numbers.now.ok.0, c.args.new.ok.0, c.move_numbers.new.numbers.ok.0, c.move_numbers-2.new.numbers.ok.0)
 
 pub returns : goal.returns
 returns c =
-    let turned = c.move_numbers-2.ensures in
-    let counted = c.move_numbers.ensures in
-    numbers_exchanged c.args.numbers.now.items c.args.new.items c.move_numbers-2.new.numbers.items c.move_numbers.new.numbers.items c.replace_items.new.items.items c.args.exchanged
-    c.requires.ordered
-    (omega (arith, c.requires.within, c.args.numbers.now.ok.0))
-    (omega (arith, turned.len, c.args.numbers.now.ok.0, c.move_numbers-2.new.numbers.ok.0))
-    (omega (arith, counted.len, c.args.new.ok.0, c.move_numbers.new.numbers.ok.0))
-    turned.above
-    (λ k after there. turned.moved k after (omega (arith, there, c.args.numbers.now.ok.0)))
-    (λ k after there. counted.moved k after (omega (arith, there, c.args.new.ok.0)))
-    c.replace_items.ensures.items
+    numbers_exchanged c.args.numbers.now.items c.args.new.items c.move_numbers-2.new.numbers.items c.move_numbers.new.numbers.items c.replace_items.new.items.items c.args.exchanged c.requires.ordered (omega (arith, c.requires.within, c.args.numbers.now.ok.0)) c.move_numbers-2.ensures.shifted c.move_numbers.ensures.shifted c.replace_items.ensures.items

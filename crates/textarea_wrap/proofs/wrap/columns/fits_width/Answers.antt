@@ -1,11 +1,9 @@
 use Rattle.std.proofs.lemmas.Grind.{common_steps}
-use Rattle.std.proofs.Common.{◌≡◌, sym, ◌∙◌, arith}
+use Rattle.std.proofs.Common.{◌≡◌, sym, arith}
 use Rattle.std.proofs.lemmas.Bool.{false≢true}
 use Rattle.std.proofs.lemmas.List.{nil_from_length}
 use Rattle.std.proofs.lemmas.Str.{chars-nil, chars_past_char, IsUtf8-past_char}
-use Rattle.std.specs.Str.{chars}
-use Rattle.std.specs.Str.Iter.{chars_rest}
-use Rattle.textarea_wrap.specs.Columns.{end_column}
+use Rattle.textarea_wrap.specs.Prelude.{chars, chars_rest, end_column}
 use Rattle.textarea_wrap.proofs.ColumnLemmas.{end_column-after, shorter_after}
 use Rattle.textarea_wrap.proofs.wrap.columns.fits_width.Goals as goal
 

@@ -1,7 +1,5 @@
 use Rattle.std.proofs.Common.{◌≡◌, ◌+◌, ◌*◌, ◌≤◌, length}
-use Rattle.std.specs.Str.{chars, IsUtf8}
-use Rattle.std.specs.Str.Iter.{chars_rest}
-use Rattle.textarea_wrap.specs.Columns.{end_column}
+use Rattle.textarea_wrap.specs.Prelude.{chars, IsUtf8, chars_rest, end_column}
 use Rattle.textarea_wrap.proofs.wrap.columns.fits_width.Given as goal
 
 abbrev pub invariant-loop-c : goal.invariant-loop-c

@@ -1,10 +1,7 @@
-use Rattle.std.proofs.Common.{◌≡◌, ℕ, ◌+◌, ◌-◌, ◌*◌, ◌/◌, ◌<◌, ◌≤◌, ◌++◌, List, get_or, length, map, take, sym, subst, ap, ◌∙◌, arith}
+use Rattle.std.proofs.Common.{◌≡◌, ℕ, ◌+◌, ◌*◌, ◌<◌, ◌≤◌, List, get_or, length, map, take, sym, subst, ap, ◌∙◌, arith}
 use Rattle.std.proofs.lemmas.List.{append-nil, get_or_append_left, length-take-le}
 use Rattle.std.proofs.lemmas.Str.{IsCharBoundary-start, IsUtf8-take, chars-nil}
-use Rattle.std.specs.List.{range_with_len}
-use Rattle.std.specs.Str.{IsCharBoundary, chars}
-use Rattle.textarea_wrap.specs.Marks.{mark_at, marks_of}
-use Rattle.textarea_wrap.specs.WrapResult.{IsRowRange}
+use Rattle.textarea_wrap.specs.Prelude.{range_with_len, IsCharBoundary, chars, mark_at, IsRowRange}
 use Rattle.textarea_wrap.proofs.Alls.{all_at}
 use Rattle.textarea_wrap.proofs.MarkLemmas.{characters_few, characters_more, items_more, marks_all}
 use Rattle.textarea_wrap.proofs.wrap.marks.push_marks.Goals as goal

@@ -1,7 +1,5 @@
 use Rattle.std.proofs.Common.{◌≡◌, ℕ, ◌+◌, ◌*◌, ◌<◌, ◌≤◌, ◌++◌, get_or, length, map, take}
-use Rattle.std.specs.List.{range_with_len}
-use Rattle.std.specs.Str.{IsCharBoundary, chars}
-use Rattle.textarea_wrap.specs.Marks.{mark_at}
+use Rattle.textarea_wrap.specs.Prelude.{range_with_len, IsCharBoundary, chars, mark_at}
 use Rattle.textarea_wrap.proofs.wrap.marks.push_marks.Given as goal
 
 -- the marks so far, and the last one's offset with its column; later rows begin at or after it

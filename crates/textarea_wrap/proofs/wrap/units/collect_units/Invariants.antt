@@ -1,7 +1,6 @@
 use Rattle.std.proofs.Common.{◌≡◌, ◌++◌, map}
-use Rattle.std.specs.List.{flat_map}
+use Rattle.textarea_wrap.specs.Prelude.{flat_map, units_of_segment, line_units}
 use Rattle.unicode_segmentation.specs.Iter.{graphemes_left, word_bounds_left}
-use Rattle.textarea_wrap.specs.Units.{units_of_segment, line_units}
 use Rattle.textarea_wrap.proofs.wrap.units.collect_units.Given as goal
 
 abbrev pub invariant-loop-segment : goal.invariant-loop-segment

@@ -1,8 +1,7 @@
 use Rattle.std.proofs.Common.{ℕ, ◌<◌, ◌≤◌, ◌⊎◌, le_refl, List, ◌∷◌, map, inl, inr, sym, ◌∙◌, arith, Bor}
 use Rattle.std.proofs.lemmas.Bool.{false≢true}
 use borrow.Author.Tests.{ltb-true}
-use Rattle.textarea_wrap.specs.WrapRules.{HangsOver, Stretch}
-use Rattle.textarea_wrap.specs.WordWalk.{IsWordWalk}
+use Rattle.textarea_wrap.specs.Prelude.{HangsOver, Stretch, IsWordWalk}
 use Rattle.textarea_wrap.proofs.WordLemmas.{IsWordWalk-join, IsWordWalk-close, IsWordWalk-empty, IsWordWalk-split}
 use Rattle.textarea_wrap.proofs.wrap.words.place_unit.Goals as goal
 use Rattle.textarea_wrap.proofs.wrap.words.place_unit.Goals.{After-column_after_text-single, then-joined-width-via-then-joined-width, then-joined-width-via-else-joined-width+then-hangs_over, then-is_open, else-is_open, then-is_open-2+in_ok-push, else-is_open-2}

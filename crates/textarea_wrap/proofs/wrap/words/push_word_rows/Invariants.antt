@@ -1,6 +1,5 @@
 use Rattle.std.proofs.Common.{◌≡◌, ◌+◌, ◌*◌, ◌≤◌, length, map, drop}
-use Rattle.std.specs.List.{concat}
-use Rattle.textarea_wrap.specs.WordWalk.{IsWordWalk}
+use Rattle.textarea_wrap.specs.Prelude.{concat, IsWordWalk}
 use Rattle.textarea_wrap.proofs.wrap.words.push_word_rows.Given as goal
 
 abbrev pub invariant-loop-i : goal.invariant-loop-i

@@ -1,5 +1,5 @@
 use Rattle.std.proofs.lemmas.Grind.{common_steps}
-use Rattle.std.proofs.Common.{◌≡◌, ◌<◌, ◌∙◌, arith, get_or, length}
+use Rattle.std.proofs.Common.{◌≡◌, ◌<◌, arith, get_or, length}
 use Rattle.textarea_blocks.proofs.InBlocks.{item_is}
 use Rattle.textarea_blocks.proofs.Shifting.{length-turned, turned_above, shifted_after}
 use Rattle.textarea_blocks.proofs.blocks.numbers.Numbers.at.Goals as goal

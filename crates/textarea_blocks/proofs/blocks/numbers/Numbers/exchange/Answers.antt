@@ -8,14 +8,12 @@ use Rattle.textarea_blocks.proofs.blocks.numbers.Numbers.exchange.Goals.{After-m
 old : (c : After-move_numbers-2) → c.move_numbers-2.new.numbers.items ≡ c.args.self.now.numbers
 old c =
     let inside = c.self.inside in
-    let turned = c.move_numbers-2.ensures in
-    settled inside.items c.move_numbers-2.new.numbers inside.from inside.less inside.more turned.len turned.above turned.moved ∙ ap (λ (v : NumbersView). v.numbers) c.self.view_is
+    settled inside.items.items c.move_numbers-2.new.numbers.items inside.from inside.less inside.more c.move_numbers-2.ensures.shifted ∙ ap (λ (v : NumbersView). v.numbers) c.self.view_is
 
 new : (c : After-move_numbers-2) → c.move_numbers.new.numbers.items ≡ c.args.new.numbers
 new c =
     let inside = c.new.inside in
-    let turned = c.move_numbers.ensures in
-    settled inside.items c.move_numbers.new.numbers inside.from inside.less inside.more turned.len turned.above turned.moved ∙ ap (λ (v : NumbersView). v.numbers) c.new.view_is
+    settled inside.items.items c.move_numbers.new.numbers.items inside.from inside.less inside.more c.move_numbers.ensures.shifted ∙ ap (λ (v : NumbersView). v.numbers) c.new.view_is
 
 pub exchange_numbers-requires-clause-within : goal.exchange_numbers-requires-clause-within
 exchange_numbers-requires-clause-within c =
@@ -28,22 +26,17 @@ exchange_numbers-requires-clause-room c =
       arith,
       c.requires.room,
       ap (λ (v : NumbersView). v.spare) c.self.view_is,
-      c.move_numbers-2.ensures.len,
+      c.move_numbers-2.ensures.shifted.len,
       c.move_numbers-2.ensures.capacity,
       ap length (new known),
       c.move_numbers.new.numbers.ok.0,
       c.move_numbers-2.new.numbers.ok.0,
+      c.self.inside.items.ok.0,
     )
 
-pub exchange_numbers-requires-clause-enough : goal.exchange_numbers-requires-clause-enough
-exchange_numbers-requires-clause-enough c = λ k after there.
-    let same = old (goal.at.exchange_numbers-requires-clause-enough c).After-move_numbers-2 in
-    omega (arith, c.requires.enough k after (omega (arith, there, ap length same, c.move_numbers-2.new.numbers.ok.0)), ap (λ (t : List ℕ). get_or t k 0) same)
-
-pub exchange_numbers-requires-clause-small : goal.exchange_numbers-requires-clause-small
-exchange_numbers-requires-clause-small c = λ k after there.
-    let same = old (goal.at.exchange_numbers-requires-clause-small c).After-move_numbers-2 in
-    omega (arith, c.requires.small k after (omega (arith, there, ap length same, c.move_numbers-2.new.numbers.ok.0)), ap (λ (t : List ℕ). get_or t k 0) same)
+pub exchange_numbers-requires-clause-after : goal.exchange_numbers-requires-clause-after
+exchange_numbers-requires-clause-after c =
+    rw (old (goal.at.exchange_numbers-requires-clause-after c).After-move_numbers-2) c.requires.after
 
 pub exchange_numbers-requires-clause-small_new : goal.exchange_numbers-requires-clause-small_new
 exchange_numbers-requires-clause-small_new c = λ k there.
@@ -60,9 +53,3 @@ invariant_of-self c = record {
   enough = λ k after there. absurd (omega (arith, after, there, c.len-self-inside.ensures, c.exchange_numbers.new.numbers.ok.0));
   small = λ k after there. absurd (omega (arith, after, there, c.len-self-inside.ensures, c.exchange_numbers.new.numbers.ok.0));
 }
-
-pub move_numbers-requires-2-clause-enough : goal.move_numbers-requires-2-clause-enough
-move_numbers-requires-2-clause-enough c = λ k after there. c.self.invariant.enough k after (omega (arith, there, c.self.inside.items.ok.0))
-
-pub move_numbers-requires-2-clause-small : goal.move_numbers-requires-2-clause-small
-move_numbers-requires-2-clause-small c = λ k after there. omega (arith, c.self.invariant.small k after (omega (arith, there, c.self.inside.items.ok.0)))

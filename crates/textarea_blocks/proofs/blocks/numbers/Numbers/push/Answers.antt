@@ -13,8 +13,8 @@ returns c =
     let now = c.push.new.self.items in
     let room = ap (λ (v : NumbersView). v.spare) c.self.view_is in
     not_turned c.len-self-inside.result now
-    ∙ pushed c.push.result items now number c.push.ensures.items (c.push.ensures.succeeds (omega (arith, c.requires, room, turned.len, turned.capacity)))
-    ∙ ap (λ t. t ++ number ∷ []) (settled inside.items c.move_numbers.new.numbers inside.from inside.less inside.more turned.len turned.above turned.moved ∙ ap (λ (v : NumbersView). v.numbers) c.self.view_is)
+    ∙ pushed c.push.result items now number c.push.ensures.items (c.push.ensures.succeeds (omega (arith, c.requires, room, turned.shifted.len, turned.capacity, inside.items.ok.0, c.move_numbers.new.numbers.ok.0)))
+    ∙ ap (λ t. t ++ number ∷ []) (settled inside.items.items items inside.from inside.less inside.more turned.shifted ∙ ap (λ (v : NumbersView). v.numbers) c.self.view_is)
 
 pub invariant_of-self : goal.invariant_of-self
 invariant_of-self c = record {

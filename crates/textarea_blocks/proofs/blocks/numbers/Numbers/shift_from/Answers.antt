@@ -1,5 +1,5 @@
-use Rattle.std.proofs.Common.{◌≡◌, ◌+◌, ◌∙◌, ℕ, List, Option, Some, None, SomeIff, ap, arith, get_or, length}
-use Rattle.textarea_blocks.specs.Shifted.{NumbersView}
+use Rattle.std.proofs.Common.{◌≡◌, ◌+◌, ◌∙◌, ℕ, List, Option, Some, None, SomeIff, ap, arith, get_or, length, refl, subst}
+use Rattle.textarea_blocks.specs.Shifted.{CanShift, NumbersView}
 use Rattle.textarea_blocks.proofs.Shifting.{AreJoined, joined, not_turned, settled}
 use Rattle.textarea_blocks.proofs.blocks.numbers.Numbers.shift_from.Goals as goal
 use Rattle.textarea_blocks.proofs.blocks.numbers.Numbers.shift_from.Goals.{After-saturating_sub-self-inside-3, After-saturating_sub-self-inside-in-Some-Some}
@@ -16,56 +16,43 @@ both c =
     let less = sum_is c.checked_add.result _ (inside.less + c.args.gone) c.in-Some-Some.less c.checked_add.ensures c.in-Some-Some.is-0 in
     let more = sum_is c.checked_add-then-from-self.result _ (inside.more + c.args.come) c.in-Some-Some.more c.checked_add-then-from-self.ensures c.in-Some-Some.is-1 in
     joined inside.items.items c.args.self.now.numbers inside.from inside.less inside.more c.args.gone c.args.come c.saturating_sub-self-inside.result c.saturating_sub-self-inside-in-Some-Some.result (ap (λ (v : NumbersView). v.numbers) c.self.view_is) c.self.invariant
-    (λ k after there. c.requires.enough k (omega (arith, after, c.if-from-self.true)) there)
-    (λ k after there. omega (arith, c.requires.small k (omega (arith, after, c.if-from-self.true)) there))
+    (subst (λ from. CanShift c.args.self.now.numbers from c.args.gone c.args.come) c.if-from-self.true c.requires)
     (omega (arith, c.saturating_sub-self-inside.ensures, less, more))
     (omega (arith, c.saturating_sub-self-inside-in-Some-Some.ensures, less, more))
 
 pub invariant_of-self : goal.invariant_of-self
 invariant_of-self c = (both (goal.at.invariant_of-self c).After-saturating_sub-self-inside-in-Some-Some).can
 
-pub returns-in-Some-Some-clause-above : goal.returns-in-Some-Some-clause-above
-returns-in-Some-Some-clause-above c = λ k above.
-    (both (goal.at.returns-in-Some-Some-clause-above c).After-saturating_sub-self-inside-in-Some-Some).above k (omega (arith, above, c.if-from-self.true))
-
-pub returns-in-Some-Some-clause-moved : goal.returns-in-Some-Some-clause-moved
-returns-in-Some-Some-clause-moved c = λ k after there.
-    (both (goal.at.returns-in-Some-Some-clause-moved c).After-saturating_sub-self-inside-in-Some-Some).moved k (omega (arith, after, c.if-from-self.true)) there
-
-pub returns-in-Some-Some-clause-len : goal.returns-in-Some-Some-clause-len
-returns-in-Some-Some-clause-len c =
-    (both (goal.at.returns-in-Some-Some-clause-len c).After-saturating_sub-self-inside-in-Some-Some).len
+pub returns-in-Some-Some-clause-shifted : goal.returns-in-Some-Some-clause-shifted
+returns-in-Some-Some-clause-shifted c =
+    rw c.if-from-self.true (both (goal.at.returns-in-Some-Some-clause-shifted c).After-saturating_sub-self-inside-in-Some-Some).shifted
 
 -- only the new difference, once the old one is added to the items
 one : (c : After-saturating_sub-self-inside-3) → AreJoined c.move_numbers.new.numbers.items c.args.self.now.numbers c.args.from c.args.gone c.args.come c.saturating_sub-self-inside-2.result c.saturating_sub-self-inside-3.result
 one c =
     let inside = c.self.inside in
     let from = c.args.from in
-    let turned = c.move_numbers.ensures in
     let now = c.move_numbers.new.numbers.items in
-    let same : now ≡ c.args.self.now.numbers = settled inside.items c.move_numbers.new.numbers inside.from inside.less inside.more turned.len turned.above turned.moved ∙ ap (λ (v : NumbersView). v.numbers) c.self.view_is in
+    let same : now ≡ c.args.self.now.numbers = settled inside.items.items now inside.from inside.less inside.more c.move_numbers.ensures.shifted ∙ ap (λ (v : NumbersView). v.numbers) c.self.view_is in
     joined now c.args.self.now.numbers from 0 0 c.args.gone c.args.come c.saturating_sub-self-inside-2.result c.saturating_sub-self-inside-3.result (not_turned from now ∙ same)
     (record {
       enough = λ k after there. omega arith;
       small = λ k after there.
           omega (arith, c.requires.small k after (omega (arith, there, ap length same)), ap (λ (t : List ℕ). get_or t k 0) same);
     })
-    c.requires.enough
-    (λ k after there. omega (arith, c.requires.small k after there))
+    c.requires
     (omega (arith, c.saturating_sub-self-inside-2.ensures))
     (omega (arith, c.saturating_sub-self-inside-3.ensures))
 
 pub invariant_of-self-2 : goal.invariant_of-self-2
 invariant_of-self-2 c = (one (goal.at.invariant_of-self-2 c).After-saturating_sub-self-inside-3).can
 
-pub returns-clause-above : goal.returns-clause-above
-returns-clause-above c = (one (goal.at.returns-clause-above c).After-saturating_sub-self-inside-3).above
+pub returns-clause-shifted : goal.returns-clause-shifted
+returns-clause-shifted c = (one (goal.at.returns-clause-shifted c).After-saturating_sub-self-inside-3).shifted
 
-pub returns-clause-moved : goal.returns-clause-moved
-returns-clause-moved c = (one (goal.at.returns-clause-moved c).After-saturating_sub-self-inside-3).moved
-
-pub returns-clause-len : goal.returns-clause-len
-returns-clause-len c = (one (goal.at.returns-clause-len c).After-saturating_sub-self-inside-3).len
-
-pub returns-then-gone-come-clause-moved : goal.returns-then-gone-come-clause-moved
-returns-then-gone-come-clause-moved c = λ k after there. ap (λ n. get_or c.args.self.now.numbers k 0 + n) c.if-gone-come.true
+pub returns-then-gone-come-clause-shifted : goal.returns-then-gone-come-clause-shifted
+returns-then-gone-come-clause-shifted c = record {
+  len = refl;
+  above = λ k above. refl;
+  moved = λ k after there. ap (λ n. get_or c.args.self.now.numbers k 0 + n) c.if-gone-come.true;
+}
