@@ -6,7 +6,7 @@ use Rattle.std.specs.declared.alloc.AllocError.{AllocError}
 use Rattle.std.proofs.lemmas.List.{length-map}
 use Rattle.textarea_text.specs.declared.rows.Replacement.{Replacement}
 use Rattle.textarea_screen_map.specs.Map.{MapView}
-use Rattle.textarea_screen_map.specs.Prepared.{CanPutRows, rows_in}
+use Rattle.textarea_screen_map.specs.Prepared.{IsPreparedFor, rows_in}
 use Rattle.textarea_screen_map.specs.declared.screen_map.PreparedRows.{PreparedRows}
 use Rattle.textarea_lines.specs.Replacing.{AreReadyRows, CanReplace}
 use Rattle.textarea_util.specs.Replaced.{replaced}
@@ -48,28 +48,28 @@ screen_of_all settings old count n row removed_lines coming size at number rows 
 
 -- if lines are wrapped as before, the rows of the new lines
 pub some_ready : (settings : LayoutSettings) (lines borrowed_lines : List (String Global)) (old now : MapView) (new : Replacement) (count after : ℕ) (wrapping : Wrapping) (r : Result PreparedRows AllocError) → CanReplace settings lines old new → now.rows ≡ old.rows → borrowed_lines ≡ new.lines.items → wrapping ≡ wrapping_for settings (count_after (length lines) new) → is_same_wrapping wrapping old.wrapping ≡ true →
-    IfOk r (CanPutRows now) → IfOk r (λ p. p.row ≡ new.row) → IfOk r (λ p. p.count ≡ new.count) → IfOk r (λ p. p.wrapping ≡ wrapping) → IfOk r (λ p. AreRowsOf wrapping (lines_of borrowed_lines) (rows_in p.rows)) → IfOk r (λ p. ticks_of (rows_in p.rows) ≡ ticks_after count (length borrowed_lines)) → OnOk r (after ≡ count + length borrowed_lines) →
+    IfOk r (IsPreparedFor now new.row new.count wrapping) → IfOk r (λ p. AreRowsOf wrapping (lines_of borrowed_lines) (rows_in p.rows)) → IfOk r (λ p. ticks_of (rows_in p.rows) ≡ ticks_after count (length borrowed_lines)) → OnOk r (after ≡ count + length borrowed_lines) →
     IfOk r (AreReadyRows settings lines now new count after)
-some_ready settings lines borrowed_lines old now new count after wrapping (Err e) can stay is w_is same ready row number w right ticks counted = tt
-some_ready settings lines borrowed_lines old now new count after wrapping (Ok p) can stay is w_is same ready row number w right ticks counted =
+some_ready settings lines borrowed_lines old now new count after wrapping (Err e) can stay is w_is same prepared right ticks counted = tt
+some_ready settings lines borrowed_lines old now new count after wrapping (Ok p) can stay is w_is same prepared right ticks counted =
     record {
-      ready = ready;
-      wrapping = w ∙ w_is;
-      rows = rows_of_some old.wrapping p.wrapping wrapping lines new.lines.items borrowed_lines new.row new.count p.row p.count now.rows (rows_in p.rows) (rows_in p.rows) same (sym w) (rw stay can.rows) is right row number refl;
-      layout = screen_of_some settings count after (length lines) new.row new.count _ (length borrowed_lines) p.row p.count now.rows (rows_in p.rows) (rows_in p.rows) (rw (← w_is, ← can.wrapping) same) counted (ap length is ∙ sym new.lines.ok.0) ticks row number refl;
+      ready = prepared.ready;
+      wrapping = prepared.wrapping_is ∙ w_is;
+      rows = rows_of_some old.wrapping p.wrapping wrapping lines new.lines.items borrowed_lines new.row new.count p.row p.count now.rows (rows_in p.rows) (rows_in p.rows) same (sym prepared.wrapping_is) (rw stay can.rows) is right prepared.row_is prepared.count_is refl;
+      layout = screen_of_some settings count after (length lines) new.row new.count _ (length borrowed_lines) p.row p.count now.rows (rows_in p.rows) (rows_in p.rows) (rw (← w_is, ← can.wrapping) same) counted (ap length is ∙ sym new.lines.ok.0) ticks prepared.row_is prepared.count_is refl;
     }
 
 -- otherwise the rows of all lines
 pub all_ready : (settings : LayoutSettings) (lines : List (String Global)) (old now : MapView) (new : Replacement) (count after : ℕ) (wrapping : Wrapping) (r : Result PreparedRows AllocError) → CanReplace settings lines old new → now.rows ≡ old.rows → wrapping ≡ wrapping_for settings (count_after (length lines) new) → is_same_wrapping wrapping old.wrapping ≡ false →
     (wraps : List RowsView) → AreRowsOf wrapping (lines_after lines new) wraps → ticks_of wraps ≡ ticks_after count (count_after (length lines) new) → after ≡ count + count_after (length lines) new →
-    IfOk r (CanPutRows now) → IfOk r (λ p. p.row ≡ 0) → IfOk r (λ p. p.count ≡ length lines) → IfOk r (λ p. p.wrapping ≡ wrapping) → IfOk r (λ p. rows_in p.rows ≡ wraps) →
+    IfOk r (IsPreparedFor now 0 (length lines) wrapping) → IfOk r (λ p. rows_in p.rows ≡ wraps) →
     IfOk r (AreReadyRows settings lines now new count after)
-all_ready settings lines old now new count after wrapping (Err e) can stay w_is differs wraps right ticks counted ready row number w is = tt
-all_ready settings lines old now new count after wrapping (Ok p) can stay w_is differs wraps right ticks counted ready row number w is =
+all_ready settings lines old now new count after wrapping (Err e) can stay w_is differs wraps right ticks counted prepared is = tt
+all_ready settings lines old now new count after wrapping (Ok p) can stay w_is differs wraps right ticks counted prepared is =
     let long : length now.rows ≡ length lines = ap length stay ∙ length-AreRowsOf old.wrapping (lines_of lines) old.rows can.rows ∙ length-map lines characters_of in
     record {
-      ready = ready;
-      wrapping = w ∙ w_is;
-      rows = rows_of_all p.wrapping wrapping (lines_after lines new) (length lines) p.row p.count now.rows wraps (rows_in p.rows) long (sym w) right row number is;
-      layout = screen_of_all settings count after (length lines) new.row new.count _ _ p.row p.count now.rows wraps (rows_in p.rows) (rw (← w_is, ← can.wrapping) differs) long counted refl ticks row number is;
+      ready = prepared.ready;
+      wrapping = prepared.wrapping_is ∙ w_is;
+      rows = rows_of_all p.wrapping wrapping (lines_after lines new) (length lines) p.row p.count now.rows wraps (rows_in p.rows) long (sym prepared.wrapping_is) right prepared.row_is prepared.count_is is;
+      layout = screen_of_all settings count after (length lines) new.row new.count _ _ p.row p.count now.rows wraps (rows_in p.rows) (rw (← w_is, ← can.wrapping) differs) long counted refl ticks prepared.row_is prepared.count_is is;
     }

@@ -62,16 +62,6 @@ tab_len_of settings n =
 pub tab_len_unchanged : {Z : Type 0} (settings : LayoutSettings) (items : List (String Z)) (size : ℕ) (map : MapView) → HoldsRows settings items size map → map.wrapping.tab_len ≡ settings.tab_len
 tab_len_unchanged settings items size map h = ap (λ (w : Wrapping). w.tab_len) h.wrapping_is ∙ tab_len_of settings (length items)
 
--- a position of the text is one of the borrowed lines
-pub place_in_borrowed : {Z : Type 0} (settings : LayoutSettings) (items borrowed_lines : List (String Z)) (size count : ℕ) (map : MapView) (text_layout : TextAndLayout) (place : Place) → HoldsRows settings items size map → borrowed_lines ≡ items → text_layout_of settings items count map.rows ≡ text_layout → IsPlace text_layout.text place → IsPlaceOf (lines_of borrowed_lines) place
-place_in_borrowed settings items borrowed_lines size count map text_layout place h borrowed_is is there =
-    rw borrowed_is (rows_place items place h.stored.some (rw (← is) at there))
-
--- what is true of the borrowed lines, at the map's tab stops, is true of the text's lines
-pub in_text : {Z : Type 0} (settings : LayoutSettings) (items borrowed_lines : List (String Z)) (size count : ℕ) (map : MapView) (text_layout : TextAndLayout) (Fact : ℕ → List (List ℕ) → Type 0) → HoldsRows settings items size map → borrowed_lines ≡ items → text_layout_of settings items count map.rows ≡ text_layout → Fact map.wrapping.tab_len (lines_of borrowed_lines) → Fact text_layout.layout.settings.tab_len (lines text_layout.text)
-in_text settings items borrowed_lines size count map text_layout Fact contents borrowed_is is h =
-    grind (arith, common_steps, lines_stored items contents.stored.some, tab_len_unchanged settings items size map contents)
-
 -- copies of the lines, with the same rows
 pub holds_copied : {Z : Type 0} (settings : LayoutSettings) (old copies : List (String Z)) (size : ℕ) (map again : MapView) → HoldsRows settings old size map → lines_of copies ≡ lines_of old → (again.rows ≡ map.rows) × (again.wrapping ≡ map.wrapping) → HoldsRows settings copies size again
 holds_copied settings old copies size map again h e same =

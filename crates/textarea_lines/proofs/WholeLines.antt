@@ -75,18 +75,6 @@ pushed (Err v) old new x e h none = absurd cc
 
 -- ---- a change inside one line
 
--- settings under which lines aren't wrapped, with these tab stops
-abbrev pub plain : ℕ → LayoutSettings
-plain tab_len = record { mode = mode.None; tab_len = tab_len; line_numbers = false; inner_width = 0 }
-
--- without wrapping, the map's wrapping differs only in the tab stops
-pub whole_unchanged : {Z : Type 0} (settings : LayoutSettings) (items : List (String Z)) (size : ℕ) (map : MapView) → HoldsRows settings items size map → is_wrapped settings ≡ false → map.wrapping ≡ whole_lines (plain map.wrapping.tab_len)
-whole_unchanged settings items size map h whole =
-    by map.wrapping (h.wrapping_is ∙ whole_is settings (length items) whole)
-  where
-    by : (w : Wrapping) → w ≡ whole_lines settings → w ≡ whole_lines (plain w.tab_len)
-    by w is = is ∙ ap (λ (n : ℕ). whole_lines (plain n)) (sym (ap (λ (v : Wrapping). v.tab_len) is))
-
 -- a change without a break, in lines that aren't wrapped
 pub record Inside {Z : Type 0} (settings : LayoutSettings) (old now borrowed_lines : List (String Z)) (size after : ℕ) (map : MapView) (splice : Splice) (row : ℕ) : Type 0 where
   pub holds : HoldsRows settings old size map

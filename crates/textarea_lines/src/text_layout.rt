@@ -196,8 +196,7 @@ impl TextLayout {
         ensures { OfRows self.now (λ rows. IsVisualPosition
             self.now.layout.settings.tab_len (lines self.now.text) rows place result) }
     {
-        self.map
-            .visual_position_with(self.lines.as_slice(), &self.marks, place)
+        self.view().visual_position(place)
     }
 
     /// Returns where a cursor moves one visual row up; `None` in the first visual row.
@@ -206,8 +205,7 @@ impl TextLayout {
         ensures place { IfSome result (IsPlace self.now.text) }
         ensures above { IsFoundAbove self.now place result }
     {
-        self.map
-            .above_with(self.lines.as_slice(), &self.marks, place)
+        self.view().above(place)
     }
 
     /// Returns where a cursor moves one visual row down; `None` in the last visual row.
@@ -216,8 +214,7 @@ impl TextLayout {
         ensures place { IfSome result (IsPlace self.now.text) }
         ensures below { IsFoundBelow self.now place result }
     {
-        self.map
-            .below_with(self.lines.as_slice(), &self.marks, place)
+        self.view().below(place)
     }
 
     /// Returns the number of visual rows in an inner area of this width, in columns. Allocates
@@ -267,15 +264,15 @@ impl TextLayout {
         requires { IsPlace self.now.text place }
         ensures { result ≡ offset_at (lines self.now.text) place }
     {
-        let line = self.lines[place.0].as_str();
-        let mark = self
+        let marked = self
             .marks
             .at_column(place.0, self.settings.tab_len, place.1);
-        let far = place.1 - mark.column;
+        let far = place.1 - marked.column;
         if self.found.row == place.0 && place.1.abs_diff(self.found.col) < far {
+            let line = self.lines[place.0].as_str();
             return byte_offset_from(line, (self.found.col, self.found.offset), place.1);
         }
-        byte_offset_from(line, (mark.column, mark.offset), place.1)
+        self.view().offset_of(place)
     }
 
     /// Makes positions of a line known, up to a position in it, so that look-ups near that position

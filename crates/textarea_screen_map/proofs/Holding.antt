@@ -1,13 +1,11 @@
 -- Consecutive rows of one line, and the row of an offset.
-use Rattle.std.proofs.Common.{◌≡◌, ℕ, zero, suc, ◌+◌, ◌<◌, ◌≤◌, inl, inr, max, List, [], ◌∷◌, length, take, get_or, sym, ap, refl, ◌∙◌, arith, subst, encode_utf8_all, String, string_bytes}
+use Rattle.std.proofs.Common.{◌≡◌, ℕ, zero, suc, ◌+◌, ◌<◌, ◌≤◌, inl, inr, max, List, [], ◌∷◌, length, get_or, sym, ap, refl, ◌∙◌, arith, subst, encode_utf8_all, String, string_bytes}
 use Rattle.std.proofs.lemmas.Bool.{cases_lt}
 use Rattle.std.proofs.lemmas.List.{length-append}
 use Rattle.std.proofs.Math.ListN.{get_or-map}
 use Rattle.std.proofs.lemmas.Str.{encodes-chars, IsUtf8-string_bytes}
 use Rattle.std.specs.List.{concat, AllByRecursion}
-use Rattle.std.specs.Str.{chars}
 use Rattle.textarea_text.specs.Text.{lines_of}
-use Rattle.textarea_text.proofs.Columns.{length_split}
 use Rattle.textarea_text.proofs.StringRows.{line_at}
 use Rattle.textarea_wrap.specs.RowsView.{RowsView}
 use Rattle.textarea_wrap.specs.WrapRules.{ranges_from}
@@ -111,10 +109,6 @@ bytes_of_line items i line text within read same =
 pub wrapped_of : (w : Wrapping) (lines : List (List ℕ)) (rows : List RowsView) (i : ℕ) (ranges : List (ℕ × ℕ)) → ranges ≡ ranges_at rows i → AreRowsOf w lines rows → i < length lines → IsWrapped w.mode w.tab_len (max w.width 1) (encode_utf8_all (get_or lines i [])) ranges
 wrapped_of w lines rows i ranges e h within =
     subst (λ (t : List (ℕ × ℕ)). IsWrapped w.mode w.tab_len (max w.width 1) (encode_utf8_all (get_or lines i [])) t) (sym e) (wrapped_at w lines rows i h within)
-
-pub offset_within : {Z : Type 0} (line : String Z) (text : List ℕ) (column offset : ℕ) → text ≡ string_bytes line → offset ≡ length (encode_utf8_all (take column (chars text))) → offset ≤ length text
-offset_within line text column offset same e =
-    omega (arith, e, ap length same, ap (λ (t : List ℕ). length (encode_utf8_all (take column (chars t)))) same, length_split (string_bytes line) column (IsUtf8-string_bytes line))
 
 -- a row that isn't its line's last is not empty
 one_row_of_none : (mode : WrapMode) (tab_len width : ℕ) (line : List ℕ) (texts : List (List ℕ)) → line ≡ [] → AreRowTexts mode tab_len width line texts → length texts ≡ 1

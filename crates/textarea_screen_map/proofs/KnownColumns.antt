@@ -1,10 +1,11 @@
 -- Marks of a line are columns of it with their byte offsets.
-use Rattle.std.proofs.Common.{◌≡◌, ℕ, zero, suc, ◌+◌, ◌*◌, ◌/◌, ◌<◌, ◌≤◌, true, List, [], ◌∷◌, ◌++◌, String, string_bytes, length, map, take, drop, get_or, sym, ap, refl, subst, ◌∙◌, arith, encode_utf8_all}
+use Rattle.std.proofs.Common.{◌≡◌, ℕ, zero, suc, ◌+◌, ◌*◌, ◌/◌, ◌<◌, ◌≤◌, true, List, [], ◌++◌, String, string_bytes, length, map, take, drop, get_or, sym, ap, refl, subst, ◌∙◌, arith, encode_utf8_all}
 use Rattle.std.proofs.Math.ListN.{get_or-map}
-use Rattle.std.proofs.lemmas.List.{length-append, length-take-le, take-append-drop, take-take}
+use Rattle.std.proofs.lemmas.List.{length-append, length-map, length-take-le, take-append-drop, take-take}
 use Rattle.std.proofs.lemmas.Str.{IsCharBoundary-from_take, IsUtf8-take, chars-append}
 use Rattle.std.specs.List.{AllByRecursion, range_with_len}
 use Rattle.std.specs.Str.{IsCharBoundary, IsUtf8, all_scalars, chars}
+use Rattle.textarea_util.specs.Limit.{size_limit}
 use Rattle.textarea_text.specs.Text.{characters_of, lines_of}
 use Rattle.textarea_text.proofs.Columns.{IsCharBoundary-column, chars_from_bytes, offset_in, take_offset}
 use Rattle.textarea_text.proofs.StringRows.{line_at}
@@ -15,7 +16,7 @@ use Rattle.textarea_blocks.specs.Sums.{marks_at}
 use Rattle.textarea_screen_map.specs.KnownColumns.{AreColumnsAtBytes, IsColumnAtByte}
 use Rattle.textarea_screen_map.specs.LineRows.{AreRowsOf}
 use Rattle.textarea_screen_map.specs.declared.layout.Wrapping.{Wrapping}
-use Rattle.textarea_screen_map.proofs.Holding.{all_at, rows_at}
+use Rattle.textarea_screen_map.proofs.Holding.{all_at, bytes_of_line, rows_at}
 use Rattle.textarea_screen_map.proofs.Layouts.{length-AreRowsOf}
 use Rattle.textarea_screen_map.proofs.RowSlices.{row_slice_of, row_within}
 
@@ -55,9 +56,24 @@ front_marked w lines rows i front marks h within marks_are is =
       is,
     )
 
--- the characters of a borrowed line
-pub chars_of_line : {Z : Type 0} (items : List (String Z)) (i : ℕ) (item : String Z) (text : List ℕ) → i < length items → item ≡ get_or items i item → text ≡ string_bytes item → chars text ≡ get_or (lines_of items) i []
-chars_of_line items i item text within read same = ap chars same ∙ sym (line_at items i item within read)
+-- a line with its rows, as it is borrowed
+pub record IsBorrowedLine {Z : Type 0} (items : List (String Z)) (rows : List RowsView) (i : ℕ) (text : List ℕ) : Type 0 where
+  pub bytes : text ≡ encode_utf8_all (get_or (lines_of items) i [])
+  pub spelled : chars text ≡ get_or (lines_of items) i []
+  pub short : length text < size_limit
+  pub marked : AreColumnsAtBytes (chars text) (marks_at rows i)
+
+pub borrowed_line : {Z : Type 0} (w : Wrapping) (items : List (String Z)) (rows : List RowsView) (i : ℕ) (item : String Z) (text : List ℕ) → AreRowsOf w (lines_of items) rows → i < length (lines_of items) → item ≡ get_or items i item → text ≡ string_bytes item → IsBorrowedLine items rows i text
+borrowed_line w items rows i item text h there read same =
+    let within : i < length items = omega (arith, there, length-map items characters_of) in
+    let bytes = bytes_of_line items i item text within read same in
+    let spelled : chars text ≡ get_or (lines_of items) i [] = ap chars same ∙ sym (line_at items i item within read) in
+    record {
+      bytes = bytes;
+      spelled = spelled;
+      short = omega (arith, (rows_at w (lines_of items) rows i h there).short, ap length bytes);
+      marked = subst (λ (cs : List ℕ). AreColumnsAtBytes cs (marks_at rows i)) (sym spelled) (marks_right w (lines_of items) rows i h there);
+    }
 
 -- ---- the text before an offset
 

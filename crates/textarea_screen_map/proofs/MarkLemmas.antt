@@ -1,9 +1,9 @@
--- Marks of a line: the line's start, one more, and those that a change leaves.
+-- Marks of a line: the line's start, and those that a change leaves.
 use Rattle.std.proofs.lemmas.Grind.{common_steps}
-use Rattle.std.proofs.Common.{◌≡◌, ℕ, ◌+◌, ◌-◌, ◌*◌, ◌<◌, ◌≤◌, inl, inr, max, List, [], ◌∷◌, ◌++◌, length, take, drop, get_or, sym, ap, refl, subst, ◌∙◌, arith, encode_utf8, encode_utf8_all}
+use Rattle.std.proofs.Common.{◌≡◌, ℕ, ◌+◌, ◌-◌, ◌*◌, ◌<◌, ◌≤◌, inl, inr, max, List, [], ◌++◌, length, take, drop, get_or, sym, ap, refl, subst, ◌∙◌, arith, encode_utf8, encode_utf8_all}
 use Rattle.std.proofs.lemmas.Bool.{cases_lt}
-use Rattle.std.proofs.lemmas.List.{get_or_append_left, get_or-take, length-append, length-drop, length-take, length-take-le, nil_from_length, take-take, take_all}
-use Rattle.std.proofs.Math.Seq.{get_or-append_seam, take-add}
+use Rattle.std.proofs.lemmas.List.{get_or-take, length-append, length-drop, length-take, length-take-le, nil_from_length, take-take, take_all}
+use Rattle.std.proofs.Math.Seq.{take-add}
 use Rattle.std.proofs.lemmas.Str.{IsUtf8-past_char, IsUtf8-take, chars-append, chars_past_char, encodes-chars}
 use Rattle.std.specs.Str.{IsCharBoundary, IsUtf8, chars}
 use Rattle.textarea_text.proofs.Columns.{IsUtf8-column, chars-drop, chars-take, drop_offset, length_split, offset_in}
@@ -16,53 +16,6 @@ use Rattle.textarea_screen_map.proofs.RowColumns.{column_at-le, column_at-more, 
 
 pub start_is_mark : (tab_len : ℕ) (line : List ℕ) → IsMark tab_len line line_start
 start_is_mark tab_len line = record { within = omega arith; offset_is = refl; display_is = refl; first = λ k below. absurd (omega (arith, below)); near = omega arith }
-
-pub no_marks : (tab_len : ℕ) (line : List ℕ) (marks : List Mark) → marks ≡ [] → AreMarks tab_len line marks
-no_marks tab_len line marks none = record {
-  right = λ i below. absurd (omega (arith, below, ap length none));
-  ordered = λ i j up below. absurd (omega (arith, below, ap length none));
-}
-
--- the last mark, or the line's start
-pub last_mark : (tab_len : ℕ) (line : List ℕ) (marks : List Mark) (last : Mark) → AreMarks tab_len line marks → (length marks ≡ 0 → last ≡ line_start) → (0 < length marks → last ≡ get_or marks (length marks - 1) line_start) → IsMark tab_len line last × ((i : ℕ) → i < length marks → (get_or marks i line_start).column ≤ last.column)
-last_mark tab_len line marks last h none some =
-    elim (cases_lt 0 (length marks)) [
-      | inl more ↦ (
-        subst (IsMark tab_len line) (sym (some more)) (h.right (length marks - 1) (omega (arith, more))),
-        λ i below. omega (arith, h.ordered i (length marks - 1) (omega (arith, below)) (omega (arith, more)), ap (λ (m : Mark). m.column) (some more)),
-      )
-      | inr most ↦ (
-        subst (IsMark tab_len line) (sym (none (omega (arith, most)))) (start_is_mark tab_len line),
-        λ i below. absurd (omega (arith, below, most)),
-      )
-    ]
-
--- one mark more
-pub one_more : (tab_len : ℕ) (line : List ℕ) (marks : List Mark) (mark : Mark) → AreMarks tab_len line marks → IsMark tab_len line mark → ((i : ℕ) → i < length marks → (get_or marks i line_start).column ≤ mark.column) → AreMarks tab_len line (marks ++ mark ∷ [])
-one_more tab_len line marks mark h is up_to =
-    let size : length (marks ++ mark ∷ []) ≡ length marks + 1 = omega (arith, length-append marks (mark ∷ [])) in
-    let last : get_or (marks ++ mark ∷ []) (length marks) line_start ≡ mark = get_or-append_seam marks mark [] line_start in
-    let before : (i : ℕ) → i < length marks → get_or (marks ++ mark ∷ []) i line_start ≡ get_or marks i line_start = λ i below. get_or_append_left marks (mark ∷ []) line_start i below in
-    record {
-      right = λ i below. elim (cases_lt i (length marks)) [
-        | inl less ↦ subst (IsMark tab_len line) (sym (before i less)) (h.right i less)
-        | inr most ↦
-            let at : i ≡ length marks = omega (arith, most, below, size) in
-            subst (IsMark tab_len line) (sym (ap (λ n. get_or (marks ++ mark ∷ []) n line_start) at ∙ last)) is
-      ];
-      ordered = λ i j up below. elim (cases_lt j (length marks)) [
-        | inl less ↦ omega (arith, h.ordered i j up less, ap (λ (m : Mark). m.column) (before i (omega (arith, up, less))), ap (λ (m : Mark). m.column) (before j less))
-        | inr most ↦
-            let at : j ≡ length marks = omega (arith, most, below, size) in
-            let there : get_or (marks ++ mark ∷ []) j line_start ≡ mark = ap (λ n. get_or (marks ++ mark ∷ []) n line_start) at ∙ last in
-            elim (cases_lt i (length marks)) [
-              | inl less ↦ omega (arith, up_to i less, ap (λ (m : Mark). m.column) (before i less), ap (λ (m : Mark). m.column) there)
-              | inr more ↦
-                  let same : i ≡ j = omega (arith, more, at, up) in
-                  omega (arith, ap (λ n. (get_or (marks ++ mark ∷ []) n line_start).column) same)
-            ]
-      ];
-    }
 
 -- a mark of a line is one of each line with the same characters before it
 mark_stays : (tab_len : ℕ) (old new : List ℕ) (column : ℕ) (mark : Mark) → take column new ≡ take column old → mark.column ≤ column → IsMark tab_len old mark → IsMark tab_len new mark
@@ -94,10 +47,6 @@ cut_marks tab_len old new column count marks same within up_to h =
 pub cut_in : (old new : List (List ℕ)) (row column count : ℕ) (was is : MarkedLine) → IsSameBefore old new row column → was.row ≡ row → count ≤ length was.marks → (0 < count → (get_or was.marks (count - 1) line_start).column ≤ column) → is.row ≡ was.row → is.tab_len ≡ was.tab_len → is.marks ≡ take count was.marks → AreMarksOf old was → AreMarksOf new is
 cut_in old new row column count was is same here within up_to row_is tab_is marks_are h =
     rw (marks_are, tab_is, row_is) (cut_marks was.tab_len (get_or old was.row []) (get_or new was.row []) column count was.marks (rw here same.front) within up_to h)
-
--- marks of another line than the one that changes
-pub marks_elsewhere : (old new : List (List ℕ)) (row column : ℕ) (was : MarkedLine) → IsSameBefore old new row column → (was.row ≡ row → ⊥) → AreMarksOf old was → AreMarksOf new was
-marks_elsewhere old new row column was same elsewhere h = rw (same.others was.row elsewhere) h
 
 -- ---- a walk from a mark on
 

@@ -3,7 +3,6 @@ use Rattle.std.proofs.lemmas.Grind.{common_steps}
 use Rattle.std.proofs.Common.{◌≡◌, ℕ, ◌+◌, ◌-◌, ◌<◌, ◌≤◌, ◌⊎◌, inl, inr, max, min, Bool, cond, nat_eq, true, false, List, [], ◌∷◌, ◌++◌, Option, Some, None, MatchOption, length, take, drop, get_or, sym, ap, ap₂, subst, ◌∙◌, arith, encode_utf8, encode_utf8_all, if◌then◌else◌}
 use Rattle.std.proofs.Math.Seq.{take-add, take-length}
 use Rattle.std.proofs.lemmas.Bool.Decides.{nat_tests}
-use Rattle.std.proofs.lemmas.Bool.{cases_lt}
 use Rattle.std.proofs.lemmas.List.{append-nil, drop_more, length-append, length-drop, length-take-le, nil_from_length, take_at, take_more, take-take}
 use Rattle.std.proofs.lemmas.Str.{chars-nil, encodes-append, encodes-chars}
 use Rattle.std.specs.Str.{IsUtf8, chars}
@@ -53,13 +52,6 @@ leads_to_first t text column index at within is same before =
 
 pub leads_to_covering : (t : ℕ) (text : List ℕ) (column index at next : ℕ) → index < length text → at ≡ column_at t text index → next ≡ column_at t text (index + 1) → at < column → column < next → LeadsTo t text column index
 leads_to_covering t text column index at next within is next_is begins ends = inr (inl (within, omega (arith, is, begins), omega (arith, next_is, ends)))
-
-pub leads_to_end : (t : ℕ) (text : List ℕ) (column index at : ℕ) → index ≡ length text → at ≡ column_at t text index → at ≤ column → ((k : ℕ) → k < index → column_at t text k < column) → LeadsTo t text column index
-leads_to_end t text column index at end is reached before =
-    elim (cases_lt at column) [
-      | inl less ↦ inr (inr (end, omega (arith, is, less)))
-      | inr more ↦ leads_to_first t text column index at (omega (arith, end)) is (omega (arith, reached, more)) before
-    ]
 
 -- ---- up to a column that the characters reach
 

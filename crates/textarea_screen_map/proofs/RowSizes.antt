@@ -1,6 +1,6 @@
 -- The size of lines by their rows, and the number of their rows, which is no larger.
 use Rattle.std.proofs.lemmas.Grind.{common_steps}
-use Rattle.std.proofs.Common.{◌≡◌, ℕ, ◌+◌, ◌-◌, ◌<◌, ◌≤◌, inl, inr, max, List, [], ◌∷◌, ◌++◌, length, take, drop, ap, refl, ◌∙◌, arith, subst, encode_utf8_all, String}
+use Rattle.std.proofs.Common.{◌≡◌, ℕ, ◌+◌, ◌-◌, ◌<◌, ◌≤◌, inl, inr, max, List, [], ◌∷◌, length, take, drop, ap, refl, ◌∙◌, arith, subst, encode_utf8_all, String}
 use Rattle.std.proofs.lemmas.Bool.{cases_lt}
 use Rattle.std.proofs.lemmas.List.{take-append-drop, length-append}
 use Rattle.std.specs.List.{concat, AllByRecursion}

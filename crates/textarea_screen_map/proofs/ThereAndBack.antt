@@ -1,6 +1,6 @@
 -- From a position to its visual row and column, and back.
 use Rattle.std.proofs.lemmas.Grind.{common_steps}
-use Rattle.std.proofs.Common.{ap₂, ◌≡◌, ℕ, ◌+◌, ◌-◌, ◌<◌, ◌≤◌, inl, inr, min, false, true, Bool, cond, List, [], length, sym, ap, refl, subst, ◌∙◌, arith}
+use Rattle.std.proofs.Common.{ap₂, ◌≡◌, ℕ, ◌+◌, ◌-◌, ◌<◌, ◌≤◌, inl, inr, min, false, true, Bool, cond, List, length, sym, ap, refl, subst, ◌∙◌, arith}
 use Rattle.std.proofs.lemmas.Bool.{cases_lt}
 use Rattle.std.proofs.Math.Seq.{take-length}
 use Rattle.textarea_util.specs.Limit.{size_limit}
@@ -103,19 +103,21 @@ visual_near w lines rows visual place h p =
     let found = visual_there w lines rows (record visual { column = min visual.column greatest }) place h p (omega arith) in
     (found.0, omega (arith, found.1), found.2)
 
--- the position that the code finds, from the row's line, first column and characters
-pub place_of_index : (w : Wrapping) (lines : List (List ℕ)) (rows : List RowsView) (visual : VisualPosition) (line first index : ℕ) (text : List ℕ) → AreRowsOf w lines rows → visual.row < row_total rows → line ≡ (row_at lines rows visual.row).line → first ≡ (row_at lines rows visual.row).first → text ≡ (row_at lines rows visual.row).text → LeadsTo w.tab_len text visual.column index → (first + index < size_limit) × IsPlaceAt w.tab_len lines rows visual (line, first + index)
-place_of_index w lines rows visual line first index text h below line_is first_is text_is leads =
+-- the position that the code finds, from the visual row
+pub place_of_index : (w : Wrapping) (lines : List (List ℕ)) (rows : List RowsView) (visual : VisualPosition) (row : VisualRow) (index : ℕ) → AreRowsOf w lines rows → visual.row < row_total rows → row ≡ row_at lines rows visual.row → LeadsTo w.tab_len row.text visual.column index → (row.first + index < size_limit) × IsPlaceAt w.tab_len lines rows visual (row.line, row.first + index)
+place_of_index w lines rows visual row index h below is leads =
     let there : visual.row < length (visual_rows lines rows) = omega (arith, below, row_count w lines rows h) in
+    let here = row_at lines rows visual.row in
     let known = row_of w lines rows visual.row h there in
-    let row = row_at lines rows visual.row in
-    let same : index ≡ first + index - row.first = omega (arith, first_is) in (
-      omega (arith, known.short, first_is, ap length text_is, (leads_within w.tab_len text visual.column index leads).0),
+    let leads_here : LeadsTo w.tab_len here.text visual.column index = subst (λ (v : VisualRow). LeadsTo w.tab_len v.text visual.column index) is leads in
+    let same : index ≡ here.first + index - here.first = omega arith in
+    subst (λ (v : VisualRow). (v.first + index < size_limit) × IsPlaceAt w.tab_len lines rows visual (v.line, v.first + index)) (sym is) (
+      omega (arith, known.short, (leads_within w.tab_len here.text visual.column index leads_here).0),
       record {
         row = there;
-        line = line_is;
-        from = omega (arith, first_is);
-        leads = subst (λ (n : ℕ). LeadsTo w.tab_len row.text visual.column n) same (subst (λ (t : List ℕ). LeadsTo w.tab_len t visual.column index) text_is leads);
+        line = refl;
+        from = omega arith;
+        leads = subst (λ (n : ℕ). LeadsTo w.tab_len here.text visual.column n) same leads_here;
       },
     )
 

@@ -2,6 +2,7 @@
 use Rattle.std.specs.Prelude.{◌≡◌, ℕ, ◌+◌, ◌<◌, ◌≤◌, List, length, vec_len}
 use Rattle.textarea_util.specs.Replaced.{replaced}
 use Rattle.textarea_wrap.specs.RowsView.{RowsView}
+use Rattle.textarea_screen_map.specs.declared.layout.Wrapping.{Wrapping}
 use Rattle.textarea_screen_map.specs.declared.screen_map.NewRows.{NewRows}
 use Rattle.textarea_screen_map.specs.declared.screen_map.NewRows.TheVariants as new
 use Rattle.textarea_screen_map.specs.declared.screen_map.PreparedRows.{PreparedRows}
@@ -33,3 +34,10 @@ pub record CanPutRows (map : MapView) (prepared : PreparedRows) : Type 0 where
   pub total : prepared.total ≡ row_total (rows_in prepared.rows)
   pub size : prepared.size ≡ size_total (rows_in prepared.rows)
   pub limit : IsWithinLimit (rows_with map.rows prepared)
+
+-- the rows can be put in for those of the `count` lines from the row on, with this wrapping
+pub record IsPreparedFor (map : MapView) (row count : ℕ) (wrapping : Wrapping) (prepared : PreparedRows) : Type 0 where
+  pub ready : CanPutRows map prepared
+  pub row_is : prepared.row ≡ row
+  pub count_is : prepared.count ≡ count
+  pub wrapping_is : prepared.wrapping ≡ wrapping

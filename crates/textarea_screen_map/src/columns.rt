@@ -3,7 +3,8 @@ ghost use Rattle.std.specs.Prelude.{◌≡◌, ◌-◌, ◌<◌, ◌≤◌, char
 ghost use Rattle.std.specs.Str.{IsCharBoundary, IsUtf8};
 ghost use Rattle.textarea_screen_map.specs.Prelude.{size_limit, display_end_column, column_at, reachable_text, IsMark, LeadsTo};
 
-use crate::line_marks::Mark;
+use crate::line_marks::{LINE_START, Mark};
+use textarea_text::rows::column_count;
 use textarea_wrap::wrap::columns::{display_column_after, display_column_after_text};
 
 /// Returns the text of a row up to the greatest cursor column: all of it in the last row of its
@@ -19,33 +20,16 @@ pub fn reachable_text(text: &str, is_last: bool) -> &str
     rest.as_str()
 }
 
-/// Returns the greatest display column of a row at which a cursor can be: the row's width in the
-/// last row of its line, else the display column of the row's last character.
-pub fn greatest_cursor_column(text: &str, is_last: bool, tab_len: u8) -> usize
-    requires { length text.now < size_limit }
-    ensures { result ≡ (if is_last then display_end_column tab_len 0 (chars text.now)
-        else column_at tab_len (chars text.now) (length (chars text.now) - 1)) }
-{
-    display_column_after_text(reachable_text(text, is_last), 0, tab_len)
-}
-
 /// Returns the number of characters of a row before the position for a display column: the first
 /// position at that column, else the character that covers it, else the row's end.
 pub fn character_at_column(text: &str, column: usize, tab_len: u8) -> usize
     requires { length text.now < size_limit }
     ensures { LeadsTo tab_len (chars text.now) column result }
 {
-    let mut index = 0;
-    let mut at = 0;
-    for c in text.chars() {
-        let next = display_column_after(c, at, tab_len);
-        if column <= at || column < next {
-            return index;
-        }
-        index += 1;
-        at = next;
+    if display_column_after_text(text, 0, tab_len) < column {
+        return column_count(text);
     }
-    index
+    character_near_column(text, LINE_START, column, tab_len)
 }
 
 /// Returns the width of the text between two byte offsets of a line. If that text begins the line,

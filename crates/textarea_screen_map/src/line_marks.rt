@@ -67,14 +67,7 @@ impl LineMarks {
             → IsMark tab_len (get_or lines row []) result }
         ensures before { result.column ≤ column }
     {
-        if self.row != row || self.tab_len != tab_len {
-            return LINE_START;
-        }
-        let count = count_to_column(self.marks.as_slice(), column);
-        if count == 0 {
-            return LINE_START;
-        }
-        self.marks[count - 1]
+        self.last_until(row, tab_len, column, usize::MAX)
     }
 
     /// Returns the last known position of the line at or before a display column.
@@ -83,10 +76,20 @@ impl LineMarks {
             → IsMark tab_len (get_or lines row []) result }
         ensures before { result.display ≤ display }
     {
+        self.last_until(row, tab_len, usize::MAX, display)
+    }
+
+    // Returns the last known position of the line at or before a column and a display column.
+    fn last_until(&self, row: usize, tab_len: u8, column: usize, display: usize) -> Mark
+        ensures mark { (lines : List (List ℕ)) → AreMarksOf lines self.now
+            → IsMark tab_len (get_or lines row []) result }
+        ensures column { result.column ≤ column }
+        ensures display { result.display ≤ display }
+    {
         if self.row != row || self.tab_len != tab_len {
             return LINE_START;
         }
-        let count = count_to_display(self.marks.as_slice(), display);
+        let count = count_until(self.marks.as_slice(), column, display);
         if count == 0 {
             return LINE_START;
         }
@@ -118,7 +121,7 @@ impl LineMarks {
             → AreMarksOf old self.old → AreMarksOf new self.new }
     {
         if self.row == row {
-            let count = count_to_column(self.marks.as_slice(), column);
+            let count = count_until(self.marks.as_slice(), column, usize::MAX);
             self.marks.truncate(count);
         }
     }
@@ -132,34 +135,18 @@ impl LineMarks {
     }
 }
 
-// Returns the number of marks up to the last one at or before a column.
-fn count_to_column(marks: &[Mark], column: usize) -> usize
+// Returns the number of marks up to the last one at or before a column and a display column.
+fn count_until(marks: &[Mark], column: usize, display: usize) -> usize
     ensures within { result ≤ length marks.now }
-    ensures before { 0 < result → (get_or marks.now (result - 1) line_start).column ≤ column }
+    ensures column { 0 < result → (get_or marks.now (result - 1) line_start).column ≤ column }
+    ensures display { 0 < result → (get_or marks.now (result - 1) line_start).display ≤ display }
 {
     let mut low = 0;
     let mut high = marks.len();
     'halving: while low < high {
         let middle = low + (high - low) / 2;
-        if marks[middle].column <= column {
-            low = middle + 1;
-        } else {
-            high = middle;
-        }
-    }
-    low
-}
-
-// Returns the number of marks up to the last one at or before a display column.
-fn count_to_display(marks: &[Mark], display: usize) -> usize
-    ensures within { result ≤ length marks.now }
-    ensures before { 0 < result → (get_or marks.now (result - 1) line_start).display ≤ display }
-{
-    let mut low = 0;
-    let mut high = marks.len();
-    'halving: while low < high {
-        let middle = low + (high - low) / 2;
-        if marks[middle].display <= display {
+        let mark = marks[middle];
+        if mark.column <= column && mark.display <= display {
             low = middle + 1;
         } else {
             high = middle;

@@ -1,6 +1,6 @@
 //! The visual rows of each line of a text, in blocks of lines. They count from 0 over all lines.
 ghost use Rattle.std.specs.Prelude.{◌≡◌, ◌+◌, ◌*◌, ◌<◌, ◌≤◌, ◌↔◌, ◌∷◌, [], ℕ, List, length, min, take, IfOk, IsOk, OnOk};
-ghost use Rattle.textarea_screen_map.specs.Prelude.{size_limit, replaced, size_of, lines_of, AreRowsOf, ticks_after, ticks_of, with_tab_len, IsEdge, all_rows, IsWithinLimit, marks_at, ranges_at, row_total, size_total, HasRoom, CanPutRows, rows_in, rows_with};
+ghost use Rattle.textarea_screen_map.specs.Prelude.{size_limit, replaced, size_of, lines_of, AreRowsOf, ticks_after, ticks_of, with_tab_len, IsEdge, all_rows, IsWithinLimit, marks_at, ranges_at, row_total, size_total, HasRoom, CanPutRows, IsPreparedFor, rows_in, rows_with};
 ghost use Rattle.textarea_wrap.specs.declared.wrap.WrapMode.TheVariants as mode;
 
 use crate::blocks::{BLOCK, push_lines};
@@ -190,10 +190,7 @@ impl ScreenMap {
         requires { row + count ≤ length self.old.rows }
         ensures same { self.new.rows ≡ self.old.rows }
         ensures same_wrapping { self.new.wrapping ≡ self.old.wrapping }
-        ensures ready { IfOk result (λ prepared. CanPutRows self.new prepared) }
-        ensures row { IfOk result (λ prepared. prepared.row ≡ row) }
-        ensures count { IfOk result (λ prepared. prepared.count ≡ count) }
-        ensures wrapping { IfOk result (λ prepared. prepared.wrapping ≡ wrapping) }
+        ensures prepared { IfOk result (IsPreparedFor self.new row count wrapping) }
         ensures rows { IfOk result (λ prepared.
             AreRowsOf wrapping (lines_of lines.now) (rows_in prepared.rows)) }
         ensures ticks { IfOk result (λ prepared.
@@ -217,10 +214,7 @@ impl ScreenMap {
         requires { row + count ≤ length self.old.rows }
         ensures same { self.new.rows ≡ self.old.rows }
         ensures same_wrapping { self.new.wrapping ≡ self.old.wrapping }
-        ensures ready { IfOk result (λ prepared. CanPutRows self.new prepared) }
-        ensures row { IfOk result (λ prepared. prepared.row ≡ row) }
-        ensures count { IfOk result (λ prepared. prepared.count ≡ count) }
-        ensures wrapping { IfOk result (λ prepared. prepared.wrapping ≡ wrapping) }
+        ensures prepared { IfOk result (IsPreparedFor self.new row count wrapping) }
         ensures rows { IfOk result (λ prepared. rows_in prepared.rows ≡ rows_in rows) }
     {
         let (total, size) = self.within_limit_with(row, count, &rows)?;
@@ -344,7 +338,7 @@ impl ScreenMap {
         self.total
     }
 
-    fn first_row(&self, line: usize) -> usize
+    pub(crate) fn first_row(&self, line: usize) -> usize
         requires { line < length self.now.rows }
         ensures { result ≡ row_total (take line self.now.rows) }
     {
@@ -360,14 +354,14 @@ impl ScreenMap {
         self.blocks.line_of_row(row)
     }
 
-    fn rows_of(&self, line: usize) -> &[(usize, usize)]
+    pub(crate) fn rows_of(&self, line: usize) -> &[(usize, usize)]
         requires { line < length self.now.rows }
         ensures { result.now ≡ ranges_at self.now.rows line }
     {
         self.blocks.rows_of(line)
     }
 
-    fn marks_of(&self, line: usize) -> &[(usize, usize)]
+    pub(crate) fn marks_of(&self, line: usize) -> &[(usize, usize)]
         requires { line < length self.now.rows }
         ensures { result.now ≡ marks_at self.now.rows line }
     {

@@ -1,12 +1,17 @@
-//! Read access to lines with their visual rows.
-ghost use Rattle.std.specs.Prelude.{◌≡◌, ◌+◌, ◌<◌, ◌≤◌, length, take};
+//! Read access to lines with their visual rows, and look-ups in them: from a position to its visual
+//! position and back, and where a cursor moves up and down. They allocate nothing. A tab reaches to
+//! the next tab stop, and takes one column without tab stops.
+ghost use Rattle.std.specs.Prelude.{◌≡◌, ◌+◌, ◌<◌, ◌≤◌, length, take, MatchOption};
 ghost use Rattle.textarea_text.specs.Offset.{offset_at};
-ghost use Rattle.textarea_screen_map.specs.Prelude.{size_limit, AreMarksOf, IsMark, IsPlaceOf, size_of, lines_of, AreRowsOf, row_total, greatest_column, row_at, IsPlaceNear, IsVisualPosition, HasFrontOfLine, row_of_texts, AreRowsRight, borrowed_rows};
+ghost use Rattle.textarea_screen_map.specs.Prelude.{size_limit, AreMarksOf, IsMark, reachable_text, IsPlaceOf, size_of, lines_of, AreRowsOf, range_at, row_total, greatest_column, row_at, row_width, IsAbove, IsBelow, IsInFirstRow, IsInLastRow, IsPlaceAt, IsPlaceNear, IsVisualPosition, HasFrontOfLine, row_of_texts, AreRowsRight, borrowed_rows};
 
+use crate::columns::{character_at_column, character_near_column, reachable_text, width_between};
 use crate::layout::VisualPosition;
-use crate::line_marks::{LineMarks, Mark};
+use crate::line_marks::{LINE_START, LineMarks, Mark};
+use crate::marks::{columns_of_front, offset_of_column};
 use crate::screen_map::{RowText, ScreenMap};
 use std::marker::Model;
+use textarea_wrap::wrap::columns::display_column_after_text;
 
 /// A borrow of lines and of their visual rows: those of the current text, or those at a prepared
 /// width. Visual rows count from 0 over all lines.
@@ -79,23 +84,13 @@ impl<'a> TextLayoutView<'a> {
         self.map.row_at(self.lines, row)
     }
 
-    /// Returns the visual position of a position: the visual row and the display column.
-    pub fn visual_position(&self, place: (usize, usize)) -> VisualPosition
-        requires { IsPlaceOf self.now.lines place }
-        ensures row { result.row < row_total self.now.rows }
-        ensures visual { IsVisualPosition self.now.wrapping.tab_len self.now.lines self.now.rows
-            place result }
+    /// Returns the column after all characters of a visual row, with whitespace that hangs over.
+    pub fn row_width(&self, row: usize) -> usize
+        requires { row < row_total self.now.rows }
+        ensures { result
+            ≡ row_width self.now.wrapping.tab_len (row_at self.now.lines self.now.rows row) }
     {
-        self.map.visual_position_with(self.lines, self.marks, place)
-    }
-
-    /// Returns the bytes before a position in its line. Only the text from the nearest known
-    /// position on is read.
-    pub fn offset_of(&self, place: (usize, usize)) -> usize
-        requires { IsPlaceOf self.now.lines place }
-        ensures { result ≡ offset_at self.now.lines place }
-    {
-        self.map.offset_of(self.lines, self.marks, place)
+        display_column_after_text(self.row_at(row).text, 0, self.tab_len())
     }
 
     /// Returns the greatest display column of a visual row at which a cursor can be: the row's
@@ -105,28 +100,158 @@ impl<'a> TextLayoutView<'a> {
         ensures { result ≡ greatest_column self.now.wrapping.tab_len
             (row_at self.now.lines self.now.rows row) }
     {
-        self.map.greatest_column(self.lines, row)
+        let displayed = self.row_at(row);
+        let reachable = reachable_text(displayed.text, displayed.is_last);
+        display_column_after_text(reachable, 0, self.tab_len())
+    }
+
+    /// Returns the visual position of a position: the visual row and the display column. Only the
+    /// text from the nearest known position on is read.
+    pub fn visual_position(&self, place: (usize, usize)) -> VisualPosition
+        requires { IsPlaceOf self.now.lines place }
+        ensures row { result.row < row_total self.now.rows }
+        ensures visual { IsVisualPosition self.now.wrapping.tab_len self.now.lines self.now.rows
+            place result }
+    {
+        let offset = self.offset_of(place);
+        let ranges = self.map.rows_of(place.0);
+        let row = row_holding(ranges, offset);
+        let tab_len = self.tab_len();
+        let known = self.marks.at_column(place.0, tab_len, place.1);
+        let line = self.lines[place.0].as_str();
+        let column = width_between(line, ranges[row].0, offset, known, tab_len);
+        VisualPosition {
+            row: self.map.first_row(place.0) + row,
+            column,
+        }
+    }
+
+    /// Returns the bytes before a position in its line. Only the text from the nearest known
+    /// position on is read.
+    pub fn offset_of(&self, place: (usize, usize)) -> usize
+        requires { IsPlaceOf self.now.lines place }
+        ensures { result ≡ offset_at self.now.lines place }
+    {
+        let known = self.marks.at_column(place.0, self.tab_len(), place.1);
+        let rows_marks = self.map.marks_of(place.0);
+        let line = self.lines[place.0].as_str();
+        offset_of_column(line, place.1, rows_marks, (known.column, known.offset))
+    }
+
+    /// Returns the position for a visual row and a display column: the first position of the row at
+    /// that column, else the character that covers it, else the row's end. If the row isn't its
+    /// line's last, its end is in the next row, and columns up to its greatest cursor column lead
+    /// into the row.
+    pub fn place_at(&self, visual: VisualPosition) -> (usize, usize)
+        requires { visual.row < row_total self.now.rows }
+        ensures place { IsPlaceOf self.now.lines result }
+        ensures found { IsPlaceAt self.now.wrapping.tab_len self.now.lines self.now.rows
+            visual result }
+    {
+        let displayed = self.map.row_at(self.lines, visual.row);
+        let index = character_at_column(displayed.text, visual.column, self.tab_len());
+        self.place_in(displayed, index)
     }
 
     /// Returns the position for a cursor in a visual row at a display column, or at the row's
-    /// greatest cursor column if that is less. The position is in that visual row.
+    /// greatest cursor column if that is less. The position is in that visual row. Only the text
+    /// from the nearest known position on is read.
     pub fn place_near(&self, visual: VisualPosition) -> (usize, usize)
         requires { visual.row < row_total self.now.rows }
         ensures place { IsPlaceOf self.now.lines result }
         ensures near { IsPlaceNear self.now.wrapping.tab_len self.now.lines self.now.rows
             visual result }
     {
-        self.map.place_near_with(self.lines, self.marks, visual)
+        let displayed = self.map.row_at(self.lines, visual.row);
+        let known = self.mark_before(visual.row, visual.column);
+        let reachable = reachable_text(displayed.text, displayed.is_last);
+        let index = character_near_column(reachable, known, visual.column, self.tab_len());
+        self.place_in(displayed, index)
     }
+
+    // Returns the position before the character of this index in a visual row.
+    fn place_in(&self, displayed: RowText<'_>, index: usize) -> (usize, usize)
+        requires line { displayed.line < length self.now.lines }
+        requires front { HasFrontOfLine self.now.lines displayed }
+        requires few { (row_of_texts displayed).first + index < size_limit }
+        ensures { result ≡ (displayed.entry.line, (row_of_texts displayed.entry).first + index) }
+    {
+        let first = columns_of_front(displayed.before, self.map.marks_of(displayed.line));
+        (displayed.line, first + index)
+    }
+
     /// Returns the last known position of a visual row's text at or before a display column: its
     /// column and byte offset in the row, and its display column. So a long row needn't be read
-    /// from its start.
+    /// from its start. Of a row that is its whole line, marks are known, of others only the start.
+    #[tactic(auto, using(crate::proofs::MarkLemmas::start_is_mark))]
     pub fn mark_before(&self, row: usize, display: usize) -> Mark
         requires { row < row_total self.now.rows }
         ensures mark { IsMark self.now.wrapping.tab_len
             (row_at self.now.lines self.now.rows row).text result }
+        ensures reachable { IsMark self.now.wrapping.tab_len
+            (reachable_text (row_at self.now.lines self.now.rows row).text
+            (row_at self.now.lines self.now.rows row).is_last) result }
         ensures before { result.display ≤ display }
     {
-        self.map.mark_before(self.lines, self.marks, row, display)
+        let displayed = self.map.row_at(self.lines, row);
+        let line = self.lines[displayed.line].as_str();
+        if displayed.is_last && displayed.text.len() == line.len() {
+            return self.marks.at_display(displayed.line, self.tab_len(), display);
+        }
+        LINE_START
     }
+
+    /// Returns where a cursor moves one visual row up; `None` in the first visual row.
+    pub fn above(&self, place: (usize, usize)) -> Option<(usize, usize)>
+        requires { IsPlaceOf self.now.lines place }
+        ensures { MatchOption result
+            (IsInFirstRow self.now.wrapping.tab_len self.now.lines self.now.rows place)
+            (λ target. IsPlaceOf self.now.lines target
+            × IsAbove self.now.wrapping.tab_len self.now.lines self.now.rows place target) }
+    {
+        let mut visual = self.visual_position(place);
+        if visual.row == 0 {
+            return None;
+        }
+        visual.row -= 1;
+        Some(self.place_near(visual))
+    }
+
+    /// Returns where a cursor moves one visual row down; `None` in the last visual row.
+    pub fn below(&self, place: (usize, usize)) -> Option<(usize, usize)>
+        requires { IsPlaceOf self.now.lines place }
+        ensures { MatchOption result
+            (IsInLastRow self.now.wrapping.tab_len self.now.lines self.now.rows place)
+            (λ target. IsPlaceOf self.now.lines target
+            × IsBelow self.now.wrapping.tab_len self.now.lines self.now.rows place target) }
+    {
+        let total = self.map.row_count();
+        let mut visual = self.visual_position(place);
+        visual.row += 1;
+        if visual.row == total {
+            return None;
+        }
+        Some(self.place_near(visual))
+    }
+}
+
+// Returns the last row of a line that begins at or before the offset.
+fn row_holding(ranges: &[(usize, usize)], offset: usize) -> usize
+    requires some { 0 < length ranges.now }
+    requires first { (range_at ranges.now 0).0 ≤ offset }
+    ensures within { result < length ranges.now }
+    ensures from { (range_at ranges.now result).0 ≤ offset }
+    ensures next { result + 1 < length ranges.now → offset < (range_at ranges.now (result + 1)).0 }
+{
+    let mut low = 0;
+    let mut high = ranges.len();
+    'halving: while 1 < high - low {
+        let middle = low + (high - low) / 2;
+        if ranges[middle].0 <= offset {
+            low = middle;
+        } else {
+            high = middle;
+        }
+    }
+    low
 }

@@ -9,7 +9,9 @@ use crate::texts::{Place, RowAndColumn, at, is_place, strings};
 use std::alloc::{AllocError, Global};
 use std::test::Fail;
 use textarea_screen_map::layout::{VisualPosition, Wrapping};
+use textarea_screen_map::line_marks::LineMarks;
 use textarea_screen_map::screen_map::{RowText, ScreenMap};
+use textarea_screen_map::view::TextLayoutView;
 use textarea_text::rows::Replacement;
 use textarea_wrap::wrap::{WrapCount, WrapMode};
 
@@ -171,20 +173,18 @@ fn is_alike(one: RowText<'_>, another: RowText<'_>) -> bool {
         && one.text == another.text
 }
 
-fn is_so(map: &ScreenMap, lines: &[String], fact: Fact) -> bool
-    requires { AreRowsOf map.now.wrapping (lines_of lines.now) map.now.rows }
-{
-    let rows = map.row_count();
+fn is_so(view: &TextLayoutView<'_>, fact: Fact) -> bool {
+    let rows = view.row_count();
     match fact {
         RowCount(count) => rows == count,
         Moves(place, visual, above, below) => {
-            is_place(lines, place)
-                && map.visual_position(lines, place) == at(visual)
-                && map.above(lines, place) == above
-                && map.below(lines, place) == below
+            is_place(view.lines(), place)
+                && view.visual_position(place) == at(visual)
+                && view.above(place) == above
+                && view.below(place) == below
         }
         Columns(row, wanted) => {
-            row < rows && (map.row_width(lines, row), map.greatest_column(lines, row)) == wanted
+            row < rows && (view.row_width(row), view.greatest_column(row)) == wanted
         }
         Row(row, (line, number), (before, text), is_last) => {
             let wanted = RowText {
@@ -194,19 +194,17 @@ fn is_so(map: &ScreenMap, lines: &[String], fact: Fact) -> bool
                 text,
                 is_last,
             };
-            row < rows && is_alike(map.row_at(lines, row), wanted)
+            row < rows && is_alike(view.row_at(row), wanted)
         }
         Back((row, column), place) => {
-            row < rows && map.place_at(lines, VisualPosition { row, column }) == place
+            row < rows && view.place_at(VisualPosition { row, column }) == place
         }
     }
 }
 
-fn are_so(map: &ScreenMap, lines: &[String], facts: &[Fact]) -> bool
-    requires { AreRowsOf map.now.wrapping (lines_of lines.now) map.now.rows }
-{
+fn are_so(view: &TextLayoutView<'_>, facts: &[Fact]) -> bool {
     for fact in facts {
-        if !is_so(map, lines, *fact) {
+        if !is_so(view, *fact) {
             return false;
         }
     }
@@ -229,12 +227,69 @@ fn is_met(alloc: Global, (texts, shape, facts): &Case) -> Result<bool, AllocErro
         wrapped(*shape),
         &mut WrapCount::new(),
     )?;
-    Ok(are_so(&map, lines.as_slice(), facts))
+    let marks = LineMarks::new(alloc);
+    if lines.is_empty() {
+        return Ok(false);
+    }
+    let view = TextLayoutView::new(lines.as_slice(), &map, &marks);
+    Ok(are_so(&view, facts))
 }
 
 #[test]
 fn places_and_rows(rt: HostRuntime) -> Result<(), Fail> {
     check_each(&rt, &CASES, is_met)
+}
+
+// Whether look-ups at a position are the same in two views of the same lines.
+fn agree_at(one: &TextLayoutView<'_>, other: &TextLayoutView<'_>, place: Place) -> bool {
+    if !is_place(one.lines(), place) || !is_place(other.lines(), place) {
+        return false;
+    }
+    let visual = one.visual_position(place);
+    visual == other.visual_position(place)
+        && one.offset_of(place) == other.offset_of(place)
+        && one.above(place) == other.above(place)
+        && one.below(place) == other.below(place)
+        && visual.row < other.row_count()
+        && one.place_near(visual) == other.place_near(visual)
+}
+
+// Whether look-ups in a long line are the same with marks up to these columns as without.
+fn agrees_with_marks(alloc: Global, columns: &[usize]) -> Result<bool, AllocError> {
+    let mut line = String::new(alloc);
+    for _part in 0..500 {
+        line.push_str("ab\t犬e\u{301}")?;
+    }
+    let mut lines = strings(alloc, &["the line above"])?;
+    lines.push(line)?;
+    let lines = lines.as_slice();
+    if lines.len() <= 1 {
+        return Ok(false);
+    }
+    let map = ScreenMap::new(
+        alloc,
+        lines,
+        wrapped(ONE_ROW_A_LINE),
+        &mut WrapCount::new(),
+    )?;
+    let none = LineMarks::new(alloc);
+    let without = TextLayoutView::new(lines, &map, &none);
+    for column in columns {
+        let mut marks = LineMarks::new(alloc);
+        marks.extend(lines, 1, 4, *column);
+        let with = TextLayoutView::new(lines, &map, &marks);
+        if !agree_at(&without, &with, (1, *column)) {
+            return Ok(false);
+        }
+    }
+    Ok(true)
+}
+
+#[test]
+fn marks_change_no_result(rt: HostRuntime) -> Result<(), Fail> {
+    let columns = [0, 767, 768, 770, 800, 1536, 2000, 2999, 3000];
+    assert!(rt; agrees_with_marks(rt.alloc(), &columns)?);
+    Ok(())
 }
 
 // Numbers that look random, each made from the one before.
@@ -304,16 +359,12 @@ fn replace(
     Ok(())
 }
 
-// Whether two maps of the same lines have the same visual rows.
-fn is_same(map: &ScreenMap, other: &ScreenMap, lines: &[String]) -> bool
-    requires map { AreRowsOf map.now.wrapping (lines_of lines.now) map.now.rows }
-    requires other { AreRowsOf other.now.wrapping (lines_of lines.now) other.now.rows }
-{
-    if map.row_count() != other.row_count() {
+fn is_same(one: &TextLayoutView<'_>, other: &TextLayoutView<'_>) -> bool {
+    if one.row_count() != other.row_count() {
         return false;
     }
-    for row in 0..map.row_count() {
-        if row >= other.row_count() || !is_alike(map.row_at(lines, row), other.row_at(lines, row)) {
+    for row in 0..one.row_count() {
+        if row >= other.row_count() || !is_alike(one.row_at(row), other.row_at(row)) {
             return false;
         }
     }
@@ -331,7 +382,13 @@ fn is_as_fresh(
     requires { AreRowsOf map.now.wrapping (lines_of lines.now) map.now.rows }
 {
     let fresh = ScreenMap::new(alloc, lines, wrapping, counter)?;
-    Ok(is_same(map, &fresh, lines))
+    if lines.is_empty() {
+        return Ok(map.row_count() == 0);
+    }
+    let marks = LineMarks::new(alloc);
+    let view = TextLayoutView::new(lines, map, &marks);
+    let wanted = TextLayoutView::new(lines, &fresh, &marks);
+    Ok(is_same(&view, &wanted))
 }
 
 // Lines, and the lines that they replace, both fewer than the limit.
@@ -376,7 +433,7 @@ struct Replacements {
     count: usize,
 }
 
-// Whether a map follows these replacements, and is then equal to its copy.
+// Whether a map follows these replacements, and has a copy that does.
 fn follows_all(
     alloc: Global,
     map: &mut ScreenMap,
@@ -396,7 +453,13 @@ fn follows_all(
             return Ok(false);
         }
     }
-    Ok(is_same(map, &map.clone()?, lines.as_slice()))
+    is_as_fresh(
+        alloc,
+        &map.clone()?,
+        lines.as_slice(),
+        wrapping,
+        &mut counter,
+    )
 }
 
 /// The limit of lines in each replacement, and the number of replacements.

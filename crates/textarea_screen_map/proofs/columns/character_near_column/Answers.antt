@@ -6,7 +6,7 @@ use Rattle.std.specs.Str.Iter.{chars_rest}
 use Rattle.textarea_wrap.proofs.ColumnLemmas.{shorter_after}
 use Rattle.textarea_screen_map.specs.VisualRows.{column_at}
 use Rattle.textarea_screen_map.proofs.RowColumns.{column_at-le, column_at-more, leads_to_covering, leads_to_first, leads_to_least, leads_to_width, passed}
-use Rattle.textarea_screen_map.proofs.MarkLemmas.{IsWalked, walk_from}
+use Rattle.textarea_screen_map.proofs.MarkLemmas.{walk_from}
 use Rattle.textarea_text.proofs.Columns.{IsCharBoundary-column, length-offset}
 use Rattle.textarea_screen_map.proofs.columns.character_near_column.Goals as goal
 

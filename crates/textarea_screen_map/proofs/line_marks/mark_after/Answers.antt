@@ -1,7 +1,7 @@
 use Rattle.std.proofs.Common.{◌≡◌, ◌∙◌, arith, ap, encode_utf8, length, refl, subst, sym}
 use Rattle.std.proofs.lemmas.Str.{length-encode}
 use Rattle.std.specs.Str.Iter.{chars_rest}
-use Rattle.std.specs.Str.{chars, IsCharBoundary}
+use Rattle.std.specs.Str.{IsCharBoundary}
 use Rattle.textarea_text.proofs.Columns.{IsCharBoundary-column}
 use Rattle.textarea_wrap.proofs.MarkLemmas.{characters_few}
 use Rattle.textarea_screen_map.proofs.MarkLemmas.{walk_from, walk_mark, walk_more}

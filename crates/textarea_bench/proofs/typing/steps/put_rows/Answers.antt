@@ -14,9 +14,9 @@ returns c =
     omega (
       arith,
       ap length c.replace.ensures.rows,
-      length-replaced c.prepare.new.self.rows prepared.row prepared.count rows known.ready.within,
+      length-replaced c.prepare.new.self.rows prepared.row prepared.count rows known.prepared.ready.within,
       ap length known.same,
-      known.count,
+      known.prepared.count_is,
       length-AreRowsOf _ (lines_of c.args.lines.now) rows known.rows,
       length-map c.args.lines.now characters_of,
     )

@@ -1,13 +1,11 @@
 use Rattle.std.proofs.lemmas.Grind.{common_steps}
-use Rattle.std.proofs.Common.{◌≡◌, ◌≤◌, ◌∙◌, ℕ, [], ap, arith, get_or, length, subst, sym}
+use Rattle.std.proofs.Common.{◌≡◌, ◌≤◌, ◌∙◌, ℕ, List, ap, arith, length, subst, sym}
 use Rattle.std.specs.Str.{chars}
 use Rattle.textarea_text.specs.Offset.{offset_at}
 use Rattle.textarea_text.specs.Place.{IsPlace, IsPlaceOf}
 use Rattle.textarea_text.specs.Text.{lines, lines_of}
 use Rattle.textarea_text.proofs.Insides.{column_within, offset_read}
-use Rattle.textarea_text.proofs.StringRows.{line_at, row_within, rows_place}
-use Rattle.textarea_screen_map.specs.declared.line_marks.Mark.{Mark}
-use Rattle.textarea_screen_map.specs.LineMarks.{IsMark}
+use Rattle.textarea_text.proofs.StringRows.{row_within, rows_place}
 use Rattle.textarea_lines.specs.TextLayout.{TextAndLayout}
 use Rattle.textarea_lines.proofs.Stores.{lines_stored}
 use Rattle.textarea_lines.proofs.text_layout.TextLayout.offset_of.Goals as goal
@@ -40,26 +38,6 @@ byte_offset_from-requires-clause-offset c = grind (arith, common_steps, offset_r
 pub byte_offset_from-requires-clause-column : goal.byte_offset_from-requires-clause-column
 byte_offset_from-requires-clause-column c = column (goal.at.byte_offset_from-requires-clause-column c).After-as_str-line
 
--- the characters of the line, and a mark of it
-spelled : (c : After-as_str-line) → chars c.as_str-line.result.now ≡ get_or (lines_of c.self.inside.lines.items) c.args.place.0 []
-spelled c =
-    ap chars c.as_str-line.ensures.value
-    ∙ sym (line_at c.self.inside.lines.items c.args.place.0 c.index.result.now (row_within c.self.inside.lines.items c.args.place (there c)) c.index.ensures)
-
-marked : (c : After-as_str-line) (tab_len : ℕ) (mark : Mark) → IsMark tab_len (get_or (lines_of c.self.inside.lines.items) c.args.place.0 []) mark → IsMark tab_len (chars c.as_str-line.result.now) mark
-marked c tab_len mark h = rw (spelled c) h
-
-pub byte_offset_from-requires-2-clause-known : goal.byte_offset_from-requires-2-clause-known
-byte_offset_from-requires-2-clause-known c =
-    (marked (goal.at.byte_offset_from-requires-2-clause-known c).After-as_str-line _ c.at_column-mark.result (c.at_column-mark.ensures.mark (lines_of c.self.inside.lines.items) c.self.invariant.marked)).within
-
-pub byte_offset_from-requires-2-clause-offset : goal.byte_offset_from-requires-2-clause-offset
-byte_offset_from-requires-2-clause-offset c =
-    (marked (goal.at.byte_offset_from-requires-2-clause-offset c).After-as_str-line _ c.at_column-mark.result (c.at_column-mark.ensures.mark (lines_of c.self.inside.lines.items) c.self.invariant.marked)).offset_is
-
-pub byte_offset_from-requires-2-clause-column : goal.byte_offset_from-requires-2-clause-column
-byte_offset_from-requires-2-clause-column c = column (goal.at.byte_offset_from-requires-2-clause-column c).After-as_str-line
-
 pub returns-then-abs_diff-far : goal.returns-then-abs_diff-far
 returns-then-abs_diff-far c =
     let known = (goal.at.returns-then-abs_diff-far c).After-as_str-line in
@@ -67,7 +45,4 @@ returns-then-abs_diff-far c =
     ∙ same known
 
 pub returns : goal.returns
-returns c =
-    let known = (goal.at.returns c).After-as_str-line in
-    offset_read c.self.inside.lines.items c.args.place c.index.result.now c.as_str-line.result.now c.byte_offset_from-2.result (there known) c.index.ensures c.as_str-line.ensures.value c.byte_offset_from-2.ensures
-    ∙ same known
+returns c = c.offset_of.ensures ∙ ap (λ (ls : List (List ℕ)). offset_at ls c.args.place) c.view.ensures.lines

@@ -13,8 +13,5 @@ pub returns-clause-ticks : goal.returns-clause-ticks
 returns-clause-ticks c =
     IfOk-weaker c.make_room.result _ _ (λ p e. ap ticks_of e ∙ c.in_ok-rows.ensures.ticks) c.make_room.ensures.rows
 
-pub returns-clause-count : goal.returns-clause-count
-returns-clause-count c = c.make_room.ensures.count
-
-pub returns-clause-wrapping : goal.returns-clause-wrapping
-returns-clause-wrapping c = c.make_room.ensures.wrapping
+pub returns-clause-prepared : goal.returns-clause-prepared
+returns-clause-prepared c = c.make_room.ensures.prepared

@@ -1,6 +1,6 @@
 use Rattle.std.proofs.Common.{◌-◌, ◌<◌, ◌≤◌, length}
 use Rattle.textarea_blocks.specs.Sums.{range_at}
-use Rattle.textarea_screen_map.proofs.screen_map.look_up.row_holding.Given as goal
+use Rattle.textarea_screen_map.proofs.view.row_holding.Given as goal
 
 -- the row that is looked for is from `low` on and before `high`
 abbrev pub invariant-halving : goal.invariant-halving
