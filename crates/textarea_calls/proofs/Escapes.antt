@@ -7,36 +7,29 @@ use Rattle.std.specs.List.{after_first, before_first, list_all, position_or_len}
 use Rattle.std.specs.Str.Parse.{AllDigits, IsNumeral, digits_value, without_leading_plus, ParsesUnsigned}
 use Rattle.std.specs.Result.{result_ok}
 use Rattle.std.proofs.Math.Nat.{pow-le-pow_right}
+use Rattle.std.proofs.lemmas.Bool.{and_parts, false_from_ne_true}
 use Rattle.std.proofs.lemmas.Bool.Decides.{nat_tests}
+use Rattle.std.proofs.lemmas.List.{nil_from_length}
 use Rattle.std.proofs.lemmas.Int.Digits.{digits_value-lt}
 use Rattle.textarea_calls.specs.Escapes.{character_numbered, control, escape, first_character, is_closing, numbered_escape, plain_character}
-
-is_false : (test : Bool) → (test ≡ true → ⊥) → test ≡ false
-is_false true other = absurd (other refl)
-is_false false other = refl
 
 hex_digit : (c : ℕ) → is_ascii_hexdigit c ≡ true → (digit_value c < 16) × (c ≢ 43)
 hex_digit c is = (grind (arith, nat_tests), grind (arith, nat_tests))
 
--- a conjunction that is true, as two tests
-both : (a b : Bool) → (a && b) ≡ true → (a ≡ true) × (b ≡ true)
-both true b is = (refl, is)
-both false b is = (let never : false ≡ true = is in cc, let never : false ≡ true = is in cc)
-
 hex_digits : (ds : List ℕ) → list_all (λ byte. is_ascii_hexdigit byte) ds ≡ true → AllDigits 16 ds
 hex_digits [] all = tt
 hex_digits (c ∷ cs) all =
-    let p = both (is_ascii_hexdigit c) (list_all (λ byte. is_ascii_hexdigit byte) cs) all in
+    let p = and_parts (is_ascii_hexdigit c) (list_all (λ byte. is_ascii_hexdigit byte) cs) all in
     ((hex_digit c p.0).0, hex_digits cs p.1)
 
 no_plus : (c : ℕ) (cs : List ℕ) → c ≢ 43 → without_leading_plus (c ∷ cs) ≡ c ∷ cs
-no_plus c cs other = ap (λ (test : Bool). drop (if test then 1 else 0) (c ∷ cs)) (is_false (c == 43) (λ same. other (eqb-true c 43 same)))
+no_plus c cs other = ap (λ (test : Bool). drop (if test then 1 else 0) (c ∷ cs)) (false_from_ne_true (c == 43) (λ same. other (eqb-true c 43 same)))
 
 hex_unparsed : {E : Type 0} → (ds : List ℕ) (error : E) → ParsesUnsigned 32 16 ds (Err error) → list_all (λ byte. is_ascii_hexdigit byte) ds ≡ true → length ds ≤ 6 → character_numbered ds ≡ None
 hex_unparsed [] error never all short = refl
 hex_unparsed (c ∷ cs) error never all short =
     let digits = hex_digits (c ∷ cs) all in
-    let p = both (is_ascii_hexdigit c) (list_all (λ byte. is_ascii_hexdigit byte) cs) all in
+    let p = and_parts (is_ascii_hexdigit c) (list_all (λ byte. is_ascii_hexdigit byte) cs) all in
     let same = no_plus c cs (hex_digit c p.0).1 in
     let less : digits_value 16 (c ∷ cs) < 16 ^ length (c ∷ cs) = digits_value-lt 16 (c ∷ cs) digits in
     let power : 16 ^ length (c ∷ cs) ≤ 16 ^ 6 = pow-le-pow_right {n = 16} (lit< tt) {i = length (c ∷ cs)} {j = 6} short in
@@ -51,7 +44,7 @@ hex_parsed ds (Err error) parsed none all short = hex_unparsed ds error parsed a
 -- ---- a number in braces
 
 pub is_other : (a b : ℕ) → a ≢ b → (a == b) ≡ false
-is_other a b other = is_false (a == b) (λ same. other (eqb-true a b same))
+is_other a b other = false_from_ne_true (a == b) (λ same. other (eqb-true a b same))
 
 pub numbered_bare : (text : List ℕ) → ((rest : List ℕ) → text ≢ 123 ∷ rest) → numbered_escape text ≡ None
 unfolding numbered_escape
@@ -65,7 +58,7 @@ unfolding numbered_escape
 numbered_open text rest is none =
     ap numbered_escape is
     ∙ ap (λ (test : Bool). if test then option_map (λ c. (c, after_first is_closing rest)) (character_numbered (before_first is_closing rest)) else None)
-    (is_false (nat_lt (position_or_len is_closing rest) (length rest)) (λ less. grind (arith, nat_tests)))
+    (false_from_ne_true (nat_lt (position_or_len is_closing rest) (length rest)) (λ less. grind (arith, nat_tests)))
 
 pub numbered_closed : (text rest digits rest_after : List ℕ) → text ≡ 123 ∷ rest → position_or_len is_closing rest < length rest → digits ≡ before_first is_closing rest → rest_after ≡ after_first is_closing rest → numbered_escape text ≡ option_map (λ c. (c, rest_after)) (character_numbered digits)
 unfolding numbered_escape
@@ -78,13 +71,9 @@ numbered_closed text rest digits rest_after is some before after =
 
 -- ---- an escape
 
-pub empty : (text : List ℕ) → length text ≡ 0 → text ≡ []
-empty [] none = refl
-empty (byte ∷ text) none = absurd (omega (arith, none))
-
 pub escape_nothing : (text : List ℕ) → length text ≡ 0 → escape text ≡ None
 unfolding escape
-escape_nothing text none = ap escape (empty text none)
+escape_nothing text none = ap escape (nil_from_length text none)
 
 -- a text that begins with an ASCII letter
 at_letter : (letter : ℕ) (text rest : List ℕ) → letter < 128 → text ≡ encode_utf8 letter ++ rest → text ≡ letter ∷ rest
@@ -121,7 +110,7 @@ escape_other (letter ∷ text) rest c is n r t b u =
 
 pub first_nothing : (text : List ℕ) → length text ≡ 0 → first_character text ≡ None
 unfolding first_character
-first_nothing text none = ap first_character (empty text none)
+first_nothing text none = ap first_character (nil_from_length text none)
 
 pub first_escaped : (text rest : List ℕ) → text ≡ encode_utf8 92 ++ rest → first_character text ≡ escape rest
 unfolding first_character

@@ -4,9 +4,9 @@ use Rattle.std.specs.Prelude.{chars, encode_utf8, slice_get, slice_index}
 use Rattle.std.specs.Str.{IsUtf8, encode_utf8_all}
 use Rattle.std.proofs.lemmas.Grind.{common_steps}
 use Rattle.std.proofs.lemmas.Str.{chars_past_char, encode_ascii, IsCharBoundary-before_ascii, IsUtf8-past_char, IsUtf8-take}
-use Rattle.textarea_calls.specs.Escapes.{escape, first_character, in_front, unescaped, unescaped_lines}
+use Rattle.textarea_calls.specs.Escapes.{escape, first_character, in_front, unescaped_lines}
 use Rattle.textarea_calls.proofs.Escapes.{first_plain}
-use Rattle.textarea_calls.proofs.Tokens.{line_ended, line_grown, lines_break, lines_first, lines_none, lines_nothing, no_break, text_grown, unescaped_first, unescaped_none, unescaped_nothing}
+use Rattle.textarea_calls.proofs.Tokens.{line_ended, line_grown, lines_break, lines_first, lines_none, lines_nothing, no_break}
 
 -- no byte is a backslash
 abbrev pub Without : List ℕ → Type 0
@@ -41,21 +41,7 @@ in_front-nothing None = refl
 in_front-nothing (Some []) = refl
 in_front-nothing (Some (line ∷ lines)) = refl
 
-append-nothing : (rest : Option (List ℕ)) → rest ≡ option_map (λ text. [] ++ text) rest
-append-nothing None = refl
-append-nothing (Some text) = refl
-
 -- ---- ---- the characters before a backslash, one after another
-
-text_front : (cs text rest : List ℕ) → IsUtf8 text → text ≡ encode_utf8_all cs ++ rest → Without (encode_utf8_all cs) → unescaped text ≡ option_map (λ more. encode_utf8_all cs ++ more) (unescaped rest)
-text_front [] text rest utf8 is none = ap unescaped is ∙ append-nothing (unescaped rest)
-text_front (c ∷ cs) text rest utf8 is none =
-    let after : List ℕ = encode_utf8_all cs ++ rest in
-    let first : text ≡ encode_utf8 c ++ after = is ∙ append_assoc (encode_utf8 c) (encode_utf8_all cs) rest in
-    let other = other_character c (encode_utf8_all cs) none in
-    unescaped_first text c after (begun text after c utf8 first other)
-    ∙ ap (option_map (λ more. encode_utf8 c ++ more)) (text_front cs after rest (IsUtf8-past_char text after c utf8 first) refl (without_front (encode_utf8 c) (encode_utf8_all cs) none))
-    ∙ text_grown (encode_utf8 c) (encode_utf8_all cs) (unescaped rest)
 
 line_front : (cs text rest : List ℕ) → IsUtf8 text → text ≡ encode_utf8_all cs ++ rest → Without (encode_utf8_all cs) → unescaped_lines text ≡ option_map (λ lines. in_front (encode_utf8_all cs) lines) (unescaped_lines rest)
 line_front [] text rest utf8 is none = ap unescaped_lines is ∙ in_front-nothing (unescaped_lines rest)
@@ -66,10 +52,6 @@ line_front (c ∷ cs) text rest utf8 is none =
     lines_first text c after (no_break text (unbroken text after c utf8 first other)) (begun text after c utf8 first other)
     ∙ ap (option_map (λ lines. in_front (encode_utf8 c) lines)) (line_front cs after rest (IsUtf8-past_char text after c utf8 first) refl (without_front (encode_utf8 c) (encode_utf8_all cs) none))
     ∙ line_grown (encode_utf8 c) (encode_utf8_all cs) (unescaped_lines rest)
-
-text_from : (front text rest : List ℕ) → IsUtf8 text → IsUtf8 front → text ≡ front ++ rest → Without front → unescaped text ≡ option_map (λ more. front ++ more) (unescaped rest)
-text_from front text rest utf8 whole is none =
-    subst (λ (bytes : List ℕ). text ≡ bytes ++ rest → Without bytes → unescaped text ≡ option_map (λ more. bytes ++ more) (unescaped rest)) whole.1.1 (text_front whole.0 text rest utf8) is none
 
 line_after_front : (front text rest : List ℕ) → IsUtf8 text → IsUtf8 front → text ≡ front ++ rest → Without front → unescaped_lines text ≡ option_map (λ lines. in_front front lines) (unescaped_lines rest)
 line_after_front front text rest utf8 whole is none =
@@ -89,27 +71,10 @@ unfolding first_character
 backslash escaped = refl
 
 -- a text without a backslash
-pub text_plain : (text : List ℕ) → IsUtf8 text → Without text → unescaped text ≡ Some text
-text_plain text utf8 none =
-    text_from text text [] utf8 utf8 (sym (append-nil text)) none
-    ∙ ap (option_map (λ more. text ++ more)) (unescaped_nothing [] refl)
-    ∙ ap Some (append-nil text)
-
-pub text_unread : (text front escaped : List ℕ) → IsUtf8 text → text ≡ front ++ (92 ∷ escaped) → Without front → escape escaped ≡ None → unescaped text ≡ None
-text_unread text front escaped utf8 is none unread =
-    text_from front text (92 ∷ escaped) utf8 (front_whole text front escaped utf8 is) is none
-    ∙ ap (option_map (λ more. front ++ more)) (unescaped_none (92 ∷ escaped) (omega arith) (backslash escaped ∙ unread))
-
-pub text_escaped : (text front escaped after : List ℕ) (c : ℕ) → IsUtf8 text → text ≡ front ++ (92 ∷ escaped) → Without front → escape escaped ≡ Some (c, after) → unescaped text ≡ option_map (λ more. (front ++ encode_utf8 c) ++ more) (unescaped after)
-text_escaped text front escaped after c utf8 is none read =
-    text_from front text (92 ∷ escaped) utf8 (front_whole text front escaped utf8 is) is none
-    ∙ ap (option_map (λ more. front ++ more)) (unescaped_first (92 ∷ escaped) c after (backslash escaped ∙ read))
-    ∙ text_grown front (encode_utf8 c) (unescaped after)
-
 pub line_plain : (text : List ℕ) → IsUtf8 text → Without text → unescaped_lines text ≡ Some (text ∷ [])
 line_plain text utf8 none =
     line_after_front text text [] utf8 utf8 (sym (append-nil text)) none
-    ∙ ap (option_map (λ lines. in_front text lines)) (lines_nothing [] refl)
+    ∙ ap (option_map (λ lines. in_front text lines)) lines_nothing
     ∙ ap (λ (line : List ℕ). Some (line ∷ [])) (append-nil text)
 
 pub line_unread : (text front escaped : List ℕ) → IsUtf8 text → text ≡ front ++ (92 ∷ escaped) → Without front → escape escaped ≡ None → unescaped_lines text ≡ None

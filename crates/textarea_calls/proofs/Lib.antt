@@ -2,10 +2,8 @@ pub mod Escapes
 pub mod Fronts
 pub mod Lines
 pub mod Numbers
-pub mod Pairs
 pub mod Ranges
 pub mod Scripts
-pub mod Tables
 pub mod Tokens
 pub mod TableOverlap
 pub mod FlagLemmas

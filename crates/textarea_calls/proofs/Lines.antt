@@ -5,6 +5,7 @@ use Rattle.std.specs.Str.{is_utf8}
 use Rattle.std.specs.List.{list_all}
 use Rattle.std.proofs.lemmas.List.{append-nil, map-append, take_more}
 use Rattle.std.proofs.lemmas.List.Elements.{filter-append}
+use Rattle.std.proofs.lemmas.Bool.{false_from_ne_true}
 use Rattle.std.proofs.lemmas.Bool.Decides.{nat_tests}
 use Rattle.textarea_calls.proofs.Scripts.{IsTurn}
 use Rattle.std.proofs.lemmas.Str.{IsUtf8-from_is_utf8, is_utf8-from_IsUtf8}
@@ -15,14 +16,10 @@ pub meaning_of_line-utf8 : (line : List ℕ) → IsUtf8 line → meaning_of_line
 unfolding meaning_of_line
 meaning_of_line-utf8 line text = ap (λ (test : Bool). if test then line_meaning line else None) (is_utf8-from_IsUtf8 line text)
 
-is_false : (test : Bool) → (test ≡ true → ⊥) → test ≡ false
-is_false true other = absurd (other refl)
-is_false false other = refl
-
 pub meaning_of_line-other : (line : List ℕ) → (IsUtf8 line → ⊥) → meaning_of_line line ≡ None
 unfolding meaning_of_line
 meaning_of_line-other line other =
-    ap (λ (test : Bool). if test then line_meaning line else None) (is_false (is_utf8 line) (λ test. other (IsUtf8-from_is_utf8 line test)))
+    ap (λ (test : Bool). if test then line_meaning line else None) (false_from_ne_true (is_utf8 line) (λ test. other (IsUtf8-from_is_utf8 line test)))
 
 -- ---- ---- the lines up to one of them
 

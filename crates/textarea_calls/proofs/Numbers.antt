@@ -9,6 +9,7 @@ use Rattle.std.proofs.lemmas.Str.Parse.{IsNumeralModel, numerals_by_value, tells
 use Rattle.std.proofs.lemmas.Str.Pattern.{strip_prefix_char}
 use Rattle.std.specs.Str.Pattern.{FindsCharPrefix}
 use mir.Syntax.{w16}
+use Rattle.std.proofs.lemmas.Bool.{false_from_ne_true}
 use Rattle.std.proofs.lemmas.Bool.Decides.{nat_tests}
 use Rattle.textarea_calls.specs.Arguments.{number_below, signed_number}
 
@@ -65,10 +66,6 @@ number_letters bound ds some =
 
 -- ---- a sign
 
-is_false : (test : Bool) → (test ≡ true → ⊥) → test ≡ false
-is_false true other = absurd (other refl)
-is_false false other = refl
-
 -- the text after a `-` at the front, or the whole text
 abbrev pub after_minus : Bool → List ℕ → List ℕ
 after_minus minus text = if minus then drop 1 text else text
@@ -78,7 +75,7 @@ has_minus text = slice_index text 0 == 45
 
 no_minus : (text : List ℕ) → ((rest : List ℕ) → text ≢ 45 ∷ rest) → has_minus text ≡ false
 no_minus [] other = refl
-no_minus (byte ∷ text) other = is_false (byte == 45) (λ same. other text (ap (λ (b : ℕ). b ∷ text) (eqb-true byte 45 same)))
+no_minus (byte ∷ text) other = false_from_ne_true (byte == 45) (λ same. other text (ap (λ (b : ℕ). b ∷ text) (eqb-true byte 45 same)))
 
 minus_stripped : (text : Bor (List ℕ)) (r : Option (Bor (List ℕ))) → MatchOption r ((rest : List ℕ) → text.now ≢ 45 ∷ rest) (λ x. text.now ≡ 45 ∷ x.now)
     → (unwrap_or r text).now ≡ after_minus (has_minus text.now) text.now

@@ -1,7 +1,7 @@
 -- A test finds the cases of a table that have an input in common, without trying inputs. If it
 -- finds none, no two cases have one.
 use Rattle.std.proofs.Common.{◌≡◌, ℕ, ◌+◌, ◌≤◌, Bool, true, false, cond, ◌&&◌, ◌||◌, not, List, [], ◌∷◌, refl, ap, subst, arith}
-use Rattle.std.proofs.lemmas.Bool.{false≢true, eqb-true}
+use Rattle.std.proofs.lemmas.Bool.{and_from, and_parts, eqb-true, false≢true, or_right}
 use Rattle.std.proofs.lemmas.List.Sums.{sum_by-cons}
 use Rattle.std.specs.Prelude.{count_by}
 use Rattle.std.specs.List.{list_any}
@@ -12,30 +12,15 @@ use Rattle.textarea_calls.specs.Table.{ModifierRule, Keys, these, characters_but
 
 -- ---- tests
 
-or_true : (b : Bool) → (b || true) ≡ true
-or_true true = refl
-or_true false = refl
-
 or_grows : (a b c d : Bool) → (a ≡ true → b ≡ true) → (c ≡ true → d ≡ true) → (a || c) ≡ true → (b || d) ≡ true
 or_grows true b c d first rest h = rw (first refl)
-or_grows false b c d first rest h = rw (rest h) (or_true b)
+or_grows false b c d first rest h = rw (rest h) (or_right b true refl)
 
 -- if some element passes a test, some element passes each weaker test
 any_grows : {X : Type 0} (p q : X → Bool) (xs : List X) → ((x : X) → p x ≡ true → q x ≡ true) → list_any p xs ≡ true → list_any q xs ≡ true
 any_grows p q [] each h = h
 any_grows p q (x ∷ xs) each h =
     or_grows (p x) (q x) (list_any p xs) (list_any q xs) (each x) (any_grows p q xs each) h
-
-and_left : (a b : Bool) → (a && b) ≡ true → a ≡ true
-and_left true b h = refl
-and_left false b h = h
-
-and_right : (a b : Bool) → (a && b) ≡ true → b ≡ true
-and_right true b h = h
-and_right false b h = absurd (false≢true h)
-
-both_true : (a b : Bool) → a ≡ true → b ≡ true → (a && b) ≡ true
-both_true a b left right = rw (left, right)
 
 not_true : (a : Bool) → not a ≡ true → a ≡ true → ⊥
 not_true true h e = false≢true h
@@ -100,9 +85,9 @@ meet one other =
 
 meet_modifiers : (one other : ModifierRule) (with_ctrl with_alt : Bool) → has_modifiers one with_ctrl with_alt ≡ true → has_modifiers other with_ctrl with_alt ≡ true → meet one other ≡ true
 meet_modifiers one other false false h k = rw (h, k)
-meet_modifiers one other true false h k = rw (h, k) (or_true _)
-meet_modifiers one other false true h k = rw (h, k) (rw (or_true _) (or_true _))
-meet_modifiers one other true true h k = rw (h, k) (rw (or_true _) (rw (or_true _) (or_true _)))
+meet_modifiers one other true false h k = rw (h, k) (or_right _ true refl)
+meet_modifiers one other false true h k = rw (h, k) (rw (or_right _ true refl) (or_right _ true refl))
+meet_modifiers one other true true h k = rw (h, k) (rw (or_right _ true refl) (rw (or_right _ true refl) (or_right _ true refl)))
 
 -- whether two sets of inputs share an input
 abbrev overlap : Inputs → Inputs → Bool
@@ -110,10 +95,9 @@ overlap (modifiers, keys) (other_modifiers, other_keys) = meet modifiers other_m
 
 overlap_among : (input : Input) (one other : Inputs) → is_among input one ≡ true → is_among input other ≡ true → overlap one other ≡ true
 overlap_among input (modifiers, keys) (other_modifiers, other_keys) h k =
-    both_true _ _
-    (meet_modifiers modifiers other_modifiers input.ctrl input.alt (and_left _ _ h) (and_left _ _ k))
-    (share_has keys other_keys input.key
-    (and_right (has_modifiers modifiers input.ctrl input.alt) _ h) (and_right (has_modifiers other_modifiers input.ctrl input.alt) _ k))
+    let one = and_parts (has_modifiers modifiers input.ctrl input.alt) (has_key keys input.key) h in
+    let other = and_parts (has_modifiers other_modifiers input.ctrl input.alt) (has_key other_keys input.key) k in
+    and_from _ _ (meet_modifiers modifiers other_modifiers input.ctrl input.alt one.0 other.0) (share_has keys other_keys input.key one.1 other.1)
 
 -- ---- ---- cases
 
@@ -139,9 +123,10 @@ at_most_one false count none least = omega arith
 pub no_overlap : (rows : List ActionRow) → is_disjoint rows ≡ true → HasNoOverlap rows
 no_overlap [] h input = omega arith
 no_overlap (row ∷ rows) h input =
+    let apart = and_parts (not (list_any (rows_overlap row) rows)) (is_disjoint rows) h in
     rw (sum_by-cons (λ other. cond (fits_row input other) 1 0) row rows)
     (at_most_one (fits_row input row) (count_by (fits_row input) rows)
     (λ here. count_none (fits_row input) rows (λ there.
-    not_true (list_any (rows_overlap row) rows) (and_left _ _ h)
+    not_true (list_any (rows_overlap row) rows) apart.0
     (any_grows (fits_row input) (rows_overlap row) rows (λ other. overlap_fits input row other here) there)))
-    (no_overlap rows (and_right (not (list_any (rows_overlap row) rows)) _ h) input))
+    (no_overlap rows apart.1 input))

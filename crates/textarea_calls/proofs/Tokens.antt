@@ -1,10 +1,13 @@
 -- The tokens of a text with escapes, one after another.
-use Rattle.std.proofs.Common.{arith, ◌≡◌, ◌≢◌, ℕ, zero, suc, ◌+◌, ◌<◌, ◌≤◌, Bool, true, false, ◌&&◌, ◌==◌, List, [], ◌∷◌, ◌++◌, Option, Some, None, length, drop, nat_lt, option_map, if◌then◌else◌, refl, ap, sym, ◌∙◌, subst, append_assoc, append-nil, length-drop, eqb-true, lit<}
+use Rattle.std.proofs.Common.{arith, ◌≡◌, ◌≢◌, ℕ, zero, suc, ◌+◌, ◌<◌, ◌≤◌, Bool, true, false, ◌&&◌, ◌==◌, List, [], ◌∷◌, ◌++◌, Option, Some, None, length, drop, nat_lt, option_map, if◌then◌else◌, refl, ap, sym, ◌∙◌, subst, append_assoc, append-nil, length-drop, eqb-true, map, flat_map}
 use Rattle.std.specs.Prelude.{encode_utf8, option_and_then, chars, slice_get}
 use Rattle.std.specs.Char.{len_utf8}
-use Rattle.std.specs.List.{after_first, before_first, position_or_len}
-use Rattle.std.proofs.lemmas.Str.{encode_ascii}
+use Rattle.std.specs.List.{after_first, before_first, join_by, position_or_len}
+use Rattle.std.proofs.lemmas.Bool.{and_parts, false_from_ne_true}
 use Rattle.std.proofs.lemmas.Bool.Decides.{nat_tests}
+use Rattle.textarea_calls.specs.Arguments.{IsUnparsedAs}
+use Rattle.textarea_calls.specs.declared.arguments.Unparsed.{Unparsed}
+use Rattle.textarea_calls.specs.declared.arguments.Unparsed.TheVariants.{NoCommand, Memory}
 use Rattle.textarea_calls.specs.Escapes.{Token, Character, Break, character_numbered, control, escape, first_character, in_front, is_break, is_closing, lines_of_tokens, numbered_escape, plain_character, text_of_tokens, token, tokens, tokens_within, unescaped, unescaped_lines}
 
 -- ---- ---- each character takes at least one byte
@@ -84,70 +87,28 @@ tokens_first (byte ∷ text) c rest first =
     let short : length rest < length (byte ∷ text) = subst (λ (found : Option (ℕ × List ℕ)). length (after found) < length (byte ∷ text)) first (first_short byte text) in
     ap (step (length text) (byte ∷ text)) first ∙ ap (option_map (λ more. token (byte ∷ text) c ∷ more)) (enough (length text) (length rest) rest (omega (arith, short)) (omega arith))
 
--- ---- the text of the tokens
-
-both : (a b : Bool) → (a && b) ≡ true → (a ≡ true) × (b ≡ true)
-both true b is = (refl, is)
-both false b is = (let never : false ≡ true = is in cc, let never : false ≡ true = is in cc)
+-- ---- the escape `\n`
 
 -- a text with the escape `\n` at its front
 break_is : (text : List ℕ) → is_break text ≡ true → text ≡ 92 ∷ 110 ∷ drop 2 text
 break_is [] is = let never : false ≡ true = is in cc
-break_is (byte ∷ []) is = let p = both (byte == 92) false is in let never : false ≡ true = p.1 in cc
+break_is (byte ∷ []) is = let p = and_parts (byte == 92) false is in let never : false ≡ true = p.1 in cc
 break_is (byte ∷ letter ∷ text) is =
-    let p = both (byte == 92) (letter == 110) is in
+    let p = and_parts (byte == 92) (letter == 110) is in
     ap (λ (b : ℕ). b ∷ letter ∷ text) (eqb-true byte 92 p.0) ∙ ap (λ (l : ℕ). 92 ∷ l ∷ text) (eqb-true letter 110 p.1)
 
-is_false : (test : Bool) → (test ≡ true → ⊥) → test ≡ false
-is_false true other = absurd (other refl)
-is_false false other = refl
-
 pub no_break : (text : List ℕ) → ((rest : List ℕ) → text ≢ 92 ∷ 110 ∷ rest) → is_break text ≡ false
-no_break text other = is_false (is_break text) (λ is. other (drop 2 text) (break_is text is))
+no_break text other = false_from_ne_true (is_break text) (λ is. other (drop 2 text) (break_is text is))
 
 break_first : (text : List ℕ) → first_character (92 ∷ 110 ∷ text) ≡ Some (10, text)
 unfolding first_character escape
 break_first text = refl
 
-feed : (text : List ℕ) (c : ℕ) (rest : List ℕ) → is_break text ≡ true → first_character text ≡ Some (c, rest) → c ≡ 10
-feed text c rest is first =
-    let same : Some (c, rest) ≡ Some (10, drop 2 text) = sym first ∙ ap first_character (break_is text is) ∙ break_first (drop 2 text) in
-    let pair : (c, rest) ≡ (10, drop 2 text) = cc in
-    ap (λ (p : ℕ × List ℕ). p.0) pair
-
-token_text : (text : List ℕ) (c : ℕ) (rest : List ℕ) (more : List Token) → first_character text ≡ Some (c, rest) → text_of_tokens (token text c ∷ more) ≡ encode_utf8 c ++ text_of_tokens more
-token_text text c rest more first =
-    elim (is_break text) as (λ test. is_break text ≡ test → text_of_tokens ((if test then Break else Character c) ∷ more) ≡ encode_utf8 c ++ text_of_tokens more) [
-      | true ↦ λ is. ap (λ (b : List ℕ). b ++ text_of_tokens more) (sym (ap encode_utf8 (feed text c rest is first) ∙ encode_ascii 10 (lit< tt)))
-      | false ↦ λ is. refl
-    ] refl
-
-pub unescaped_none : (text : List ℕ) → 0 < length text → first_character text ≡ None → unescaped text ≡ None
-unfolding unescaped
-unescaped_none text some none = ap (option_map text_of_tokens) (tokens_none text some none)
-
-nothing : (text : List ℕ) → length text ≡ 0 → text ≡ []
-nothing [] none = refl
-nothing (byte ∷ text) none = absurd (omega (arith, none))
-
-pub unescaped_nothing : (text : List ℕ) → length text ≡ 0 → unescaped text ≡ Some []
-unfolding unescaped tokens
-unescaped_nothing text none = ap unescaped (nothing text none)
-
-pub lines_nothing : (text : List ℕ) → length text ≡ 0 → unescaped_lines text ≡ Some ([] ∷ [])
-unfolding unescaped_lines tokens
-lines_nothing text none = ap unescaped_lines (nothing text none)
-
-pub unescaped_first : (text : List ℕ) (c : ℕ) (rest : List ℕ) → first_character text ≡ Some (c, rest) → unescaped text ≡ option_map (λ more. encode_utf8 c ++ more) (unescaped rest)
-unfolding unescaped
-unescaped_first text c rest first =
-    ap (option_map text_of_tokens) (tokens_first text c rest first)
-    ∙ elim (tokens rest) as (λ found. option_map text_of_tokens (option_map (λ more. token text c ∷ more) found) ≡ option_map (λ more. encode_utf8 c ++ more) (option_map text_of_tokens found)) [
-      | None ↦ refl
-      | Some more ↦ ap Some (token_text text c rest more first)
-    ]
-
 -- ---- the lines of the tokens
+
+pub lines_nothing : unescaped_lines [] ≡ Some ([] ∷ [])
+unfolding unescaped_lines tokens
+lines_nothing = refl
 
 pub lines_none : (text : List ℕ) → 0 < length text → first_character text ≡ None → unescaped_lines text ≡ None
 unfolding unescaped_lines
@@ -171,10 +132,6 @@ lines_break text rest is =
 
 -- ---- ---- the text before the tokens
 
-pub text_grown : (plain more : List ℕ) (rest : Option (List ℕ)) → option_map (λ text. plain ++ text) (option_map (λ text. more ++ text) rest) ≡ option_map (λ text. (plain ++ more) ++ text) rest
-text_grown plain more None = refl
-text_grown plain more (Some text) = ap Some (sym (append_assoc plain more text))
-
 in_front-append : (line more : List ℕ) (lines : List (List ℕ)) → in_front line (in_front more lines) ≡ in_front (line ++ more) lines
 in_front-append line more [] = refl
 in_front-append line more (first ∷ lines) = ap (λ (l : List ℕ). l ∷ lines) (sym (append_assoc line more first))
@@ -186,3 +143,53 @@ line_grown line more (Some lines) = ap Some (in_front-append line more lines)
 pub line_ended : (line : List ℕ) (rest : Option (List (List ℕ))) → option_map (λ lines. in_front line lines) (option_map (λ lines. [] ∷ lines) rest) ≡ option_map (λ lines. line ∷ lines) rest
 line_ended line None = refl
 line_ended line (Some lines) = ap (λ (l : List ℕ). Some (l ∷ lines)) (append-nil line)
+
+-- ---- ---- the text of the tokens is their lines, joined by line feeds
+
+abbrev joined : List (List ℕ) → List ℕ
+joined lines = join_by (λ line. line) (10 ∷ []) lines
+
+-- some lines, and the text that they are joined to
+abbrev AreLinesOf : List ℕ → List (List ℕ) → Type 0
+AreLinesOf text lines = (0 < length lines) × (text ≡ joined lines)
+
+more_in_front : (front text : List ℕ) (lines : List (List ℕ)) → AreLinesOf text lines → AreLinesOf (front ++ text) (in_front front lines)
+more_in_front front text [] are = absurd (omega (arith, are.0))
+more_in_front front text (line ∷ lines) are =
+    (omega arith, ap (λ (t : List ℕ). front ++ t) are.1 ∙ sym (append_assoc front line (flat_map (λ line. 10 ∷ line) lines)))
+
+break_in_front : (text : List ℕ) (lines : List (List ℕ)) → AreLinesOf text lines → AreLinesOf (10 ∷ text) ([] ∷ lines)
+break_in_front text [] are = absurd (omega (arith, are.0))
+break_in_front text (line ∷ lines) are = (omega arith, ap (λ (t : List ℕ). 10 ∷ t) are.1)
+
+lines_joined : (tokens : List Token) → AreLinesOf (text_of_tokens tokens) (lines_of_tokens tokens)
+lines_joined [] = (omega arith, refl)
+lines_joined (Character c ∷ tokens) = more_in_front (encode_utf8 c) (text_of_tokens tokens) (lines_of_tokens tokens) (lines_joined tokens)
+lines_joined (Break ∷ tokens) = break_in_front (text_of_tokens tokens) (lines_of_tokens tokens) (lines_joined tokens)
+
+flat_map_viewed : {S : Type 0} → (view : S → List ℕ) (lines : List S) → flat_map (λ line. 10 ∷ line) (map view lines) ≡ flat_map (λ line. 10 ∷ view line) lines
+flat_map_viewed view [] = refl
+flat_map_viewed view (line ∷ lines) = ap (λ (t : List ℕ). (10 ∷ view line) ++ t) (flat_map_viewed view lines)
+
+joined_viewed : {S : Type 0} → (view : S → List ℕ) (lines : List S) → joined (map view lines) ≡ join_by view (10 ∷ []) lines
+joined_viewed view [] = refl
+joined_viewed view (line ∷ lines) = ap (λ (t : List ℕ). view line ++ t) (flat_map_viewed view lines)
+
+pub unescaped_joined : {S : Type 0} → (text : List ℕ) (view : S → List ℕ) (lines : List S) → unescaped_lines text ≡ Some (map view lines) → unescaped text ≡ Some (join_by view (10 ∷ []) lines)
+unfolding unescaped unescaped_lines
+unescaped_joined text view lines is =
+    elim (tokens text) as (λ found. option_map lines_of_tokens found ≡ Some (map view lines) → option_map text_of_tokens found ≡ Some (join_by view (10 ∷ []) lines)) [
+      | None ↦ λ none. let never : None ≡ Some (map view lines) = none in cc
+      | Some found ↦ λ some.
+          let same : lines_of_tokens found ≡ map view lines = cc in
+          ap Some ((lines_joined found).1 ∙ ap joined same ∙ joined_viewed view lines)
+    ] is
+
+pub unescaped_unread : (text : List ℕ) (unread : Unparsed) → IsUnparsedAs (unescaped_lines text) unread → IsUnparsedAs (unescaped text) unread
+unfolding unescaped unescaped_lines
+unescaped_unread text Memory is = tt
+unescaped_unread text NoCommand is =
+    elim (tokens text) as (λ found. option_map lines_of_tokens found ≡ None → option_map text_of_tokens found ≡ None) [
+      | None ↦ λ none. refl
+      | Some found ↦ λ some. let never : Some (lines_of_tokens found) ≡ None = some in cc
+    ] is

@@ -68,9 +68,9 @@ abbrev pub some_ranges : Option (List ℕ) → Option Meaning
 some_ranges arguments = option_map TrySetAtomicRanges (ranges_after_space arguments)
 
 -- the commands of calls that borrow nothing: their names, and the meaning of their arguments, if
--- any. These have arguments, and edit, move, search, measure, draw or scroll
-abbrev pub acting_commands : List (List ℕ × (Option (List ℕ) → Option Meaning))
-acting_commands =
+-- any. These have arguments
+abbrev pub commands_with_arguments : List (List ℕ × (Option (List ℕ) → Option Meaning))
+commands_with_arguments =
     (codes "insert_char", plain_command character call.InsertChar)
     ∷ (codes "delete_str", plain_command number call.DeleteStr)
     ∷ (codes "search_forward", plain_command truth call.SearchForward)
@@ -83,12 +83,7 @@ acting_commands =
     ∷ (codes "go_to", plain_command two_numbers call.GoTo)
     ∷ (codes "scroll", plain_command scroll_amounts call.Scroll)
     ∷ (codes "page", plain_command page call.Scroll)
-    ∷ []
-
--- the commands with arguments that set something
-abbrev pub setting_commands : List (List ℕ × (Option (List ℕ) → Option Meaning))
-setting_commands =
-    (codes "set_tab_length", plain_command byte_number call.SetTabLength)
+    ∷ (codes "set_tab_length", plain_command byte_number call.SetTabLength)
     ∷ (codes "set_hard_tab_indent", plain_command truth call.SetHardTabIndent)
     ∷ (codes "set_max_histories", plain_command number call.SetMaxHistories)
     ∷ (codes "set_undo_coalescing", plain_command truth call.SetUndoCoalescing)
@@ -126,7 +121,7 @@ bare_commands =
 
 -- all commands of calls that borrow nothing
 abbrev pub plain_commands : List (List ℕ × (Option (List ℕ) → Option Meaning))
-plain_commands = acting_commands ++ (setting_commands ++ bare_commands)
+plain_commands = commands_with_arguments ++ bare_commands
 
 -- the commands of calls that borrow a text, ranges, lines or an input
 abbrev pub borrowing_commands : List (List ℕ × (Option (List ℕ) → Option Meaning))
@@ -150,10 +145,6 @@ meaning_by table name arguments = option_and_then (λ means. means arguments) (n
 
 unfoldable pub plain_meaning : List ℕ → Option (List ℕ) → Option Meaning
 plain_meaning = meaning_by plain_commands
-
--- their meaning by the last two tables
-unfoldable pub setting_meaning : List ℕ → Option (List ℕ) → Option Meaning
-setting_meaning = meaning_by (setting_commands ++ bare_commands)
 
 unfoldable pub command_meaning : List ℕ → Option (List ℕ) → Option Meaning
 command_meaning = meaning_by commands

@@ -5,7 +5,6 @@ pub mod Commands
 pub mod Escapes
 pub mod FirstLine
 pub mod Inputs
-pub mod Borrows
 pub mod Ranges
 pub mod Script
 pub mod FlagRule

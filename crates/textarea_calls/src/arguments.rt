@@ -74,6 +74,13 @@ pub fn number(text: &str) -> Option<u64>
     text.parse().ok()
 }
 
+// A number of 64 bits, as a size.
+pub fn size(text: &str) -> Option<usize>
+    ensures { result ≡ number text.now }
+{
+    Some(number(text)? as usize)
+}
+
 // A number of 16 bits.
 #[tactic(auto, unfolding(crate::specs::Arguments::number_below))]
 pub fn short_number(text: &str) -> Option<u16>
@@ -103,7 +110,7 @@ pub fn two_numbers(text: &str) -> Option<(usize, usize)>
     ensures { result ≡ two_numbers text.now }
 {
     let (first, second) = split_first(text)?;
-    Some((number(first)? as usize, number(second)? as usize))
+    Some((size(first)?, size(second)?))
 }
 
 // The area that the text names: its left column, its top row, its width and its height, separated
@@ -188,9 +195,9 @@ fn range(row: &str, start: &str, end: &str) -> Option<AtomicRange>
     ensures { result ≡ range row.now start.now end.now }
 {
     Some(AtomicRange {
-        row: number(row)? as usize,
-        start_col: number(start)? as usize,
-        end_col: number(end)? as usize,
+        row: size(row)?,
+        start_col: size(start)?,
+        end_col: size(end)?,
     })
 }
 
@@ -335,18 +342,8 @@ pub fn one_character(text: &str) -> Option<char>
 pub fn unescape(alloc: Global, text: &str) -> Result<String, Unparsed>
     ensures { IsReadAs string_bytes (unescaped text.now) result }
 {
-    let mut plain = String::new(alloc);
-    let mut rest = text;
-    while let Some((front, escaped)) = rest.split_once('\\') {
-        let Some((c, after)) = escaped_character(escaped) else {
-            return Err(Unparsed::NoCommand);
-        };
-        plain.push_str(front)?;
-        plain.push(c)?;
-        rest = after;
-    }
-    plain.push_str(rest)?;
-    Ok(plain)
+    let lines = unescaped_lines(alloc, text)?;
+    Ok(lines.join(alloc, "\n")?)
 }
 
 // Returns the lines of a text with escapes. The text is split at each escape `\n`. An escape of a

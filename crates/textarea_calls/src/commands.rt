@@ -3,9 +3,8 @@ ghost use Rattle.std.specs.Prelude.{◌≡◌, ◌+◌, All, IfOk, IfErr, IfSome
 ghost use Rattle.textarea_data.specs.declared.cursor.CursorMove.TheVariants as move;
 ghost use Rattle.textarea_calls.specs.Arguments.{IsReadAs, two_short_numbers};
 ghost use Rattle.textarea_calls.specs.Possible.{CanBeMade};
-ghost use Rattle.textarea_calls.specs.Commands.{argument_text, line_meaning, line_numbers, command_meaning, plain_meaning, set_lines_meaning, setting_meaning};
+ghost use Rattle.textarea_calls.specs.Commands.{argument_text, line_meaning, line_numbers, command_meaning, plain_meaning, set_lines_meaning};
 ghost use Rattle.textarea_calls.specs.Inputs.{input_named};
-ghost use Rattle.textarea_calls.specs.Borrows.{borrows_list, borrows_text};
 ghost use Rattle.textarea_calls.specs.Ranges.{ranges_after_space};
 ghost use Rattle.textarea_calls.specs.Script.{lines_of_script, filled_lines, meaning_of, meaning_of_line, meanings_of_lines, AreCallsOf, IsAtLine, IsCallOf, IsCommandOf, IsCallReady, IsReady-prop, NamesLine};
 ghost use Rattle.textarea_calls.specs.declared.commands.CommandContent.TheVariants.{Plain};
@@ -13,7 +12,7 @@ ghost use Rattle.textarea_calls.specs.declared.commands.CommandContent.TheVarian
 use crate::Call;
 use crate::arguments::{
     Unparsed, area, byte_number, input_named, mode_named, move_named, number, one_character,
-    page_named, ranges, scroll_amounts, short_number, split_first, truth, two_numbers,
+    page_named, ranges, scroll_amounts, short_number, size, split_first, truth, two_numbers,
     two_short_numbers, unescape, unescaped_lines,
 };
 use std::alloc::{AllocError, AllocFailed, Global};
@@ -75,24 +74,10 @@ impl Command {
     {
         match &self.content {
             CommandContent::Plain(call) => *call,
-            CommandContent::Input(input) => Call::Input(input),
-            CommandContent::TrySetAtomicRanges(_) | CommandContent::SetLines { .. } => self
-                .content
-                .list_call(),
-            _ => self.content.text_call(),
-        }
-    }
-}
-
-impl CommandContent {
-    // The call that borrows ranges or lines.
-    fn list_call(&self) -> Call<'_>
-        requires borrows { borrows_list self.now ≡ true }
-        requires ready { IsCallReady self.now }
-        ensures ready { CanBeMade result }
-        ensures is { IsCallOf self.now result }
-    {
-        match self {
+            CommandContent::InsertStr(text) => Call::InsertStr(text.as_str()),
+            CommandContent::InsertPasted(text) => Call::InsertPasted(text.as_str()),
+            CommandContent::SetYankText(text) => Call::SetYankText(text.as_str()),
+            CommandContent::SetSearchPattern(text) => Call::SetSearchPattern(text.as_str()),
             CommandContent::TrySetAtomicRanges(ranges) => Call::TrySetAtomicRanges(
                 ranges.as_slice(),
             ),
@@ -100,22 +85,7 @@ impl CommandContent {
                 lines: lines.as_slice(),
                 cursor: *cursor,
             },
-            _ => unreachable!(),
-        }
-    }
-
-    // The call that borrows a text.
-    fn text_call(&self) -> Call<'_>
-        requires { borrows_text self.now ≡ true }
-        ensures ready { CanBeMade result }
-        ensures is { IsCallOf self.now result }
-    {
-        match self {
-            CommandContent::InsertStr(text) => Call::InsertStr(text.as_str()),
-            CommandContent::InsertPasted(text) => Call::InsertPasted(text.as_str()),
-            CommandContent::SetYankText(text) => Call::SetYankText(text.as_str()),
-            CommandContent::SetSearchPattern(text) => Call::SetSearchPattern(text.as_str()),
-            _ => unreachable!(),
+            CommandContent::Input(input) => Call::Input(input),
         }
     }
 }
@@ -180,7 +150,7 @@ fn content_of(alloc: Global, line: &str) -> Result<CommandContent, Unparsed>
 }
 
 // Reads the content of a command from a call's name and its arguments, if there are any.
-#[tactic(auto, unfolding(crate::specs::Commands::command_meaning))]
+#[tactic(auto, unfolding(crate::specs::Commands::command_meaning, crate::specs::Commands::plain_meaning))]
 fn content_named(
     alloc: Global,
     name: &str,
@@ -191,18 +161,14 @@ fn content_named(
         result }
 {
     match name {
-        "insert_str" => text(alloc, arguments).map(CommandContent::InsertStr),
-        "insert_pasted" => text(alloc, arguments).map(CommandContent::InsertPasted),
-        "set_yank_text" => text(alloc, arguments).map(CommandContent::SetYankText),
-        "set_search_pattern" => text(alloc, arguments).map(CommandContent::SetSearchPattern),
-        "ranges" => some_ranges(alloc, arguments).map(CommandContent::TrySetAtomicRanges),
+        "insert_str" => Ok(CommandContent::InsertStr(text(alloc, arguments)?)),
+        "insert_pasted" => Ok(CommandContent::InsertPasted(text(alloc, arguments)?)),
+        "set_yank_text" => Ok(CommandContent::SetYankText(text(alloc, arguments)?)),
+        "set_search_pattern" => Ok(CommandContent::SetSearchPattern(text(alloc, arguments)?)),
+        "ranges" => Ok(CommandContent::TrySetAtomicRanges(some_ranges(alloc, arguments)?)),
         "set_lines" => set_lines(alloc, arguments),
-        "input" => input(arguments)
-            .map(CommandContent::Input)
-            .ok_or(Unparsed::NoCommand),
-        _ => plain(name, arguments)
-            .map(CommandContent::Plain)
-            .ok_or(Unparsed::NoCommand),
+        "input" => Ok(CommandContent::Input(input(arguments).ok_or(Unparsed::NoCommand)?)),
+        _ => Ok(CommandContent::Plain(plain(name, arguments).ok_or(Unparsed::NoCommand)?)),
     }
 }
 
@@ -238,11 +204,11 @@ fn set_lines(alloc: Global, arguments: Option<&str>) -> Result<CommandContent, U
 {
     let (row, rest) = split_first(arguments.unwrap_or("")).ok_or(Unparsed::NoCommand)?;
     let (column, text) = split_first(rest).unwrap_or((rest, ""));
-    let row = number(row).ok_or(Unparsed::NoCommand)?;
-    let column = number(column).ok_or(Unparsed::NoCommand)?;
+    let row = size(row).ok_or(Unparsed::NoCommand)?;
+    let column = size(column).ok_or(Unparsed::NoCommand)?;
     Ok(CommandContent::SetLines {
         lines: unescaped_lines(alloc, text)?,
-        cursor: (row as usize, column as usize),
+        cursor: (row, column),
     })
 }
 
@@ -265,30 +231,30 @@ fn call_without_arguments(name: &str) -> Option<Call<'static>>
     ensures means { option_map (λ call. meaning_of (Plain call)) result
         ≡ plain_meaning name.now None }
 {
-    Some(match name {
-        "insert_tab" => Call::InsertTab,
-        "insert_newline" => Call::InsertNewline,
-        "delete_newline" => Call::DeleteNewline,
-        "delete_char" => Call::DeleteChar,
-        "delete_next_char" => Call::DeleteNextChar,
-        "delete_line_by_end" => Call::DeleteLineByEnd,
-        "delete_line_by_head" => Call::DeleteLineByHead,
-        "delete_word" => Call::DeleteWord,
-        "delete_next_word" => Call::DeleteNextWord,
-        "clear" => Call::Clear,
-        "cut" => Call::Cut,
-        "copy" => Call::Copy,
-        "paste" => Call::Paste,
-        "undo" => Call::Undo,
-        "redo" => Call::Redo,
-        "start_selection" => Call::StartSelection,
-        "cancel_selection" => Call::CancelSelection,
-        "select_all" => Call::SelectAll,
-        "text" => Call::Text,
-        "yank_text" => Call::YankText,
-        "clear_mask_char" => Call::ClearMaskChar,
-        _ => return None,
-    })
+    match name {
+        "insert_tab" => Some(Call::InsertTab),
+        "insert_newline" => Some(Call::InsertNewline),
+        "delete_newline" => Some(Call::DeleteNewline),
+        "delete_char" => Some(Call::DeleteChar),
+        "delete_next_char" => Some(Call::DeleteNextChar),
+        "delete_line_by_end" => Some(Call::DeleteLineByEnd),
+        "delete_line_by_head" => Some(Call::DeleteLineByHead),
+        "delete_word" => Some(Call::DeleteWord),
+        "delete_next_word" => Some(Call::DeleteNextWord),
+        "clear" => Some(Call::Clear),
+        "cut" => Some(Call::Cut),
+        "copy" => Some(Call::Copy),
+        "paste" => Some(Call::Paste),
+        "undo" => Some(Call::Undo),
+        "redo" => Some(Call::Redo),
+        "start_selection" => Some(Call::StartSelection),
+        "cancel_selection" => Some(Call::CancelSelection),
+        "select_all" => Some(Call::SelectAll),
+        "text" => Some(Call::Text),
+        "yank_text" => Some(Call::YankText),
+        "clear_mask_char" => Some(Call::ClearMaskChar),
+        _ => None,
+    }
 }
 
 // The call of this name and these arguments. None of the arguments is a text.
@@ -298,41 +264,29 @@ fn call_with(name: &str, arguments: &str) -> Option<Call<'static>>
     ensures means { option_map (λ call. meaning_of (Plain call)) result
         ≡ plain_meaning name.now (Some arguments.now) }
 {
-    Some(match name {
-        "insert_char" => Call::InsertChar(one_character(arguments)?),
-        "delete_str" => Call::DeleteStr(number(arguments)? as usize),
-        "search_forward" => Call::SearchForward(truth(arguments)?),
-        "search_back" => Call::SearchBack(truth(arguments)?),
-        "measure" => Call::Measure(short_number(arguments)?),
-        "render" => Call::Render(area(arguments)?),
-        "hit" => Call::CursorAtPosition(position(arguments)?),
-        "move" => Call::Move(move_named(arguments)?),
-        "jump" => Call::Move(jump(arguments)?),
-        "go_to" => Call::GoTo(two_numbers(arguments)?),
-        "scroll" => Call::Scroll(scroll_amounts(arguments)?),
-        "page" => Call::Scroll(page_named(arguments)?),
-        _ => return setting_with(name, arguments),
-    })
-}
-
-// The call of this name and these arguments, for the calls that set something.
-#[tactic(auto, unfolding(crate::specs::Commands::setting_meaning))]
-fn setting_with(name: &str, arguments: &str) -> Option<Call<'static>>
-    ensures ready { IfSome result CanBeMade }
-    ensures means { option_map (λ call. meaning_of (Plain call)) result
-        ≡ setting_meaning name.now (Some arguments.now) }
-{
-    Some(match name {
-        "set_tab_length" => Call::SetTabLength(byte_number(arguments)?),
-        "set_hard_tab_indent" => Call::SetHardTabIndent(truth(arguments)?),
-        "set_max_histories" => Call::SetMaxHistories(number(arguments)? as usize),
-        "set_undo_coalescing" => Call::SetUndoCoalescing(truth(arguments)?),
-        "set_wrap_mode" => Call::SetWrapMode(mode_named(arguments)?),
-        "set_mask_char" => Call::SetMaskChar(one_character(arguments)?),
-        "line_numbers" => line_numbers(truth(arguments)?),
-        "now" => Call::SetNow(Duration::from_millis(number(arguments)?)),
-        _ => return None,
-    })
+    match name {
+        "insert_char" => Some(Call::InsertChar(one_character(arguments)?)),
+        "delete_str" => Some(Call::DeleteStr(size(arguments)?)),
+        "search_forward" => Some(Call::SearchForward(truth(arguments)?)),
+        "search_back" => Some(Call::SearchBack(truth(arguments)?)),
+        "measure" => Some(Call::Measure(short_number(arguments)?)),
+        "render" => Some(Call::Render(area(arguments)?)),
+        "hit" => Some(Call::CursorAtPosition(position(arguments)?)),
+        "move" => Some(Call::Move(move_named(arguments)?)),
+        "jump" => Some(Call::Move(jump(arguments)?)),
+        "go_to" => Some(Call::GoTo(two_numbers(arguments)?)),
+        "scroll" => Some(Call::Scroll(scroll_amounts(arguments)?)),
+        "page" => Some(Call::Scroll(page_named(arguments)?)),
+        "set_tab_length" => Some(Call::SetTabLength(byte_number(arguments)?)),
+        "set_hard_tab_indent" => Some(Call::SetHardTabIndent(truth(arguments)?)),
+        "set_max_histories" => Some(Call::SetMaxHistories(size(arguments)?)),
+        "set_undo_coalescing" => Some(Call::SetUndoCoalescing(truth(arguments)?)),
+        "set_wrap_mode" => Some(Call::SetWrapMode(mode_named(arguments)?)),
+        "set_mask_char" => Some(Call::SetMaskChar(one_character(arguments)?)),
+        "line_numbers" => Some(line_numbers(truth(arguments)?)),
+        "now" => Some(Call::SetNow(Duration::from_millis(number(arguments)?))),
+        _ => None,
+    }
 }
 
 // The call that shows line numbers in the empty style, or that removes them.

@@ -38,6 +38,3 @@ returns-clause-value c =
       | in-t w ↦ escape_letter 116 c.args.text.now c.as_str-2.result.now (lit< tt) (letter 116 w.in-t.is) ∙ ap (λ (n : ℕ). Some (n, c.as_str-2.result.now)) (sym w.c-is)
       | in-92 w ↦ escape_letter 92 c.args.text.now c.as_str-2.result.now (lit< tt) (letter 92 w.in-92.is) ∙ ap (λ (n : ℕ). Some (n, c.as_str-2.result.now)) (sym w.c-is)
     ]
-
-pub returns-in_err-next-clause-shorter : goal.returns-in_err-next-clause-shorter
-returns-in_err-next-clause-shorter c = rw c.from_residual.ensures tt

@@ -20,6 +20,3 @@ returns-clause-value c =
     let first : Some c.in_ok-c.c ≡ slice_get (chars c.args.text.now) 0 = c.in_ok-c.ensures.steps.2 ∙ ap (λ (t : List ℕ). slice_get (chars t) 0) c.chars-rest.ensures.rest in
     let other : c.in_ok-c.c ≢ 92 = search rules in
     first_plain c.args.text.now c.as_str-2.result.now c.in_ok-c.c is first other
-
-pub returns-in_err-c-clause-shorter : goal.returns-in_err-c-clause-shorter
-returns-in_err-c-clause-shorter c = rw c.from_residual.ensures tt

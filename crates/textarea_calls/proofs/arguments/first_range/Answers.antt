@@ -35,21 +35,3 @@ pub returns-in_ok-range-in-None-clause-value : goal.returns-in_ok-range-in-None-
 returns-in_ok-range-in-None-clause-value c =
     ranges_three c.args.text.now c.in_ok-row.row.now c.in_ok-row.rest.now c.in_ok-start.start.now c.in_ok-start.rest.now c.in_ok-row.ensures.value c.in_ok-start.ensures.value c.in-None.ensures.value
     ∙ ap (λ (one : Option AtomicRange). option_map (λ one. one ∷ []) one) (sym c.in_ok-range-in-None.ensures)
-
-pub returns-in_err-row-clause-shorter : goal.returns-in_err-row-clause-shorter
-returns-in_err-row-clause-shorter c = rw c.from_residual.ensures tt
-
-pub returns-in_err-start-clause-shorter : goal.returns-in_err-start-clause-shorter
-returns-in_err-start-clause-shorter c = rw c.from_residual-in_err-start.ensures tt
-
-pub returns-in_err-range-in-Some-clause-shorter : goal.returns-in_err-range-in-Some-clause-shorter
-returns-in_err-range-in-Some-clause-shorter c = rw c.from_residual-in_err-range-in-Some.ensures tt
-
-pub returns-in_err-range-in-None-clause-shorter : goal.returns-in_err-range-in-None-clause-shorter
-returns-in_err-range-in-None-clause-shorter c = rw c.from_residual-in_err-range-in-None.ensures tt
-
-pub returns-in_ok-range-in-Some-clause-shorter : goal.returns-in_ok-range-in-Some-clause-shorter
-returns-in_ok-range-in-Some-clause-shorter c = omega (arith, c.in_ok-row.ensures.shorter, c.in_ok-start.ensures.shorter, c.in-Some.ensures.shorter)
-
-pub returns-in_ok-range-in-None-clause-shorter : goal.returns-in_ok-range-in-None-clause-shorter
-returns-in_ok-range-in-None-clause-shorter c = tt

@@ -31,12 +31,3 @@ returns-clause-value c =
     let split = split_once_first 125 rest.now (Some (c.in_ok-digits.digits, c.in_ok-digits.rest)) c.in_ok-digits.ensures.cases (lit< tt) in
     numbered_closed c.args.text.now rest.now c.in_ok-digits.digits.now c.in_ok-digits.rest.now begun split.0 split.1 split.2
     ∙ ap (λ (o : Option ℕ). option_map (λ character. (character, c.in_ok-digits.rest.now)) o) (sym c.in_ok-character_of_number.ensures)
-
-pub returns-in_err-strip_prefix-clause-shorter : goal.returns-in_err-strip_prefix-clause-shorter
-returns-in_err-strip_prefix-clause-shorter c = rw c.from_residual.ensures tt
-
-pub returns-in_err-digits-clause-shorter : goal.returns-in_err-digits-clause-shorter
-returns-in_err-digits-clause-shorter c = rw c.from_residual-in_err-digits.ensures tt
-
-pub returns-in_err-character_of_number-clause-shorter : goal.returns-in_err-character_of_number-clause-shorter
-returns-in_err-character_of_number-clause-shorter c = rw c.from_residual-in_err-character_of_number.ensures tt
