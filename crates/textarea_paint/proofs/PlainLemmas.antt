@@ -3,7 +3,7 @@
 use Rattle.std.proofs.lemmas.Grind.{common_steps}
 use Rattle.std.proofs.Common.{◌≡◌, ℕ, zero, suc, ◌-◌, ◌<◌, ◌≤◌, min, Bool, true, false, cond, not, ◌&&◌, ◌||◌, ◌==◌, leb, ltb, List, [], ◌∷◌, ◌++◌, length, map, take, drop, get_or, Option, None, Some, IfSome, refl, sym, ap, ap₂, subst, ◌∙◌, arith}
 use Rattle.std.specs.List.{All}
-use Rattle.std.proofs.lemmas.Bool.{cond-true, cond-false}
+use Rattle.std.proofs.lemmas.Bool.{cond-true, cond-false, false≢true}
 use Rattle.std.proofs.lemmas.Bool.Decides.{nat_tests}
 use Rattle.std.proofs.lemmas.List.{length-take-le}
 use Rattle.std.proofs.lemmas.List.Elements.{All-cons, All-nil, All-same}
@@ -11,23 +11,36 @@ use Rattle.std.proofs.lemmas.Str.{IsCharBoundary-after_ascii, IsUtf8-drop, chars
 use Rattle.std.specs.Prelude.{encode_utf8_all}
 use Rattle.std.specs.Str.{chars, IsUtf8}
 use Rattle.textarea_paint.specs.Plain.{IsPrintable, begins_plain, is_printable, plain_count, singles}
-use Rattle.ucd_breaks.specs.declared.GraphemeClusterBreak.TheVariants.{Other}
-use Rattle.ucd_breaks.proofs.GraphemeClusterBreakLemmas.{grapheme_cluster_break_number_injective}
+use Rattle.ucd_breaks.specs.declared.GraphemeClusterBreak.{GraphemeClusterBreak}
+use Rattle.ucd_breaks.specs.declared.GraphemeClusterBreak.TheVariants.{Extend, Lv, Lvt, Other, RegionalIndicator, Zwj}
+use Rattle.ucd_derived.specs.declared.IndicConjunctBreak.{IndicConjunctBreak}
 use Rattle.ucd_derived.specs.declared.IndicConjunctBreak.TheVariants as conjunct
-use Rattle.ucd_derived.proofs.IndicConjunctBreakLemmas.{indic_conjunct_break_number_injective}
 use Rattle.ucd_table.proofs.TrieCheck.{all_below, all_below-at}
 use Rattle.unicode_segmentation.specs.Emoji.{is_extended_pictographic}
-use Rattle.unicode_segmentation.specs.GraphemeClusterBreak.{grapheme_cluster_break, grapheme_cluster_break_number}
-use Rattle.unicode_segmentation.specs.IndicConjunctBreak.{indic_conjunct_break, indic_conjunct_break_number}
-use Rattle.unicode_segmentation.specs.Grapheme.{graphemes, is_grapheme_break, ends_in_linker, ends_in_pictograph, ends_in_half_flag, is_extend, is_regional}
+use Rattle.unicode_segmentation.specs.GraphemeClusterBreak.{grapheme_cluster_break}
+use Rattle.unicode_segmentation.specs.IndicConjunctBreak.{indic_conjunct_break}
+use Rattle.unicode_segmentation.specs.Grapheme.{graphemes, is_grapheme_break, break_by_pair, ends_in_linker, ends_in_pictograph, ends_in_half_flag, is_extend, is_regional, is_zwj}
 use Rattle.unicode_segmentation.specs.Segments.{prepend, cut, segments}
 use Rattle.unicode_segmentation.proofs.Computing.{unicode_segmentation}
-use Rattle.unicode_segmentation.proofs.GraphemeLemmas.{is_grapheme_break-others}
 
 -- ---- the tables
 
+-- neither a mark nor another value that joins a character with any other one: a Hangul syllable is
+-- joined only with a jamo
+abbrev pub is_single : GraphemeClusterBreak → Bool
+is_single Other = true
+is_single Lv = true
+is_single Lvt = true
+is_single _ = false
+
+-- a consonant right after the character isn't joined with it
+abbrev pub ends_conjunct : IndicConjunctBreak → Bool
+ends_conjunct conjunct.None = true
+ends_conjunct conjunct.Consonant = true
+ends_conjunct _ = false
+
 abbrev has_no_joiner : ℕ → Bool
-has_no_joiner c = (grapheme_cluster_break_number (grapheme_cluster_break c) == 12) && (indic_conjunct_break_number (indic_conjunct_break c) == 3) && not (is_extended_pictographic c)
+has_no_joiner c = is_single (grapheme_cluster_break c) && ends_conjunct (indic_conjunct_break c)
 
 abbrev passes : ℕ → Bool
 passes c = cond (leb 32 c && ltb c 127) (has_no_joiner c) true
@@ -36,50 +49,104 @@ all_pass : all_below passes 127 ≡ true
 unfolding unicode_segmentation
 all_pass = refl
 
--- no rule that joins characters applies to this one
+-- no rule joins this character with another such one
 pub record IsPlain (c : ℕ) : Type 0 where
-  pub other : grapheme_cluster_break c ≡ Other
-  pub no_conjunct : indic_conjunct_break c ≡ conjunct.None
-  pub no_picture : is_extended_pictographic c ≡ false
+  pub single : is_single (grapheme_cluster_break c) ≡ true
+  pub no_linker : ends_conjunct (indic_conjunct_break c) ≡ true
 
 pub plain : (c : ℕ) → IsPrintable c → IsPlain c
 plain c printable =
     let printable_test : (leb 32 c && ltb c 127) ≡ true = grind (arith, nat_tests, printable.0, printable.1) in
     let tested = sym (cond-true (leb 32 c && ltb c 127) (has_no_joiner c) true printable_test) ∙ all_below-at passes 127 c all_pass printable.1 in
     record {
-      other = grapheme_cluster_break_number_injective _ _ (grind (arith, nat_tests));
-      no_conjunct = indic_conjunct_break_number_injective _ _ (grind (arith, nat_tests));
-      no_picture = grind (arith, nat_tests);
+      single = grind (arith, nat_tests);
+      no_linker = grind (arith, nat_tests);
     }
 
--- ---- the text after such a character is split without regard to it
+-- ---- the rules
 
-module _ (c : ℕ) (is_plain : IsPlain c) (more : List ℕ) where
-  linker-first : (xs : List ℕ) → ends_in_linker (map indic_conjunct_break (xs ++ c ∷ more)) ≡ ends_in_linker (map indic_conjunct_break xs)
+ends_in_no_linker : (v : IndicConjunctBreak) (vs : List IndicConjunctBreak) → ends_conjunct v ≡ true → ends_in_linker (v ∷ vs) ≡ false
+unfolding ends_in_linker
+ends_in_no_linker conjunct.None vs is = refl
+ends_in_no_linker conjunct.Consonant vs is = refl
+ends_in_no_linker conjunct.Linker vs is = absurd (false≢true is)
+ends_in_no_linker conjunct.Extend vs is = absurd (false≢true is)
+
+single-extend : (v : GraphemeClusterBreak) → is_single v ≡ true → is_extend v ≡ false
+single-extend Extend is = absurd (false≢true is)
+single-extend _ is = refl
+
+single-regional : (v : GraphemeClusterBreak) → is_single v ≡ true → is_regional v ≡ false
+single-regional RegionalIndicator is = absurd (false≢true is)
+single-regional _ is = refl
+
+single-zwj : (v : GraphemeClusterBreak) → is_single v ≡ true → is_zwj v ≡ false
+single-zwj Zwj is = absurd (false≢true is)
+single-zwj _ is = refl
+
+no_pair : (v w : GraphemeClusterBreak) → is_single v ≡ true → is_single w ≡ true → break_by_pair true v w ≡ None
+no_pair Other Other is is' = refl
+no_pair Other Lv is is' = refl
+no_pair Other Lvt is is' = refl
+no_pair Lv Other is is' = refl
+no_pair Lv Lv is is' = refl
+no_pair Lv Lvt is is' = refl
+no_pair Lvt Other is is' = refl
+no_pair Lvt Lv is is' = refl
+no_pair Lvt Lvt is is' = refl
+no_pair Other _ is is' = absurd (false≢true is')
+no_pair Lv _ is is' = absurd (false≢true is')
+no_pair Lvt _ is is' = absurd (false≢true is')
+no_pair _ _ is is' = absurd (false≢true is)
+
+-- two plain characters are in two clusters
+pub breaks_between : (c d : ℕ) → IsPlain c → IsPlain d → (before after : List ℕ) → is_grapheme_break true (c ∷ before) (d ∷ after) ≡ true
+unfolding is_grapheme_break ends_in_half_flag
+breaks_between c d left right before after =
+    rw (
+      no_pair (grapheme_cluster_break c) (grapheme_cluster_break d) left.single right.single,
+      ends_in_no_linker (indic_conjunct_break c) (map indic_conjunct_break before) left.no_linker,
+      single-zwj (grapheme_cluster_break c) left.single,
+      single-regional (grapheme_cluster_break c) left.single,
+    ) refl
+
+-- ---- such a character and the text after it are split without regard to the text before
+
+module _ (d : ℕ) (is_plain : IsPlain d) (before : List ℕ) where
+  linker-first : (xs : List ℕ) → ends_in_linker (map indic_conjunct_break (xs ++ d ∷ before)) ≡ ends_in_linker (map indic_conjunct_break (xs ++ d ∷ []))
   unfolding ends_in_linker
-  linker-first [] = rw is_plain.no_conjunct refl
+  linker-first [] =
+      ends_in_no_linker (indic_conjunct_break d) (map indic_conjunct_break before) is_plain.no_linker
+      ∙ sym (ends_in_no_linker (indic_conjunct_break d) [] is_plain.no_linker)
   linker-first (x ∷ xs) = grind (arith, common_steps, linker-first xs)
 
-  pictograph-first : (xs : List ℕ) → ends_in_pictograph (xs ++ c ∷ more) ≡ ends_in_pictograph xs
+  pictograph-first : (xs : List ℕ) → ends_in_pictograph (xs ++ d ∷ before) ≡ ends_in_pictograph (xs ++ d ∷ [])
   unfolding ends_in_pictograph
-  pictograph-first [] = rw (is_plain.no_picture, is_plain.other) refl
+  pictograph-first [] = rw (single-extend (grapheme_cluster_break d) is_plain.single) refl
   pictograph-first (x ∷ xs) = ap (λ e. is_extended_pictographic x || (is_extend (grapheme_cluster_break x) && e)) (pictograph-first xs)
 
-  flag-first : (xs : List ℕ) → ends_in_half_flag (xs ++ c ∷ more) ≡ ends_in_half_flag xs
+  flag-first : (xs : List ℕ) → ends_in_half_flag (xs ++ d ∷ before) ≡ ends_in_half_flag (xs ++ d ∷ [])
   unfolding ends_in_half_flag
-  flag-first [] = rw is_plain.other refl
+  flag-first [] = rw (single-regional (grapheme_cluster_break d) is_plain.single) refl
   flag-first (x ∷ xs) = ap (λ e. is_regional (grapheme_cluster_break x) && not e) (flag-first xs)
 
-  break-first : (x : ℕ) (xs after : List ℕ) → is_grapheme_break true (x ∷ (xs ++ c ∷ more)) after ≡ is_grapheme_break true (x ∷ xs) after
+  break-first : (xs after : List ℕ) → is_grapheme_break true (xs ++ d ∷ before) after ≡ is_grapheme_break true (xs ++ d ∷ []) after
   unfolding is_grapheme_break
-  break-first x xs [] = refl
-  break-first x xs (next ∷ after) = grind (arith, common_steps, linker-first (x ∷ xs), pictograph-first xs, flag-first (x ∷ xs))
+  break-first [] [] = refl
+  break-first (x ∷ xs) [] = refl
+  break-first [] (next ∷ after) = rw (linker-first [], flag-first [], single-zwj (grapheme_cluster_break d) is_plain.single) refl
+  break-first (x ∷ xs) (next ∷ after) = grind (arith, common_steps, linker-first (x ∷ xs), pictograph-first xs, flag-first (x ∷ xs))
 
-  pub cut-first : (xs cs : List ℕ) → cut (is_grapheme_break true) (xs ++ c ∷ more) cs [] ≡ cut (is_grapheme_break true) xs cs []
+  cut-after : (xs cs : List ℕ) → cut (is_grapheme_break true) (xs ++ d ∷ before) cs [] ≡ cut (is_grapheme_break true) (xs ++ d ∷ []) cs []
   unfolding cut
-  cut-first xs [] = refl
-  cut-first xs (d ∷ cs) =
-      ap₂ (λ (b : Bool) (rest : List (List ℕ)). cond b ((d ∷ []) ∷ rest) (prepend (d ∷ []) rest)) (break-first d xs (cs ++ [])) (cut-first (d ∷ xs) cs)
+  cut-after xs [] = refl
+  cut-after xs (c ∷ cs) =
+      ap₂ (λ (b : Bool) (rest : List (List ℕ)). cond b ((c ∷ []) ∷ rest) (prepend (c ∷ []) rest)) (break-first (c ∷ xs) (cs ++ [])) (cut-after (c ∷ xs) cs)
+
+  pub cut-first : (cs : List ℕ) → cut (is_grapheme_break true) before (d ∷ cs) [] ≡ cut (is_grapheme_break true) [] (d ∷ cs) []
+  unfolding cut
+  cut-first cs =
+      ap₂ (λ (b : Bool) (rest : List (List ℕ)). cond b ((d ∷ []) ∷ rest) (prepend (d ∷ []) rest)) (break-first [] (cs ++ [])) (cut-after [] cs)
 
 -- ---- the first cluster of a text
 
@@ -87,10 +154,10 @@ pub graphemes-nil : graphemes true [] ≡ []
 unfolding unicode_segmentation
 graphemes-nil = refl
 
-cut-two : (c d : ℕ) (cs : List ℕ) → IsPlain c → IsPlain d → d < 0x900 →
+cut-two : (c d : ℕ) (cs : List ℕ) → IsPlain c → IsPlain d →
     cut (is_grapheme_break true) [] (c ∷ d ∷ cs) [] ≡ (c ∷ []) ∷ cut (is_grapheme_break true) [] (d ∷ cs) []
 unfolding cut
-cut-two c d cs first second early = grind (arith, common_steps, is_grapheme_break-others, cond-true, cut-first c first [] [] (d ∷ cs))
+cut-two c d cs first second = grind (arith, common_steps, breaks_between c d first second [] (cs ++ []), cond-true, cut-first d second (c ∷ []) cs)
 
 cut-only : (c : ℕ) → encode_utf8_all (c ∷ []) ≡ c ∷ [] → map encode_utf8_all (cut (is_grapheme_break true) [] (c ∷ []) []) ≡ (c ∷ []) ∷ []
 unfolding cut is_grapheme_break
@@ -104,7 +171,7 @@ graphemes-plain c d text rest rest_after text_utf8 rest_utf8 text_is rest_is fir
     let all = chars_past_char text rest c text_utf8 (text_is ∙ ap (λ front. front ++ rest) (sym encoded)) in
     let others = chars_past_char rest rest_after d rest_utf8 (rest_is ∙ ap (λ front. front ++ rest_after) (sym (encode_ascii d (omega (arith, second.1))))) in
     ap (λ cs. map encode_utf8_all (cut (is_grapheme_break true) [] cs [])) (all ∙ ap (λ cs. c ∷ cs) others)
-    ∙ ap (map encode_utf8_all) (cut-two c d (chars rest_after) (plain c first) (plain d second) (omega (arith, second.1)))
+    ∙ ap (map encode_utf8_all) (cut-two c d (chars rest_after) (plain c first) (plain d second))
     ∙ ap₂ (λ (bytes : List ℕ) (cs : List ℕ). bytes ∷ map encode_utf8_all (cut (is_grapheme_break true) [] cs [])) (ap (λ front. front ++ []) encoded) (sym others)
 
 no-chars : chars [] ≡ []
