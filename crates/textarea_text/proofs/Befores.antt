@@ -1,9 +1,7 @@
 -- The symbol before a position of lines.
 use Rattle.std.proofs.Common.{◌≡◌, ℕ, ◌+◌, ◌-◌, ◌<◌, ◌≤◌, List, [], ◌∷◌, ◌++◌, length, take, drop, sym, ap, refl, ◌∙◌, arith, get_or, subst, String, encode_utf8_all, encode_utf8, Option, Some, None, MatchOption}
-use Rattle.std.proofs.lemmas.Grind.{common_steps}
+use Rattle.textarea_text.proofs.Prelude.{common_steps, append-nil, length-append, length-take-le, length-map, drop_more, take_at, get_or-take, get_or_at, take-append-drop, drop-drop, cons_from_encodes, chars-append, IsUtf8-encode, IsUtf8-take, IsCharBoundary-at_seam}
 use Rattle.textarea_text.specs.Prelude.{IsSome, IsScalar, chars, IsUtf8, Character, Break, characters, characters_of, joined, lines_of, text_of, Place, IsPlace, IsPlaceOf, IsSymbolBefore, OccursAt}
-use Rattle.std.proofs.lemmas.List.{append-nil, length-append, length-take-le, length-map, drop_more, take_at, get_or-take, get_or_at, take-append-drop, drop-drop}
-use Rattle.std.proofs.lemmas.Str.{cons_from_encodes, chars-append, IsUtf8-encode, IsUtf8-take, IsCharBoundary-at_seam}
 use Rattle.textarea_text.proofs.Columns.{offset_in, take_offset, length-offset, chars-take, chars_from_bytes}
 use Rattle.textarea_text.proofs.Splices.{lines-joined}
 use Rattle.textarea_text.proofs.RowEdits.{rows_around, wrap_line, rows_stand}

@@ -1,8 +1,6 @@
 -- The text between two positions, and its lines.
 use Rattle.std.proofs.Common.{◌≡◌, ℕ, zero, suc, ◌+◌, ◌-◌, ◌<◌, ◌≤◌, List, [], ◌∷◌, ◌++◌, length, take, drop, get_or, refl, sym, ap, ◌∙◌, arith, String}
-use Rattle.std.proofs.lemmas.Grind.{common_steps}
-use Rattle.std.proofs.lemmas.Bool.Decides.{nat_tests}
-use Rattle.std.proofs.lemmas.List.{append-nil, append_assoc, drop_more, length-append, length-drop}
+use Rattle.textarea_text.proofs.Prelude.{common_steps, nat_tests, append-nil, append_assoc, drop_more, length-append, length-drop}
 use Rattle.textarea_text.specs.Prelude.{Symbol, characters, characters_of, following, joined, lines_of, text_of, Place, IsPlaceOf, IsUpTo, index_of, symbols_between}
 use Rattle.textarea_text.proofs.Splices.{joined-append}
 use Rattle.textarea_text.proofs.TextPlaces.{parted_rows, index_parted}

@@ -1,13 +1,10 @@
 -- The characters of a text, counted by the bytes that begin them.
-use Rattle.std.proofs.Common.{true, false, Bool, ◌≡◌, ℕ, ◌+◌, ◌/◌, ◌<◌, ◌≤◌, suc, List, [], ◌∷◌, ◌++◌, length, sym, ap, subst, refl, ◌∙◌, arith, encode_utf8_all, slice_index_or, take, drop, if◌then◌else◌}
+use Rattle.std.proofs.Common.{true, false, Bool, ◌≡◌, ℕ, ◌+◌, ◌<◌, ◌≤◌, suc, List, [], ◌∷◌, ◌++◌, length, sym, ap, refl, ◌∙◌, arith, encode_utf8_all, slice_index_or, take, drop, if◌then◌else◌}
+use Rattle.textarea_text.proofs.Prelude.{common_steps, nat_tests, length-take-le, take_more, take-append-drop, encodes-chars}
 use mathlib.Core.Bool.{cond}
-use lib.Dec.{T, ltb, ltb→lt}
 use lib.Utf8.{encode, next}
 use Rattle.textarea_text.specs.Prelude.{char_count, is_char_start, chars, IsUtf8}
-use Rattle.std.proofs.lemmas.Bool.Decides.{nat_tests}
 use mir.Val.{bool_byte}
-use Rattle.std.proofs.lemmas.List.{length-take-le, take_more, take-append-drop}
-use Rattle.std.proofs.lemmas.Str.{encodes-chars}
 
 pub char_count-append : (xs ys : List ℕ) → char_count (xs ++ ys) ≡ char_count xs + char_count ys
 unfolding char_count
@@ -46,10 +43,7 @@ follows x = continues (next x) (omega arith) (omega arith)
 char_count-encode : (c : ℕ) → char_count (encode c) ≡ 1
 unfolding encode
 char_count-encode c =
-    by_width (ltb c 128) (ltb c 2048) (ltb c 65536) c (192 + c / 64) (next c) (224 + c / 4096) (next (c / 64)) (next (c / 4096)) (240 + c / 262144)
-    (λ e. begins-ascii c (ltb→lt c 128 (subst T (sym e) tt)))
-    (begins-wide (192 + c / 64) (omega arith)) (begins-wide (224 + c / 4096) (omega arith)) (begins-wide (240 + c / 262144) (omega arith))
-    (follows c) (follows (c / 64)) (follows (c / 4096))
+    grind (arith, common_steps, by_width, begins-ascii, begins-wide, follows)
 
 pub char_count-encodes : (cs : List ℕ) → char_count (encode_utf8_all cs) ≡ length cs
 unfolding char_count

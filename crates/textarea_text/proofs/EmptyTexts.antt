@@ -1,10 +1,7 @@
 -- When the text of lines is empty.
 use Rattle.std.proofs.Common.{◌≡◌, ◌≢◌, ◌<◌, ◌==◌, Bool, true, false, eqb-true, List, [], ◌∷◌, ◌++◌, length, sym, ap, refl, ◌∙◌, arith, get_or, String, string_bytes, encode_utf8_all}
-use Rattle.std.proofs.lemmas.Grind.{common_steps}
+use Rattle.textarea_text.proofs.Prelude.{common_steps, false≢true, IsUtf8-string_bytes, encodes-chars, chars-nil, append-nil, length-append, nil_from_length}
 use Rattle.textarea_text.specs.Prelude.{string_len, chars, characters, following, characters_of, lines_of, text_of}
-use Rattle.std.proofs.lemmas.Bool.{false≢true}
-use Rattle.std.proofs.lemmas.Str.{IsUtf8-string_bytes, encodes-chars, chars-nil}
-use Rattle.std.proofs.lemmas.List.{append-nil, length-append, nil_from_length}
 use Rattle.textarea_text.proofs.Splices.{length-characters}
 
 -- just an empty string has no characters

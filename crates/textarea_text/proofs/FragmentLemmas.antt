@@ -3,10 +3,7 @@ use Rattle.std.proofs.Common.{◌≡◌, ◌≢◌, ℕ, ◌+◌, ◌-◌, ◌<�
 use denote.Ref.{Bor}
 use Rattle.textarea_text.specs.Prelude.{unwrap_or, chars, IsUtf8, NonePass, NoCharPasses, HasCharAt, Symbol, Character, Break, characters, characters_of, following, joined, leading, lines_of, text_of, fragment_symbols, fragment_text, symbols_for, begins_with_line_feed, unified, unified_after, without_last_break}
 use Rattle.std.specs.Prelude.{encode_utf8}
-use Rattle.std.proofs.lemmas.Grind.{common_steps}
-use Rattle.std.proofs.lemmas.Bool.Decides.{nat_tests}
-use Rattle.std.proofs.lemmas.List.{length-map, append-nil, append_assoc, take-append-drop, length-take-le, map-append, take_all, take_more}
-use Rattle.std.proofs.lemmas.Str.{chars-append, encodes-append, encodes-chars, encodes_same, IsUtf8-take, IsUtf8-drop, IsUtf8-past_char, IsCharBoundary-before_ascii, chars_past_char, encode_ascii}
+use Rattle.textarea_text.proofs.Prelude.{common_steps, nat_tests, length-map, append-nil, append_assoc, take-append-drop, length-take-le, map-append, take_all, take_more, chars-append, encodes-append, encodes-chars, encodes_same, IsUtf8-take, IsUtf8-drop, IsUtf8-past_char, IsCharBoundary-before_ascii, chars_past_char, encode_ascii}
 use Rattle.textarea_text.proofs.Splices.{joined-append, following-append}
 
 -- ---- a text with line feeds, from its first line on

@@ -1,10 +1,7 @@
 -- A line of several, in which a text replaces some characters.
 use Rattle.std.proofs.Common.{◌≡◌, ℕ, ◌≤◌, List, [], ◌∷◌, ◌++◌, length, take, drop, set, sym, ap, ◌∙◌, arith, add-one, get_or, subst, encode_utf8_all, String, string_bytes, Result, Ok, Err}
-use Rattle.std.proofs.lemmas.Grind.{common_steps}
+use Rattle.textarea_text.proofs.Prelude.{common_steps, append-nil, append_assoc, length-append, length-map, length-set, length-take-le, set_split, take_at, get_or-set_at, encodes-append, encodes-chars}
 use Rattle.textarea_text.specs.Prelude.{OnOk, OnErr, chars, IsUtf8, IsCharBoundary, characters, characters_of, joined, lines_of, text_of, offset_at, Place, IsPlaceOf, changed}
-use Rattle.std.proofs.lemmas.List.{append-nil, append_assoc, length-append, length-map, length-set, length-take-le, set_split, take_at}
-use Rattle.std.proofs.lemmas.Grind.{get_or-set_at}
-use Rattle.std.proofs.lemmas.Str.{encodes-append, encodes-chars}
 use Rattle.textarea_text.proofs.Columns.{offset_in, take_offset, drop_offset, chars_from_bytes, IsCharBoundary-column}
 use Rattle.textarea_text.proofs.Splices.{characters-append}
 use Rattle.textarea_text.proofs.StringRows.{line_at, row_within, rows_in_place}

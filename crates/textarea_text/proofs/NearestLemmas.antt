@@ -1,8 +1,8 @@
 -- The nearest index that passes a test: what a search knows on its way, and its result.
-use Rattle.std.proofs.Common.{◌≡◌, ℕ, zero, suc, ◌+◌, ◌-◌, ◌<◌, ◌≤◌, inl, inr, Bool, true, false, Some, None, arith, refl, sym, ap, subst, add-one, ◌∙◌}
-use Rattle.std.proofs.lemmas.Grind.{common_steps}
-use Rattle.std.proofs.lemmas.Bool.{cases_lt}
-use Rattle.textarea_text.specs.Nearest.{IsGreatest, least_below, greatest_below}
+use Rattle.std.proofs.Common.{◌≡◌, ℕ, zero, suc, ◌+◌, ◌-◌, ◌<◌, ◌≤◌, inl, inr, Bool, true, false, Option, Some, None, arith, refl, sym, ap, subst, add-one, ◌∙◌}
+use Rattle.textarea_text.proofs.Prelude.{common_steps, cases_lt}
+use Rattle.std.specs.Option.{IfSome}
+use Rattle.textarea_text.specs.Nearest.{IsGreatest, IsLeast, least_below, greatest_below}
 
 -- if no index below n passes, there is no least one
 pub least_below-none : (test : ℕ → Bool) (n : ℕ) → ((e : ℕ) → e < n → test e ≡ false) → least_below test n ≡ None
@@ -49,9 +49,7 @@ by_case : (test : ℕ → Bool) (n : ℕ) (b : Bool) → test n ≡ b → ((e : 
 by_case test n true here past below =
     grind (arith, common_steps)
 by_case test n false here past below =
-    let same : greatest_below test (suc n) ≡ greatest_below test n = rw here refl in
-    subst (IsGreatest test) (sym same) (below (λ e from.
-    elim (cases_lt n e) [ inl later ↦ past e (omega arith) | inr equal ↦ let at : e ≡ n = omega arith in rw at here ]))
+    grind (arith, common_steps)
 
 -- if only indices below n may pass, the greatest below n is the greatest of all
 pub IsGreatest-greatest_below : (test : ℕ → Bool) (n : ℕ) → ((e : ℕ) → n ≤ e → test e ≡ false) → IsGreatest test (greatest_below test n)
@@ -74,20 +72,28 @@ shifted test inner start same e from =
     let at : start + (e - start) ≡ e = omega arith in
     subst (λ n. test n ≡ inner (e - start)) at (same (e - start))
 
--- if no index passes there, none passes
-pub least_shifted-none : (test inner : ℕ → Bool) (start : ℕ) → ((e : ℕ) → e < start → test e ≡ false) → ((k : ℕ) → test (start + k) ≡ inner k) →
-    ((k : ℕ) → inner k ≡ false) → (e : ℕ) → test e ≡ false
-least_shifted-none test inner start before same none e =
-    elim (cases_lt e start) [ inl earlier ↦ before e earlier | inr later ↦ shifted test inner start same e later ∙ none (e - start) ]
+-- an index that is found there, counted from 0
+abbrev pub from_start : ℕ → Option ℕ → Option ℕ
+from_start start None = None
+from_start start (Some k) = Some (start + k)
 
--- no index passes before the first that passes there
-pub least_shifted-before : (test inner : ℕ → Bool) (start least : ℕ) → ((e : ℕ) → e < start → test e ≡ false) → ((k : ℕ) → test (start + k) ≡ inner k) →
-    ((k : ℕ) → k < least → inner k ≡ false) → (e : ℕ) → e < start + least → test e ≡ false
-least_shifted-before test inner start least before same failed e earlier_than =
-    elim (cases_lt e start) [
-      | inl earlier ↦ before e earlier
-      | inr later ↦ shifted test inner start same e later ∙ failed (e - start) (omega arith)
-    ]
+-- the least index of all indices, and its value
+pub record IsFound (test : ℕ → Bool) (n : ℕ) (found : Option ℕ) : Type 0 where
+  pub least : IsLeast test found
+  pub value : found ≡ least_below test n
+
+-- the least index that passes there is the least of all
+pub IsFound-shifted : (test inner : ℕ → Bool) (start n : ℕ) (found : Option ℕ) → ((e : ℕ) → e < start → test e ≡ false) → ((k : ℕ) → test (start + k) ≡ inner k) →
+    IsLeast inner found → IfSome found (λ k. start + k < n) → IsFound test n (from_start start found)
+IsFound-shifted test inner start n None before same none within =
+    let failed : (e : ℕ) → test e ≡ false =
+    λ e. elim (cases_lt e start) [ inl earlier ↦ before e earlier | inr later ↦ shifted test inner start same e later ∙ none (e - start) ] in
+    record { least = failed; value = sym (least_below-none test n (λ e below. failed e)) }
+IsFound-shifted test inner start n (Some k) before same found within =
+    let here = same k ∙ found.0 in
+    let failed : (e : ℕ) → e < start + k → test e ≡ false =
+    λ e below. elim (cases_lt e start) [ inl earlier ↦ before e earlier | inr later ↦ shifted test inner start same e later ∙ found.1 (e - start) (omega arith) ] in
+    record { least = (here, failed); value = sym (least_below-found test (start + k) n failed here within) }
 
 -- the greatest index that passes there is the greatest of all
 pub greatest_shifted-after : (test inner : ℕ → Bool) (start greatest : ℕ) → ((k : ℕ) → 0 < k → test (start + k) ≡ inner k) →

@@ -1,8 +1,6 @@
 -- Positions as indices, lines one below another, and where fragments end.
 use Rattle.std.proofs.Common.{◌≡◌, ℕ, zero, suc, ◌+◌, ◌-◌, ◌<◌, ◌≤◌, List, [], ◌∷◌, ◌++◌, length, min, take, drop, get_or, refl, sym, ap, subst, ◌∙◌, arith, String, string_bytes}
-use Rattle.std.proofs.lemmas.Grind.{common_steps}
-use Rattle.std.proofs.lemmas.List.{append-nil, drop_all, length-append, length-take-le, take_all, take_more, take_at}
-use Rattle.std.proofs.lemmas.Str.{encodes-chars, IsUtf8-string_bytes, length-le-encodes}
+use Rattle.textarea_text.proofs.Prelude.{common_steps, append-nil, drop_all, length-append, length-take-le, take_all, take_more, take_at, encodes-chars, IsUtf8-string_bytes, length-le-encodes}
 use Rattle.textarea_text.specs.Prelude.{Break, characters, characters_of, following, joined, leading, lines_of, Place, IsPlace, IsPlaceOf, end, index_of, place_of, row_start, size_of}
 use Rattle.textarea_text.proofs.Splices.{end-append, end-characters, end-leading, joined-append, lines-joined}
 use Rattle.textarea_text.proofs.TextPlaces.{parted_rows, index_parted}

@@ -1,8 +1,6 @@
 -- Where a splice moves the positions of a text.
 use Rattle.std.proofs.Common.{◌≡◌, ℕ, ◌+◌, ◌⊎◌, inl, inr, Bool, true, false, List, [], ◌∷◌, ◌++◌, length, take, drop, sym, ap, refl, ◌∙◌, arith, subst}
-use Rattle.std.proofs.lemmas.Grind.{common_steps}
-use Rattle.std.proofs.lemmas.Bool.Decides.{nat_tests}
-use Rattle.std.proofs.lemmas.List.{append_assoc, length-append, take-append-drop, take_at, drop_at}
+use Rattle.textarea_text.proofs.Prelude.{common_steps, nat_tests, append_assoc, length-append, take-append-drop, take_at, drop_at}
 use Rattle.textarea_text.specs.Prelude.{Symbol, Character, Break, Place, IsBefore, IsPlace, IsUpTo, end, index_of, Splice, Allows, Fits, applied, place_after, place_before, FollowsText, Stays, carried_place, carried_index, shifted}
 use Rattle.textarea_text.proofs.Splices.{end-append, inserted_at, removed_at}
 use Rattle.textarea_text.proofs.TextPlaces.{Parted, index_parted, parted, place_parted, standing}

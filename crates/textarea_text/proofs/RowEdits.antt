@@ -1,8 +1,7 @@
 -- One edit of lines, as a splice of their text.
 use Rattle.std.proofs.Common.{◌≡◌, ℕ, ◌+◌, ◌<◌, List, [], ◌∷◌, ◌++◌, length, take, drop, sym, ap, ◌∙◌, arith, get_or}
-use Rattle.std.proofs.lemmas.Grind.{common_steps}
-use Rattle.std.proofs.lemmas.List.{append-nil, take-append-drop, drop_more, length-take-le}
-use Rattle.textarea_text.specs.Prelude.{Symbol, characters, joined, Place, OccursAt, index_of}
+use Rattle.textarea_text.proofs.Prelude.{common_steps, append-nil, take-append-drop, drop_more, length-take-le}
+use Rattle.textarea_text.specs.Prelude.{Symbol, characters, joined, OccursAt}
 use Rattle.textarea_text.proofs.Splices.{characters-append, spliced_occurs}
 
 -- the lines around a row
@@ -13,10 +12,6 @@ rows_around rows row within = sym (take-append-drop row rows) ∙ ap (λ t. take
 pub wrap_line : (line : List ℕ) (column : ℕ) → joined (line ∷ []) ≡ characters (take column line) ++ characters (drop column line)
 wrap_line line column =
     grind (arith, common_steps, append-nil (characters line), take-append-drop column line, characters-append (take column line) (drop column line))
-
--- the text at a position, with the length of the symbols
-abbrev slice_at_place : List Symbol → Place → List Symbol → List Symbol
-slice_at_place text place symbols = take (length symbols) (drop (index_of text place) text)
 
 pub rows_stand : (rows middle below : List (List ℕ)) (start : List ℕ) (row column : ℕ) (symbols rest : List Symbol) → row < length rows → rows ≡ take row rows ++ (middle ++ below) → length start ≡ column → 0 < length middle → joined middle ≡ characters start ++ (symbols ++ rest) → OccursAt (joined rows) (row, column) symbols
 rows_stand rows middle below start row column symbols rest within components at some was =

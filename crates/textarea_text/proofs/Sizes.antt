@@ -1,8 +1,6 @@
 -- The size of lines that are joined, and of lines of which some are replaced.
 use Rattle.std.proofs.Common.{◌≡◌, ℕ, ◌+◌, ◌≤◌, ◌<◌, List, [], ◌∷◌, ◌++◌, length, take, drop, reverse, refl, sym, ap, ◌∙◌, arith, get_or, String, string_bytes, string_len, encode_utf8, encode_utf8_all}
-use Rattle.std.proofs.lemmas.Grind.{common_steps}
-use Rattle.std.proofs.lemmas.List.{take-append-drop, take_more, drop-drop, length-append, reverse-append}
-use Rattle.std.proofs.lemmas.Str.{encodes-chars, IsUtf8-string_bytes}
+use Rattle.textarea_text.proofs.Prelude.{common_steps, take-append-drop, take_more, drop-drop, length-append, reverse-append, encodes-chars, IsUtf8-string_bytes}
 use Rattle.textarea_text.specs.Prelude.{Symbol, Character, Break, characters, characters_of, following, lines_of, text_of, Place, OccursAt, index_of, inserted, removed, size_of, weight}
 use Rattle.textarea_text.proofs.Splices.{characters-append}
 

@@ -1,7 +1,6 @@
 -- The text of lines, and how it changes with some neighbouring lines.
 use Rattle.std.proofs.Common.{◌≡◌, ℕ, suc, ◌+◌, ◌<◌, List, [], ◌∷◌, ◌++◌, length, sym, ap, refl, ◌∙◌, arith, zero-add}
-use Rattle.std.proofs.lemmas.Grind.{common_steps}
-use Rattle.std.proofs.lemmas.List.{take_at, drop_at, append_assoc, length-append}
+use Rattle.textarea_text.proofs.Prelude.{common_steps, take_at, drop_at, append_assoc, length-append}
 use Rattle.textarea_text.specs.Prelude.{Symbol, Character, Break, characters, following, leading, joined, lines, on_first, Place, end, row_start, index_of, inserted, removed, OccursAt}
 
 -- ---- lines and text

@@ -1,10 +1,6 @@
 -- The byte offset of a column, found by counting the bytes that begin characters.
-use Rattle.std.proofs.Common.{true, ◌≡◌, ℕ, ◌+◌, ◌-◌, ◌<◌, ◌≤◌, inl, inr, List, length, min, sym, ap, subst, refl, ◌∙◌, arith, slice_index_or, take, drop, encode_utf8_all}
-use Rattle.std.proofs.lemmas.Grind.{common_steps}
-use Rattle.std.proofs.lemmas.Bool.{cases_lt}
-use Rattle.std.proofs.lemmas.List.{take_all, take-take, length-take, length-append}
-use Rattle.std.proofs.Math.Seq.{take-add}
-use Rattle.std.proofs.lemmas.Str.{encodes-append, encodes-chars}
+use Rattle.std.proofs.Common.{true, ◌≡◌, ℕ, ◌+◌, ◌-◌, ◌<◌, ◌≤◌, List, length, min, sym, ap, subst, refl, ◌∙◌, arith, slice_index_or, take, drop, encode_utf8_all}
+use Rattle.textarea_text.proofs.Prelude.{common_steps, take_all, take-take, length-take, length-append, take-add, encodes-append, encodes-chars}
 use Rattle.textarea_text.specs.Prelude.{char_count, is_char_start, chars, IsCharBoundary, IsUtf8}
 use Rattle.textarea_text.proofs.CharCounts.{begins-ascii, begins-wide, char_count-append, char_count-encodes, char_count-is, char_count-le-length, char_count-more, char_count-parts}
 use Rattle.textarea_text.proofs.Columns.{IsCharBoundary-column, length_split, offset_in, take_offset}
@@ -37,21 +33,11 @@ same_start : (bs : List ℕ) (i j : ℕ) → i ≤ length bs → j ≤ length bs
     (i < length bs → is_char_start (slice_index_or bs i 0) ≡ true) → (j < length bs → is_char_start (slice_index_or bs j 0) ≡ true) →
     char_count (take i bs) ≡ char_count (take j bs) → i ≡ j
 same_start bs i j i_within j_within i_starts j_starts same =
-    elim (cases_lt i j) [
-      | inl earlier ↦ absurd (omega (arith, same, more_starts bs i j earlier j_within (i_starts (omega arith))))
-      | inr not_earlier ↦
-          elim (cases_lt j i) [
-            | inl later ↦ absurd (omega (arith, same, more_starts bs j i later i_within (j_starts (omega arith))))
-            | inr not_later ↦ omega arith
-          ]
-    ]
+    grind (arith, common_steps, more_starts)
 
 starts_at : (bs : List ℕ) (i : ℕ) → IsCharBoundary bs i → i < length bs → is_char_start (slice_index_or bs i 0) ≡ true
 starts_at bs i boundary within =
-    elim (cases_lt (slice_index_or bs i 0) 128) [
-      | inl low ↦ begins-ascii (slice_index_or bs i 0) low
-      | inr high ↦ begins-wide (slice_index_or bs i 0) (boundary.1 within high)
-    ]
+    grind (arith, common_steps, begins-ascii, begins-wide)
 
 -- the characters before a column, counted by their bytes
 count_before : (bs : List ℕ) (column : ℕ) → IsUtf8 bs → char_count (take (offset_in (chars bs) column) bs) ≡ min column (char_count bs)

@@ -1,9 +1,7 @@
 -- Lines of `String`s that are read, split and joined.
 use Rattle.std.proofs.Common.{subst, encode_utf8_all, ◌≡◌, ℕ, ◌+◌, ◌<◌, ◌≤◌, List, [], ◌∷◌, ◌++◌, length, take, drop, sym, ap, ◌∙◌, arith, get_or, String, string_bytes, ◌^◌}
-use Rattle.std.proofs.lemmas.Grind.{common_steps}
+use Rattle.textarea_text.proofs.Prelude.{common_steps, append-nil, append_assoc, length-append, take-append-drop, map-append, get_or-map, take_all, take_more, take_at, drop_at, take-map, drop-map, length-map, IsUtf8-string_bytes, encodes-chars, length-le-encodes}
 use Rattle.textarea_text.specs.Prelude.{chars, IsCharBoundary, replaced, Symbol, Character, Break, characters, following, leading, joined, characters_of, lines_of, text_of, Place, IsPlaceOf, IsPlace, OccursAt, end, index_of, changed, removed, ReplacesRows}
-use Rattle.std.proofs.lemmas.List.{append-nil, append_assoc, length-append, take-append-drop, map-append, get_or-map, take_all, take_more, take_at, drop_at, take-map, drop-map, length-map}
-use Rattle.std.proofs.lemmas.Str.{IsUtf8-string_bytes, encodes-chars, length-le-encodes}
 use Rattle.textarea_text.proofs.Columns.{IsCharBoundary-column, offset_in}
 use Rattle.textarea_text.proofs.Splices.{joined-append, joined-append_below, characters-append, following-append, whole, lines-joined, end-append}
 use Rattle.textarea_text.proofs.TextPlaces.{parted_rows, index_parted, parted, standing, place_parted}
@@ -35,15 +33,7 @@ RowsSoFar rows line first rest number = joined (lines_of rows ++ characters_of l
 
 pub rows_more : {Z : Type 0} (rows more : List (String Z)) (line next_line : String Z) (first : List ℕ) (rest : List (List ℕ)) (number : ℕ) → RowsSoFar rows line first rest number → more ≡ rows ++ line ∷ [] → number < length rest → characters_of next_line ≡ get_or rest number [] → RowsSoFar more next_line first rest (number + 1)
 rows_more rows more line next_line first rest number h is within e =
-    ap (λ t. joined (lines_of t ++ characters_of next_line ∷ [])) is
-    ∙ ap (λ t. joined (t ++ characters_of next_line ∷ [])) (map-append characters_of rows (line ∷ []))
-    ∙ joined_next (lines_of rows) (characters_of line) (characters_of next_line)
-    ∙ ap (λ t. t ++ (Break ∷ characters (characters_of next_line))) h
-    ∙ append_assoc (characters first) (following (take number rest)) (Break ∷ characters (characters_of next_line))
-    ∙ ap (λ t. characters first ++ (following (take number rest) ++ (Break ∷ characters t))) e
-    ∙ ap (λ t. characters first ++ (following (take number rest) ++ (Break ∷ t))) (sym (append-nil (characters (get_or rest number []))))
-    ∙ ap (λ t. characters first ++ t) (sym (following-append (take number rest) (get_or rest number [] ∷ [])))
-    ∙ ap (λ t. characters first ++ following t) (sym (take_more rest number [] within))
+    grind (arith, common_steps, map-append, joined_next, append_assoc, append-nil, following-append, take_more)
 
 -- before the first of them, and after the last
 pub rows_none : {Z : Type 0} (rows : List (String Z)) (line : String Z) (rest : List (List ℕ)) → rows ≡ [] → RowsSoFar rows line (characters_of line) rest 0

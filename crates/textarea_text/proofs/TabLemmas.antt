@@ -1,7 +1,6 @@
 -- Widths after the last tab stop.
 use Rattle.std.proofs.Common.{◌≡◌, ◌<◌, ℕ, ◌+◌, ◌%◌, List, [], ◌∷◌, add_assoc, arith, false}
-use Rattle.std.proofs.Math.Nat.{mod-add-mod}
-use Rattle.std.proofs.lemmas.Grind.{common_steps}
+use Rattle.textarea_text.proofs.Prelude.{mod-add-mod, common_steps}
 use Rattle.textarea_text.specs.Prelude.{unwrap_or, width_of}
 use Rattle.unicode_width.specs.Width.{char_width}
 

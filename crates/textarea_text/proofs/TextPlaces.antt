@@ -1,7 +1,6 @@
 -- Positions of a text, and what a splice and its inverse do there.
 use Rattle.std.proofs.Common.{◌≤◌, ◌≡◌, ℕ, ◌+◌, ◌-◌, ◌<◌, Bool, true, false, List, [], ◌∷◌, ◌++◌, length, take, drop, sym, ap, refl, ◌∙◌, arith, get_or, subst}
-use Rattle.std.proofs.lemmas.Grind.{common_steps}
-use Rattle.std.proofs.lemmas.List.{append_assoc, length-append, take-append-drop, length-take-le, take_at, drop_at, get_or_at}
+use Rattle.textarea_text.proofs.Prelude.{common_steps, append_assoc, length-append, take-append-drop, length-take-le, take_at, drop_at, get_or_at}
 use Rattle.textarea_text.specs.Prelude.{Symbol, Character, Break, characters, following, leading, joined, lines, on_first, Place, end, index_of, place_of, inserted, removed, OccursAt, IsPlaceOf, IsPlace, IsSymbolBefore, Splice, Fits, Allows, applied, inverse, place_after}
 use Rattle.textarea_text.proofs.Splices.{whole, index_after_rows, end_of_front, end-append, inserted_at, removed_at, occurs_at}
 use Rattle.textarea_text.proofs.RowEdits.{rows_around, wrap_line}

@@ -1,7 +1,6 @@
 -- The rows that symbols span, and the one line that symbols without a break change.
 use Rattle.std.proofs.Common.{◌≡◌, ℕ, ◌+◌, ◌<◌, Bool, true, false, cond, List, [], ◌∷◌, ◌++◌, length, take, drop, get_or, sym, ap, refl, ◌∙◌, arith, subst}
-use Rattle.std.proofs.lemmas.Grind.{common_steps}
-use Rattle.std.proofs.lemmas.List.{append-nil, length-append}
+use Rattle.textarea_text.proofs.Prelude.{common_steps, append-nil, length-append}
 use Rattle.textarea_text.specs.Prelude.{Symbol, Character, Break, characters, following, joined, lines, Place, IsPlace, IsPlaceOf, changed, end, inserted, removed, replaced, Splice, Allows, Fits, applied, breaks_of}
 use Rattle.textarea_text.proofs.Splices.{characters-append, lines-joined}
 use Rattle.textarea_text.proofs.StringRows.{changed_by_none, rows_replaced, occurs_until}

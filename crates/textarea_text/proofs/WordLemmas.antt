@@ -1,12 +1,8 @@
 -- Where words begin and end, by the classes of two neighbouring characters.
-use Rattle.std.proofs.Common.{Option, Some, None, ◌≡◌, ℕ, zero, suc, ◌+◌, ◌-◌, ◌<◌, ◌≤◌, Bool, true, false, not, ◌&&◌, nat_lt, nat_le, List, length, get_or, take, drop, min, inl, inr, ◌++◌, ◌∷◌, [], arith, refl, sym, ◌∙◌, ap, add-one, zero-add}
-use Rattle.std.proofs.lemmas.Grind.{common_steps}
-use Rattle.std.proofs.Math.Bool.{and-true, and-false}
-use Rattle.std.proofs.lemmas.Bool.{cases_lt, ltb-true}
-use Rattle.textarea_text.specs.Prelude.{IfSome, IsGreatest, enumerate_from, class_of, class_at, is_space_class, begins, ends, is_edge, is_word_start, is_past_word, is_word_last, is_later_edge, is_word_last_from, is_earlier_word_start, lies_between, CharKind, Space, Punct, Other, Edge, Start, Past}
-use Rattle.std.proofs.lemmas.List.{length_push, get_or_default, get_or-take, get_or-drop, length-take, length-drop}
-use Rattle.std.proofs.lemmas.Bool.Decides.{nat_tests}
-use Rattle.std.proofs.lemmas.List.FromFn.{get_or-enumerate_from, length-enumerate_from}
+use Rattle.std.proofs.Common.{Option, Some, None, ◌≡◌, ℕ, zero, suc, ◌+◌, ◌-◌, ◌<◌, ◌≤◌, Bool, true, false, not, ◌&&◌, nat_lt, nat_le, List, length, get_or, take, drop, min, ◌++◌, ◌∷◌, [], arith, refl, sym, ◌∙◌, ap, add-one, zero-add}
+use Rattle.textarea_text.proofs.Prelude.{common_steps, and-true, and-false, cases_lt, ltb-true, length_push, get_or_default, get_or-take, get_or-drop, length-take, length-drop, nat_tests, get_or-enumerate_from, length-enumerate_from}
+use Rattle.textarea_text.specs.Prelude.{IfSome, IsGreatest, IsLeast, enumerate_from, class_of, class_at, is_space_class, begins, ends, is_edge, is_word_start, is_past_word, is_word_last, is_later_edge, is_word_last_from, is_earlier_word_start, lies_between, CharKind, Space, Punct, Other, Edge, Start, Past}
+use Rattle.textarea_text.proofs.NearestLemmas.{IsFound, IsFound-shifted, from_start}
 
 -- the class of the character before a column, or Space at the line's start
 abbrev pub class_before : List ℕ → ℕ → CharKind
@@ -100,14 +96,12 @@ pub is_later_edge-early : (edge : Edge) (line : List ℕ) (start n column : ℕ)
 is_later_edge-early edge line start n column kind early turn =
     grind (arith, common_steps)
 
+is_edge-past : (edge : Edge) (line : List ℕ) (e : ℕ) → length line ≤ e → is_edge edge line e ≡ false
+is_edge-past Start line e past = grind (arith, common_steps)
+is_edge-past Past line e past = grind (arith, common_steps)
+
 pub is_later_edge-past : (edge : Edge) (line : List ℕ) (start e : ℕ) → length line ≤ e → is_later_edge edge line start e ≡ false
-is_later_edge-past edge line start e past =
-    let outside : nat_lt e (length line) ≡ false = grind (arith, nat_tests) in
-    by edge outside
-  where
-    by : (edge : Edge) → nat_lt e (length line) ≡ false → is_later_edge edge line start e ≡ false
-    by Start outside = rw outside (and-false (nat_lt start e))
-    by Past outside = rw outside (and-false (nat_lt start e))
+is_later_edge-past edge line start e past = rw (is_edge-past edge line e past) (and-false (nat_lt start e))
 
 pub is_word_last_from-past : (line : List ℕ) (start e : ℕ) → length line ≤ e → is_word_last_from line start e ≡ false
 is_word_last_from-past line start e past =
@@ -149,12 +143,6 @@ IsGreatest-within line start (Some e) greatest =
 
 -- ---- the rest of a line from a column on has the edges of the line, but at its first character
 
-both_same : (a b x y : Bool) → a ≡ b → x ≡ y → (a && x) ≡ (b && y)
-both_same a b x y first second = ap (λ t. t && x) first ∙ ap (λ t. b && t) second
-
-never : (a x : Bool) → a ≡ false → (a && x) ≡ false
-never a x first = ap (λ t. t && x) first
-
 class_at-drop : (line : List ℕ) (start k : ℕ) → class_at (drop start line) k ≡ class_at line (start + k)
 class_at-drop line start k = ap class_of (get_or-drop start line k 0)
 
@@ -163,77 +151,40 @@ class_at-drop_next line start k =
     let next : start + suc k ≡ suc (start + k) = omega arith in
     class_at-drop line start (suc k) ∙ ap (λ e. class_at line e) next
 
-is_edge-past : (edge : Edge) (line : List ℕ) (e : ℕ) → length line ≤ e → is_edge edge line e ≡ false
-is_edge-past edge line e past =
-    let outside : nat_lt e (length line) ≡ false = grind (arith, nat_tests) in
-    by edge outside
-  where
-    by : (edge : Edge) → nat_lt e (length line) ≡ false → is_edge edge line e ≡ false
-    by Start outside = never _ _ outside
-    by Past outside = never _ _ outside
-
 is_edge-drop : (edge : Edge) (line : List ℕ) (start m : ℕ) → is_edge edge (drop start line) (suc m) ≡ is_edge edge line (suc (start + m))
 is_edge-drop edge line start m =
-    let rest : length (drop start line) ≡ length line - start = length-drop start line in
-    elim (cases_lt (suc (start + m)) (length line)) [
-      | inl within ↦
-          is_edge-class_before edge (drop start line) (suc m) (omega (arith, rest, within))
-          ∙ ap (λ before. lies_between edge before (class_at (drop start line) (suc m))) (class_at-drop line start m)
-          ∙ ap (λ kind. lies_between edge (class_at line (start + m)) kind) (class_at-drop_next line start m)
-          ∙ sym (is_edge-class_before edge line (suc (start + m)) within)
-      | inr past ↦
-          is_edge-past edge (drop start line) (suc m) (omega (arith, rest, past)) ∙ sym (is_edge-past edge line (suc (start + m)) past)
-    ]
+    grind (arith, common_steps, length-drop, is_edge-class_before, class_at-drop, class_at-drop_next, is_edge-past)
 
-pub is_later_edge-drop : (edge : Edge) (line : List ℕ) (start k : ℕ) → is_later_edge edge line start (start + k) ≡ is_later_edge edge (drop start line) 0 k
-is_later_edge-drop edge line start zero =
-    let first : nat_lt start (start + 0) ≡ false = grind (arith, nat_tests) in
-    let none : nat_lt 0 0 ≡ false = grind (arith, nat_tests) in
-    never _ (is_edge edge line (start + 0)) first ∙ sym (never _ (is_edge edge (drop start line) 0) none)
-is_later_edge-drop edge line start (suc m) =
-    let next : start + suc m ≡ suc (start + m) = omega arith in
-    let later : nat_lt start (start + suc m) ≡ nat_lt 0 (suc m) = grind (arith, nat_tests) in
-    both_same _ _ (is_edge edge line (start + suc m)) (is_edge edge (drop start line) (suc m)) later
-    (ap (λ e. is_edge edge line e) next ∙ sym (is_edge-drop edge line start m))
+is_later_edge-drop : (edge : Edge) (line : List ℕ) (start k : ℕ) → is_later_edge edge line start (start + k) ≡ is_later_edge edge (drop start line) 0 k
+is_later_edge-drop edge line start zero = grind (arith, common_steps, nat_tests)
+is_later_edge-drop edge line start (suc m) = grind (arith, common_steps, nat_tests, is_edge-drop)
 
-pub is_later_edge-before : (edge : Edge) (line : List ℕ) (start e : ℕ) → e < start → is_later_edge edge line start e ≡ false
-is_later_edge-before edge line start e early =
-    let first : nat_lt start e ≡ false = grind (arith, nat_tests) in
-    never _ (is_edge edge line e) first
+is_later_edge-before : (edge : Edge) (line : List ℕ) (start e : ℕ) → e < start → is_later_edge edge line start e ≡ false
+is_later_edge-before edge line start e early = grind (arith, common_steps)
+
+-- the first edge in the rest of a line is the line's next one
+pub later_edge-found : (edge : Edge) (line rest : List ℕ) (start : ℕ) (found : Option ℕ) → rest ≡ drop start line → IsLeast (is_later_edge edge rest 0) found →
+    IfSome found (λ k. start + k < length line) → IsFound (is_later_edge edge line start) (length line) (from_start start found)
+later_edge-found edge line rest start found is =
+    IsFound-shifted (is_later_edge edge line start) (is_later_edge edge rest 0) start (length line) found (is_later_edge-before edge line start) (λ k. is_later_edge-drop edge line start k ∙ ap (λ cs. is_later_edge edge cs 0 k) (sym is))
 
 is_word_last-past : (line : List ℕ) (e : ℕ) → length line ≤ e → is_word_last line e ≡ false
-is_word_last-past line e past =
-    let outside : nat_lt e (length line) ≡ false = grind (arith, nat_tests) in
-    never _ _ outside
+is_word_last-past line e past = grind (arith, common_steps)
 
 is_word_last-drop : (line : List ℕ) (start k : ℕ) → is_word_last (drop start line) k ≡ is_word_last line (start + k)
 is_word_last-drop line start k =
-    let rest : length (drop start line) ≡ length line - start = length-drop start line in
-    elim (cases_lt (suc (start + k)) (length line)) [
-      | inl inside ↦
-          is_word_last-inside (drop start line) k (omega (arith, rest, inside))
-          ∙ ap (λ kind. ends kind (class_at (drop start line) (suc k))) (class_at-drop line start k)
-          ∙ ap (λ after. ends (class_at line (start + k)) after) (class_at-drop_next line start k)
-          ∙ sym (is_word_last-inside line (start + k) inside)
-      | inr not_inside ↦
-          elim (cases_lt (start + k) (length line)) [
-            | inl last ↦
-                is_word_last-last (drop start line) k (omega (arith, rest, last, not_inside))
-                ∙ ap (λ kind. not (is_space_class kind)) (class_at-drop line start k)
-                ∙ sym (is_word_last-last line (start + k) (omega (arith, last, not_inside)))
-            | inr past ↦ is_word_last-past (drop start line) k (omega (arith, rest, past)) ∙ sym (is_word_last-past line (start + k) past)
-          ]
-    ]
+    grind (arith, common_steps, length-drop, is_word_last-inside, class_at-drop, class_at-drop_next, is_word_last-last, is_word_last-past)
 
-pub is_word_last_from-drop : (line : List ℕ) (start k : ℕ) → is_word_last_from line start (start + k) ≡ is_word_last_from (drop start line) 0 k
-is_word_last_from-drop line start k =
-    let from : nat_le start (start + k) ≡ nat_le 0 k = grind (arith, nat_tests) in
-    both_same _ _ (is_word_last line (start + k)) (is_word_last (drop start line) k) from (sym (is_word_last-drop line start k))
+is_word_last_from-drop : (line : List ℕ) (start k : ℕ) → is_word_last_from line start (start + k) ≡ is_word_last_from (drop start line) 0 k
+is_word_last_from-drop line start k = grind (arith, common_steps, nat_tests, is_word_last-drop)
+
+-- a word's first last character in the rest of a line is the line's next one
+pub word_last-found : (line rest : List ℕ) (start : ℕ) (found : Option ℕ) → rest ≡ drop start line → IsLeast (is_word_last_from rest 0) found →
+    IfSome found (λ k. start + k < length line) → IsFound (is_word_last_from line start) (length line) (from_start start found)
+word_last-found line rest start found is =
+    IsFound-shifted (is_word_last_from line start) (is_word_last_from rest 0) start (length line) found (is_word_last_from-early line start) (λ k. is_word_last_from-drop line start k ∙ ap (λ cs. is_word_last_from cs 0 k) (sym is))
 
 pub is_earlier_word_start-drop : (line : List ℕ) (from width start k : ℕ) → from + width ≡ start → 0 < k → is_earlier_word_start line start (from + k) ≡ is_earlier_word_start (drop from line) width k
 is_earlier_word_start-drop line from width start zero at some = absurd (omega arith)
 is_earlier_word_start-drop line from width start (suc m) at some =
-    let next : from + suc m ≡ suc (from + m) = omega arith in
-    let same : nat_lt (from + suc m) start ≡ nat_lt (suc m) width = grind (arith, nat_tests) in
-    both_same _ _ (is_word_start line (from + suc m)) (is_word_start (drop from line) (suc m)) same
-    (ap (λ e. is_word_start line e) next ∙ sym (is_edge-drop Start line from m))
+    grind (arith, common_steps, nat_tests, is_edge-drop)

@@ -1,8 +1,6 @@
 -- A whitespace unit by itself is one grapheme cluster: each boundary depends on two characters.
-use Rattle.std.proofs.lemmas.Grind.{common_steps}
+use Rattle.textarea_wrap.proofs.Prelude.{common_steps, false≢true, and_parts, or_cases, cases_order, cond_both, chars-encodes}
 use Rattle.std.proofs.Common.{◌≡◌, ℕ, zero, suc, ◌+◌, ◌<◌, ◌≤◌, Bool, true, false, cond, not, ◌&&◌, ◌||◌, ◌==◌, nat_lt, unwrap_or, List, [], ◌∷◌, ◌++◌, map, length, refl, sym, ap, ap₂, subst, ◌∙◌, ⊎_elim, arith}
-use Rattle.std.proofs.lemmas.Bool.{false≢true, and_parts, or_cases, cases_order, cond_both}
-use Rattle.std.proofs.lemmas.Str.{chars-encodes}
 use Rattle.textarea_wrap.specs.Prelude.{flat_map, list_all, AllByRecursion, is_whitespace, chars, is_blank, units_of_segment, line_units, Stretch}
 use Rattle.std.specs.Prelude.{encode_utf8_all}
 use borrow.Author.Tests.{ltb-true, eqb-true}

@@ -1,12 +1,7 @@
 -- Columns of characters and of segments that are put together.
-use Rattle.std.proofs.lemmas.Grind.{common_steps}
+use Rattle.textarea_wrap.proofs.Prelude.{common_steps, div-add-mod, mul-le-mul_left, le-div, mod_below, nat_tests, flat_map-append, length-encode, len_utf8_bounds}
 use Rattle.std.proofs.Common.{length, length-append, ◌≡◌, ℕ, ◌+◌, ◌-◌, ◌%◌, ◌<◌, ◌≤◌, true, false, cond, nat_eq, le_refl, le_trans, List, [], ◌∷◌, ◌++◌, refl, sym, ap, subst, ◌∙◌, append-nil, arith}
-use Rattle.std.proofs.Math.Nat.{div-add-mod, mul-le-mul_left}
-use Rattle.std.proofs.lemmas.Nat.{le-div, mod_below}
-use Rattle.std.proofs.lemmas.Bool.Decides.{nat_tests}
-use Rattle.std.proofs.lemmas.Grind.{flat_map-append}
 use Rattle.textarea_wrap.specs.Prelude.{flat_map, chars, Stretch, plain_width, next_stop, column_after, end_column, stretch_width}
-use Rattle.std.proofs.lemmas.Str.{length-encode, len_utf8_bounds}
 use Rattle.std.specs.Prelude.{encode_utf8}
 
 -- the text after a character is shorter

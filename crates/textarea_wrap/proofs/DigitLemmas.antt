@@ -1,7 +1,6 @@
 -- The number of decimal digits of a number.
 use Rattle.std.proofs.Common.{◌≡◌, ℕ, ◌+◌, ◌*◌, ◌/◌, ◌%◌, ◌^◌, ◌<◌, ◌≤◌, zero, suc, List, [], ◌∷◌, ◌++◌, length, arith, length-append}
-use Rattle.std.proofs.Math.Nat.{pow-suc}
-use Rattle.std.proofs.lemmas.Fmt.{decimal_by_steps, length-decimal-le}
+use Rattle.textarea_wrap.proofs.Prelude.{pow-suc, decimal_by_steps, length-decimal-le}
 use Rattle.std.specs.Fmt.{decimal}
 
 abbrev HasDigits : ℕ → List ℕ → Type 0

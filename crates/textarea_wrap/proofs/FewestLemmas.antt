@@ -1,7 +1,6 @@
 -- Greedy wrapping has the fewest rows, since a stretch that begins later is never wider.
-use Rattle.std.proofs.lemmas.Grind.{common_steps}
+use Rattle.textarea_wrap.proofs.Prelude.{common_steps, length-map}
 use Rattle.std.proofs.Common.{◌≡◌, ℕ, ◌≤◌, ◌⊎◌, inl, inr, List, [], ◌∷◌, ◌++◌, length, refl, sym, ap, ◌∙◌, ⊎_elim, append_assoc, append-nil, length-append, arith}
-use Rattle.std.proofs.lemmas.List.{length-map}
 use Rattle.textarea_wrap.specs.Prelude.{concat, stretch_width, Stretch, stretches_of, IsGlyphRow, AreGlyphRows, IsGlyphWrapping, AreFittingRows, HasFewestGlyphRows}
 use Rattle.textarea_wrap.proofs.ColumnLemmas.{stretch_width-front, stretch_width-back}
 

@@ -1,10 +1,6 @@
 -- If the grapheme clusters of a line fit the width, no cursor is in a column past it.
-use Rattle.std.proofs.lemmas.Grind.{common_steps}
+use Rattle.textarea_wrap.proofs.Prelude.{common_steps, nat_tests, flat_map-append, chars-nil, take_at, take-append-drop}
 use Rattle.std.proofs.Common.{◌≡◌, ◌≢◌, ℕ, zero, suc, ◌+◌, ◌-◌, ◌*◌, ◌^◌, ◌<◌, ◌≤◌, true, false, cond, nat_eq, List, [], ◌∷◌, ◌++◌, map, length, take, drop, get_or, refl, sym, ap, subst, ◌∙◌, ⊎_elim, append-nil, length-append, le_trans, arith}
-use Rattle.std.proofs.lemmas.Bool.Decides.{nat_tests}
-use Rattle.std.proofs.lemmas.Grind.{flat_map-append}
-use Rattle.std.proofs.lemmas.Str.{chars-nil}
-use Rattle.std.proofs.lemmas.List.{take_at, take-append-drop}
 use Rattle.textarea_wrap.specs.Prelude.{concat, flat_map, AllByRecursion, IsUtf8, chars, plain_width, column_after, end_column, stretch_width, Stretch, UnitBlock, shared, split, stretches_of, units_of, rows_of, begins_with_content, AreGlyphRows, IsGlyphWrapping, HangsOver, IsBlock, AreBlocks, IsWordWrapping, full_width, IsFittingCluster, AreFittingClusters, HasFittingClusters, is_blank, AreRowTexts, IsWrapping, WrapMode}
 use Rattle.unicode_segmentation.specs.Grapheme.{graphemes, is_grapheme_break}
 use Rattle.unicode_segmentation.proofs.SegmentsLemmas.{concat-segments}

@@ -1,3 +1,4 @@
+mod Prelude
 pub mod Alls
 pub mod BlankLemmas
 pub mod ColumnLemmas

@@ -1,9 +1,6 @@
 -- Marks: where they are among the items of `Rows`, and one mark more.
 use Rattle.std.proofs.Common.{◌≡◌, ℕ, zero, suc, ◌+◌, ◌-◌, ◌*◌, ◌/◌, ◌<◌, ◌≤◌, List, [], ◌∷◌, ◌++◌, length, map, take, drop, get_or, sym, ap, ap₂, ◌∙◌, arith}
-use Rattle.std.proofs.Math.Seq.{take-add}
-use Rattle.std.proofs.lemmas.List.{append_assoc, drop_at, length-append, take_at}
-use Rattle.std.proofs.lemmas.List.FromFn.{length-map-range_with_len, map-range_with_len_more}
-use Rattle.std.proofs.lemmas.Str.{IsUtf8-take, chars-append, encodes-chars, length-le-encodes}
+use Rattle.textarea_wrap.proofs.Prelude.{take-add, append_assoc, drop_at, length-append, take_at, length-map-range_with_len, map-range_with_len_more, IsUtf8-take, chars-append, encodes-chars, length-le-encodes}
 use Rattle.textarea_wrap.specs.Prelude.{range_with_len, IsCharBoundary, IsUtf8, chars, mark_at, marks_of, range_count, ranges_from, IsWrapped, WrapMode}
 
 -- ---- ranges and marks together

@@ -1,7 +1,6 @@
 -- A line that isn't wrapped or is no wider than the width takes one row, whatever its units are.
-use Rattle.std.proofs.lemmas.Grind.{common_steps}
+use Rattle.textarea_wrap.proofs.Prelude.{common_steps, chars-nil, chars-append}
 use Rattle.std.proofs.Common.{◌≡◌, ℕ, ◌<◌, ◌≤◌, inl, true, List, [], ◌∷◌, ◌++◌, length, refl, sym, ap, subst, ◌∙◌, append-nil, arith}
-use Rattle.std.proofs.lemmas.Str.{chars-nil, chars-append}
 use Rattle.textarea_wrap.specs.Prelude.{concat, flat_map, IsUtf8, chars, end_column, stretch_width, line_units, Stretch, shared, IsFittingStretch, ranges_from, WrapMode, IsWrapped, TakesOneRow}
 use Rattle.unicode_segmentation.specs.Grapheme.{graphemes, is_grapheme_break}
 use Rattle.unicode_segmentation.proofs.SegmentsLemmas.{concat-segments}

@@ -1,7 +1,6 @@
 -- What remains of a row that fits, without its front.
-use Rattle.std.proofs.lemmas.Grind.{common_steps}
+use Rattle.textarea_wrap.proofs.Prelude.{common_steps, cases_lt}
 use Rattle.std.proofs.Common.{◌≡◌, ℕ, ◌<◌, ◌⊎◌, inl, inr, List, [], ◌∷◌, ◌++◌, length, refl, sym, ap, subst, ⊎_elim, length-append, arith}
-use Rattle.std.proofs.lemmas.Bool.{cases_lt}
 use Rattle.textarea_wrap.specs.Prelude.{stretch_width, Stretch, IsBlankCluster, IsFittingRow, IsFittingStretch, line_units}
 use Rattle.textarea_wrap.proofs.Alls.{all_split}
 use Rattle.textarea_wrap.proofs.BlankLemmas.{AreBlanksClusters-line_units}

@@ -1,8 +1,6 @@
 -- A walk over the units of a line, with the blocks that are full and the row that is open.
-use Rattle.std.proofs.lemmas.Grind.{common_steps}
+use Rattle.textarea_wrap.proofs.Prelude.{common_steps, flat_map-append, concat-append}
 use Rattle.std.proofs.Common.{◌≡◌, ℕ, ◌+◌, ◌<◌, ◌≤◌, ◌⊎◌, inl, inr, true, List, [], ◌∷◌, ◌++◌, length, refl, sym, ap, subst, ◌∙◌, ⊎_elim, append_assoc, append-nil, length-append, arith, map, ◌-◌, add-one, take, take_all, drop, drop-cons, length-drop, get_or, Bor}
-use Rattle.std.proofs.lemmas.Grind.{flat_map-append}
-use Rattle.std.proofs.lemmas.List.Folds.{concat-append}
 use Rattle.textarea_wrap.specs.Prelude.{concat, flat_map, AllByRecursion, chars, end_column, stretch_width, is_blank, Stretch, UnitBlock, shared, split, units_of, rows_of, ranges_from, HangsOver, IsBlock, AreBlocks, IsGlyphWrapping, IsWordWalk}
 use Rattle.textarea_wrap.proofs.ColumnLemmas.{stretch_width-one, stretch_width-push}
 use Rattle.textarea_wrap.proofs.GlyphLemmas.{ranges_from-append, length-concat-push, nonempty_from_bytes}

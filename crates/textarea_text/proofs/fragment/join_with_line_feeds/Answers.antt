@@ -1,7 +1,6 @@
 use Rattle.std.proofs.Common.{◌∙◌, ◌++◌, sym, ap, arith, string_bytes}
 use Rattle.textarea_text.specs.Prelude.{chars, characters_of, lines_of, text_of, fragment_text}
-use Rattle.std.proofs.lemmas.List.{nil_from_length, take_all, length-map}
-use Rattle.std.proofs.lemmas.Str.{chars-nil, IsUtf8-string_bytes}
+use Rattle.textarea_text.proofs.Prelude.{nil_from_length, take_all, length-map, chars-nil, IsUtf8-string_bytes}
 use Rattle.textarea_text.proofs.Columns.{chars-push_str}
 use Rattle.textarea_text.proofs.StringRows.{line_at}
 use Rattle.textarea_text.proofs.FragmentLemmas.{chars_line_feed, written_more, written_done}

@@ -1,7 +1,6 @@
 use Rattle.std.proofs.Common.{[], ◌∷◌, ◌++◌, ◌∙◌, ap, string_bytes}
 use Rattle.std.specs.Str.{chars}
-use Rattle.std.proofs.lemmas.List.{append_assoc}
-use Rattle.std.proofs.lemmas.Str.{IsUtf8-string_bytes}
+use Rattle.textarea_text.proofs.Prelude.{append_assoc, IsUtf8-string_bytes}
 use Rattle.textarea_text.proofs.Columns.{chars-push_str}
 use Rattle.textarea_text.proofs.FragmentLemmas.{chars_line_feed}
 use Rattle.textarea_text.proofs.fragment.push_ended_line.Goals as goal

@@ -1,6 +1,6 @@
-use Rattle.std.proofs.Common.{◌++◌, ◌∙◌, ap, rules, string_bytes, sym}
+use Rattle.std.proofs.Common.{arith, ◌++◌, ◌∙◌, ap, rules}
+use Rattle.textarea_text.proofs.Prelude.{common_steps, IsUtf8-string_bytes, chars-nil}
 use Rattle.textarea_text.specs.Prelude.{chars, unified}
-use Rattle.std.proofs.lemmas.Str.{IsUtf8-string_bytes, chars-nil}
 use Rattle.textarea_text.proofs.Columns.{chars-push_str}
 use Rattle.textarea_text.proofs.fragment.unify_line_ends.Goals as goal
 
@@ -9,7 +9,4 @@ loop-before-init c = (search rules, ap (λ t. chars t ++ unified (chars c.args.t
 
 pub returns : goal.returns
 returns c =
-    let before = c.loop-before.unified in
-    chars-push_str (string_bytes before) c.loop-before.rest.now (string_bytes c.push_str.new.self) (IsUtf8-string_bytes before) c.loop-before.invariant.0 (IsUtf8-string_bytes c.push_str.new.self) c.in_ok-push_str.ensures.bytes
-    ∙ ap (λ t. chars (string_bytes before) ++ t) (sym c.in_default.ensures.parts)
-    ∙ c.loop-before.invariant.1
+    grind (arith, common_steps, chars-push_str, IsUtf8-string_bytes)

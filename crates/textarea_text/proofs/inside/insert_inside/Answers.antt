@@ -1,8 +1,6 @@
 use Rattle.std.proofs.Common.{◌≡◌, ◌∙◌, ◌++◌, ap, arith, sym, take, drop, string_bytes}
-use Rattle.std.proofs.lemmas.Grind.{common_steps}
+use Rattle.textarea_text.proofs.Prelude.{common_steps, on_err_weaker, IsUtf8-string_bytes}
 use Rattle.textarea_text.specs.Prelude.{chars, characters_of}
-use Rattle.std.proofs.lemmas.Result.{on_err_weaker}
-use Rattle.std.proofs.lemmas.Str.{IsUtf8-string_bytes}
 use Rattle.textarea_text.proofs.Columns.{offset_in}
 use Rattle.textarea_text.proofs.Insides.{always_ok, chars_between, line_changed, offset_of_place, place_unchanged, split_point}
 use Rattle.textarea_text.proofs.inside.insert_inside.Goals as goal

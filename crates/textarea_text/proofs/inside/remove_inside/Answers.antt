@@ -1,6 +1,5 @@
 use Rattle.std.proofs.Common.{◌≡◌, ◌∙◌, ◌++◌, [], ap, arith, take, drop, string_bytes}
-use Rattle.std.proofs.lemmas.Result.{on_err_weaker}
-use Rattle.std.proofs.lemmas.Str.{IsUtf8-nil, IsUtf8-string_bytes, chars-nil}
+use Rattle.textarea_text.proofs.Prelude.{on_err_weaker, IsUtf8-nil, IsUtf8-string_bytes, chars-nil}
 use Rattle.textarea_text.specs.Text.{characters_of}
 use Rattle.textarea_text.proofs.Columns.{offset_in, offsets_ordered}
 use Rattle.textarea_text.proofs.Insides.{always_ok, chars_between, line_changed, offset_of_place, place_unchanged, split_point}

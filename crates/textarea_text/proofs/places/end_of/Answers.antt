@@ -1,6 +1,5 @@
 use Rattle.std.proofs.Common.{ap, arith}
-use Rattle.std.proofs.lemmas.Grind.{common_steps}
-use Rattle.std.proofs.lemmas.List.{length-map}
+use Rattle.textarea_text.proofs.Prelude.{common_steps, length-map}
 use Rattle.textarea_text.specs.Prelude.{characters_of, Place}
 use Rattle.textarea_text.proofs.Sizes.{length-le-size_of}
 use Rattle.textarea_text.proofs.PlaceLemmas.{end_of_more, end_of_single, length-fragment_line}

@@ -1,7 +1,5 @@
 use Rattle.std.proofs.Common.{ℕ, ◌≡◌, ◌-◌, arith}
-use Rattle.std.proofs.lemmas.Grind.{common_steps}
-use Rattle.std.proofs.lemmas.List.{length-map}
-use Rattle.std.proofs.lemmas.Str.{IsUtf8-string_bytes}
+use Rattle.textarea_text.proofs.Prelude.{common_steps, length-map, IsUtf8-string_bytes}
 use Rattle.textarea_text.proofs.Columns.{chars-take, chars-drop}
 use Rattle.textarea_text.proofs.StringRows.{boundary_at, offset_of_line, line_at, row_within}
 use Rattle.textarea_text.proofs.rows.new_rows.Goals as goal

@@ -1,6 +1,5 @@
 use Rattle.std.proofs.Common.{ap, arith, length}
-use Rattle.std.proofs.lemmas.Grind.{common_steps}
-use Rattle.std.proofs.lemmas.List.{length-map}
+use Rattle.textarea_text.proofs.Prelude.{common_steps, length-map}
 use Rattle.textarea_text.specs.Text.{characters_of, lines_of}
 use Rattle.textarea_text.proofs.StringRows.{line_at, rows_all, rows_more, rows_none}
 use Rattle.textarea_text.proofs.rows.push_new_lines.Goals as goal

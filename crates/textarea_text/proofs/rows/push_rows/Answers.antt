@@ -1,6 +1,5 @@
 use Rattle.std.proofs.Common.{arith}
-use Rattle.std.proofs.lemmas.Grind.{common_steps}
-use Rattle.std.proofs.lemmas.Str.{IsUtf8-string_bytes}
+use Rattle.textarea_text.proofs.Prelude.{common_steps, IsUtf8-string_bytes}
 use Rattle.textarea_text.proofs.Columns.{chars-push_str}
 use Rattle.textarea_text.proofs.StringRows.{rows_done}
 use Rattle.textarea_text.proofs.rows.push_rows.Goals as goal

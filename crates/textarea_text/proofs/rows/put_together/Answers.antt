@@ -1,6 +1,5 @@
 use Rattle.std.proofs.Common.{arith, string_bytes}
-use Rattle.std.proofs.lemmas.Grind.{common_steps}
-use Rattle.std.proofs.lemmas.Str.{IsUtf8-string_bytes}
+use Rattle.textarea_text.proofs.Prelude.{common_steps, IsUtf8-string_bytes}
 use Rattle.textarea_text.proofs.Columns.{chars-push_str}
 use Rattle.textarea_text.proofs.rows.put_together.Goals as goal
 

@@ -1,4 +1,5 @@
 use Rattle.std.proofs.Common.{◌+◌, ◌-◌, arith}
+use Rattle.std.proofs.lemmas.Grind.{common_steps}
 use Rattle.textarea_text.proofs.CharCounts.{char_count-nil}
 use Rattle.textarea_text.proofs.StartLemmas.{char_count-run, char_count-run-le}
 use Rattle.textarea_text.proofs.rows.skipped_stretches.Goals as goal
@@ -8,12 +9,7 @@ skipping-init c = (omega arith, omega (arith, char_count-nil))
 
 pub overflow_sub-left : goal.overflow_sub-left
 overflow_sub-left c =
-    omega (
-      arith,
-      c.count_of_starts.ensures,
-      c.from-left.ensures,
-      char_count-run-le c.args.bytes.now c.skipping.at (c.skipping.at + 192 - c.skipping.at),
-    )
+    grind (arith, common_steps, char_count-run-le)
 
 pub skipping-preserved : goal.skipping-preserved
 skipping-preserved c = (

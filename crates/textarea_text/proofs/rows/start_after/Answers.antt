@@ -1,5 +1,5 @@
-use Rattle.std.proofs.Common.{◌∙◌, ap, arith, true, false, refl, sym, length}
-use Rattle.std.proofs.lemmas.List.{take_all}
+use Rattle.std.proofs.Common.{◌∙◌, ap, arith, sym, length}
+use Rattle.textarea_text.proofs.Prelude.{common_steps, take_all}
 use Rattle.std.specs.Fmt.{char_count}
 use Rattle.textarea_text.proofs.CharCounts.{char_count-more}
 use Rattle.textarea_text.proofs.StartLemmas.{count_within}
@@ -15,12 +15,7 @@ returns-then-left-eq0 c = record {
 
 pub loop-index-preserved : goal.loop-index-preserved
 loop-index-preserved c =
-    elim c.if-begins_character.branch [
-      | then-begins_character+else-left-eq0 w ↦
-          omega (arith, c.loop-index.invariant, w.left-is, char_count-more c.args.bytes.now c.loop-index.index 1 true (omega arith) (sym w.if-begins_character.true ∙ c.begins_character.ensures) refl)
-      | else-begins_character w ↦
-          omega (arith, c.loop-index.invariant, w.left-is, char_count-more c.args.bytes.now c.loop-index.index 0 false (omega arith) (sym w.if-begins_character.false ∙ c.begins_character.ensures) refl)
-    ]
+    grind (arith, common_steps, char_count-more)
 
 pub returns : goal.returns
 returns c =

@@ -1,7 +1,5 @@
 use Rattle.std.proofs.Common.{◌∙◌, ap, arith, refl}
-use Rattle.std.proofs.lemmas.Grind.{common_steps}
-use Rattle.std.proofs.lemmas.List.{nil_from_length}
-use Rattle.std.proofs.lemmas.Str.{chars-nil, chars_past_char, IsUtf8-past_char}
+use Rattle.textarea_text.proofs.Prelude.{common_steps, nil_from_length, chars-nil, chars_past_char, IsUtf8-past_char}
 use Rattle.textarea_text.specs.Prelude.{unwrap_or, chars_rest}
 use Rattle.textarea_text.proofs.TabLemmas.{width_of_done, width_of_more}
 use Rattle.textarea_text.proofs.tab.spaces_to_stop.Goals as goal

@@ -1,8 +1,5 @@
 use Rattle.std.proofs.Common.{◌∙◌, ◌-◌, ◌<◌, ◌≤◌, ◌≡◌, ap, arith, replicate, take, ℕ}
-use Rattle.std.proofs.lemmas.List.{take-replicate, length-replicate}
-use Rattle.std.proofs.lemmas.List.Elements.{All-replicate}
-use Rattle.std.proofs.lemmas.Str.{IsCharBoundary-from_ascii}
-use Rattle.std.proofs.lemmas.Str.Ascii.{IsAscii-from_all}
+use Rattle.textarea_text.proofs.Prelude.{take-replicate, length-replicate, All-replicate, IsCharBoundary-from_ascii, IsAscii-from_all}
 use Rattle.textarea_text.proofs.util.spaces.Goals as goal
 
 pub range-requires-clause-end_boundary : goal.range-requires-clause-end_boundary

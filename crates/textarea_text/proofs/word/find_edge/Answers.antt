@@ -1,8 +1,5 @@
 use Rattle.std.proofs.Common.{◌≡◌, true, false, length, arith, sym, ◌∙◌}
-use Rattle.std.proofs.lemmas.Iterator.{YieldsList-from_chars}
-use Rattle.std.proofs.lemmas.Iterator.Consumers.{YieldsList-turn, YieldsList-end, YieldsList-from_enumerate}
-use Rattle.std.proofs.lemmas.List.{length_push}
-use Rattle.std.proofs.lemmas.List.FromFn.{length-enumerate_from}
+use Rattle.textarea_text.proofs.Prelude.{YieldsList-from_chars, YieldsList-turn, YieldsList-end, YieldsList-from_enumerate, length_push, length-enumerate_from}
 use Rattle.textarea_text.specs.Prelude.{chars, is_later_edge}
 use Rattle.textarea_text.proofs.NearestLemmas.{failed_more, IsLeast-none}
 use Rattle.textarea_text.proofs.WordLemmas.{IsTurn-enumerate_from, class_before-more, is_later_edge-turn, is_later_edge-early, is_later_edge-past}

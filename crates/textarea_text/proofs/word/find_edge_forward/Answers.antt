@@ -1,9 +1,8 @@
-use Rattle.std.proofs.Common.{◌≡◌, ℕ, ◌+◌, ◌<◌, true, length, arith, sym, ◌∙◌, ap}
+use Rattle.std.proofs.Common.{◌+◌, ◌<◌, Some, None, length, ap, arith}
 use Rattle.std.proofs.lemmas.List.{length-drop}
-use Rattle.textarea_text.specs.Prelude.{chars, is_later_edge}
-use Rattle.textarea_text.proofs.NearestLemmas.{least_below-none, least_below-found, least_shifted-none, least_shifted-before}
+use Rattle.std.specs.Str.{chars}
 use Rattle.textarea_text.proofs.StartLemmas.{length-chars}
-use Rattle.textarea_text.proofs.WordLemmas.{is_later_edge-drop, is_later_edge-before}
+use Rattle.textarea_text.proofs.WordLemmas.{later_edge-found}
 use Rattle.textarea_text.proofs.word.find_edge_forward.Goals as goal
 
 pub overflow_add-result : goal.overflow_add-result
@@ -14,30 +13,11 @@ pub returns-in-Some : goal.returns-in-Some
 returns-in-Some c =
     let line = chars c.args.line.now in
     let start = c.args.start_column in
-    let test = is_later_edge c.args.edge line start in
-    let inner = is_later_edge c.args.edge (chars c.text_from.result.now) 0 in
-    let same : (k : ℕ) → test (start + k) ≡ inner k =
-    λ k. is_later_edge-drop c.args.edge line start k ∙ ap (λ cs. is_later_edge c.args.edge cs 0 k) (sym c.text_from.ensures) in
-    let here : test (start + c.in-Some.column) ≡ true = same c.in-Some.column ∙ c.in-Some.ensures.least.0 in
-    let failed = least_shifted-before test inner start c.in-Some.column (is_later_edge-before c.args.edge line start) same c.in-Some.ensures.least.1 in
     let within : start + c.in-Some.column < length line = omega (arith, c.in-Some.ensures.within.1, length-drop start line, ap length c.text_from.ensures) in
-    record {
-      least = (here, failed);
-      value = sym (least_below-found test (start + c.in-Some.column) (length line) failed here within);
-      within = (omega (arith, c.in-Some.ensures.within.0), within);
-    }
+    let found = later_edge-found c.args.edge line _ start (Some c.in-Some.column) c.text_from.ensures c.in-Some.ensures.least within in
+    record { least = found.least; value = found.value; within = (omega (arith, c.in-Some.ensures.within.0), within) }
 
 pub returns-in-None : goal.returns-in-None
 returns-in-None c =
-    let line = chars c.args.line.now in
-    let start = c.args.start_column in
-    let test = is_later_edge c.args.edge line start in
-    let inner = is_later_edge c.args.edge (chars c.text_from.result.now) 0 in
-    let same : (k : ℕ) → test (start + k) ≡ inner k =
-    λ k. is_later_edge-drop c.args.edge line start k ∙ ap (λ cs. is_later_edge c.args.edge cs 0 k) (sym c.text_from.ensures) in
-    let none = least_shifted-none test inner start (is_later_edge-before c.args.edge line start) same c.in-None.ensures.least in
-    record {
-      least = none;
-      value = sym (least_below-none test (length line) (λ e below. none e));
-      within = tt;
-    }
+    let found = later_edge-found c.args.edge (chars c.args.line.now) _ c.args.start_column None c.text_from.ensures c.in-None.ensures.least tt in
+    record { least = found.least; value = found.value; within = tt }

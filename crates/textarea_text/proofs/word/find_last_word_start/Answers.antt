@@ -1,8 +1,5 @@
 use Rattle.std.proofs.Common.{◌≡◌, true, false, Some, length, take, min, subst, arith, sym, ◌∙◌, ap}
-use Rattle.std.proofs.lemmas.Iterator.{YieldsList-from_chars, YieldsList-from_take}
-use Rattle.std.proofs.lemmas.Iterator.Consumers.{YieldsList-turn, YieldsList-end, YieldsList-from_enumerate}
-use Rattle.std.proofs.lemmas.List.{length_push, length-take}
-use Rattle.std.proofs.lemmas.List.FromFn.{length-enumerate_from}
+use Rattle.textarea_text.proofs.Prelude.{YieldsList-from_chars, YieldsList-from_take, YieldsList-turn, YieldsList-end, YieldsList-from_enumerate, length_push, length-take, length-enumerate_from}
 use Rattle.textarea_text.specs.Prelude.{IsGreatest, chars, is_earlier_word_start}
 use Rattle.textarea_text.proofs.NearestLemmas.{IsGreatest-greatest_below, greatest_below-here, greatest_below-more, greatest_below-past}
 use Rattle.textarea_text.proofs.WordLemmas.{IsTurn-enumerate_from, IsTurn-take, class_before-more, is_earlier_word_start-turn, is_earlier_word_start-past, IsGreatest-within}

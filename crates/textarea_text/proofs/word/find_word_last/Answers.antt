@@ -1,7 +1,5 @@
 use Rattle.std.proofs.Common.{◌≡◌, ℕ, ◌+◌, ◌<◌, true, false, length, arith, sym, ◌∙◌, ap}
-use Rattle.std.proofs.lemmas.Iterator.{YieldsList-from_chars}
-use Rattle.std.proofs.lemmas.Iterator.Consumers.{YieldsList-turn, YieldsList-end}
-use Rattle.std.proofs.lemmas.List.{length_push}
+use Rattle.textarea_text.proofs.Prelude.{YieldsList-from_chars, YieldsList-turn, YieldsList-end, length_push}
 use Rattle.textarea_text.specs.Prelude.{chars, is_word_last_from}
 use Rattle.textarea_text.proofs.NearestLemmas.{failed_before, IsLeast-none}
 use Rattle.textarea_text.proofs.WordLemmas.{IsTurn-chars, class_before-after, is_word_last_from-turn, is_word_last_from-end, is_word_last_from-early, is_word_last_from-past}

@@ -1,7 +1,5 @@
-use Rattle.std.proofs.lemmas.Grind.{common_steps}
+use Rattle.textarea_wrap.proofs.Prelude.{common_steps, pow-suc, decimal_digit, length-decimal-le}
 use Rattle.std.proofs.Common.{length, sym, ap, arith}
-use Rattle.std.proofs.Math.Nat.{pow-suc}
-use Rattle.std.proofs.lemmas.Fmt.{decimal_digit, length-decimal-le}
 use Rattle.textarea_wrap.proofs.DigitLemmas.{length-decimal-power}
 use Rattle.textarea_wrap.proofs.layout.num_digits.Goals as goal
 

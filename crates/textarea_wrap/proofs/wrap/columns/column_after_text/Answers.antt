@@ -1,7 +1,5 @@
-use Rattle.std.proofs.lemmas.Grind.{common_steps}
+use Rattle.textarea_wrap.proofs.Prelude.{common_steps, nil_from_length, chars-nil, chars_past_char, IsUtf8-past_char}
 use Rattle.std.proofs.Common.{arith}
-use Rattle.std.proofs.lemmas.List.{nil_from_length}
-use Rattle.std.proofs.lemmas.Str.{chars-nil, chars_past_char, IsUtf8-past_char}
 use Rattle.std.specs.Str.Iter.{chars_rest}
 use Rattle.textarea_wrap.proofs.ColumnLemmas.{shorter_after}
 use Rattle.textarea_wrap.proofs.wrap.columns.column_after_text.Goals as goal

@@ -1,8 +1,5 @@
-use Rattle.std.proofs.lemmas.Grind.{common_steps}
+use Rattle.textarea_wrap.proofs.Prelude.{common_steps, false≢true, nil_from_length, chars-nil, chars_past_char, IsUtf8-past_char}
 use Rattle.std.proofs.Common.{◌≡◌, sym, arith}
-use Rattle.std.proofs.lemmas.Bool.{false≢true}
-use Rattle.std.proofs.lemmas.List.{nil_from_length}
-use Rattle.std.proofs.lemmas.Str.{chars-nil, chars_past_char, IsUtf8-past_char}
 use Rattle.textarea_wrap.specs.Prelude.{chars, chars_rest, end_column}
 use Rattle.textarea_wrap.proofs.ColumnLemmas.{end_column-after, shorter_after}
 use Rattle.textarea_wrap.proofs.wrap.columns.fits_width.Goals as goal

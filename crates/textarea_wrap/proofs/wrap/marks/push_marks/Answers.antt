@@ -1,6 +1,5 @@
 use Rattle.std.proofs.Common.{◌≡◌, ℕ, ◌+◌, ◌*◌, ◌<◌, ◌≤◌, List, get_or, length, map, take, sym, subst, ap, ◌∙◌, arith}
-use Rattle.std.proofs.lemmas.List.{append-nil, get_or_append_left, length-take-le}
-use Rattle.std.proofs.lemmas.Str.{IsCharBoundary-start, IsUtf8-take, chars-nil}
+use Rattle.textarea_wrap.proofs.Prelude.{append-nil, get_or_append_left, length-take-le, IsCharBoundary-start, IsUtf8-take, chars-nil}
 use Rattle.textarea_wrap.specs.Prelude.{range_with_len, IsCharBoundary, chars, mark_at, IsRowRange}
 use Rattle.textarea_wrap.proofs.Alls.{all_at}
 use Rattle.textarea_wrap.proofs.MarkLemmas.{characters_few, characters_more, items_more, marks_all}

@@ -1,6 +1,5 @@
-use Rattle.std.proofs.lemmas.Grind.{common_steps}
+use Rattle.textarea_wrap.proofs.Prelude.{common_steps, drop_all}
 use Rattle.std.proofs.Common.{◌≡◌, ℕ, List, [], map, ap, arith, drop, Bor}
-use Rattle.std.proofs.lemmas.List.{drop_all}
 use Rattle.textarea_wrap.proofs.WordLemmas.{IsWordWalk-start, IsWordWalk-end_open, IsWordWalk-later, units_at, length-units_at}
 use Rattle.textarea_wrap.proofs.wrap.words.push_word_rows.Goals as goal
 
