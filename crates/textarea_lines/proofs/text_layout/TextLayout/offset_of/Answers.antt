@@ -44,5 +44,8 @@ returns-then-abs_diff-far c =
     offset_read c.self.inside.lines.items c.args.place c.index.result.now c.as_str-line.result.now c.byte_offset_from.result (there known) c.index.ensures c.as_str-line.ensures.value c.byte_offset_from.ensures
     ∙ same known
 
+pub offset_of-requires : goal.offset_of-requires
+offset_of-requires c = subst (λ (ls : List (List ℕ)). IsPlaceOf ls c.args.place) (sym c.view.ensures.lines) c.requires
+
 pub returns : goal.returns
 returns c = c.offset_of.ensures ∙ ap (λ (ls : List (List ℕ)). offset_at ls c.args.place) c.view.ensures.lines
