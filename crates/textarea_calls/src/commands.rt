@@ -1,7 +1,6 @@
 // Reads a script: each line is a command for one call.
-ghost use Rattle.std.specs.Prelude.{◌≡◌, ◌+◌, All, IfOk, IfErr, IfSome, map, option_and_then, option_copied, option_map, string_bytes, true, vec_len};
-ghost use Rattle.textarea_data.specs.declared.cursor.CursorMove.TheVariants as move;
-ghost use Rattle.textarea_calls.specs.Arguments.{IsReadAs, two_short_numbers};
+ghost use Rattle.std.specs.Prelude.{◌≡◌, ◌+◌, All, IfOk, IfErr, IfSome, map, option_and_then, option_copied, option_map, string_bytes, vec_len};
+ghost use Rattle.textarea_calls.specs.Arguments.{IsReadAs};
 ghost use Rattle.textarea_calls.specs.Possible.{CanBeMade};
 ghost use Rattle.textarea_calls.specs.Commands.{argument_text, line_meaning, line_numbers, command_meaning, plain_meaning, set_lines_meaning};
 ghost use Rattle.textarea_calls.specs.Inputs.{input_named};
@@ -271,9 +270,15 @@ fn call_with(name: &str, arguments: &str) -> Option<Call<'static>>
         "search_back" => Some(Call::SearchBack(truth(arguments)?)),
         "measure" => Some(Call::Measure(short_number(arguments)?)),
         "render" => Some(Call::Render(area(arguments)?)),
-        "hit" => Some(Call::CursorAtPosition(position(arguments)?)),
+        "hit" => {
+            let (x, y) = two_short_numbers(arguments)?;
+            Some(Call::CursorAtPosition(Position { x, y }))
+        }
         "move" => Some(Call::Move(move_named(arguments)?)),
-        "jump" => Some(Call::Move(jump(arguments)?)),
+        "jump" => {
+            let (row, column) = two_short_numbers(arguments)?;
+            Some(Call::Move(CursorMove::Jump(row, column)))
+        }
         "go_to" => Some(Call::GoTo(two_numbers(arguments)?)),
         "scroll" => Some(Call::Scroll(scroll_amounts(arguments)?)),
         "page" => Some(Call::Scroll(page_named(arguments)?)),
@@ -298,21 +303,4 @@ fn line_numbers(displayed: bool) -> Call<'static>
     } else {
         Call::RemoveLineNumber
     }
-}
-
-// The jump to a row and a column.
-fn jump(arguments: &str) -> Option<CursorMove>
-    ensures { result ≡ option_map (λ p. move.Jump p.0 p.1) (two_short_numbers arguments.now) }
-{
-    let (row, column) = two_short_numbers(arguments)?;
-    Some(CursorMove::Jump(row, column))
-}
-
-// The screen cell at a column and a row.
-fn position(arguments: &str) -> Option<Position>
-    ensures { result
-        ≡ option_map (λ p. record { x = p.0; y = p.1 }) (two_short_numbers arguments.now) }
-{
-    let (x, y) = two_short_numbers(arguments)?;
-    Some(Position { x, y })
 }

@@ -1,4 +1,4 @@
-use Rattle.std.proofs.Common.{arith, ◌∙◌, ◌∷◌, [], Option, sym, ap, option_map}
+use Rattle.std.proofs.Common.{◌∙◌, ◌∷◌, [], Option, sym, ap, option_map}
 use Rattle.textarea_data.specs.declared.range.AtomicRange.{AtomicRange}
 use Rattle.textarea_calls.specs.Ranges.{ranges}
 use Rattle.textarea_calls.proofs.Ranges.{first_and, ranges_more, ranges_one, ranges_three, ranges_two}
