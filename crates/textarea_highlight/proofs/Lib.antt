@@ -9,6 +9,7 @@ pub mod OneRowLemmas
 pub mod WholeLemmas
 pub mod RowLemmas
 pub mod WholeRowLemmas
+pub mod PlainLemmas
 pub mod SpanLemmas
 pub mod PartLemmas
 pub mod SeamLemmas

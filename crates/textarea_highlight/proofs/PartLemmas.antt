@@ -67,7 +67,7 @@ module _ (h : Highlights) (part : RowPart) (line : LineView) (utf8 : IsUtf8 h.ro
   three : AreParts front_row shown.sorted h.base h.tab_len front_utf8 front_placed some 0 part.from two.before
   three =
       parts front_row shown.sorted h.base h.tab_len front_utf8 front_placed some 0 part.from two.before (IsCharBoundary-start front_row front_utf8) (omega arith) (omega (arith, front_length, is.order))
-      (λ later below. seam-take h.row part.to part.from within_row (omega (arith, below, front_length)) (is.start later)) front_split
+      (λ later below. seam-take h.row part.to part.from utf8 is.end_boundary (omega (arith, below, front_length)) (is.start later)) front_split
 
   same_segments : three.after ≡ shown.segments
   same_segments =

@@ -7,7 +7,7 @@ use Rattle.std.proofs.lemmas.Bool.Decides.{nat_tests}
 use Rattle.std.proofs.lemmas.List.{drop-drop, drop-take, drop_more, length-take-le, get_or-take, take-append-drop, take-take}
 use Rattle.std.proofs.lemmas.List.Elements.{All-cons, All-head, All-nil, All-tail}
 use Rattle.std.proofs.lemmas.List.Sums.{sum_by-append, sum_by-cons}
-use Rattle.std.proofs.lemmas.Str.{chars-append, chars-encodes, chars_past_char, encode_ascii, encodes-append, scalars-chars, IsCharBoundary-before_ascii, IsCharBoundary-end, IsUtf8-between, chars-IsAscii}
+use Rattle.std.proofs.lemmas.Str.{chars-append, chars-encodes, encodes-append, scalars-chars, IsCharBoundary-end, IsUtf8-between, chars-IsAscii}
 use Rattle.std.proofs.lemmas.Str.Ascii.{IsAscii-from_all}
 use Rattle.textarea_screen.specs.Text.{SpanView}
 use Rattle.textarea_screen.specs.declared.screen.style.Style.{Style}
@@ -17,15 +17,16 @@ use Rattle.unicode_width.specs.Width.{char_width}
 use Rattle.textarea_highlight.specs.Brackets.{IsStyleAfter}
 use Rattle.textarea_highlight.specs.Columns.{column_of}
 use Rattle.textarea_highlight.specs.Display.{display_char, display_text, is_tab, with_spaces}
-use Rattle.textarea_highlight.specs.Seams.{IsSeam, IsVisible}
+use Rattle.textarea_highlight.specs.Seams.{EndsPlain, IsSeam, IsVisible}
 use Rattle.textarea_highlight.specs.Seen.{AreInTwo, IsSpanSplit, IsText, span_columns, spans_columns}
 use Rattle.textarea_highlight.specs.Split.{display_segment, segment_of, IsSplit, ShowsSegment}
 use Rattle.textarea_highlight.specs.Texts.{text_bytes_of}
 use Rattle.textarea_highlight.specs.declared.highlight.borders.Border.{Border}
 use Rattle.textarea_highlight.specs.declared.highlight.borders.Mark.{Mark}
 use Rattle.textarea_highlight.proofs.OneRowLemmas.{rises}
+use Rattle.textarea_highlight.proofs.PlainLemmas.{chars_upto, first_of, last_of, plain-shown, some_segment}
 use Rattle.textarea_highlight.proofs.SplitLemmas.{IsEdge, column_to}
-use Rattle.textarea_highlight.proofs.WholeLemmas.{display_text-append, with_spaces-append}
+use Rattle.textarea_highlight.proofs.WholeLemmas.{chars_split, display_text-append, with_spaces-append}
 use Rattle.textarea_highlight.proofs.WholeRowLemmas.{some_content}
 
 -- ---- ranges of a list
@@ -76,44 +77,38 @@ display_segment-take : (row : List ℕ) (tab_len : ℕ) (mask : Option ℕ) (n f
 display_segment-take row tab_len mask n from to order within =
     ap₂ (λ (column : ℕ) (cs : List ℕ). display_text mask tab_len column cs) (column_of-take row tab_len n from (omega arith)) (segment_of-take row n from to order within)
 
-pub seam-take : (row : List ℕ) (n at : ℕ) → n ≤ length row → at < n → IsSeam row at → IsSeam (take n row) at
-seam-take row n at within order seam = record {
-  inside = seam.inside;
-  within = omega (arith, length-take-le n row within, order);
-  left = subst IsVisible (sym (get_or-take n row (at - 1) 0 (omega arith))) seam.left;
-  right = subst IsVisible (sym (get_or-take n row at 0 order)) seam.right;
-}
-
 -- ---- characters next to a seam
 
 pub visible-chars : (c : ℕ) → IsVisible c → chars (c ∷ []) ≡ c ∷ []
 visible-chars c visible = chars-IsAscii (c ∷ []) (IsAscii-from_all (c ∷ []) (All-cons (λ b. b < 128) c [] (omega (arith, visible.1)) (All-nil (λ b. b < 128))))
 
-visible-shown : (tab_len column c : ℕ) → IsVisible c → display_char tab_len column c ≡ c ∷ []
-visible-shown tab_len column c visible = let low = visible.0 in grind (arith, nat_tests)
-
-seam-boundary : (row : List ℕ) (at : ℕ) → IsSeam row at → IsCharBoundary row at
-seam-boundary row at seam = IsCharBoundary-before_ascii row at seam.within (omega (arith, seam.right.1))
-
 -- the character before a seam ends the segment before it
-segment-last : (row : List ℕ) (from at : ℕ) → IsUtf8 row → IsCharBoundary row from → from < at → IsSeam row at →
-    segment_of row from at ≡ segment_of row from (at - 1) ++ get_or row (at - 1) 0 ∷ []
+segment-last : (row : List ℕ) (from at : ℕ) → IsUtf8 row → IsCharBoundary row from → from < at → (seam : IsSeam row at) →
+    (cs : List ℕ) × (segment_of row from at ≡ cs ++ seam.left.last ∷ [])
 segment-last row from at utf8 boundary order seam =
-    let before : IsCharBoundary row (at - 1) = IsCharBoundary-before_ascii row (at - 1) (omega (arith, seam.within)) (omega (arith, seam.left.1)) in
-    let next : (at - 1) + 1 ≡ at = omega arith in
-    let last : slice_range row (at - 1) at ≡ get_or row (at - 1) 0 ∷ [] =
-    ap (slice_range row (at - 1)) (sym next) ∙ slice_range-one row (at - 1) (omega (arith, seam.within)) in
-    ap chars (slice_range-append row from (at - 1) at (omega arith) (omega arith) ∙ ap (λ bytes. slice_range row from (at - 1) ++ bytes) last)
-    ∙ chars-append (slice_range row from (at - 1)) (get_or row (at - 1) 0 ∷ []) (IsUtf8-between row from (at - 1) utf8 (omega arith) boundary before)
-    ∙ ap (λ cs. segment_of row from (at - 1) ++ cs) (visible-chars (get_or row (at - 1) 0) seam.left)
+    last_of (chars (take from row)) (segment_of row from at) seam.left.others seam.left.last
+    (sym (chars_upto row from at utf8 boundary seam.boundary order) ∙ seam.left.chars_are) (some_segment row from at utf8 boundary seam.boundary order)
 
 -- the character after a seam begins the segment after it
-segment-first : (row : List ℕ) (at to : ℕ) → IsUtf8 row → IsCharBoundary row to → at < to → IsSeam row at →
-    segment_of row at to ≡ get_or row at 0 ∷ segment_of row (at + 1) to
+segment-first : (row : List ℕ) (at to : ℕ) → IsUtf8 row → IsCharBoundary row to → at < to → (seam : IsSeam row at) →
+    (cs : List ℕ) × (segment_of row at to ≡ seam.right.first ∷ cs)
 segment-first row at to utf8 boundary order seam =
-    chars_past_char (slice_range row at to) (slice_range row (at + 1) to) (get_or row at 0) (IsUtf8-between row at to utf8 (omega arith) (seam-boundary row at seam) boundary)
-    (slice_range-append row at (at + 1) to (omega arith) (omega arith)
-    ∙ ap (λ bytes. bytes ++ slice_range row (at + 1) to) (slice_range-one row at seam.within ∙ sym (encode_ascii (get_or row at 0) (omega (arith, seam.right.1)))))
+    first_of (segment_of row at to) (chars (drop to row)) seam.right.others seam.right.first
+    (sym seam.right.chars_are ∙ chars_split row at to utf8 (omega (arith, order)) seam.boundary boundary) (some_segment row at to utf8 seam.boundary boundary order)
+
+-- a seam before another offset
+pub seam-take : (row : List ℕ) (n at : ℕ) → IsUtf8 row → IsCharBoundary row n → at < n → IsSeam row at → IsSeam (take n row) at
+seam-take row n at utf8 boundary order seam =
+    let sum : n ≡ at + (n - at) = omega (arith, order) in
+    let rest : drop at (take n row) ≡ slice_range row at n = ap (λ k. drop at (take k row)) sum ∙ drop-take at (n - at) row in
+    let next = segment-first row at n utf8 boundary order seam in
+    record {
+      inside = seam.inside;
+      within = omega (arith, length-take-le n row boundary.0, order);
+      boundary = boundary-take row n at boundary.0 (omega (arith, order)) seam.boundary;
+      left = subst EndsPlain (sym (take-take at n row (omega (arith, order)))) seam.left;
+      right = record { first = seam.right.first; others = next.0; chars_are = ap chars rest ∙ next.1; plain = seam.right.plain };
+    }
 
 segment-append : (row : List ℕ) (from mid to : ℕ) → IsUtf8 row → IsCharBoundary row from → IsCharBoundary row mid → from ≤ mid → mid ≤ to →
     segment_of row from to ≡ segment_of row from mid ++ segment_of row mid to
@@ -232,7 +227,7 @@ module _ (row : List ℕ) (borders : List Border) (base : Style) (tab_len : ℕ)
       (first : SpanView) × (second : SpanView) × ShowsSegment (take at row) borders base tab_len None from at first × ShowsSegment row borders base tab_len None at to second × IsSpanSplit span first second
   segment-split from at to span at_from at_to order order' seam h =
       let within = seam.within in
-      let at_seam = seam-boundary row at seam in
+      let at_seam = seam.boundary in
       let column = column_of row tab_len from in
       let one = segment_of row from at in
       let two = segment_of row at to in
@@ -242,16 +237,16 @@ module _ (row : List ℕ) (borders : List Border) (base : Style) (tab_len : ℕ)
       let content' = some_content None two (display_segment row tab_len None at to) in
       let last = segment-last row from at utf8 at_from order seam in
       let next = segment-first row at to utf8 at_to order' seam in
-      let c = get_or row (at - 1) 0 in
-      let d = get_or row at 0 in
-      let front = with_spaces tab_len column (segment_of row from (at - 1)) in
+      let c = seam.left.last in
+      let d = seam.right.first in
+      let front = with_spaces tab_len column last.0 in
       let first_shown : display_segment row tab_len None from at ≡ front ++ c ∷ [] =
-      stops tab_len column one some ∙ ap (with_spaces tab_len column) last ∙ with_spaces-append tab_len column (segment_of row from (at - 1)) (c ∷ [])
-      ∙ ap (λ (cs : List ℕ). front ++ (cs ++ [])) (visible-shown tab_len (end_column tab_len column (segment_of row from (at - 1))) c seam.left) in
-      let back = with_spaces tab_len (column_after tab_len (column_of row tab_len at) d) (segment_of row (at + 1) to) in
+      stops tab_len column one some ∙ ap (with_spaces tab_len column) last.1 ∙ with_spaces-append tab_len column last.0 (c ∷ [])
+      ∙ ap (λ (cs : List ℕ). front ++ (cs ++ [])) (plain-shown tab_len (end_column tab_len column last.0) c seam.left.plain) in
+      let back = with_spaces tab_len (column_after tab_len (column_of row tab_len at) d) next.0 in
       let second_shown : display_segment row tab_len None at to ≡ d ∷ back =
-      stops tab_len (column_of row tab_len at) two some ∙ ap (with_spaces tab_len (column_of row tab_len at)) next
-      ∙ ap (λ (cs : List ℕ). cs ++ back) (visible-shown tab_len (column_of row tab_len at) d seam.right) in
+      stops tab_len (column_of row tab_len at) two some ∙ ap (with_spaces tab_len (column_of row tab_len at)) next.1
+      ∙ ap (λ (cs : List ℕ). cs ++ back) (plain-shown tab_len (column_of row tab_len at) d seam.right.plain) in
       let all : display_segment row tab_len None from to ≡ display_segment row tab_len None from at ++ display_segment row tab_len None at to =
       ap (display_text None tab_len column) (segment-append row from at to utf8 at_from at_seam (omega arith) (omega arith))
       ∙ display_text-append None tab_len column one two some
@@ -289,8 +284,8 @@ module _ (row : List ℕ) (borders : List Border) (base : Style) (tab_len : ℕ)
           first_valid = ap all_scalars (sym first_shown) ∙ display-valid tab_len column one some (scalars-chars (slice_range row from at) (IsUtf8-between row from at utf8 (omega arith) at_from at_seam));
           second_valid = ap all_scalars (sym second_shown)
               ∙ display-valid tab_len (column_of row tab_len at) two some (scalars-chars (slice_range row at to) (IsUtf8-between row at to utf8 (omega arith) at_seam at_to));
-          left_visible = seam.left;
-          right_visible = seam.right;
+          left_plain = seam.left.plain;
+          right_plain = seam.right.plain;
         },
       )
 

@@ -99,7 +99,7 @@ edge_at row borders n d within = grind (arith, common_steps)
 pub segment_empty : (row : List ℕ) (from to : ℕ) → to ≤ from → segment_of row from to ≡ []
 segment_empty row from to h = grind (arith, common_steps, chars-nil)
 
-take_split : (row : List ℕ) (start to : ℕ) → start ≤ to → take to row ≡ take start row ++ slice_range row start to
+pub take_split : (row : List ℕ) (start to : ℕ) → start ≤ to → take to row ≡ take start row ++ slice_range row start to
 take_split row start to h =
     grind (arith, common_steps, take-append-drop start (take to row), take-take start to row h, drop-take start (to - start) row)
 

@@ -34,7 +34,7 @@ display_text-nil None tab_len column h = rw (stops tab_len h) refl
 edge_boundary : (row : List ℕ) (borders : List Border) (to : ℕ) → All (λ border. IsCharBoundary row border.offset) borders → IsEdge row borders to → IsCharBoundary row to
 edge_boundary row borders to placed edge = grind (arith, common_steps, IsCharBoundary-end row)
 
-chars_split : (row : List ℕ) (from to : ℕ) → IsUtf8 row → from ≤ to → IsCharBoundary row from → IsCharBoundary row to →
+pub chars_split : (row : List ℕ) (from to : ℕ) → IsUtf8 row → from ≤ to → IsCharBoundary row from → IsCharBoundary row to →
     chars (drop from row) ≡ segment_of row from to ++ chars (drop to row)
 chars_split row from to u le at at' =
     ap chars (drop_split row from to le) ∙ chars-append (slice_range row from to) (drop to row) (IsUtf8-between row from to u le at at')

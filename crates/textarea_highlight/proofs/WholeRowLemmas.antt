@@ -38,6 +38,16 @@ any_later border borders h = (suc h.0, h.1, omega (arith, h.2), h.3, h.4)
 edge_later : (border : Border) (borders : List Border) (end to : ℕ) → (to ≡ end) ⊎ Any (λ b. b.offset ≡ to) borders → (to ≡ end) ⊎ Any (λ b. b.offset ≡ to) (border ∷ borders)
 edge_later border borders end to h = ⊎_elim (λ at_end. inl at_end) (λ at. inr (any_later border borders at)) h
 
+-- a border that isn't in between changes nothing
+past_border : (border : Border) (borders : List Border) (from end to : ℕ) → (border.offset ≤ from) ⊎ (to ≤ border.offset) → IsNextEdge borders from end to →
+    IsNextEdge (border ∷ borders) from end to
+past_border border borders from end to aside h = record {
+  after = h.after;
+  within = h.within;
+  edge = edge_later border borders end to h.edge;
+  uncut = All-cons (λ b. (b.offset ≤ from) ⊎ (to ≤ b.offset)) border borders aside h.uncut;
+}
+
 next_edge : (borders : List Border) (from end : ℕ) → from < end → (to : ℕ) × IsNextEdge borders from end to
 next_edge [] from end below =
     (end, record { after = below; within = omega arith; edge = inl refl; uncut = All-nil (λ border. (border.offset ≤ from) ⊎ (end ≤ border.offset)) })
@@ -45,25 +55,9 @@ next_edge (border ∷ borders) from end below =
     let others = next_edge borders from end below in
     let h = others.1 in
     elim (cases_lt from border.offset) [
-      | inr passed ↦ (
-        others.0,
-        record {
-          after = h.after;
-          within = h.within;
-          edge = edge_later border borders end others.0 h.edge;
-          uncut = All-cons (λ b. (b.offset ≤ from) ⊎ (others.0 ≤ b.offset)) border borders (inl passed) h.uncut;
-        },
-      )
+      | inr passed ↦ (others.0, past_border border borders from end others.0 (inl passed) h)
       | inl ahead ↦ elim (cases_lt border.offset others.0) [
-        | inr later ↦ (
-          others.0,
-          record {
-            after = h.after;
-            within = h.within;
-            edge = edge_later border borders end others.0 h.edge;
-            uncut = All-cons (λ b. (b.offset ≤ from) ⊎ (others.0 ≤ b.offset)) border borders (inr later) h.uncut;
-          },
-        )
+        | inr later ↦ (others.0, past_border border borders from end others.0 (inr later) h)
         | inl nearer ↦ (
           border.offset,
           record {

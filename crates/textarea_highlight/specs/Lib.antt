@@ -9,5 +9,6 @@ pub mod Numbers
 pub mod Highlights
 pub mod Row
 pub mod Marks
+pub mod Plain
 pub mod Seams
 pub mod Seen

@@ -1,6 +1,7 @@
 -- Offsets at which a row can be split so that its cells stay the same.
-use Rattle.std.specs.Prelude.{◌≡◌, ℕ, ◌-◌, ◌*◌, ◌<◌, ◌≤◌, List, length, slice_index, IsCharBoundary, IsTrue}
+use Rattle.std.specs.Prelude.{◌≡◌, ℕ, ◌*◌, ◌<◌, ◌≤◌, true, List, [], ◌∷◌, ◌++◌, length, take, drop, chars, IsCharBoundary, IsTrue}
 use Rattle.textarea_highlight.specs.Columns.{column_of}
+use Rattle.textarea_highlight.specs.Plain.{is_plain}
 use Rattle.textarea_highlight.specs.declared.highlight.highlighter.RowPart.{RowPart}
 use Rattle.textarea_highlight.specs.declared.highlight.seams.RowOffset.{RowOffset}
 use Rattle.textarea_highlight.specs.declared.highlight.seams.Walk.{Walk}
@@ -9,12 +10,27 @@ use Rattle.textarea_highlight.specs.declared.highlight.seams.Walk.{Walk}
 abbrev pub IsVisible : ℕ → Type 0
 IsVisible c = (32 ≤ c) × (c < 127)
 
--- an offset between two such characters: a boundary of grapheme clusters, and no tab begins there
+-- a text whose first character is plain
+pub record BeginsPlain (text : List ℕ) : Type 0 where
+  pub first : ℕ
+  pub others : List ℕ
+  pub chars_are : chars text ≡ first ∷ others
+  pub plain : is_plain first ≡ true
+
+-- a text whose last character is plain
+pub record EndsPlain (text : List ℕ) : Type 0 where
+  pub others : List ℕ
+  pub last : ℕ
+  pub chars_are : chars text ≡ others ++ last ∷ []
+  pub plain : is_plain last ≡ true
+
+-- an offset between two plain characters: a boundary of grapheme clusters, and no tab begins there
 pub record IsSeam (row : List ℕ) (at : ℕ) : Type 0 where
   pub inside : 0 < at
   pub within : at < length row
-  pub left : IsVisible (slice_index row (at - 1))
-  pub right : IsVisible (slice_index row at)
+  pub boundary : IsCharBoundary row at
+  pub left : EndsPlain (take at row)
+  pub right : BeginsPlain (drop at row)
 
 -- a character begins at the offset, or the row ends there, and it is at its column
 pub record IsColumnAt (row : List ℕ) (tab_len : ℕ) (place : RowOffset) : Type 0 where
@@ -22,13 +38,12 @@ pub record IsColumnAt (row : List ℕ) (tab_len : ℕ) (place : RowOffset) : Typ
   pub column : place.column ≡ column_of row tab_len place.offset
   pub near : place.column ≤ 255 * place.offset
 
--- a walk over a row is at an offset, after a visible character of ASCII or not, and has seen a seam
--- or none
+-- a walk over a row is at an offset, after a plain character or not, and has seen a seam or none
 pub record IsWalk (row : List ℕ) (tab_len : ℕ) (walk : Walk) : Type 0 where
   pub at : IsColumnAt row tab_len walk.at
   pub seam : IsColumnAt row tab_len walk.seam
   pub order : walk.seam.offset ≤ walk.at.offset
-  pub last : IsTrue walk.after_visible → (0 < walk.at.offset) × IsVisible (slice_index row (walk.at.offset - 1))
+  pub last : IsTrue walk.after_plain → (0 < walk.at.offset) × EndsPlain (take walk.at.offset row)
 
 -- the part begins at the row's start, or at a seam before the column `left`, and ends at the row's
 -- end, or at a seam at or after the column `right`

@@ -7,7 +7,8 @@ use Rattle.textarea_wrap.specs.Columns.{plain_width}
 use Rattle.textarea_highlight.specs.declared.highlight.highlighter.RowPart.{RowPart}
 use Rattle.textarea_highlight.specs.Highlights.{Highlights, end_cell, end_style}
 use Rattle.textarea_highlight.specs.Row.{ShowsRow, part_end, part_numbers, whole_row}
-use Rattle.textarea_highlight.specs.Seams.{IsBetweenSeams, IsVisible}
+use Rattle.textarea_highlight.specs.Plain.{is_plain}
+use Rattle.textarea_highlight.specs.Seams.{IsBetweenSeams}
 use Rattle.textarea_highlight.specs.Texts.{text_bytes_of}
 
 -- ---- spans
@@ -23,7 +24,7 @@ span_columns span = sum_by plain_width (chars (text_bytes_of span.content))
 abbrev pub spans_columns : List SpanView → ℕ
 spans_columns spans = sum_by span_columns spans
 
--- a span is split after a visible character of ASCII and before another one
+-- a span is split after a plain character and before another one
 pub record IsSpanSplit (whole first second : SpanView) : Type 0 where
   pub first_style : first.style ≡ whole.style
   pub second_style : second.style ≡ whole.style
@@ -36,8 +37,8 @@ pub record IsSpanSplit (whole first second : SpanView) : Type 0 where
   pub second_text : text_bytes_of second.content ≡ encode_utf8_all (right ∷ back)
   pub first_valid : all_scalars (front ++ left ∷ []) ≡ true
   pub second_valid : all_scalars (right ∷ back) ≡ true
-  pub left_visible : IsVisible left
-  pub right_visible : IsVisible right
+  pub left_plain : is_plain left ≡ true
+  pub right_plain : is_plain right ≡ true
 
 -- the spans are in two parts, and one span is split between them
 pub record AreSpansSplit (spans before after : List SpanView) : Type 0 where

@@ -135,6 +135,29 @@ static OWNED: [Case; 7] = [
     ("", HIDDEN, &[Number, LineStyle], &[("   124 ", CUSTOM)]),
 ];
 
+/// A row, the columns from which and up to which it is shown, and the text that is shown.
+type Part = (&'static str, (usize, usize), &'static str);
+
+/// Rows that are shown from a seam to another one; at the end, rows with marks, joiners and halves
+/// of flags, at which is no seam.
+static PARTS: [Part; 11] = [
+    ("abcdefgh", (3, 5), "cde"),
+    ("éèêëéèêë", (3, 5), "êëé"),
+    ("αβγδεζηθ", (3, 5), "γδε"),
+    ("абвгдежз", (3, 5), "вгд"),
+    ("日本語日本語", (3, 5), "本語"),
+    ("あいうえおか", (3, 5), "いう"),
+    ("한국어한국어", (3, 5), "국어"),
+    ("abc日本de\u{301}fg", (1, 9), "abc日本de\u{301}f"),
+    (
+        "e\u{301}e\u{301}e\u{301}",
+        (1, 2),
+        "e\u{301}e\u{301}e\u{301}",
+    ),
+    ("👩\u{200d}🚀👩\u{200d}🚀", (3, 4), "👩\u{200d}🚀"),
+    ("🇫🇮🇫🇮🇫🇮", (3, 4), "🇫🇮🇫🇮🇫🇮"),
+];
+
 /// Returns the style with this number; the empty one for 0.
 fn shade(n: u8) -> Style {
     if n == PLAIN {
@@ -222,6 +245,20 @@ fn is_owned_so(alloc: Global, case: &Case) -> Result<bool, AllocError> {
 fn rows_with_their_spans(rt: HostRuntime) -> Result<(), Fail> {
     check_each(&rt, &BORROWED, is_borrowed_so)?;
     check_each(&rt, &OWNED, is_owned_so)
+}
+
+fn shows_part(alloc: Global, (text, (left, right), shown): &Part) -> Result<bool, AllocError> {
+    let mut row = highlighter(alloc, text, HIDDEN);
+    let mut line = Line::new(alloc);
+    row.show_between_in(&mut line, *left, *right)?;
+    let is_met = shows(&line, &[(*shown, PLAIN)]);
+    drop(line);
+    Ok(is_met)
+}
+
+#[test]
+fn parts_of_rows(rt: HostRuntime) -> Result<(), Fail> {
+    check_each(&rt, &PARTS, shows_part)
 }
 
 /// Returns whether a line in another style has this row's spans after the call, and no style.

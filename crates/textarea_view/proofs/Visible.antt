@@ -2,20 +2,27 @@
 use Rattle.std.proofs.Common.{◌≡◌, ◌⊎◌, ℕ, ◌+◌, ◌-◌, ◌<◌, ◌≤◌, ◌==◌, Bool, true, false, cond, List, [], ◌∷◌, ◌++◌, length, map, sum_by, Option, None, refl, sym, ap, ap₂, ◌∙◌, inl, inr, ⊎_elim, arith, encode_utf8_all}
 use Rattle.std.specs.List.{All, flat_map}
 use Rattle.std.specs.Str.{chars}
-use Rattle.std.proofs.lemmas.Bool.{eq-eqb, false≢true}
+use Rattle.std.proofs.lemmas.Bool.{and_parts, eq-eqb, false≢true}
 use Rattle.std.proofs.lemmas.Bool.Decides.{nat_tests}
 use Rattle.std.proofs.lemmas.Grind.{flat_map-append}
 use Rattle.std.proofs.lemmas.List.{append-nil, append_assoc, map-append}
 use Rattle.std.proofs.lemmas.List.Elements.{All-head, All-tail}
 use Rattle.std.proofs.lemmas.List.Sums.{sum_by-cons}
 use Rattle.std.proofs.lemmas.Str.{chars-encodes}
+use Rattle.ucd_breaks.specs.declared.GraphemeClusterBreak.{GraphemeClusterBreak}
+use Rattle.ucd_breaks.specs.declared.GraphemeClusterBreak.TheVariants.{Lv, Lvt, Other}
+use Rattle.ucd_derived.specs.declared.IndicConjunctBreak.{IndicConjunctBreak}
+use Rattle.ucd_derived.specs.declared.IndicConjunctBreak.TheVariants as conjunct
 use Rattle.unicode_segmentation.specs.Grapheme.{graphemes}
+use Rattle.unicode_segmentation.specs.GraphemeClusterBreak.{grapheme_cluster_break}
+use Rattle.unicode_segmentation.specs.IndicConjunctBreak.{indic_conjunct_break}
 use Rattle.textarea_screen.specs.Style.{empty_style, patched}
 use Rattle.textarea_screen.specs.declared.screen.style.Style.{Style}
 use Rattle.textarea_screen.specs.Text.{ContentView, LineView, SpanView}
 use Rattle.textarea_screen.specs.Text.ContentView.{BorrowedBytes, OwnedBytes}
 use Rattle.textarea_screen.specs.declared.screen.alignment.Alignment.TheVariants.{Left}
 use Rattle.textarea_highlight.specs.Highlights.{Highlights, end_cell, end_style}
+use Rattle.textarea_highlight.specs.Plain.{ends_conjunct, is_plain, is_single}
 use Rattle.textarea_highlight.specs.Row.{ShowsRow, part_end, part_numbers}
 use Rattle.textarea_highlight.specs.Seen.{AreInTwo, AreSpansSplit, IsSpanSplit, IsText, ShowsBetween, line_of_segments, span_columns, spans_columns}
 use Rattle.textarea_highlight.specs.Texts.{text_bytes_of}
@@ -26,10 +33,28 @@ use Rattle.textarea_paint.specs.Part.{IsVisiblePart}
 use Rattle.textarea_paint.specs.Row.{cells_of_row, clusters_width, row_cell}
 use Rattle.textarea_paint.specs.declared.paint.row.RowArea.{RowArea}
 use Rattle.textarea_paint.proofs.PartLemmas.{clusters_width-append, clusters_width-texts, row_cell-part}
-use Rattle.textarea_paint.proofs.PlainLemmas.{plain}
+use Rattle.textarea_paint.proofs.PlainLemmas as paint
 use Rattle.textarea_paint.proofs.SeamLemmas.{graphemes-seam}
 use Rattle.textarea_paint.proofs.WidthLemmas.{sum-graphemes}
 use Rattle.textarea_view.specs.SceneDrawn.{AreNumbers, IsDrawnAs}
+
+-- ---- plain characters
+
+single_in : (v : GraphemeClusterBreak) → is_single v ≡ paint.is_single v
+single_in Other = refl
+single_in Lv = refl
+single_in Lvt = refl
+single_in _ = refl
+
+conjunct_in : (v : IndicConjunctBreak) → ends_conjunct v ≡ paint.ends_conjunct v
+conjunct_in conjunct.None = refl
+conjunct_in conjunct.Consonant = refl
+conjunct_in _ = refl
+
+plain_in : (c : ℕ) → is_plain c ≡ true → paint.IsPlain c
+plain_in c plain =
+    let parts = and_parts (is_single (grapheme_cluster_break c)) (ends_conjunct (indic_conjunct_break c)) plain in
+    record { single = sym (single_in (grapheme_cluster_break c)) ∙ parts.0; no_linker = sym (conjunct_in (indic_conjunct_break c)) ∙ parts.1 }
 
 -- ---- the clusters of spans
 
@@ -50,7 +75,7 @@ span-split base whole first second s =
     let back_chars : chars two ≡ s.right ∷ s.back = ap chars s.second_text ∙ chars-encodes (s.right ∷ s.back) s.second_valid in
     let texts : graphemes true (content_bytes whole.content) ≡ graphemes true (content_bytes first.content) ++ graphemes true (content_bytes second.content) =
     ap (graphemes true) (same_bytes whole.content ∙ s.text)
-    ∙ graphemes-seam s.left s.right (plain s.left s.left_visible) (plain s.right s.right_visible) (omega (arith, s.right_visible.1)) s.back one two s.front front_text front_chars back_chars
+    ∙ graphemes-seam s.left s.right (plain_in s.left s.left_plain) (plain_in s.right s.right_plain) s.back one two s.front front_text front_chars back_chars
     ∙ ap₂ (λ (a : List ℕ) (b : List ℕ). graphemes true a ++ graphemes true b) (sym (same_bytes first.content)) (sym (same_bytes second.content)) in
     ap (style whole.style) texts
     ∙ map-append (in_style (patched base whole.style)) (graphemes true (content_bytes first.content)) (graphemes true (content_bytes second.content))

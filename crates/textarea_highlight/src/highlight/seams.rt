@@ -1,12 +1,16 @@
 //! Offsets at which a row can be split so that its cells stay the same.
-ghost use Rattle.std.specs.Prelude.{◌≡◌, ◌⊎◌, ◌+◌, ◌*◌, ◌^◌, ◌<◌, ◌≤◌, ◌↔◌, length, slice_index, IsCharBoundary, IsTrue, IsUtf8};
+ghost use Rattle.std.specs.Prelude.{◌≡◌, ◌⊎◌, ◌+◌, ◌*◌, ◌^◌, ◌<◌, ◌≤◌, ◌↔◌, length, slice_index, take, drop, chars, IsCharBoundary, IsTrue, IsUtf8};
+ghost use Rattle.std.specs.List.{list_all};
 ghost use Rattle.textarea_highlight.specs.Columns.{column_of};
 ghost use Rattle.textarea_highlight.specs.Marks.{IsRowMark};
-ghost use Rattle.textarea_highlight.specs.Seams.{IsBetweenSeams, IsColumnAt, IsSeam, IsVisible, IsWalk};
+ghost use Rattle.textarea_highlight.specs.Plain.{ends_conjunct, is_plain, is_single};
+ghost use Rattle.textarea_highlight.specs.Seams.{BeginsPlain, EndsPlain, IsBetweenSeams, IsColumnAt, IsSeam, IsVisible, IsWalk};
 
 use super::highlighter::RowPart;
 use super::marks::{ROW_START, RowMark};
 use textarea_wrap::wrap::columns::column_after_text;
+use ucd_breaks::GraphemeClusterBreak;
+use ucd_derived::IndicConjunctBreak;
 
 /// An offset in a row, in bytes, with its column, counted from the start of the row.
 #[derive(Clone, Copy, Debug, PartialEq, Eq)]
@@ -21,14 +25,15 @@ pub struct Walk {
     pub at: RowOffset,
     /// The last seam on the way, or where the walk began.
     pub seam: RowOffset,
-    /// The character before the offset is visible ASCII.
-    pub after_visible: bool,
+    /// The character before the offset is plain.
+    pub after_plain: bool,
 }
 
 /// Returns the part of a row that has the columns from `left` up to `right`. It begins at the row's
 /// start or at a seam before the column `left`, and ends at the first seam at or after the column
-/// `right`, or at the row's end. A seam is an offset between two visible characters of ASCII. If a
-/// seam follows the mark, nothing before the mark is read.
+/// `right`, or at the row's end. A seam is an offset between two plain characters: letters, digits,
+/// ideographs and spaces are plain, and marks, joiners and controls aren't. If a seam follows the
+/// mark, nothing before the mark is read.
 pub fn part_between(row: &str, tab_len: u8, mark: RowMark, left: usize, right: usize) -> RowPart
     requires room { 255 * length row.now < 2 ^ 63 }
     requires tabs { 0 < tab_len }
@@ -103,12 +108,12 @@ fn seam_after(row: &str, tab_len: u8, start: RowOffset, column: usize) -> usize
 fn walk_from(start: RowOffset) -> Walk
     ensures at { result.at ≡ start }
     ensures seam { result.seam ≡ start }
-    ensures last { IsTrue result.after_visible ↔ ⊥ }
+    ensures last { IsTrue result.after_plain ↔ ⊥ }
 {
     Walk {
         at: start,
         seam: start,
-        after_visible: false,
+        after_plain: false,
     }
 }
 
@@ -122,22 +127,33 @@ fn next_character(row: &str, tab_len: u8, walk: Walk) -> Walk
     ensures seam { (result.seam ≡ walk.seam)
         ⊎ ((result.seam ≡ walk.at) × IsSeam row.now result.seam.offset) }
 {
-    if !is_visible(row.as_bytes()[walk.at.offset]) {
-        return Walk {
-            at: after_other(row, tab_len, walk.at),
-            seam: walk.seam,
-            after_visible: false,
-        };
-    }
+    let (next, is_plain) = after_character(row, tab_len, walk.at);
     Walk {
-        at: after_visible(row, tab_len, walk.at),
-        seam: if walk.after_visible {
+        at: next,
+        seam: if walk.after_plain && is_plain {
             walk.at
         } else {
             walk.seam
         },
-        after_visible: true,
+        after_plain: is_plain,
     }
+}
+
+// Returns the offset after a character, and whether the character is plain.
+fn after_character(row: &str, tab_len: u8, at: RowOffset) -> (RowOffset, bool)
+    requires room { 255 * length row.now < 2 ^ 63 }
+    requires inside { at.offset < length row.now }
+    requires known { IsColumnAt row.now tab_len at }
+    ensures known { IsColumnAt row.now tab_len result.0 }
+    ensures further { at.offset < result.0.offset }
+    ensures plain { IsTrue result.1 → BeginsPlain (drop at.offset row.now)
+        × EndsPlain (take result.0.offset row.now) }
+{
+    if is_visible(row.as_bytes()[at.offset]) {
+        return (after_visible(row, tab_len, at), true);
+    }
+    let next = after_other(row, tab_len, at);
+    (next, are_plain(&row[at.offset..next.offset]))
 }
 
 // Returns the offset after a visible character of ASCII.
@@ -174,4 +190,35 @@ fn is_visible(byte: u8) -> bool
     ensures { IsTrue result ↔ IsVisible byte }
 {
     32 <= byte && byte < 127
+}
+
+// Returns whether each character is plain: between two such ones a grapheme cluster ends.
+fn are_plain(text: &str) -> bool
+    ensures { result ≡ list_all is_plain (chars text.now) }
+{
+    text.chars().all(|c| is_plain(c))
+}
+
+fn is_plain(c: char) -> bool
+    ensures { result ≡ is_plain c }
+{
+    is_single(GraphemeClusterBreak::for_char(c)) && ends_conjunct(IndicConjunctBreak::for_char(c))
+}
+
+fn is_single(value: GraphemeClusterBreak) -> bool
+    ensures { result ≡ is_single value }
+{
+    matches!(
+        value,
+        GraphemeClusterBreak::Other | GraphemeClusterBreak::Lv | GraphemeClusterBreak::Lvt
+    )
+}
+
+fn ends_conjunct(value: IndicConjunctBreak) -> bool
+    ensures { result ≡ ends_conjunct value }
+{
+    matches!(
+        value,
+        IndicConjunctBreak::None | IndicConjunctBreak::Consonant
+    )
 }
