@@ -195,16 +195,7 @@ block_split blocks block at within =
     let rows = get_or blocks block [] in
     let above = take block blocks in
     let below = drop (block + 1) blocks in
-    let now = set blocks block (take at rows) in
-    let same : block + 1 + 0 ≡ block + 1 = omega arith in
-    ap (λ t. all_rows (t ++ (drop at rows ∷ drop (block + 1 + 0) now))) (take_more_set blocks block (take at rows) within)
-    ∙ ap (λ n. all_rows ((above ++ take at rows ∷ []) ++ (drop at rows ∷ drop n now))) same
-    ∙ ap (λ t. all_rows ((above ++ take at rows ∷ []) ++ (drop at rows ∷ t))) (drop-set-lt (block + 1) blocks block (take at rows) (omega arith))
-    ∙ all_rows-append (above ++ take at rows ∷ []) (drop at rows ∷ below)
-    ∙ ap (λ t. t ++ (drop at rows ++ all_rows below)) (block_pushed above (take at rows))
-    ∙ append_assoc (all_rows above) (take at rows) (drop at rows ++ all_rows below)
-    ∙ ap (λ t. all_rows above ++ t) (sym (append_assoc (take at rows) (drop at rows) (all_rows below)) ∙ ap (λ t. t ++ all_rows below) (take-append-drop at rows))
-    ∙ sym (rows_around_block blocks block within)
+    grind (arith, common_steps, take_more_set blocks block (take at rows) within, drop-set-lt (block + 1) blocks block (take at rows) (omega arith), all_rows-append (above ++ take at rows ∷ []) (drop at rows ∷ below), block_pushed above (take at rows), append_assoc (all_rows above) (take at rows) (drop at rows ++ all_rows below), append_assoc (take at rows) (drop at rows) (all_rows below), take-append-drop at rows, rows_around_block blocks block within)
 
 -- ---- elements of vectors
 

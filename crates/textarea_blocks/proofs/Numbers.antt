@@ -1,10 +1,9 @@
 -- The number of visual rows of lines, as lines are replaced.
 use Rattle.std.proofs.lemmas.Grind.{common_steps}
-use Rattle.std.proofs.Common.{◌≡◌, ℕ, ◌+◌, ◌-◌, ◌≤◌, ◌<◌, List, [], ◌∷◌, ◌++◌, length, take, drop, get_or, map, sum_by, sym, ap, refl, ◌∙◌, arith}
+use Rattle.std.proofs.Common.{◌≡◌, ℕ, ◌+◌, ◌≤◌, ◌<◌, List, [], ◌∷◌, ◌++◌, length, take, drop, get_or, map, sum_by, sym, ap, refl, ◌∙◌, arith}
 use Rattle.std.proofs.lemmas.List.{take_all, take_more, take-append-drop}
 use Rattle.std.proofs.lemmas.Bool.{cases_lt}
 use Rattle.std.proofs.lemmas.List.Sums.{sum_by-cons}
-use Rattle.std.proofs.Math.Seq.{take-add}
 use Rattle.textarea_blocks.specs.Prelude.{RowsView, row_total, replaced}
 
 pub row_total-append : (rows more : List RowsView) → row_total (rows ++ more) ≡ row_total rows + row_total more
@@ -31,18 +30,6 @@ row_total-replaced rows new start count =
 pub row_total-sum : (rows : List RowsView) → row_total rows ≡ sum_by length (map (λ (r : RowsView). r.ranges) rows)
 row_total-sum [] = refl
 row_total-sum (r ∷ rows) = ap (λ n. length r.ranges + n) (row_total-sum rows) ∙ sym (sum_by-cons length r.ranges (map (λ (s : RowsView). s.ranges) rows))
-
--- ---- lines are replaced
-
--- the removed rows, of lines as the code slices them, and the total once they are replaced
-pub rows_exchanged : (rows retained new : List RowsView) (row count : ℕ) → retained ≡ rows →
-    (row_total (take (row + count - row) (drop row retained)) ≤ row_total rows) × (row_total (replaced rows row count new) + row_total (take (row + count - row) (drop row retained)) ≡ row_total rows + row_total new)
-rows_exchanged rows retained new row count is =
-    let size : row + count - row ≡ count = omega arith in
-    rw (is, size) (
-      omega (arith, row_total-take_le count (drop row rows), row_total-take_drop row rows),
-      omega (arith, row_total-replaced rows new row count, ap row_total (take-add row count rows), row_total-append (take row rows) (take count (drop row rows))),
-    )
 
 -- a visual row after the first lines is one of a line that exists
 pub line_there : (rows : List RowsView) (line left row : ℕ) → row_total (take line rows) + left ≡ row → row < row_total rows → line < length rows

@@ -36,19 +36,7 @@ totals_can_shift total sum blocks numbers from gone come h enough small = record
 pub total_set : (total : Sum) → IsSum total → (blocks : List (List RowsView)) (block k : ℕ) (rows : List RowsView) → block < length blocks → block < k → total_before total (set blocks block rows) k + total (get_or blocks block []) ≡ total_before total blocks k + total rows
 total_set total sum blocks block k rows within after =
     let now = set blocks block rows in
-    let size : block + 1 + (k - (block + 1)) ≡ k = omega arith in
-    omega (
-      arith,
-      ap (total_before total now) size,
-      ap (total_before total blocks) size,
-      before_further total sum now (block + 1) (k - (block + 1)),
-      before_further total sum blocks (block + 1) (k - (block + 1)),
-      ap (λ t. total (all_rows (take (k - (block + 1)) t))) (drop-set-lt (block + 1) blocks block rows (omega arith)),
-      before_more total sum now block (omega (arith, length-set blocks block rows)),
-      before_more total sum blocks block within,
-      ap (λ t. total (all_rows t)) (take-set-le block blocks block rows (omega arith)),
-      ap total (get_or-set_same blocks block rows [] within),
-    )
+    grind (arith, common_steps, before_further total sum now (block + 1) (k - (block + 1)), before_further total sum blocks (block + 1) (k - (block + 1)), drop-set-lt (block + 1) blocks block rows (omega arith), before_more total sum now block (omega (arith, length-set blocks block rows)), before_more total sum blocks block within, take-set-le block blocks block rows (omega arith), get_or-set_same blocks block rows)
 
 -- and the total of all blocks
 pub all_set : (total : Sum) → IsSum total → (blocks : List (List RowsView)) (block : ℕ) (rows : List RowsView) → block < length blocks → total (all_rows (set blocks block rows)) + total (get_or blocks block []) ≡ total (all_rows blocks) + total rows
@@ -120,12 +108,7 @@ pub all_exchanged : (total : Sum) → IsSum total → (blocks new : List (List R
 all_exchanged total sum blocks new from to ordered within =
     let more = length blocks - to in
     let end : to + more ≡ length blocks = omega arith in
-    omega (
-      arith,
-      total_after total sum blocks new from to more ordered within,
-      before_all total (replaced blocks from (to - from) new) (from + (length new + more)) (omega (arith, length-replaced blocks from (to - from) new (omega arith))),
-      before_all total blocks (to + more) (omega (arith, end)),
-    )
+    grind (arith, common_steps, total_after total sum blocks new from to more ordered within, before_all total (replaced blocks from (to - from) new) (from + (length new + more)) (omega (arith, length-replaced blocks from (to - from) new (omega arith))), before_all total blocks (to + more) (omega (arith, end)))
 
 pub totals_exchanged : (total : Sum) → IsSum total → (blocks new : List (List RowsView)) (numbers news now : List ℕ) (exchanged : Exchanged) → AreTotals total blocks numbers → AreTotals total new news → exchanged.from ≤ exchanged.to → exchanged.to ≤ length blocks → exchanged.before ≡ total_before total blocks exchanged.from → exchanged.before + exchanged.gone ≡ total_before total blocks exchanged.to → exchanged.come ≡ total (all_rows new) → AreExchanged numbers news exchanged now → AreTotals total (replaced blocks exchanged.from (exchanged.to - exchanged.from) new) now
 totals_exchanged total sum blocks new numbers news now exchanged h more ordered within before gone come turned =

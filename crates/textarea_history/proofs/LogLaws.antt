@@ -1,5 +1,6 @@
 -- The laws of a text and the log of its edits.
 use Rattle.std.proofs.Common.{◌≡◌, ◌≢◌, ℕ, zero, suc, ◌+◌, ◌-◌, ◌≤◌, ◌<◌, ◌==◌, Bool, true, false, cond, List, [], ◌∷◌, ◌++◌, length, take, drop, reverse, Option, Some, None, option_map, slice_get, get_or, sym, ap, refl, ◌∙◌, subst, arith, eq-eqb}
+use Rattle.std.proofs.lemmas.Grind.{common_steps}
 use Rattle.std.proofs.lemmas.Bool.{eqb-true}
 use Rattle.std.proofs.lemmas.List.{reverse-append, length-append, length-drop, length-reverse, length-take-le, take-append-drop, nil_from_length, drop_more, drop_all, drop-append-le}
 use Rattle.std.proofs.lemmas.Option.{get_or_from_slice_get, slice_get_within, slice_get-get_or}
@@ -30,11 +31,7 @@ pub last_split : (done : List Splice) (splice : Splice) → slice_get done (leng
 last_split done splice e =
     let within : length done - 1 < length done = slice_get_within done (length done - 1) splice e in
     let rest : length done ≤ length done - 1 + 1 = omega arith in
-    sym (take-append-drop (length done - 1) done)
-    ∙ ap (λ t. take (length done - 1) done ++ t)
-    (drop_more done (length done - 1) splice within
-    ∙ ap (λ (x : Splice). x ∷ drop (length done - 1 + 1) done) (get_or_from_slice_get done (length done - 1) splice splice e)
-    ∙ ap (λ (t : List Splice). splice ∷ t) (drop_all (length done - 1 + 1) done rest))
+    grind (arith, common_steps, slice_get_within done (length done - 1) splice e, take-append-drop (length done - 1) done, drop_more done (length done - 1) splice within, get_or_from_slice_get done (length done - 1) splice splice e, drop_all (length done - 1 + 1) done rest)
 
 pub reverse_last : (done : List Splice) (splice : Splice) → slice_get done (length done - 1) ≡ Some splice → reverse done ≡ splice ∷ reverse (take (length done - 1) done)
 reverse_last done splice e = ap reverse (last_split done splice e) ∙ reverse-append (take (length done - 1) done) (splice ∷ [])

@@ -2,9 +2,10 @@
 use Rattle.std.proofs.Common.{◌≡◌, ℕ, zero, suc, ◌+◌, ◌-◌, ◌≤◌, ◌<◌, Bool, true, false, cond, ◌&&◌, ◌==◌, nat_lt, List, [], ◌∷◌, ◌++◌, length, take, drop, map, Option, Some, None, is_some, sym, ap, refl, ◌∙◌, arith, get_or, set, subst, slice_get, eqb-true, eq-eqb}
 use Rattle.std.proofs.lemmas.List.{length-take-le, length-map, length-set, length-append, get_or-take, get_or-map, get_or-set_same, get_or_at, map-set, set-get_or, take-take, drop_more, take_all, drop_all, take_more, take-append-drop, take-map, drop-map, drop-take, length-take, length-drop}
 use Rattle.std.proofs.lemmas.List.Elements.{All-set, All-push, All-same}
-use Rattle.std.proofs.lemmas.Grind.{take-set_at}
+use Rattle.std.proofs.lemmas.Grind.{common_steps, take-set_at}
 use Rattle.std.proofs.lemmas.Option.{slice_get_read, get_or_from_slice_get}
 use Rattle.std.proofs.lemmas.Bool.Decides.{nat_tests}
+use Rattle.std.proofs.lemmas.Bool.{cases_lt}
 use Rattle.textarea_history.specs.Prelude.{IfSome, IsSome, All, Symbol, Character, Break, Place, Splice, place_before, place_after, Stored, IsWellFormed, Log, with_done, remaining_done, typed_character, newest, next, undone_log, redone_log, joins, continues, continues_newest, is_same_direction, is_empty, is_typed, done_joined, grown, edge_of, pause, character_of, merged, log_at, splice_in, spare_in, room_at, IsRun, IsRunEdge, IsStore}
 use Rattle.textarea_history.proofs.Joins.{left_of, right_of, same_direction, same_place}
 
@@ -68,11 +69,7 @@ joining items index maximum run last now newest_edit edit log store view read e 
 -- if there is room, the newest edit of an open run can grow
 pub room_to_grow : (items : List Stored) (index : ℕ) (run : Option ℕ) (free : ℕ) (newest_edit : Stored) (edge : ℕ) → run ≡ Some edge → index ≡ length items → 0 < index → newest_edit ≡ get_or items (index - 1) newest_edit → 0 < room_at items run free → 4 ≤ newest_edit.spare
 room_to_grow items index run free newest_edit edge is whole some read room =
-    by (nat_lt newest_edit.spare 4) refl (subst (λ (o : Option Stored). 0 < cond (nat_lt (spare_in o) 4) 0 free) (last_read items index newest_edit whole some read) (subst (λ (r : Option ℕ). 0 < room_at items r free) is room))
-  where
-    by : (b : Bool) → nat_lt newest_edit.spare 4 ≡ b → 0 < cond b 0 free → 4 ≤ newest_edit.spare
-    by true e h = absurd (omega arith)
-    by false e h = grind (arith, nat_tests)
+    grind (arith, common_steps, nat_tests, last_read items index newest_edit whole some read)
 
 pub from_character : (symbols : List Symbol) (c : ℕ) → character_of symbols ≡ Some c → symbols ≡ Character c ∷ []
 from_character [] c e = cc
@@ -89,11 +86,7 @@ edge_merged true place symbols edit c e =
 edge_merged false place symbols edit c e = ap (λ (s : List Symbol). slice_get (s ++ symbols) 0) e
 
 pub edge_of_one : (edit : Splice) (c : ℕ) → edit.symbols ≡ Character c ∷ [] → edge_of edit ≡ Some (Character c)
-edge_of_one edit c e = ap (λ (s : List Symbol). slice_get s (cond edit.inserts (length s - 1) 0)) e ∙ by edit.inserts
-  where
-    by : (b : Bool) → slice_get (Character c ∷ []) (cond b (length {A = Symbol} (Character c ∷ []) - 1) 0) ≡ Some (Character c)
-    by true = refl
-    by false = refl
+edge_of_one edit c e = grind (arith, common_steps)
 
 pub store_joined : (items : List Stored) (index maximum : ℕ) (run : Option ℕ) (newest_edit new : Stored) (edit : Splice) (c : ℕ) → IsStore items index maximum run → Joining items index run newest_edit edit → new.splice ≡ merged newest_edit.splice edit → new.grows ≡ true → IsWellFormed new → edit.symbols ≡ Character c ∷ [] → IsStore (set items (index - 1) new) index maximum (Some c)
 store_joined items index maximum run newest_edit new edit c store j is grows formed one =
@@ -284,11 +277,7 @@ typed_is edit false (Some c) e = cc
 
 pub free_from_room : (items : List Stored) (run : Option ℕ) (free : ℕ) → 0 < room_at items run free → 0 < free
 free_from_room items None free h = h
-free_from_room items (Some edge) free h = by (nat_lt (spare_in (slice_get items (length items - 1))) 4) h
-  where
-    by : (b : Bool) → 0 < cond b 0 free → 0 < free
-    by true h = absurd (omega arith)
-    by false h = h
+free_from_room items (Some edge) free h = grind (arith, common_steps, nat_tests)
 
 pub store_appended : (items new_items : List Stored) (index maximum : ℕ) (run typed : Option ℕ) (was : Splice) (edit : Stored) → IsStore items index maximum run → drop index (map splice_in items) ≡ [] → length (take index (map splice_in items)) < maximum → new_items ≡ items ++ edit ∷ [] → edit.splice ≡ was → IsWellFormed edit → IfSome typed (λ c. edit.grows ≡ true) → IfSome typed (λ c. was.symbols ≡ Character c ∷ []) → IsStore new_items (index + 1) maximum typed
 store_appended items new_items index maximum run typed was edit store none below is same formed grows one =
@@ -341,14 +330,8 @@ newest_within items (suc index) maximum run_open last log view some = omega arit
 
 -- a log with a next edit has one at the index
 pub next_within : (items : List Stored) (index maximum : ℕ) (run_open : Bool) (last : ℕ) (log : Log) → index ≤ length items → log_at (map splice_in items) index maximum run_open last ≡ log → IsSome (next log) → index < length items
-next_within items index maximum run_open last log within view some = by (nat_lt index (length items)) refl
-  where
-    by : (b : Bool) → nat_lt index (length items) ≡ b → index < length items
-    by true e = grind (arith, nat_tests)
-    by false e =
-        let beyond : length items ≤ index = grind (arith, nat_tests) in
-        let whole : index ≡ length items = omega arith in
-        let no : false ≡ true = subst (λ (o : Option Splice). IsSome o) (next_none items index maximum run_open last whole) (subst (λ (l : Log). IsSome (next l)) (sym view) some) in cc
+next_within items index maximum run_open last log within view some =
+    grind (arith, common_steps, next_none items index maximum run_open last, cases_lt index (length items))
 
 -- the newest edit is undone
 pub stepped_back : (items : List Stored) (index maximum : ℕ) (run_open : Bool) (last : ℕ) (log : Log) → index ≤ length items → log_at (map splice_in items) index maximum run_open last ≡ log → 0 < index → (splice : Splice) → newest log ≡ Some splice → log_at (map splice_in items) (index - 1) maximum false last ≡ undone_log log splice

@@ -7,15 +7,16 @@ unfoldable pub use Rattle.std.specs.Str.{chars}
 pub use Rattle.std.specs.String.{string_capacity, string_len}
 pub use Rattle.std.specs.VecDeque.{deque_capacity, deque_len}
 pub use Rattle.std.specs.declared.alloc.Global.{Global}
+pub use Rattle.std.specs.Str.Iter.{chars_rest}
 pub use Rattle.textarea_text.specs.Offset.{offset_at}
 pub use Rattle.textarea_text.specs.Place.{IsPlace, IsPlaceOf, Place, OccursAt, changed, end, index_of, inserted, removed}
 pub use Rattle.textarea_text.specs.Size.{size_of, weight}
 pub use Rattle.textarea_text.specs.Splice.{Allows, CanApply, CanUndo, Fits, Splice, IsTextBefore, applied, applied_all, inverse, place_after, place_before}
-pub use Rattle.textarea_text.specs.Text.{Break, Character, Symbol, characters, characters_of, following, joined, leading, lines, lines_of, text_of}
+pub use Rattle.textarea_text.specs.Text.{Break, Character, Symbol, characters, characters_of, following, joined, leading, lines, lines_of, symbol_in, text_of}
 pub use Rattle.textarea_text.specs.Touched.{IsReplacementFor, ReplacesBetween, breaks_of, new_line_count, replaced_line_count}
 pub use Rattle.textarea_text.specs.declared.rows.Replacement.{Replacement}
 pub use Rattle.textarea_history.specs.Change.{FitsLines, IsRemovalInLine, MakesLines}
-pub use Rattle.textarea_history.specs.Edit.{IsCopyOfEdit, IsCopyOfKind, IsWellFormed, Stored, directed, grows_of, line_count_in, stored_of, symbols_in}
+pub use Rattle.textarea_history.specs.Edit.{IsCopyOfEdit, IsCopyOfKind, IsWellFormed, Stored, directed, grows_of, inserts_of, line_count_in, line_count_of, stored_of, symbols_in, symbols_of}
 pub use Rattle.textarea_history.specs.EditLaw.{IsUndone}
 pub use Rattle.textarea_history.specs.HistoryLaw.{EachFits, RestoresText, IsRedone, IsSame, IsSoundLog, edit_recorded, times}
 pub use Rattle.textarea_history.specs.Log.{StoredLog, Log, Logged, Redoes, Undoes, continues, continues_newest, done_after, done_appended, done_joined, edge_of, empty_log, grown, is_empty, is_same_direction, is_run_end, is_typed, joins, remaining_done, logged_of, redone_log, newest, next, pause, recorded, redone, redone_by, undone_log, typed_character, undone, undone_by, with_done}

@@ -3,9 +3,7 @@ mod change;
 mod run;
 
 ghost use Rattle.std.specs.Prelude.{◌≡◌, ◌<◌, ◌∷◌, [], IsOk, None, OnOk, OnErr, vec_len, true, false};
-ghost use Rattle.textarea_text.specs.Text.{symbol_in};
-ghost use Rattle.textarea_history.specs.Edit.{inserts_of, line_count_of, symbols_of};
-ghost use Rattle.textarea_history.specs.Prelude.{inverse, place_after, place_before, FitsLines, IsRemovalInLine, MakesLines};
+ghost use Rattle.textarea_history.specs.Prelude.{inverse, place_after, place_before, FitsLines, IsRemovalInLine, MakesLines, symbol_in, inserts_of, line_count_in, line_count_of, symbols_in, symbols_of};
 
 pub use change::Change;
 use std::alloc::AllocError;
@@ -89,6 +87,24 @@ impl Clone for Content {
     }
 }
 
+// What an edit of the kind inserts or removes, and whether it inserts it.
+fn content_of(kind: EditKind) -> (Content, bool)
+    ensures symbols { symbols_in result.1 result.0 ≡ symbols_of kind }
+    ensures inserts { result.1 ≡ inserts_of kind }
+    ensures fragment_lines { line_count_in result.0 ≡ line_count_of kind }
+{
+    match kind {
+        EditKind::InsertChar(c) => (Content::Character(c), true),
+        EditKind::DeleteChar(c) => (Content::Character(c), false),
+        EditKind::InsertNewline => (Content::Break, true),
+        EditKind::DeleteNewline => (Content::Break, false),
+        EditKind::InsertStr(s) => (Content::Text(s), true),
+        EditKind::DeleteStr(s) => (Content::Text(s), false),
+        EditKind::InsertChunk(fragment_lines) => (Content::Chunk(fragment_lines), true),
+        EditKind::DeleteChunk(fragment_lines) => (Content::Chunk(fragment_lines), false),
+    }
+}
+
 /// One edit. Its content is between the start and the end, after an insertion or before a removal.
 #[derive(Drop)]
 pub struct Edit {
@@ -125,7 +141,7 @@ impl Clone for Edit {
 }
 
 impl Edit {
-    ghost use Rattle.textarea_history.specs.Edit.{IsWellFormed, after_of, before_of, line_count_of, splice_of, end_of_kind, stored_of};
+    ghost use Rattle.textarea_history.specs.Edit.{IsWellFormed, after_of, before_of, line_count_of, splice_of, end_of_kind};
 
     /// Creates an edit from the cursor's positions before and after it. Ignores their byte offsets.
     pub fn new(kind: EditKind, before: Pos, after: Pos) -> Self
@@ -144,45 +160,17 @@ impl Edit {
         ensures end { result.end ≡ end_of_kind kind before after }
         ensures fragment_lines { result.fragment_lines ≡ line_count_of kind }
     {
-        match kind {
-            EditKind::InsertChar(c) => Edit::insertion(Content::Character(c), before, after),
-            EditKind::DeleteChar(c) => Edit::removal(Content::Character(c), before, after),
-            EditKind::InsertNewline => Edit::insertion(Content::Break, before, after),
-            EditKind::DeleteNewline => Edit::removal(Content::Break, before, after),
-            EditKind::InsertStr(s) => Edit::insertion(Content::Text(s), before, after),
-            EditKind::DeleteStr(s) => Edit::removal(Content::Text(s), before, after),
-            EditKind::InsertChunk(fragment_lines) => Edit::insertion(
-                Content::Chunk(fragment_lines),
-                before,
-                after,
-            ),
-            EditKind::DeleteChunk(fragment_lines) => Edit::removal(
-                Content::Chunk(fragment_lines),
-                before,
-                after,
-            ),
-        }
-    }
-
-    fn insertion(content: Content, before: (usize, usize), after: (usize, usize)) -> Self
-        ensures { result ≡ stored_of content true before after }
-    {
+        let (content, inserts) = content_of(kind);
+        let (start, end) = if inserts {
+            (before, after)
+        } else {
+            (after, before)
+        };
         Edit {
             content,
-            inserts: true,
-            start: before,
-            end: after,
-        }
-    }
-
-    fn removal(content: Content, before: (usize, usize), after: (usize, usize)) -> Self
-        ensures { result ≡ stored_of content false after before }
-    {
-        Edit {
-            content,
-            inserts: false,
-            start: after,
-            end: before,
+            inserts,
+            start,
+            end,
         }
     }
 

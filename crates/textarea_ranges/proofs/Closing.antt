@@ -1,5 +1,6 @@
 -- A list whose elements are replaced or dropped in place: those that are left move to its front.
 use Rattle.std.proofs.Common.{◌≡◌, ◌≤◌, ◌<◌, ℕ, ◌+◌, ◌-◌, List, [], ◌∷◌, ◌++◌, length, take, drop, get_or, filter_map, Option, Some, None, All, refl, sym, ap, ◌∙◌, arith, subst}
+use Rattle.std.proofs.lemmas.Grind.{common_steps}
 use Rattle.std.proofs.Math.ListN.{set, length-set}
 use Rattle.std.proofs.lemmas.List.{append_assoc, drop-drop, drop_more, drop-set-lt, take-append-drop, take_more_set}
 use Rattle.std.proofs.lemmas.List.Elements.{All-drop, All-head, All-tail, filter_map-append}
@@ -21,12 +22,7 @@ closes_none f xs all retained index d within found h =
 
 pub closes_some : {X : Type 0} (f : X → Option X) (xs all : List X) (retained index : ℕ) (d y : X) → retained ≤ index → index < length xs → f (get_or xs index d) ≡ Some y → Closes f xs retained index all → Closes f (set xs retained y) (retained + 1) (index + 1) all
 closes_some f xs all retained index d y after within found h =
-    ap (λ t. t ++ filter_map f (drop (index + 1) (set xs retained y))) (take_more_set xs retained y (omega arith))
-    ∙ ap (λ t. (take retained xs ++ y ∷ []) ++ filter_map f t) (drop-set-lt (index + 1) xs retained y (omega arith))
-    ∙ append_assoc (take retained xs) (y ∷ []) (filter_map f (drop (index + 1) xs))
-    ∙ sym (ap (λ t. take retained xs ++ filter_map f t) (drop_more xs index d within)
-    ∙ ap (λ o. take retained xs ++ cons_option o (filter_map f (drop (index + 1) xs))) found)
-    ∙ h
+    grind (arith, common_steps, take_more_set xs retained y (omega arith), drop-set-lt (index + 1) xs retained y (omega arith), append_assoc (take retained xs) (y ∷ []) (filter_map f (drop (index + 1) xs)), drop_more xs index d within)
 
 pub all_after : {X : Type 0} (P : X → Type 0) (xs : List X) (index : ℕ) (d : X) → index < length xs → All P (drop index xs) → All P (drop (index + 1) xs)
 all_after P xs index d within all =

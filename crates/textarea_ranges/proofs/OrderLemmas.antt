@@ -3,9 +3,7 @@ use Rattle.std.proofs.Common.{◌≡◌, List, [], ◌∷◌, cond, filter, refl
 use Rattle.std.proofs.lemmas.Bool.{cases_Bool, cond-true, cond-false}
 use Rattle.std.proofs.lemmas.List.MinMax.{ranks_by}
 use Rattle.std.proofs.lemmas.List.Sorted.{IsPermutation-cons, IsPermutation-middle, IsPermutation-refl, IsPermutation-trans}
-use Rattle.std.specs.Cmp.{IsStrictWeakOrder, nat_cmp_total, on_total, then_total}
-use Rattle.std.specs.List.Sorted.{IsStableBy, ties}
-use Rattle.textarea_ranges.specs.Prelude.{AllByRecursion, AtomicRange, AreInOrder, IsInOrder, in_order, is_range_before, insert_among}
+use Rattle.textarea_ranges.specs.Prelude.{AllByRecursion, AtomicRange, AreInOrder, IsInOrder, in_order, is_range_before, insert_among, IsStrictWeakOrder, nat_cmp_total, on_total, then_total, IsStableBy, ties}
 use Rattle.textarea_ranges.proofs.Lists.{EachLater}
 use Rattle.textarea_ranges.proofs.Sorts.{NotBefore, IsSortedBy-later, each_from_put, each_put, later-IsSortedBy, later_from_put, later_put, put, same_sorted, sorted_put, stable_put}
 

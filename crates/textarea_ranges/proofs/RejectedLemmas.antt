@@ -1,5 +1,6 @@
 -- A list is accepted exactly if it is valid; and the list of rejected ranges, range by range.
 use Rattle.std.proofs.Common.{◌≡◌, ◌≢◌, ◌↔◌, ℕ, ◌+◌, ◌<◌, ◌≤◌, List, [], ◌∷◌, ◌++◌, Option, Some, None, refl, sym, ap, ◌∙◌, inl, inr, arith, subst, zero-le, drop, get_or, length, String}
+use Rattle.std.proofs.lemmas.Grind.{common_steps}
 use Rattle.std.proofs.lemmas.Bool.Decides.{nat_tests}
 use Rattle.std.proofs.lemmas.List.{append_assoc, drop_more, get_or_past, length-map}
 use Rattle.std.proofs.lemmas.List.Elements.{All-from_recursion, recursion_from_All}
@@ -149,8 +150,4 @@ listed_on rows ranges index none last after items new all within old listed is =
     let range = get_or ranges index none in
     let why = reason rows last range in
     let rest = drop (index + 1) ranges in
-    ap (λ (t : List RejectedAtomicRange). t ++ rejected_after rows after rest) listed
-    ∙ ap (λ (l : Option AtomicRange). (items ++ with_reason range why) ++ rejected_after rows l rest) is
-    ∙ append_assoc items (with_reason range why) (rejected_after rows (last_valid last range why) rest)
-    ∙ ap (λ (t : List AtomicRange). items ++ rejected_after rows last t) (sym (drop_more ranges index none within))
-    ∙ old
+    grind (arith, common_steps, append_assoc items (with_reason range why) (rejected_after rows (last_valid last range why) rest), drop_more ranges index none within)

@@ -1,13 +1,11 @@
 -- Binary searches in ranges that are apart, and what the range that is found decides.
 use Rattle.std.proofs.Common.{◌≡◌, ◌≤◌, ◌<◌, ℕ, ◌+◌, ◌⊎◌, inl, inr, Bool, true, false, cond, not, List, [], ◌∷◌, length, take, drop, get_or, find, Option, Some, None, All, AllPairs, refl, sym, ap, subst, ◌∙◌, arith, zero-le}
-use Rattle.std.specs.List.{slice_get, AllByRecursion}
-use Rattle.std.specs.List.Sorted.{IsPartitionedBy, IsPartitionPoint}
+use Rattle.textarea_ranges.specs.Prelude.{Place, IsUpTo, is_up_to, AtomicRange, AtomicDeleteDirection, AreApart, AreInOrder, AreValid, has_ended, is_inside, is_range_at_place, is_range_before, moved_by, passes_end, range_around, range_at_place, range_end, range_start, slice_get, AllByRecursion, IsPartitionedBy, IsPartitionPoint}
 use Rattle.std.proofs.lemmas.Bool.{cases_Bool, cases_lt, cond-true, cond-false}
 use Rattle.std.proofs.lemmas.Bool.Decides.{nat_tests}
 use Rattle.std.proofs.lemmas.List.{get_or-drop, get_or-take, length-drop, length-take-le}
 use Rattle.std.proofs.lemmas.List.Folds.{find_at}
 use Rattle.std.proofs.lemmas.List.Sums.{position_or_len_is}
-use Rattle.textarea_ranges.specs.Prelude.{Place, IsUpTo, is_up_to, AtomicRange, AtomicDeleteDirection, AreApart, AreInOrder, AreValid, has_ended, is_inside, is_range_at_place, is_range_before, moved_by, passes_end, range_around, range_at_place, range_end, range_start}
 use Rattle.textarea_data.specs.declared.range.AtomicDeleteDirection.TheVariants.{Backward as DeleteBackward, Forward as DeleteForward}
 use Rattle.textarea_ranges.proofs.Lists.{AllPairs-later, EachLater, later-AllPairs}
 use Rattle.textarea_ranges.proofs.OrderLemmas.{sorted-in_order}

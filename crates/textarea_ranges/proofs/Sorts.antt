@@ -4,9 +4,7 @@ use Rattle.std.proofs.lemmas.Bool.{cases_Bool}
 use Rattle.std.proofs.lemmas.Bool.Decides.{nat_tests}
 use Rattle.std.proofs.lemmas.List.Elements.{All-from_recursion, recursion_from_All}
 use Rattle.std.proofs.lemmas.List.Sorted.{sorted_far}
-use Rattle.std.specs.List.{AllByRecursion}
-use Rattle.std.specs.Cmp.{IsStrictWeakOrder}
-use Rattle.std.specs.List.Sorted.{IsSortedBy, IsStableBy, ties}
+use Rattle.textarea_ranges.specs.Prelude.{AllByRecursion, IsStrictWeakOrder, IsSortedBy, IsStableBy, ties}
 use Rattle.textarea_ranges.proofs.Lists.{EachLater, filter-retained, first_retained}
 
 -- the second element does not come before the first

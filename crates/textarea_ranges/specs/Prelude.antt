@@ -1,6 +1,8 @@
 -- The names that contracts and proofs of this crate use. Declares nothing.
-pub use Rattle.std.specs.List.{AllByRecursion, cons_option}
+pub use Rattle.std.specs.List.{AllByRecursion, cons_option, slice_get}
 pub use Rattle.std.specs.declared.alloc.Global.{Global}
+pub use Rattle.std.specs.Cmp.{IsStrictWeakOrder, nat_cmp_total, on_total, then_total}
+pub use Rattle.std.specs.List.Sorted.{IsPartitionPoint, IsPartitionedBy, IsSortedBy, IsStableBy, ties}
 pub use Rattle.textarea_util.specs.Limit.{size_limit}
 pub use Rattle.textarea_text.specs.PlacesAfterSplice.{is_up_to, shifted}
 pub use Rattle.textarea_text.specs.Place.{IsBefore, IsPlaceOf, IsUpTo, Place, end, line_of}

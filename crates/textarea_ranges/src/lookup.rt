@@ -2,8 +2,7 @@
 //! is at it, and what a removal takes.
 //! A position is a row and a column, both from 0, the column in characters.
 ghost use Rattle.std.specs.Prelude.{◌≡◌, ◌≤◌, ℕ, List, All, find, length, not, true, false};
-ghost use Rattle.std.specs.List.Sorted.{IsPartitionPoint};
-ghost use Rattle.textarea_ranges.specs.Prelude.{AreApart, IsPlaceOf, IsUpTo, IsInside, IsWidened, has_ended, range_edge, range_at_place, range_around, is_range_at_place, is_inside, moved_out, passes_end, widened, AreValid};
+ghost use Rattle.textarea_ranges.specs.Prelude.{AreApart, IsPlaceOf, IsUpTo, IsInside, IsWidened, has_ended, range_edge, range_at_place, range_around, is_range_at_place, is_inside, moved_out, passes_end, widened, AreValid, IsPartitionPoint};
 
 use textarea_data::range::{AtomicCursorBias, AtomicDeleteDirection, AtomicRange};
 use textarea_text::place_shift::is_up_to;

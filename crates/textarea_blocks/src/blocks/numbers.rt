@@ -207,14 +207,7 @@ fn exchange_numbers(numbers: &mut Vec<usize>, mut new: Vec<usize>, exchanged: Ex
         → get_or new.items k 0 + exchanged.before ≤ usize.MAX }
     ensures { AreExchanged numbers.old.items new.items exchanged numbers.new.items }
 {
-    let Exchanged {
-        from,
-        to,
-        before,
-        gone,
-        come,
-    } = exchanged;
-    move_numbers(&mut new, 0, 0, before);
-    move_numbers(numbers, to, gone, come);
-    replace_items(numbers, from, to - from, new);
+    move_numbers(&mut new, 0, 0, exchanged.before);
+    move_numbers(numbers, exchanged.to, exchanged.gone, exchanged.come);
+    replace_items(numbers, exchanged.from, exchanged.to - exchanged.from, new);
 }

@@ -1,7 +1,6 @@
 use Rattle.std.proofs.Common.{◌∙◌, ap}
-use Rattle.std.specs.Str.Iter.{chars_rest}
+use Rattle.textarea_history.specs.Prelude.{chars, characters_of, chars_rest}
 use Rattle.std.proofs.lemmas.Str.{chars-nil}
-use Rattle.textarea_history.specs.Prelude.{chars, characters_of}
 use Rattle.textarea_history.proofs.Runs.{characters_of-pushed, written_none, written_more, written_all}
 use Rattle.textarea_history.proofs.texts.reverse_text.Goals as goal
 

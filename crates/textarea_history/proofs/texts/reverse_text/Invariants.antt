@@ -1,5 +1,4 @@
-use Rattle.std.specs.Str.Iter.{chars_rest}
-use Rattle.textarea_text.specs.Text.{characters_of}
+use Rattle.textarea_history.specs.Prelude.{chars_rest, characters_of}
 use Rattle.textarea_history.proofs.Runs.{WrittenBack}
 use Rattle.textarea_history.proofs.texts.reverse_text.Given as goal
 

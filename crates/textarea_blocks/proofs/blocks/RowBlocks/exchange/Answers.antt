@@ -3,7 +3,7 @@ use Rattle.std.proofs.Common.{◌≡◌, ◌+◌, ◌<◌, ◌≤◌, ◌∙◌,
 use Rattle.textarea_blocks.specs.Prelude.{replaced, RowsView, BlocksView, all_rows, rows_of_each, row_total}
 use Rattle.textarea_util.proofs.Replacing.{length-replaced}
 use Rattle.textarea_blocks.proofs.InBlocks.{before_more, before_within, block_count, blocks_set, lines_sum, rows_are, rows_sum}
-use Rattle.textarea_blocks.proofs.Numbers.{rows_exchanged}
+use Rattle.textarea_blocks.proofs.LineSums.{rows_exchanged}
 use Rattle.textarea_blocks.proofs.Totals.{all_set, totals_can_shift, totals_set}
 use Rattle.textarea_blocks.proofs.blocks.RowBlocks.exchange.Goals as goal
 use Rattle.textarea_blocks.proofs.blocks.RowBlocks.exchange.Goals.{After-replace_items}
@@ -37,8 +37,8 @@ exchanged c =
       within = within;
       inside = inside;
       now_is = now;
-      segment = omega (arith, c.count_rows-rows_gone.ensures, sums.0);
-      turned = omega (arith, c.count_rows-rows_gone.ensures, sums.0, sums.1, ap row_total now, come, whole, all, c.self.invariant.few_rows);
+      segment = omega (arith, c.count_rows-rows_gone.ensures, sums.segment);
+      turned = omega (arith, c.count_rows-rows_gone.ensures, sums.segment, sums.after, ap row_total now, come, whole, all, c.self.invariant.few_rows);
       come_is = come;
     }
 

@@ -1,6 +1,7 @@
 use Rattle.std.proofs.Common.{◌≡◌, ◌+◌, ◌<◌, ◌∙◌, [], ap, arith, get_or, length, take}
+use Rattle.std.proofs.lemmas.Grind.{common_steps}
 use Rattle.textarea_blocks.specs.Prelude.{BlocksView, all_rows, lines_before, rows_of_each, row_total}
-use Rattle.textarea_blocks.proofs.InBlocks.{block_count, rows_are, rows_sum, total_in_block}
+use Rattle.textarea_blocks.proofs.InBlocks.{rows_sum, total_in_block}
 use Rattle.textarea_blocks.proofs.Numbers.{row_total-take_le}
 use Rattle.textarea_blocks.proofs.blocks.RowBlocks.first_row.Goals as goal
 use Rattle.textarea_blocks.proofs.blocks.RowBlocks.first_row.Goals.{After-count_rows}
@@ -14,17 +15,7 @@ counted c =
     let within : block < length blocks = omega (arith, c.place_of-block.ensures.block.within, ap (λ (v : BlocksView). length v.blocks) c.self.view_is) in
     let inside : index < length (get_or blocks block []) = omega (arith, c.place_of-block.ensures.within, ap (λ (v : BlocksView). length (get_or v.blocks block [])) c.self.view_is) in
     let at : lines_before blocks block + index ≡ c.args.line = omega (arith, c.place_of-block.ensures.line, ap (λ (v : BlocksView). lines_before v.blocks block) c.self.view_is) in
-    let rows = c.as_slice.ensures.value ∙ rows_are items block c.index.result.now (omega (arith, within, block_count items)) c.index.ensures in
-    omega (
-      arith,
-      total_in_block row_total rows_sum blocks block index c.args.line within (omega arith) at,
-      c.self.invariant.rows_are.right block within,
-      c.at.ensures,
-      c.count_rows.ensures,
-      ap (λ t. row_total (take index t)) rows,
-      row_total-take_le c.args.line (all_rows blocks),
-      c.self.invariant.few_rows,
-    )
+    grind (arith, common_steps, total_in_block row_total rows_sum blocks block index c.args.line within (omega arith) at, row_total-take_le c.args.line (all_rows blocks))
 
 pub overflow_add-result : goal.overflow_add-result
 overflow_add-result c =
