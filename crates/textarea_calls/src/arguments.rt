@@ -392,29 +392,28 @@ fn first_character(text: &str) -> Option<(char, &str)>
     ensures shorter { IfSome result (λ x. length x.1.now < length text.now) }
 {
     let mut rest = text.chars();
-    let c = match rest.next()? {
-        '\\' => return escaped_character(rest.as_str()),
-        c => c,
-    };
-    Some((c, rest.as_str()))
+    match rest.next()? {
+        '\\' => escaped_character(rest.as_str()),
+        c => Some((c, rest.as_str())),
+    }
 }
 
 // The character of an escape, and the text after it. The argument is the text after the backslash.
+#[tactic(auto, using(crate::proofs::Escapes::escape_letter), unfolding(crate::specs::Escapes::escape))]
 fn escaped_character(text: &str) -> Option<(char, &str)>
     ensures value { MatchOption result (escape text.now ≡ None)
         (λ x. escape text.now ≡ Some (x.0, x.1.now)) }
     ensures shorter { IfSome result (λ x. length x.1.now < length text.now) }
 {
     let mut rest = text.chars();
-    let c = match rest.next()? {
-        'n' => '\n',
-        'r' => '\r',
-        't' => '\t',
-        '\\' => '\\',
-        'u' => return numbered_character(rest.as_str()),
-        _ => return None,
-    };
-    Some((c, rest.as_str()))
+    match rest.next()? {
+        'n' => Some(('\n', rest.as_str())),
+        'r' => Some(('\r', rest.as_str())),
+        't' => Some(('\t', rest.as_str())),
+        '\\' => Some(('\\', rest.as_str())),
+        'u' => numbered_character(rest.as_str()),
+        _ => None,
+    }
 }
 
 // The character of a number in braces, of 1 to 6 hexadecimal digits, and the text after it.

@@ -14,9 +14,9 @@ returns-in-92-clause-value c =
     let same = first_escaped c.args.text.now c.as_str.result.now is in
     rw same c.escaped_character.ensures.value
 
-pub returns-clause-value : goal.returns-clause-value
-returns-clause-value c =
-    let is : c.args.text.now ≡ encode_utf8 c.in_ok-c.c ++ c.as_str-2.result.now = cc (c.in_ok-c.ensures.steps.0, c.chars-rest.ensures.rest, c.as_str-2.ensures) in
+pub returns-in_default-clause-value : goal.returns-in_default-clause-value
+returns-in_default-clause-value c =
+    let is : c.args.text.now ≡ encode_utf8 c.in_ok-c.c ++ c.as_str-in_default.result.now = cc (c.in_ok-c.ensures.steps.0, c.chars-rest.ensures.rest, c.as_str-in_default.ensures) in
     let first : Some c.in_ok-c.c ≡ slice_get (chars c.args.text.now) 0 = c.in_ok-c.ensures.steps.2 ∙ ap (λ (t : List ℕ). slice_get (chars t) 0) c.chars-rest.ensures.rest in
     let other : c.in_ok-c.c ≢ 92 = search rules in
-    first_plain c.args.text.now c.as_str-2.result.now c.in_ok-c.c is first other
+    first_plain c.args.text.now c.as_str-in_default.result.now c.in_ok-c.c is first other
