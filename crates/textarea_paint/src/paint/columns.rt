@@ -27,7 +27,8 @@ pub fn cluster_columns(cluster: &str) -> usize
     }
 }
 
-fn columns_of_char(c: char) -> usize
+/// Returns the number of columns that a character takes, 0 if it is a control character.
+pub(super) fn columns_of_char(c: char) -> usize
     ensures { result ≡ char_columns c }
 {
     c.width().unwrap_or(0)
