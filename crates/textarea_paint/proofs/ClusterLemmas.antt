@@ -34,6 +34,13 @@ pub clusters_left-text : (old new : LineClusters) (text : List ℕ) → grapheme
 unfolding clusters_left
 clusters_left-text old new text fitting_clusters style base after spans = rw (fitting_clusters, style, base, after, spans) refl
 
+-- the first cluster of the text after the split one is taken
+pub clusters_left-first : (old new : LineClusters) (text : List ℕ) → graphemes_left old.texts ≡ [] → graphemes_left new.texts ≡ [] →
+    graphemes true old.after.now ≡ text ∷ graphemes true new.after.now → new.style ≡ old.style → new.base ≡ old.base → iter_rest new.spans ≡ iter_rest old.spans →
+    clusters_left old ≡ in_style old.style text ∷ clusters_left new
+unfolding clusters_left
+clusters_left-first old new text none none' split style base spans = rw (none, none', split, style, base, spans) refl
+
 -- characters of the text after the split one are taken
 pub clusters_left-run : (old new : LineClusters) (text : List ℕ) → graphemes_left old.texts ≡ [] → graphemes_left new.texts ≡ [] →
     graphemes true old.after.now ≡ singles text ++ graphemes true new.after.now → new.style ≡ old.style → new.base ≡ old.base → iter_rest new.spans ≡ iter_rest old.spans →

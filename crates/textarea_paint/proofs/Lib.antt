@@ -9,4 +9,5 @@ pub mod PlainLemmas
 mod PlainRowLemmas
 mod RowLemmas
 pub mod SeamLemmas
+mod SimpleLemmas
 pub mod WidthLemmas

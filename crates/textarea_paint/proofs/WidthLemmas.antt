@@ -1,6 +1,6 @@
 -- The columns of a text are those of its grapheme clusters together, since a character without a
 -- column is in a cluster with a control character only if that is CR before LF.
-use Rattle.std.proofs.Common.{◌≡◌, ℕ, ◌+◌, ◌<◌, Bool, true, false, not, cond, ◌&&◌, ◌||◌, List, [], ◌∷◌, ◌++◌, map, sum_by, unwrap_or, refl, sym, ap, subst, ◌∙◌, arith}
+use Rattle.std.proofs.Common.{◌≡◌, ℕ, ◌<◌, Bool, true, false, not, cond, ◌&&◌, ◌||◌, List, [], ◌∷◌, ◌++◌, map, sum_by, unwrap_or, refl, sym, ap, subst, ◌∙◌, arith}
 use Rattle.std.specs.Char.{is_control}
 use Rattle.std.specs.List.{list_all, list_any}
 use Rattle.std.specs.Prelude.{encode_utf8_all}
@@ -11,7 +11,7 @@ use Rattle.std.proofs.lemmas.List.Sums.{sum_by-cons}
 use Rattle.std.proofs.lemmas.Str.{chars-encodes, scalars-chars}
 use Rattle.ucd_breaks.specs.GraphemeClusterBreak.{grapheme_cluster_break}
 use Rattle.ucd_breaks.specs.declared.GraphemeClusterBreak.{GraphemeClusterBreak}
-use Rattle.ucd_breaks.specs.declared.GraphemeClusterBreak.TheVariants.{Control, Cr, Lf}
+use Rattle.ucd_breaks.specs.declared.GraphemeClusterBreak.TheVariants.{Control, Cr, Lf, Other, RegionalIndicator}
 use Rattle.ucd_breaks.proofs.GraphemeClusterBreakLemmas.{grapheme_cluster_break_stepped}
 use Rattle.ucd_table.proofs.Computing.{tables}
 use Rattle.ucd_table.proofs.RangedFacts.{points_ok, Stepped-at_points}
@@ -51,6 +51,19 @@ control-apart c is = sym (cond-true (is_control c) (is_apart (grapheme_cluster_b
 line_break-control : (c : ℕ) → is_line_break (grapheme_cluster_break c) ≡ true → is_control c ≡ true
 unfolding tables points_ok grapheme_cluster_break_stepped is_line_break
 line_break-control c is = Stepped-at_points grapheme_cluster_break grapheme_cluster_break_stepped (λ v. not (is_line_break v)) (λ x v. is_control x) refl c (ap not is)
+
+-- a character of any other value is no control character
+visible-if : (c : ℕ) (b : Bool) → is_control c ≡ b → is_apart (grapheme_cluster_break c) ≡ false → is_control c ≡ false
+visible-if c true is other = absurd (false≢true (sym other ∙ control-apart c is))
+visible-if c false is other = is
+
+pub other-visible : (c : ℕ) → grapheme_cluster_break c ≡ Other → is_control c ≡ false
+unfolding is_apart
+other-visible c other = visible-if c (is_control c) refl (ap is_apart other)
+
+pub regional-visible : (c : ℕ) → grapheme_cluster_break c ≡ RegionalIndicator → is_control c ≡ false
+unfolding is_apart
+regional-visible c regional = visible-if c (is_control c) refl (ap is_apart regional)
 
 no_column : (c : ℕ) → is_control c ≡ true → char_columns c ≡ 0
 unfolding char_width
@@ -99,7 +112,7 @@ joined before c d after joins = record {
 
 -- ---- the columns of clusters
 
-abbrev cluster_width : List ℕ → ℕ
+abbrev pub cluster_width : List ℕ → ℕ
 cluster_width cs = cond (list_any is_control cs) 0 (sum_by char_columns cs)
 
 -- a cluster that begins with this character
@@ -190,7 +203,7 @@ clusters_are before c (d ∷ cs) =
 
 -- ---- the columns of a text
 
-columns_of-encoded : (cs : List ℕ) → all_scalars cs ≡ true → columns_of (encode_utf8_all cs) ≡ cluster_width cs
+pub columns_of-encoded : (cs : List ℕ) → all_scalars cs ≡ true → columns_of (encode_utf8_all cs) ≡ cluster_width cs
 unfolding columns_of
 columns_of-encoded cs scalar = ap cluster_width (chars-encodes cs scalar)
 

@@ -7,4 +7,5 @@ pub mod LineClusters
 pub mod Part
 pub mod Plain
 pub mod Row
+pub mod Simple
 pub mod Prelude

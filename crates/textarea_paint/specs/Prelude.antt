@@ -1,4 +1,5 @@
 -- The names that contracts of this crate use, re-exported. It declares nothing.
+pub use Rattle.ucd_table.specs.Rows.{in_ranges}
 pub use Rattle.unicode_segmentation.specs.Grapheme.{graphemes}
 pub use Rattle.textarea_screen.specs.Block.{block_view}
 pub use Rattle.textarea_screen.specs.Buffer.{Changes, HasNone, KeepsOutside, area_of, is_between}
@@ -15,3 +16,4 @@ pub use Rattle.textarea_paint.specs.Columns.{columns_of}
 pub use Rattle.textarea_paint.specs.LineClusters.{run_clusters, styled_cluster}
 pub use Rattle.textarea_paint.specs.Plain.{IsPrintable, begins_plain, is_printable, plain_count, singles}
 pub use Rattle.textarea_paint.specs.Row.{IsLongestFront, clusters_width, fitting, is_narrow, line_offset, row_cell}
+pub use Rattle.textarea_paint.specs.Simple.{begins_apart, early_ranges, is_flag_half, is_simple, late_ranges}

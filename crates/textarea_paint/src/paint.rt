@@ -5,6 +5,7 @@ mod cells;
 mod clusters;
 pub mod columns;
 pub mod row;
+mod simple;
 pub mod text;
 
 pub use block::draw_block;

@@ -1,5 +1,5 @@
 //! Grapheme clusters in the cells of a row, from left to right.
-ghost use Rattle.std.specs.Prelude.{◌≡◌, ◌+◌, ◌≤◌, ◌==◌, ℕ, max, length, [], ◌∷◌, All, IfOk, IsOk, IsTrue, OnOk, OnErr, if◌then◌else◌};
+ghost use Rattle.std.specs.Prelude.{◌≡◌, ◌+◌, ◌≤◌, ◌==◌, ℕ, false, max, length, [], ◌∷◌, All, IfOk, IsOk, IsTrue, OnOk, OnErr, if◌then◌else◌};
 ghost use Rattle.textarea_paint.specs.Prelude.{AreInline, Changes, KeepsOutside, with_symbol, INLINE_BYTES, IsPenAt, IsColumnWithin, IsPrintable, row_change, is_in_cells, is_between, place_from, placed_at, symbol_of, clusters_width, columns_of, plain_clusters, run_clusters, styled_cluster};
 
 use super::clusters::{ClusterRun, StyledCluster};
@@ -32,6 +32,7 @@ pub(crate) fn draw_run(
 ) -> Result<Pen, AllocError>
     requires edge { cells.x + cells.width ≤ 65535 }
     requires within { IsColumnWithin cells pen.x }
+    requires columns { run.is_plain ≡ false → run.columns ≡ columns_of run.text.now }
     requires plain { IsTrue run.is_plain → All IsPrintable run.text.now }
     ensures moved { (left column : ℕ) → IsPenAt cells left column pen
         → IfOk result (IsPenAt cells left (column + clusters_width (run_clusters run.entry))) }
@@ -49,7 +50,7 @@ pub(crate) fn draw_run(
             text: run.text,
             style: run.style,
         };
-        draw_cluster(buffer, cells, pen, cluster)
+        draw_sized(buffer, cells, pen, cluster, run.columns)
     }
 }
 
@@ -95,7 +96,30 @@ pub(crate) fn draw_cluster(
     ensures inline { length cluster.entry.text.now ≤ INLINE_BYTES → IsOk result }
     ensures err { OnErr result (KeepsOutside (is_in_cells cells) buffer.old buffer.new) }
 {
-    let columns = cluster_columns(cluster.text);
+    draw_sized(buffer, cells, pen, cluster, cluster_columns(cluster.text))
+}
+
+/// Draws a cluster of this number of columns at the pen, and moves the pen after it, at most to the
+/// end of the cells.
+fn draw_sized(
+    buffer: &mut Buffer,
+    cells: RowCells,
+    pen: Pen,
+    cluster: StyledCluster,
+    columns: usize,
+) -> Result<Pen, AllocError>
+    requires edge { cells.x + cells.width ≤ 65535 }
+    requires columns { columns ≡ columns_of cluster.text.now }
+    requires within { IsColumnWithin cells pen.x }
+    ensures moved { (left column : ℕ) → IsPenAt cells left column pen
+        → IfOk result (IsPenAt cells left (column + columns_of cluster.entry.text.now)) }
+    ensures drawn { (left column : ℕ) → IsPenAt cells left column pen
+        → OnOk result (Changes buffer.old buffer.new
+        (row_change cells left (placed_at column (styled_cluster cluster.entry) ∷ []))) }
+    ensures within { IfOk result (λ moved. IsColumnWithin cells moved.x) }
+    ensures inline { length cluster.entry.text.now ≤ INLINE_BYTES → IsOk result }
+    ensures err { OnErr result (KeepsOutside (is_in_cells cells) buffer.old buffer.new) }
+{
     let hidden = columns.min(pen.hidden);
     let room = usize::from(cells.x + cells.width - pen.x);
     let displayed = (columns - hidden).min(room);

@@ -1,8 +1,10 @@
 //! The grapheme clusters of a line.
-ghost use Rattle.std.specs.Prelude.{◌≡◌, ◌<◌, ◌≤◌, ◌++◌, [], length, true, All, IsTrue, IfSome, MatchOption, ◌↔◌, map, ◌∷◌};
-ghost use Rattle.textarea_paint.specs.Prelude.{graphemes, line_view, row_clusters, IsPrintable, is_printable, plain_count, singles};
+ghost use Rattle.std.specs.Prelude.{◌≡◌, ◌<◌, ◌≤◌, ◌++◌, [], length, true, false, All, IsTrue, IfSome, MatchOption, ◌↔◌, map, ◌∷◌};
+ghost use Rattle.textarea_paint.specs.Prelude.{columns_of, graphemes, line_view, row_clusters, IsPrintable, is_printable, plain_count, singles};
 ghost use Rattle.std.specs.Iterator.{YieldsFirstBy, item_count};
 
+use super::columns::cluster_columns;
+use super::simple::split_simple;
 use std::slice;
 use textarea_screen::screen::{Line, Span, Style};
 use unicode_segmentation::{Graphemes, UnicodeSegmentation};
@@ -20,6 +22,8 @@ pub(crate) struct StyledCluster<'a> {
 pub(crate) struct ClusterRun<'a> {
     pub(crate) text: &'a str,
     pub(crate) style: Style,
+    /// The columns of each of the clusters.
+    pub(crate) columns: usize,
     pub(crate) is_plain: bool,
 }
 
@@ -72,6 +76,8 @@ impl<'a, 'b> LineClusters<'a, 'b> {
         ensures steps { MatchOption result
             ((clusters_left self.old ≡ []) × (clusters_left self.new ≡ []))
             (λ run. clusters_left self.old ≡ run_clusters run ++ clusters_left self.new) }
+        ensures columns { IfSome result (λ run.
+            run.is_plain ≡ false → run.columns ≡ columns_of run.text.now) }
         ensures plain { IfSome result (λ run.
             IsTrue run.is_plain → All IsPrintable run.text.now) }
         ensures some { IfSome result (λ run. 0 < length (run_clusters run)) }
@@ -82,6 +88,7 @@ impl<'a, 'b> LineClusters<'a, 'b> {
                 return Some(ClusterRun {
                     text,
                     style: self.style,
+                    columns: cluster_columns(text),
                     is_plain: false,
                 });
             }
@@ -90,6 +97,7 @@ impl<'a, 'b> LineClusters<'a, 'b> {
                 return Some(ClusterRun {
                     text,
                     style: self.style,
+                    columns: 1,
                     is_plain: true,
                 });
             }
@@ -97,6 +105,14 @@ impl<'a, 'b> LineClusters<'a, 'b> {
                 let span = self.spans.next()?;
                 self.style = self.base.patch(span.style);
                 self.after = span.content.as_str();
+            } else if let Some(first) = split_simple(self.after) {
+                self.after = first.after;
+                return Some(ClusterRun {
+                    text: first.text,
+                    style: self.style,
+                    columns: first.columns,
+                    is_plain: false,
+                });
             } else {
                 self.texts = self.after.graphemes(true);
                 self.after = "";

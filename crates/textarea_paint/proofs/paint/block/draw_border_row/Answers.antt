@@ -1,5 +1,5 @@
 use Rattle.std.proofs.lemmas.Grind.{common_steps}
-use Rattle.std.proofs.Common.{◌≡◌, ◌+◌, cond, ◌&&◌, ap, ◌∙◌, arith}
+use Rattle.std.proofs.Common.{cond, ap, arith}
 use Rattle.std.proofs.lemmas.Bool.{cond-false}
 use Rattle.textarea_screen.specs.Cell.{with_symbol}
 use Rattle.textarea_screen.proofs.ChangeLemmas.{Changes-as, Changes-more, Changes-none, KeepsOutside-from_changes, KeepsOutside-same, KeepsOutside-then}

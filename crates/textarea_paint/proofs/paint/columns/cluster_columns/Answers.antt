@@ -1,11 +1,10 @@
 use Rattle.std.proofs.lemmas.Grind.{common_steps}
-use Rattle.std.proofs.Common.{◌≡◌, ◌∙◌, ◌^◌, ◌<◌, ◌++◌, ◌∷◌, [], ℕ, List, ap, arith, length, refl, rules, subst, sym}
+use Rattle.std.proofs.Common.{◌≡◌, ◌∙◌, ◌++◌, ◌∷◌, [], ℕ, List, ap, arith, length, refl, rules, sym}
 use Rattle.std.specs.Prelude.{encode_utf8}
-use Rattle.std.specs.Char.{is_control}
 use Rattle.std.specs.Str.{chars, IsUtf8}
 use Rattle.std.proofs.lemmas.List.{nil_from_length}
 use Rattle.std.proofs.lemmas.Str.{chars_past_char, chars-nil}
-use Rattle.textarea_paint.specs.Columns.{columns_of, char_columns}
+use Rattle.textarea_paint.specs.Columns.{columns_of}
 use Rattle.textarea_paint.proofs.ColumnLemmas.{columns-le}
 use Rattle.textarea_paint.proofs.paint.columns.cluster_columns.Goals as goal
 

@@ -2,7 +2,7 @@ use Rattle.std.proofs.lemmas.Grind.{common_steps}
 use Rattle.std.proofs.Common.{refl, sym, ◌∙◌, arith}
 use Rattle.std.proofs.lemmas.Bool.{eqb-true}
 use Rattle.std.proofs.lemmas.List.{nil_from_length}
-use Rattle.textarea_paint.proofs.ClusterLemmas.{clusters_left-text, clusters_left-run, clusters_left-split, clusters_left-span, clusters_left-none, length-plain_clusters}
+use Rattle.textarea_paint.proofs.ClusterLemmas.{clusters_left-text, clusters_left-first, clusters_left-run, clusters_left-split, clusters_left-span, clusters_left-none, length-plain_clusters}
 use Rattle.textarea_paint.proofs.paint.clusters.LineClusters.next_run.Goals as goal
 
 pub returns-in-Some-clause-steps : goal.returns-in-Some-clause-steps
@@ -14,6 +14,12 @@ returns-in-Some-split_plain-clause-steps c =
     let no_text = c.in_default.ensures.steps in
     sym c.loop-text.invariant
     ∙ clusters_left-run c.loop-text.self _ c.in-Some-split_plain.text.now no_text.0 no_text.1 c.in-Some-split_plain.ensures.clusters refl refl refl
+
+pub returns-in-Some-split_simple-clause-steps : goal.returns-in-Some-split_simple-clause-steps
+returns-in-Some-split_simple-clause-steps c =
+    let no_text = c.in_default.ensures.steps in
+    sym c.loop-text.invariant
+    ∙ clusters_left-first c.loop-text.self _ c.in-Some-split_simple.first.text.now no_text.0 no_text.1 c.in-Some-split_simple.ensures.clusters refl refl refl
 
 pub returns-in-Some-split_plain-clause-some : goal.returns-in-Some-split_plain-clause-some
 returns-in-Some-split_plain-clause-some c =

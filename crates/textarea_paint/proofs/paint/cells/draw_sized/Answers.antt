@@ -6,7 +6,7 @@ use Rattle.textarea_paint.specs.Cells.{placed_at, row_change, symbol_of}
 use Rattle.textarea_paint.specs.Clusters.{Cluster}
 use Rattle.textarea_paint.specs.LineClusters.{styled_cluster}
 use Rattle.textarea_paint.proofs.CellLemmas.{row_change-one}
-use Rattle.textarea_paint.proofs.paint.cells.draw_cluster.Goals as goal
+use Rattle.textarea_paint.proofs.paint.cells.draw_sized.Goals as goal
 
 pub returns-clause-drawn : goal.returns-clause-drawn
 returns-clause-drawn c = λ left column at.
@@ -18,6 +18,6 @@ returns-clause-drawn c = λ left column at.
     let end = pen.x + displayed in
     Changes-as (λ x y cell. row_change cells left (placed_at column cluster ∷ []) x y cell) c.in_ok-draw_columns.ensures.drawn
     (λ x y cell.
-    ap (λ k. cond (is_between cells.y pen.x end x y) (with_symbol (symbol_of (eqb displayed k) (eqb x pen.x) cluster.text) cluster.style cell) cell) c.cluster_columns-columns.ensures
+    ap (λ k. cond (is_between cells.y pen.x end x y) (with_symbol (symbol_of (eqb displayed k) (eqb x pen.x) cluster.text) cluster.style cell) cell) c.requires.columns
     ∙ row_change-one cells pen left column hidden displayed cluster at
     (record { left_of = omega arith; inside = omega arith }) x y cell)

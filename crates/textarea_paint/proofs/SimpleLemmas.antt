@@ -1,0 +1,338 @@
+-- A simple character, and a flag, is a grapheme cluster by itself before another one, and the text
+-- after it is split as if it were a text of its own.
+use Rattle.std.proofs.lemmas.Grind.{common_steps}
+use Rattle.std.proofs.Common.{◌≡◌, ◌⊎◌, ℕ, ◌+◌, ◌-◌, ◌<◌, ◌≤◌, Bool, true, false, cond, not, ◌&&◌, ◌||◌, ◌==◌, nat_lt, List, [], ◌∷◌, ◌++◌, length, map, sum_by, take, drop, Option, None, Some, IfSome, refl, sym, ap, ap₂, subst, ◌∙◌, arith, inl, inr}
+use Rattle.std.proofs.lemmas.Bool.{cond-true, cond-false, eqb-true, false≢true}
+use Rattle.std.proofs.lemmas.Bool.Decides.{nat_tests}
+use Rattle.std.proofs.lemmas.List.{append-nil, append_assoc, length-append, nil_from_length}
+use Rattle.std.proofs.lemmas.List.Sums.{sum_by-cons}
+use Rattle.std.proofs.lemmas.Str.{IsUtf8-past_char, chars-nil, chars_past_char, scalars-chars}
+use Rattle.std.proofs.Math.Seq.{drop-append_seam, take-append_seam}
+use Rattle.std.specs.Char.{is_control}
+use Rattle.std.specs.Prelude.{encode_utf8, encode_utf8_all}
+use Rattle.std.specs.Str.{all_scalars, chars, IsUtf8}
+use Rattle.textarea_paint.proofs.WidthLemmas.{columns_of-encoded, other-visible, regional-visible}
+use Rattle.textarea_paint.specs.Columns.{char_columns, columns_of}
+use Rattle.textarea_paint.specs.Simple.{begins_apart, early_ranges, is_flag_half, is_simple, late_ranges}
+use Rattle.ucd_breaks.specs.GraphemeClusterBreak.{grapheme_cluster_break, grapheme_cluster_break_number}
+use Rattle.ucd_breaks.specs.declared.GraphemeClusterBreak.{GraphemeClusterBreak}
+use Rattle.ucd_breaks.specs.declared.GraphemeClusterBreak.TheVariants.{Other, RegionalIndicator}
+use Rattle.ucd_breaks.proofs.GraphemeClusterBreakLemmas.{grapheme_cluster_break_number_injective, grapheme_cluster_break_stepped}
+use Rattle.ucd_derived.specs.IndicConjunctBreak.{indic_conjunct_break, indic_conjunct_break_number}
+use Rattle.ucd_derived.specs.declared.IndicConjunctBreak.{IndicConjunctBreak}
+use Rattle.ucd_derived.specs.declared.IndicConjunctBreak.TheVariants as conjunct
+use Rattle.ucd_derived.proofs.IndicConjunctBreakLemmas.{indic_conjunct_break_number_injective, indic_conjunct_break_stepped}
+use Rattle.ucd_table.specs.Rows.{in_ranges}
+use Rattle.ucd_table.proofs.Computing.{tables}
+use Rattle.ucd_table.proofs.Facts.{Stepped-everywhere}
+use Rattle.ucd_table.proofs.Stepped.{Stepped, of_ranges, zip_stepped}
+use Rattle.ucd_table.proofs.TrieCheck.{all_below, all_below-at}
+use Rattle.unicode_segmentation.specs.Emoji.{is_extended_pictographic}
+use Rattle.unicode_segmentation.specs.Grapheme.{graphemes, is_grapheme_break, ends_in_linker, ends_in_pictograph, ends_in_half_flag, is_extend, is_regional, is_zwj}
+use Rattle.unicode_segmentation.specs.Segments.{prepend, cut, segments}
+use Rattle.unicode_segmentation.proofs.Computing.{unicode_segmentation}
+use Rattle.unicode_width.proofs.Computing.{unicode_width}
+
+-- ---- the tables
+
+has_no_joiner : GraphemeClusterBreak → IndicConjunctBreak → Bool
+has_no_joiner g i = (grapheme_cluster_break_number g == 12) && (indic_conjunct_break_number i == 3)
+
+either_way : Bool → Bool → Bool
+either_way simple fits = not simple || fits
+
+joiner_stepped : Stepped (λ c. has_no_joiner (grapheme_cluster_break c) (indic_conjunct_break c))
+joiner_stepped = zip_stepped has_no_joiner grapheme_cluster_break indic_conjunct_break grapheme_cluster_break_stepped indic_conjunct_break_stepped
+
+early_stepped : Stepped (in_ranges early_ranges)
+unfolding tables
+early_stepped = of_ranges early_ranges refl
+
+late_stepped : Stepped (in_ranges late_ranges)
+unfolding tables
+late_stepped = of_ranges late_ranges refl
+
+early_fits : (c : ℕ) → either_way (in_ranges early_ranges c) (has_no_joiner (grapheme_cluster_break c) (indic_conjunct_break c)) ≡ true
+unfolding tables grapheme_cluster_break_stepped indic_conjunct_break_stepped early_stepped joiner_stepped has_no_joiner either_way
+early_fits c = Stepped-everywhere _ (zip_stepped either_way (in_ranges early_ranges) _ early_stepped joiner_stepped) refl c
+
+late_fits : (c : ℕ) → either_way (in_ranges late_ranges c) (has_no_joiner (grapheme_cluster_break c) (indic_conjunct_break c)) ≡ true
+unfolding tables grapheme_cluster_break_stepped indic_conjunct_break_stepped late_stepped joiner_stepped has_no_joiner either_way
+late_fits c = Stepped-everywhere _ (zip_stepped either_way (in_ranges late_ranges) _ late_stepped joiner_stepped) refl c
+
+-- no rule that joins characters applies to this one, except those that make emoji
+pub record IsApart (c : ℕ) : Type 0 where
+  pub other : grapheme_cluster_break c ≡ Other
+  pub no_conjunct : indic_conjunct_break c ≡ conjunct.None
+
+apart-from : (c : ℕ) → has_no_joiner (grapheme_cluster_break c) (indic_conjunct_break c) ≡ true → IsApart c
+unfolding has_no_joiner
+apart-from c fits = record {
+  other = grapheme_cluster_break_number_injective _ _ (grind (arith, nat_tests));
+  no_conjunct = indic_conjunct_break_number_injective _ _ (grind (arith, nat_tests));
+}
+
+second_holds : (b fits : Bool) → either_way b fits ≡ true → b ≡ true → fits ≡ true
+unfolding either_way
+second_holds true fits either is = either
+second_holds false fits either is = absurd (false≢true is)
+
+simple-apart : (c : ℕ) → is_simple c ≡ true → IsApart c
+simple-apart c is = apart-from c (by (nat_lt c 0x3000) is)
+  where
+    by : (early : Bool) → cond early (in_ranges early_ranges c) (in_ranges late_ranges c) ≡ true → has_no_joiner (grapheme_cluster_break c) (indic_conjunct_break c) ≡ true
+    by true is = second_holds _ _ (early_fits c) is
+    by false is = second_holds _ _ (late_fits c) is
+
+-- ---- halves of flags
+
+is_half : ℕ → Bool
+is_half c = (grapheme_cluster_break_number (grapheme_cluster_break c) == 8) && (indic_conjunct_break_number (indic_conjunct_break c) == 3)
+
+all_halves : all_below (λ k. is_half (0x1F1E6 + k)) 26 ≡ true
+unfolding unicode_segmentation is_half
+all_halves = refl
+
+pub record IsHalf (c : ℕ) : Type 0 where
+  pub regional : grapheme_cluster_break c ≡ RegionalIndicator
+  pub no_conjunct : indic_conjunct_break c ≡ conjunct.None
+
+half-from : (c : ℕ) → is_half c ≡ true → IsHalf c
+unfolding is_half
+half-from c is = record {
+  regional = grapheme_cluster_break_number_injective _ _ (grind (arith, nat_tests));
+  no_conjunct = indic_conjunct_break_number_injective _ _ (grind (arith, nat_tests));
+}
+
+pub flag-half : (c : ℕ) → is_flag_half c ≡ true → IsHalf c
+flag-half c is =
+    let from : 0x1F1E6 ≤ c = grind (arith, nat_tests) in
+    let below : c - 0x1F1E6 < 26 = grind (arith, nat_tests) in
+    let at : 0x1F1E6 + (c - 0x1F1E6) ≡ c = omega arith in
+    half-from c (subst (λ x. is_half x ≡ true) at (all_below-at (λ k. is_half (0x1F1E6 + k)) 26 (c - 0x1F1E6) all_halves below))
+
+-- ---- a character at which a text can begin anew
+
+pub record BeginsAnew (d : ℕ) : Type 0 where
+  pub value : (grapheme_cluster_break d ≡ Other) ⊎ (grapheme_cluster_break d ≡ RegionalIndicator)
+  pub no_conjunct : indic_conjunct_break d ≡ conjunct.None
+  pub no_extend : is_extend (grapheme_cluster_break d) ≡ false
+  pub no_joiner : is_zwj (grapheme_cluster_break d) ≡ false
+
+anew : (d : ℕ) → (is_simple d || is_flag_half d) ≡ true → BeginsAnew d
+anew d is = by (is_simple d) refl is
+  where
+    by : (simple : Bool) → is_simple d ≡ simple → (simple || is_flag_half d) ≡ true → BeginsAnew d
+    by true e is =
+        let apart = simple-apart d e in
+        record { value = inl apart.other; no_conjunct = apart.no_conjunct; no_extend = ap is_extend apart.other; no_joiner = ap is_zwj apart.other }
+    by false e is =
+        let half = flag-half d is in
+        record { value = inr half.regional; no_conjunct = half.no_conjunct; no_extend = ap is_extend half.regional; no_joiner = ap is_zwj half.regional }
+
+module _ (d : ℕ) (begins : BeginsAnew d) (more : List ℕ) (whole : ends_in_half_flag more ≡ false) where
+  linker-anew : (xs : List ℕ) → ends_in_linker (map indic_conjunct_break (xs ++ d ∷ more)) ≡ ends_in_linker (map indic_conjunct_break (xs ++ d ∷ []))
+  unfolding ends_in_linker
+  linker-anew [] = rw begins.no_conjunct refl
+  linker-anew (x ∷ xs) = grind (arith, common_steps, linker-anew xs)
+
+  pictograph-anew : (xs : List ℕ) → ends_in_pictograph (xs ++ d ∷ more) ≡ ends_in_pictograph (xs ++ d ∷ [])
+  unfolding ends_in_pictograph
+  pictograph-anew [] = rw begins.no_extend refl
+  pictograph-anew (x ∷ xs) = ap (λ e. is_extended_pictographic x || (is_extend (grapheme_cluster_break x) && e)) (pictograph-anew xs)
+
+  flag-anew : (xs : List ℕ) → ends_in_half_flag (xs ++ d ∷ more) ≡ ends_in_half_flag (xs ++ d ∷ [])
+  unfolding ends_in_half_flag
+  flag-anew [] = ap (λ e. is_regional (grapheme_cluster_break d) && not e) whole
+  flag-anew (x ∷ xs) = ap (λ e. is_regional (grapheme_cluster_break x) && not e) (flag-anew xs)
+
+  break-anew : (xs after : List ℕ) → is_grapheme_break true (xs ++ d ∷ more) after ≡ is_grapheme_break true (xs ++ d ∷ []) after
+  unfolding is_grapheme_break
+  break-anew [] [] = refl
+  break-anew (x ∷ xs) [] = refl
+  break-anew [] (next ∷ after) = grind (arith, common_steps, begins.no_joiner, linker-anew [], flag-anew [])
+  break-anew (x ∷ xs) (next ∷ after) = grind (arith, common_steps, linker-anew (x ∷ xs), pictograph-anew xs, flag-anew (x ∷ xs))
+
+  later-anew : (xs cs : List ℕ) → cut (is_grapheme_break true) (xs ++ d ∷ more) cs [] ≡ cut (is_grapheme_break true) (xs ++ d ∷ []) cs []
+  unfolding cut
+  later-anew xs [] = refl
+  later-anew xs (e ∷ cs) =
+      ap₂ (λ (b : Bool) (rest : List (List ℕ)). cond b ((e ∷ []) ∷ rest) (prepend (e ∷ []) rest)) (break-anew (e ∷ xs) (cs ++ [])) (later-anew (e ∷ xs) cs)
+
+  cut-anew : (cs : List ℕ) → cut (is_grapheme_break true) more (d ∷ cs) [] ≡ cut (is_grapheme_break true) [] (d ∷ cs) []
+  unfolding cut
+  cut-anew cs =
+      ap₂ (λ (b : Bool) (rest : List (List ℕ)). cond b ((d ∷ []) ∷ rest) (prepend (d ∷ []) rest)) (break-anew [] (cs ++ [])) (later-anew [] cs)
+
+-- ---- the first cluster of a text
+
+module _ (c : ℕ) (apart : IsApart c) where
+  whole-simple : ends_in_half_flag (c ∷ []) ≡ false
+  unfolding ends_in_half_flag
+  whole-simple = rw apart.other refl
+
+  break-simple : (v : GraphemeClusterBreak) (d : ℕ) (after : List ℕ) → grapheme_cluster_break d ≡ v → (v ≡ Other) ⊎ (v ≡ RegionalIndicator) → is_grapheme_break true (c ∷ []) (d ∷ after) ≡ true
+  unfolding is_grapheme_break ends_in_linker ends_in_half_flag
+  break-simple v d after is (inl e) = rw (apart.other, apart.no_conjunct, is, e) refl
+  break-simple v d after is (inr e) = rw (apart.other, apart.no_conjunct, is, e) refl
+
+  last-simple : cut (is_grapheme_break true) [] (c ∷ []) [] ≡ (c ∷ []) ∷ cut (is_grapheme_break true) [] [] []
+  unfolding cut is_grapheme_break
+  last-simple = refl
+
+  -- a simple character
+  cut-simple : (cs : List ℕ) → begins_apart cs ≡ true → cut (is_grapheme_break true) [] (c ∷ cs) [] ≡ (c ∷ []) ∷ cut (is_grapheme_break true) [] cs []
+  unfolding cut
+  cut-simple [] is = last-simple
+  cut-simple (d ∷ cs) is =
+      let begins = anew d is in
+      cond-true _ _ _ (break-simple (grapheme_cluster_break d) d (cs ++ []) refl begins.value)
+      ∙ ap (λ (pieces : List (List ℕ)). (c ∷ []) ∷ pieces) (cut-anew d begins (c ∷ []) whole-simple cs)
+
+module _ (b c : ℕ) (first : IsHalf b) (second : IsHalf c) where
+  joins-flag : (after : List ℕ) → is_grapheme_break true (b ∷ []) (c ∷ after) ≡ false
+  unfolding is_grapheme_break ends_in_linker ends_in_half_flag
+  joins-flag after = rw (first.regional, first.no_conjunct, second.regional) refl
+
+  whole-flag : ends_in_half_flag (c ∷ b ∷ []) ≡ false
+  unfolding ends_in_half_flag
+  whole-flag = rw (first.regional, second.regional) refl
+
+  break-flag : (v : GraphemeClusterBreak) (d : ℕ) (after : List ℕ) → grapheme_cluster_break d ≡ v → (v ≡ Other) ⊎ (v ≡ RegionalIndicator) → is_grapheme_break true (c ∷ b ∷ []) (d ∷ after) ≡ true
+  unfolding is_grapheme_break ends_in_linker ends_in_half_flag
+  break-flag v d after is (inl e) = rw (first.regional, second.regional, second.no_conjunct, is, e) refl
+  break-flag v d after is (inr e) = rw (first.regional, second.regional, second.no_conjunct, is, e) refl
+
+  last-flag : cut (is_grapheme_break true) (b ∷ []) (c ∷ []) [] ≡ (c ∷ []) ∷ cut (is_grapheme_break true) [] [] []
+  unfolding cut is_grapheme_break
+  last-flag = refl
+
+  cut-second : (cs : List ℕ) → begins_apart cs ≡ true → cut (is_grapheme_break true) (b ∷ []) (c ∷ cs) [] ≡ (c ∷ []) ∷ cut (is_grapheme_break true) [] cs []
+  unfolding cut
+  cut-second [] is = last-flag
+  cut-second (d ∷ cs) is =
+      let begins = anew d is in
+      cond-true _ _ _ (break-flag (grapheme_cluster_break d) d (cs ++ []) refl begins.value)
+      ∙ ap (λ (pieces : List (List ℕ)). (c ∷ []) ∷ pieces) (cut-anew d begins (c ∷ b ∷ []) whole-flag cs)
+
+  -- a flag
+  cut-flag : (cs : List ℕ) → begins_apart cs ≡ true → cut (is_grapheme_break true) [] (b ∷ c ∷ cs) [] ≡ (b ∷ c ∷ []) ∷ cut (is_grapheme_break true) [] cs []
+  unfolding cut
+  cut-flag cs is = cond-false _ _ _ (joins-flag (cs ++ [])) ∙ ap (prepend (b ∷ [])) (cut-second cs is)
+
+pub graphemes-simple : (text after : List ℕ) (c : ℕ) → IsUtf8 text → text ≡ encode_utf8 c ++ after → is_simple c ≡ true → begins_apart (chars after) ≡ true →
+    graphemes true text ≡ encode_utf8 c ∷ graphemes true after
+unfolding segments
+graphemes-simple text after c utf8 is simple apart =
+    ap (λ cs. map encode_utf8_all (cut (is_grapheme_break true) [] cs [])) (chars_past_char text after c utf8 is)
+    ∙ ap (map encode_utf8_all) (cut-simple c (simple-apart c simple) (chars after) apart)
+    ∙ ap (λ (bytes : List ℕ). bytes ∷ map encode_utf8_all (cut (is_grapheme_break true) [] (chars after) [])) (append-nil (encode_utf8 c))
+
+pub graphemes-flag : (text rest after : List ℕ) (b c : ℕ) → IsUtf8 text → text ≡ encode_utf8 b ++ rest → rest ≡ encode_utf8 c ++ after →
+    is_flag_half b ≡ true → is_flag_half c ≡ true → begins_apart (chars after) ≡ true → graphemes true text ≡ (encode_utf8 b ++ encode_utf8 c) ∷ graphemes true after
+unfolding segments
+graphemes-flag text rest after b c utf8 is rest_is first second apart =
+    ap (λ cs. map encode_utf8_all (cut (is_grapheme_break true) [] cs []))
+    (chars_past_char text rest b utf8 is ∙ ap (λ cs. b ∷ cs) (chars_past_char rest after c (IsUtf8-past_char text rest b utf8 is) rest_is))
+    ∙ ap (map encode_utf8_all) (cut-flag b c (flag-half b first) (flag-half c second) (chars after) apart)
+    ∙ ap (λ (bytes : List ℕ). (encode_utf8 b ++ bytes) ∷ map encode_utf8_all (cut (is_grapheme_break true) [] (chars after) [])) (append-nil (encode_utf8 c))
+
+-- ---- the columns of the first cluster
+
+first-scalar : (c : ℕ) (cs : List ℕ) → all_scalars (c ∷ cs) ≡ true → all_scalars (c ∷ []) ≡ true
+first-scalar c cs scalar = grind (arith, nat_tests)
+
+first-scalars : (b c : ℕ) (cs : List ℕ) → all_scalars (b ∷ c ∷ cs) ≡ true → all_scalars (b ∷ c ∷ []) ≡ true
+first-scalars b c cs scalar = grind (arith, nat_tests)
+
+pub columns-simple : (text after : List ℕ) (c : ℕ) → IsUtf8 text → text ≡ encode_utf8 c ++ after → is_simple c ≡ true → columns_of (encode_utf8 c) ≡ char_columns c
+columns-simple text after c utf8 is simple =
+    let scalar = first-scalar c (chars after) (ap all_scalars (sym (chars_past_char text after c utf8 is)) ∙ scalars-chars text utf8) in
+    ap columns_of (sym (append-nil (encode_utf8 c))) ∙ columns_of-encoded (c ∷ []) scalar
+    ∙ cond-false (is_control c || false) 0 (sum_by char_columns (c ∷ [])) (ap (λ (b : Bool). b || false) (other-visible c (simple-apart c simple).other))
+    ∙ omega (arith, sum_by-cons char_columns c [])
+
+all_one : all_below (λ k. char_columns (0x1F1E6 + k) == 1) 26 ≡ true
+unfolding tables unicode_width
+all_one = refl
+
+half-column : (c : ℕ) → is_flag_half c ≡ true → char_columns c ≡ 1
+half-column c is =
+    let from : 0x1F1E6 ≤ c = grind (arith, nat_tests) in
+    let below : c - 0x1F1E6 < 26 = grind (arith, nat_tests) in
+    let at : 0x1F1E6 + (c - 0x1F1E6) ≡ c = omega arith in
+    eqb-true _ _ (subst (λ x. (char_columns x == 1) ≡ true) at (all_below-at (λ k. char_columns (0x1F1E6 + k) == 1) 26 (c - 0x1F1E6) all_one below))
+
+pub columns-flag : (text rest after : List ℕ) (b c : ℕ) → IsUtf8 text → text ≡ encode_utf8 b ++ rest → rest ≡ encode_utf8 c ++ after →
+    is_flag_half b ≡ true → is_flag_half c ≡ true → columns_of (encode_utf8 b ++ encode_utf8 c) ≡ 2
+columns-flag text rest after b c utf8 is rest_is first second =
+    let all = chars_past_char text rest b utf8 is ∙ ap (λ cs. b ∷ cs) (chars_past_char rest after c (IsUtf8-past_char text rest b utf8 is) rest_is) in
+    let scalar = first-scalars b c (chars after) (ap all_scalars (sym all) ∙ scalars-chars text utf8) in
+    ap (λ (t : List ℕ). columns_of (encode_utf8 b ++ t)) (sym (append-nil (encode_utf8 c))) ∙ columns_of-encoded (b ∷ c ∷ []) scalar
+    ∙ cond-false (is_control b || (is_control c || false)) 0 (sum_by char_columns (b ∷ c ∷ []))
+    (ap₂ (λ (x : Bool) (y : Bool). x || (y || false)) (regional-visible b (flag-half b first).regional) (regional-visible c (flag-half c second).regional))
+    ∙ omega (arith, sum_by-cons char_columns b (c ∷ []), sum_by-cons char_columns c [], half-column b first, half-column c second)
+
+-- ---- a text that is split after its first cluster
+
+pub flag_bytes : (text rest after : List ℕ) (b c : ℕ) → text ≡ encode_utf8 b ++ rest → rest ≡ encode_utf8 c ++ after → text ≡ (encode_utf8 b ++ encode_utf8 c) ++ after
+flag_bytes text rest after b c is rest_is = is ∙ ap (λ (t : List ℕ). encode_utf8 b ++ t) rest_is ∙ sym (append_assoc (encode_utf8 b) (encode_utf8 c) after)
+
+module _ (text first after : List ℕ) (is : text ≡ first ++ after) where
+  same_length : length text - length after ≡ length first
+  same_length = omega (arith, ap length is, length-append first after)
+
+  taken : take (length text - length after) text ≡ first
+  taken = ap₂ (λ (n : ℕ) (t : List ℕ). take n t) same_length is ∙ take-append_seam first after
+
+  dropped : drop (length text - length after) text ≡ after
+  dropped = ap₂ (λ (n : ℕ) (t : List ℕ). drop n t) same_length is ∙ drop-append_seam first after
+
+  pub split-clusters : {X : Type 0} (r : Option X) (front back : X → List ℕ) → IfSome r (λ x. front x ≡ take (length text - length after) text) →
+      IfSome r (λ x. back x ≡ drop (length text - length after) text) → graphemes true text ≡ first ∷ graphemes true after → IfSome r (λ x. graphemes true text ≡ front x ∷ graphemes true (back x))
+  split-clusters None front back is_front is_back clusters = tt
+  split-clusters (Some x) front back is_front is_back clusters =
+      clusters ∙ ap₂ (λ (f : List ℕ) (b : List ℕ). f ∷ graphemes true b) (sym (is_front ∙ taken)) (sym (is_back ∙ dropped))
+
+  pub split-columns : {X : Type 0} (r : Option X) (front : X → List ℕ) (columns : X → ℕ) (n : ℕ) → IfSome r (λ x. front x ≡ take (length text - length after) text) →
+      IfSome r (λ x. columns x ≡ n) → columns_of first ≡ n → IfSome r (λ x. columns x ≡ columns_of (front x))
+  split-columns None front columns n is_front counted is_first = tt
+  split-columns (Some x) front columns n is_front counted is_first = counted ∙ sym is_first ∙ ap columns_of (sym (is_front ∙ taken))
+
+-- ---- the first character of a text
+
+pub begins-some : (text rest : List ℕ) (c : ℕ) → IsUtf8 text → text ≡ encode_utf8 c ++ rest → begins_apart (chars text) ≡ (is_simple c || is_flag_half c)
+begins-some text rest c utf8 is = ap begins_apart (chars_past_char text rest c utf8 is)
+
+pub begins-none : (text : List ℕ) → length text ≡ 0 → begins_apart (chars text) ≡ true
+begins-none text none = ap (λ t. begins_apart (chars t)) (nil_from_length text none) ∙ ap begins_apart chars-nil
+
+-- ---- tests one after the other
+
+or_end : (a : Bool) → a ≡ (a || false)
+or_end true = refl
+or_end false = refl
+
+or_two : (a b : Bool) → (a || b) ≡ (a || (b || false))
+or_two true b = refl
+or_two false b = or_end b
+
+or_three : (a b c : Bool) → ((a || b) || c) ≡ (a || (b || (c || false)))
+or_three true b c = refl
+or_three false b c = or_two b c
+
+or_four : (a b c d : Bool) → (((a || b) || c) || d) ≡ (a || (b || (c || (d || false))))
+or_four true b c d = refl
+or_four false b c d = or_three b c d
+
+or_five : (a b c d e : Bool) → ((((a || b) || c) || d) || e) ≡ (a || (b || (c || (d || (e || false)))))
+or_five true b c d e = refl
+or_five false b c d e = or_four b c d e
+
+pub or_six : (a b c d e f : Bool) → (((((a || b) || c) || d) || e) || f) ≡ (a || (b || (c || (d || (e || (f || false))))))
+or_six true b c d e f = refl
+or_six false b c d e f = or_five b c d e f
+
+pub or_seven : (a b c d e f g : Bool) → ((((((a || b) || c) || d) || e) || f) || g) ≡ (a || (b || (c || (d || (e || (f || (g || false)))))))
+or_seven true b c d e f g = refl
+or_seven false b c d e f g = or_six b c d e f g

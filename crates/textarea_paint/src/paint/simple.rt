@@ -1,0 +1,123 @@
+//! Grapheme clusters that are found without a table: one simple character, or a flag.
+ghost use Rattle.std.specs.Prelude.{◌≡◌, ◌-◌, ◌<◌, ◌≤◌, ◌∷◌, ◌||◌, true, length, take, drop, IfSome, chars};
+ghost use Rattle.std.specs.Int.{is_in_range};
+ghost use Rattle.textarea_paint.specs.Prelude.{begins_apart, columns_of, early_ranges, graphemes, in_ranges, is_flag_half, is_simple, late_ranges};
+
+use super::columns::columns_of_char;
+
+/// The first cluster of a text, the columns that it takes, and the text after it.
+#[derive(Clone, Copy)]
+pub(super) struct FirstCluster<'a> {
+    pub(super) text: &'a str,
+    pub(super) columns: usize,
+    pub(super) after: &'a str,
+}
+
+/// Splits the first cluster off a text, if it is a simple character or a flag and a simple
+/// character, a flag or the end of the text follows.
+pub(super) fn split_simple<'a>(text: &'a str) -> Option<FirstCluster<'a>>
+    ensures clusters { IfSome result (λ first.
+        graphemes true text.now ≡ first.text.now ∷ graphemes true first.after.now) }
+    ensures columns { IfSome result (λ first. first.columns ≡ columns_of first.text.now) }
+    ensures shorter { IfSome result (λ first. length first.after.now < length text.now) }
+{
+    let mut characters = text.chars();
+    let first = characters.next()?;
+    if is_simple(first) {
+        let after = characters.as_str();
+        if begins_apart(after) {
+            return split_before(text, after, columns_of_char(first));
+        }
+    } else if is_flag_half(first) {
+        let second = characters.next()?;
+        let after = characters.as_str();
+        if is_flag_half(second) && begins_apart(after) {
+            return split_before(text, after, 2);
+        }
+    }
+    None
+}
+
+/// Splits a text before its end, which is as long as `after`. The first part takes `columns`.
+fn split_before<'a>(text: &'a str, after: &str, columns: usize) -> Option<FirstCluster<'a>>
+    requires { length after.now ≤ length text.now }
+    ensures text { IfSome result (λ first.
+        first.text.now ≡ take (length text.now - length after.now) text.now) }
+    ensures after { IfSome result (λ first.
+        first.after.now ≡ drop (length text.now - length after.now) text.now) }
+    ensures columns { IfSome result (λ first. first.columns ≡ columns) }
+    ensures len { IfSome result (λ first. length first.after.now ≡ length after.now) }
+{
+    let (text, after) = text.split_at_checked(text.len() - after.len())?;
+    Some(FirstCluster {
+        text,
+        columns,
+        after,
+    })
+}
+
+/// Returns whether a cluster begins with this text after a simple character or a flag.
+fn begins_apart(text: &str) -> bool
+    ensures { result ≡ begins_apart (chars text.now) }
+{
+    match text.chars().next() {
+        Some(c) => begins_cluster(c),
+        None => true,
+    }
+}
+
+fn begins_cluster(c: char) -> bool
+    ensures { result ≡ (is_simple c || is_flag_half c) }
+{
+    is_simple(c) || is_flag_half(c)
+}
+
+/// Returns whether no rule that joins characters applies to this one. It is false for some others
+/// of which this is also true.
+fn is_simple(c: char) -> bool
+    ensures { result ≡ is_simple c }
+{
+    if c < '\u{3000}' {
+        is_early(c)
+    } else {
+        is_late(c)
+    }
+}
+
+/// Returns whether the character is in one of the ranges below those of East Asia.
+fn is_early(c: char) -> bool
+    ensures { result ≡ in_ranges early_ranges c }
+{
+    is_within(c, ' ', '~')
+        | is_within(c, '\u{AE}', '\u{2FF}')
+        | is_within(c, '\u{370}', '\u{482}')
+        | is_within(c, '\u{48A}', '\u{590}')
+        | is_within(c, '\u{1E00}', '\u{200A}')
+        | is_within(c, '\u{2010}', '\u{2027}')
+        | is_within(c, '\u{2100}', '\u{2CEE}')
+}
+
+/// Returns whether the character is in one of the ranges of East Asia and those above.
+fn is_late(c: char) -> bool
+    ensures { result ≡ in_ranges late_ranges c }
+{
+    is_within(c, '\u{3030}', '\u{3098}')
+        | is_within(c, '\u{309B}', '\u{A66E}')
+        | is_within(c, '\u{FF00}', '\u{FF9D}')
+        | is_within(c, '\u{1F000}', '\u{1F1E5}')
+        | is_within(c, '\u{1F200}', '\u{1F3FA}')
+        | is_within(c, '\u{1F400}', '\u{3FFFF}')
+}
+
+fn is_within(c: char, first: char, last: char) -> bool
+    ensures { result ≡ is_in_range first last c }
+{
+    first <= c && c <= last
+}
+
+/// Returns whether the character is a regional indicator, of which two make a flag.
+fn is_flag_half(c: char) -> bool
+    ensures { result ≡ is_flag_half c }
+{
+    is_within(c, '\u{1F1E6}', '\u{1F1FF}')
+}
