@@ -16,6 +16,7 @@ pub fn count_rows(rows: &[Rows]) -> usize
 }
 
 /// Returns the sum of the bytes and the number of the lines, at most the greatest `usize`.
+#[inline]
 pub fn size_of_rows(rows: &[Rows]) -> usize
     ensures { result ≡ min (size_total rows.now) usize.MAX }
 {

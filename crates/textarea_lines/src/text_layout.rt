@@ -18,6 +18,9 @@ use textarea_util::limit::within_limit;
 use textarea_wrap::wrap::WrapCount;
 pub use width::PreparedWidth;
 
+// As many characters from a known position are read without a search for a nearer one.
+const NEARBY: usize = 64;
+
 /// The lines of a text, at least one, with their visual rows. A change wraps the lines that it
 /// touches, or all lines if the new number of lines changes how lines are wrapped. Rows and columns
 /// count from 0, columns in characters. A call that runs out of memory changes nothing.
@@ -264,15 +267,22 @@ impl TextLayout {
         requires { IsPlace self.now.text place }
         ensures { result ≡ offset_at (lines self.now.text) place }
     {
-        let marked = self
-            .marks
-            .at_column(place.0, self.settings.tab_len, place.1);
-        let far = place.1 - marked.column;
-        if self.found.row == place.0 && place.1.abs_diff(self.found.col) < far {
+        let steps = place.1.abs_diff(self.found.col);
+        let is_near = steps < NEARBY || steps < place.1 - self.marked_column(place);
+        if self.found.row == place.0 && is_near {
             let line = self.lines[place.0].as_str();
             return byte_offset_from(line, (self.found.col, self.found.offset), place.1);
         }
         self.view().offset_of(place)
+    }
+
+    // Returns the column of the last mark before a position in its line.
+    fn marked_column(&self, place: (usize, usize)) -> usize
+        ensures { result ≤ place.1 }
+    {
+        self.marks
+            .at_column(place.0, self.settings.tab_len, place.1)
+            .column
     }
 
     /// Makes positions of a line known, up to a position in it, so that look-ups near that position

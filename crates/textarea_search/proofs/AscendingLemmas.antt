@@ -1,21 +1,17 @@
 -- Binary searches in ascending columns, and the columns of a line's matches in order.
-use Rattle.std.proofs.lemmas.Grind.{common_steps}
-use Rattle.std.proofs.Common.{◌≡◌, ℕ, zero, suc, ◌+◌, ◌-◌, ◌<◌, ◌≤◌, Bool, true, false, not, cond, List, [], ◌∷◌, ◌++◌, length, get_or, take, drop, reverse, Option, None, Some, IfSome, refl, sym, ap, subst, ◌∙◌, inl, inr, arith, zero-le, IsUtf8, IsCharBoundary}
-use Rattle.std.specs.Prelude.{All, slice_range}
+use Rattle.std.proofs.Common.{◌≡◌, ℕ, ◌+◌, ◌-◌, ◌≤◌, Bool, true, false, not, cond, List, [], ◌∷◌, ◌++◌, length, get_or, take, drop, reverse, Option, None, Some, IfSome, sym, ap, subst, ◌∙◌, inl, inr, arith, zero-le}
+use Rattle.std.specs.Prelude.{All}
 use Rattle.std.specs.List.{find, slice_get}
 use Rattle.std.specs.List.Sorted.{IsNonDecreasingBy, IsPartitionedBy, IsPartitionPoint}
-use Rattle.std.specs.Str.{chars}
 use Rattle.std.proofs.lemmas.Bool.{cases_Bool}
 use Rattle.std.proofs.lemmas.Bool.Decides.{nat_tests}
-use Rattle.std.proofs.lemmas.List.{append_assoc, length-append, reverse-append, take-append-drop, take_more, get_or-drop, length-drop}
+use Rattle.std.proofs.lemmas.List.{append_assoc, reverse-append, take-append-drop, take_more, get_or-drop, length-drop}
 use Rattle.std.proofs.lemmas.List.Elements.{All-head, All-push, All-tail, All-weaker}
 use Rattle.std.proofs.lemmas.List.Folds.{find_at, find-append}
 use Rattle.std.proofs.lemmas.List.Sums.{position_or_len_is}
 use Rattle.std.proofs.lemmas.List.Sorted.{IsNonDecreasingBy-push}
-use Rattle.std.proofs.lemmas.Option.{slice_get-get_or, slice_get_past}
 use Rattle.textarea_search.specs.Starts.{along, is_ahead_in_line, is_past}
 use Rattle.textarea_search.specs.declared.search.direction.Direction.{Direction}
-use Rattle.textarea_search.specs.declared.search.direction.Direction.TheVariants.{Forward, Back}
 use Rattle.textarea_search.proofs.ColumnLemmas.{All-along}
 use Rattle.textarea_search.proofs.StartLemmas.{find-none, All-reverse}
 

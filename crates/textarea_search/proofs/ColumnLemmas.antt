@@ -1,6 +1,6 @@
 -- Byte offsets of a line and their columns.
 use Rattle.std.proofs.lemmas.Grind.{common_steps}
-use Rattle.std.proofs.Common.{◌≡◌, ℕ, zero, suc, ◌+◌, ◌-◌, ◌<◌, ◌≤◌, Bool, true, List, [], ◌∷◌, ◌++◌, map, length, take, drop, option_map, refl, sym, ap, ◌∙◌, ⊎_elim, arith, IsUtf8, IsCharBoundary, encode_utf8_all, encode_utf8, true≢false}
+use Rattle.std.proofs.Common.{◌≡◌, ℕ, zero, suc, ◌+◌, ◌-◌, ◌<◌, ◌≤◌, Bool, true, List, [], ◌∷◌, ◌++◌, map, length, take, drop, option_map, refl, sym, ap, ◌∙◌, ⊎_elim, arith, IsUtf8, IsCharBoundary, encode_utf8_all, encode_utf8}
 use Rattle.std.specs.Prelude.{All}
 use Rattle.std.specs.List.{find, slice_get}
 use Rattle.std.specs.Str.{chars}

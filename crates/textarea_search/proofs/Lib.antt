@@ -1,4 +1,5 @@
 mod FailureLemmas
+mod FromMatchLemmas
 mod PatternLemmas
 mod AscendingLemmas
 mod ColumnLemmas

@@ -78,17 +78,26 @@ module _ (tree : Re) (line : List ℕ) where
   unfolding find_str
   leftmost_boundary from m e = grind (arith, common_steps, IsFirst-of_first_between _ from (length line) m e, IsCharBoundary-of_test, cond_some)
 
-  next_lies : (after : ℕ) (m : Match) → next_match true tree line after ≡ Some m → LiesFrom line after (span m)
-  next_lies after m e =
+  -- the next match is the first one from the end of the last, or from one byte later
+  next_found : (after : ℕ) (m : Match) → next_match true tree line after ≡ Some m → (from : ℕ) × (after ≤ from + 1) × (find_str tree line from ≡ Some m)
+  next_found after m e =
       ⊎_elim
       (λ none. absurd (none-some m (sym none ∙ sym (next_same tree line true after (λ x f. absurd (none-some x (sym none ∙ f)))) ∙ e)))
       (λ (some : (x : Match) × (_ ≡ Some x)). elim (cases_lt some.0.trace.end after) [
-        | inl lt ↦ let boundary = leftmost_boundary after m (sym (next_later tree line true after some.0 some.1 lt) ∙ e) in (omega arith, boundary.1)
+        | inl lt ↦ (after, omega arith, sym (next_later tree line true after some.0 some.1 lt) ∙ e)
         | inr ge ↦
             let same = next_same tree line true after (λ x f. subst (λ (y : Match). after ≤ y.trace.end) (same_Some _ _ (sym some.1 ∙ f)) ge) in
-            let boundary = leftmost_boundary (after - 1) m (sym same ∙ e) in (omega arith, boundary.1)
+            (after - 1, omega arith, sym same ∙ e)
       ])
       (option_cases (find_str tree line (after - 1)))
+
+  pub next_lies : (after : ℕ) (m : Match) → next_match true tree line after ≡ Some m → LiesFrom line after (span m)
+  next_lies after m e =
+      let next = next_found after m e in
+      let boundary = leftmost_boundary next.0 m next.2 in (omega (arith, next.1, boundary.0), boundary.1)
+
+  pub next_ordered : (after : ℕ) (m : Match) → next_match true tree line after ≡ Some m → m.start ≤ m.trace.end
+  next_ordered after m e = let next = next_found after m e in (leftmost_within tree line true next.0 m next.2).1
 
   all_lie : (n after : ℕ) → length line + 1 ≤ after + n → All (LiesFrom line after) (spans_after tree line after)
   all_lie zero after h = grind (arith, common_steps, matches_after_none, All-nil, next_within, option_cases)
@@ -112,18 +121,26 @@ module _ (tree : Re) (line : List ℕ) where
 abbrev pub starts_before : ℕ → Bool → ℕ × ℕ → Bool
 starts_before byte at s = is_past s.0 at byte
 
+-- the last element that passes is in the rest, or it is the first
+joined : {X : Type 0} (o : Option X) (x : X) (last : Option X) → option_or (option_or o (Some x)) last ≡ option_or o (Some x)
+joined None x last = refl
+joined (Some y) x last = refl
+
+pub last_of_some : {X : Type 0} (test : X → Bool) (x : X) (rest : List X) (last : Option X) → test x ≡ true →
+    option_or (find test (reverse (x ∷ rest))) last ≡ option_or (find test (reverse rest)) (Some x)
+last_of_some test x rest last passes =
+    ap (λ o. option_or o last)
+    (ap (find test) (reverse-append (x ∷ []) rest) ∙ find-append test (reverse rest) (x ∷ []) ∙ ap (λ b. option_or (find test (reverse rest)) (cond b (Some x) None)) passes)
+    ∙ joined (find test (reverse rest)) x last
+
 -- one more match that passes
 pub last_more : (byte : ℕ) (at : Bool) (s : ℕ × ℕ) (rest : List (ℕ × ℕ)) (last : Option (ℕ × ℕ)) → starts_before byte at s ≡ true →
     option_or (find (starts_before byte at) (reverse (s ∷ rest))) last ≡ option_or (find (starts_before byte at) (reverse rest)) (Some s)
-last_more byte at s rest last passes =
-    let test = starts_before byte at in
-    let here : find test (s ∷ []) ≡ Some s = ap (λ b. cond b (Some s) None) passes in
-    ap (λ o. option_or o last) (ap (find test) (reverse-append (s ∷ []) rest) ∙ find-append test (reverse rest) (s ∷ []) ∙ ap (option_or (find test (reverse rest))) here)
-    ∙ joined (find test (reverse rest)) s last
-  where
-    joined : (o : Option (ℕ × ℕ)) (s : ℕ × ℕ) (last : Option (ℕ × ℕ)) → option_or (option_or o (Some s)) last ≡ option_or o (Some s)
-    joined None s last = refl
-    joined (Some x) s last = refl
+last_more byte at s rest last passes = last_of_some (starts_before byte at) s rest last passes
+
+-- what isn't before a mark has nothing before the mark after it
+pub later_fails : (byte : ℕ) (at : Bool) (x y : ℕ) → is_past x at byte ≡ false → x ≤ y → is_past y at byte ≡ false
+later_fails byte at x y e h = grind (arith, nat_tests)
 
 -- one match that doesn't pass, and so none after it does
 pub last_listed : (byte : ℕ) (at : Bool) (line : List ℕ) (s : ℕ × ℕ) (rest : List (ℕ × ℕ)) → starts_before byte at s ≡ false → s.0 ≤ s.1 →
@@ -132,7 +149,4 @@ last_listed byte at line s rest fails ordered lie =
     let test = starts_before byte at in
     find-none test (reverse (s ∷ rest)) (All-reverse (λ p. test p ≡ false) (s ∷ rest)
     (All-cons (λ p. test p ≡ false) s rest fails
-    (All-weaker (LiesFrom line (s.1 + 1)) (λ p. test p ≡ false) (λ p lies. later byte at s.0 p.0 fails (omega (arith, lies.0))) rest lie)))
-  where
-    later : (byte : ℕ) (at : Bool) (x y : ℕ) → is_past x at byte ≡ false → x ≤ y → is_past y at byte ≡ false
-    later byte at x y e h = grind (arith, nat_tests)
+    (All-weaker (LiesFrom line (s.1 + 1)) (λ p. test p ≡ false) (λ p lies. later_fails byte at s.0 p.0 fails (omega (arith, lies.0))) rest lie)))

@@ -1,6 +1,6 @@
 -- From a compiled pattern to its text.
 use Rattle.std.proofs.lemmas.Grind.{common_steps}
-use Rattle.std.proofs.Common.{◌≡◌, ℕ, zero, suc, ◌+◌, ◌<◌, ◌≤◌, Bool, true, false, cond, ◌∷◌, ◌++◌, List, [], map, length, drop, get_or, Option, None, Some, IfSome, IsSomeAnd, refl, sym, ap, ◌∙◌, subst, inl, inr, arith, zero-le, IsUtf8, string_bytes, Global}
+use Rattle.std.proofs.Common.{◌≡◌, ℕ, zero, suc, ◌+◌, ◌<◌, ◌≤◌, Bool, true, false, cond, ◌∷◌, List, [], map, length, drop, get_or, Option, None, Some, IfSome, IsSomeAnd, refl, sym, ap, ◌∙◌, subst, inl, inr, arith, zero-le, IsUtf8, string_bytes, Global}
 use Rattle.std.specs.Prelude.{All, String}
 use Rattle.std.specs.Coded.{coded_ℕ, coded_list, coded×, Coded-set}
 use Rattle.std.specs.Option.{option_map_or}

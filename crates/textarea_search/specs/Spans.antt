@@ -10,9 +10,13 @@ use Rattle.textarea_search.specs.Matches.{match_spans}
 abbrev pub spans_after : Re → List ℕ → ℕ → List (ℕ × ℕ)
 spans_after tree line after = map span (matches_after true tree line after)
 
+-- the columns at which these matches start
+abbrev pub columns_after : Re → List ℕ → ℕ → List ℕ
+columns_after tree line after = map (λ s. column_of_byte line s.0) (spans_after tree line after)
+
 -- the columns at which matches start
 abbrev pub columns_in : Re → List ℕ → List ℕ
-columns_in tree line = map (λ s. column_of_byte line s.0) (spans_after tree line 0)
+columns_in tree line = columns_after tree line 0
 
 -- the tree lists the matches of this pattern for each line
 abbrev pub ListsMatchesOf : List ℕ → Re → Type 0

@@ -42,6 +42,16 @@ abbrev pub is_ahead_in_line : Direction → ℕ → Bool → ℕ → Bool
 is_ahead_in_line Forward cursor at_cursor column = is_past cursor at_cursor column
 is_ahead_in_line Back cursor at_cursor column = is_past column at_cursor cursor
 
+-- the list in the order of the search
+abbrev pub along : {A : Type 0} → Direction → List A → List A
+along Forward xs = xs
+along Back xs = reverse xs
+
+-- the column is that of the first match of a pattern in the search's direction, if there is one
+pub record IsFirstAhead (pattern line : List ℕ) (direction : Direction) (cursor : ℕ) (at_cursor : Bool) (start : Option ℕ) : Type 0 where
+  pub found : start ≡ find (is_ahead_in_line direction cursor at_cursor) (along direction (match_columns pattern line))
+  pub within : IfSome start (λ column. column ≤ length (chars line))
+
 -- whether the position is after the mark in the text or, with `at_mark`, at it
 abbrev pub is_later : ℕ × ℕ → Bool → ℕ × ℕ → Bool
 is_later mark at_mark place =
@@ -51,11 +61,6 @@ is_later mark at_mark place =
 abbrev pub is_ahead : Direction → ℕ × ℕ → Bool → ℕ × ℕ → Bool
 is_ahead Forward cursor at_cursor place = is_later cursor at_cursor place
 is_ahead Back cursor at_cursor place = is_later place at_cursor cursor
-
--- the list in the order of the search
-abbrev pub along : {A : Type 0} → Direction → List A → List A
-along Forward xs = xs
-along Back xs = reverse xs
 
 -- the first element that passes or, if none does, the first of all
 abbrev pub find_or_first : {A : Type 0} → (A → Bool) → List A → Option A

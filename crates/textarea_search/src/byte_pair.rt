@@ -4,6 +4,9 @@ ghost use Rattle.memchr.specs.Find.{Nowhere};
 
 use memchr::arch::all::packedpair::Pair;
 
+// The number of starts that are tested at once in a long line.
+const RUN: usize = 32;
+
 /// Two bytes of a text, mostly its rarest ones, and their places in it.
 #[derive(Clone, Copy)]
 pub(crate) struct BytePair {
@@ -47,10 +50,10 @@ impl BytePair {
         if starts <= 16 {
             return self.is_in_ends(line, starts, 8);
         }
-        if starts <= 32 {
+        if starts <= RUN {
             return self.is_in_ends(line, starts, 16);
         }
-        self.is_in_runs(line, starts, 32)
+        self.is_in_runs(line, starts)
     }
 
     // Tests the first `count` starts and the last ones, some of them twice.
@@ -64,20 +67,19 @@ impl BytePair {
         self.is_in_run(line, 0, count) | self.is_in_run(line, starts - count, count)
     }
 
-    // Tests the last `count` starts, and those before by runs of `count`, some of them twice.
+    // Tests the last 32 starts, and those before by runs of 32, some of them twice.
     #[inline(always)]
-    fn is_in_runs(self, line: &[u8], starts: usize, count: usize) -> bool
-        requires counted { 0 < count }
-        requires short { count ≤ starts }
+    fn is_in_runs(self, line: &[u8], starts: usize) -> bool
+        requires short { 32 ≤ starts }
         requires within { starts + reach_of self ≤ length line.now }
         ensures { result ≡ false → Nowhere (HasPair self line.now) 0 starts }
     {
-        let last = starts - count;
-        let mut found = self.is_in_run(line, last, count);
+        let last = starts - RUN;
+        let mut found = self.is_in_run(line, last, RUN);
         let mut from = 0;
         'runs: while from < last {
-            found |= self.is_in_run(line, from, count);
-            from += count;
+            found |= self.is_in_run(line, from, RUN);
+            from += RUN;
         }
         found
     }

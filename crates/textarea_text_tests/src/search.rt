@@ -4,7 +4,7 @@ use crate::texts::{Place, strings};
 use regex::Regex;
 use std::alloc::{AllocError, Global};
 use std::test::Fail;
-use textarea_search::search::{MatchCache, Matches, Search, SearchError};
+use textarea_search::search::{Direction, MatchCache, Matches, Search, SearchError};
 
 /// A pattern, lines, a position, and the positions of repeated searches from it: forward, and back.
 type Led = (
@@ -235,6 +235,56 @@ fn cached_line_after_line(rt: HostRuntime) -> Result<(), Fail> {
     let mut spans = Vec::new(rt.alloc());
     check_each(&rt, &CACHED, |alloc, line| {
         lists_cached(alloc, &mut search, &mut cached, &mut spans, line)
+    })
+}
+
+/// A direction, a column, and the column of the next match.
+type Stored = (Direction, usize, usize);
+
+/// Searches for `a`, one after another with a cache, in a line of 140,000 bytes. From the second on
+/// the cache has some of its 70,000 matches.
+static STORED: [Stored; 8] = [
+    (Direction::Forward, 0, 2),
+    (Direction::Forward, 2, 4),
+    (Direction::Forward, 4, 6),
+    (Direction::Forward, 100_001, 100_002),
+    (Direction::Back, 100_001, 100_000),
+    (Direction::Back, 100_000, 99_998),
+    (Direction::Forward, 139_998, 0),
+    (Direction::Back, 0, 139_998),
+];
+
+// The text as often as that, in a line.
+fn repeated(alloc: Global, text: &str, count: usize) -> Result<Vec<String>, AllocError> {
+    let mut line = String::new(alloc);
+    for _ in 0..count {
+        line.push_str(text)?;
+    }
+    let mut lines = Vec::new(alloc);
+    lines.push(line)?;
+    Ok(lines)
+}
+
+fn is_stored(
+    search: &Search,
+    cached: &mut MatchCache,
+    lines: &[String],
+    (direction, column, found): &Stored,
+) -> Result<bool, AllocError> {
+    if lines.is_empty() {
+        return Ok(false);
+    }
+    let result = search.find_cached(cached, *direction, lines, (0, *column), false)?;
+    Ok(result == Some((0, *found)))
+}
+
+#[test]
+fn searches_in_a_long_line(rt: HostRuntime) -> Result<(), Fail> {
+    let search = search_for(rt.alloc(), "a");
+    let lines = repeated(rt.alloc(), "ab", 70_000)?;
+    let mut cached = MatchCache::new(rt.alloc());
+    check_each(&rt, &STORED, |_, case| {
+        is_stored(&search, &mut cached, lines.as_slice(), case)
     })
 }
 

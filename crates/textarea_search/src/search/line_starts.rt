@@ -1,12 +1,13 @@
 //! The starts of a line's matches, stored so that further searches in the line are binary searches.
-ghost use Rattle.std.specs.Prelude.{◌≡◌, ◌≤◌, All, IfSome, find, length, reverse, string_bytes};
+ghost use Rattle.std.specs.Prelude.{◌≡◌, ◌≤◌, All, IfSome, find, length, reverse};
 ghost use Rattle.std.specs.List.Sorted.{IsNonDecreasingBy};
 ghost use Rattle.std.specs.Str.{chars};
 ghost use Rattle.regex.specs.Strings.{matcher_pattern};
 ghost use Rattle.textarea_search.specs.Matches.{match_columns};
 ghost use Rattle.textarea_search.specs.Spans.{ListsMatchesOf};
-ghost use Rattle.textarea_search.specs.Starts.{along, is_ahead_in_line, is_past};
+ghost use Rattle.textarea_search.specs.Starts.{IsFirstAhead, along, is_ahead_in_line, is_past};
 
+use crate::search::cache_key::CacheKey;
 use crate::search::direction::Direction;
 use crate::search::listed::{is_past, list_columns};
 use regex::Matcher;
@@ -15,11 +16,10 @@ use std::alloc::{AllocError, Global};
 /// The columns at which the matches of a pattern start in a line, from the left.
 #[derive(Drop)]
 pub(crate) struct LineStarts {
-    pattern: String,
-    line: String,
+    key: CacheKey,
     columns: Vec<usize>,
-    ghost found: { columns.items ≡ match_columns (string_bytes pattern) (string_bytes line) },
-    ghost within: { All (λ column. column ≤ length (chars (string_bytes line))) columns.items },
+    ghost found: { columns.items ≡ match_columns key.0 key.1 },
+    ghost within: { All (λ column. column ≤ length (chars key.1)) columns.items },
     ghost ascending: { IsNonDecreasingBy (λ column. column) columns.items },
 }
 
@@ -34,44 +34,36 @@ impl LineStarts {
         column: usize,
         at_column: bool,
     ) -> Option<Option<usize>>
-        ensures found { IfSome result (λ start. start
-            ≡ find (is_ahead_in_line direction column at_column)
-            (along direction (match_columns pattern.now line.now))) }
-        ensures within { IfSome result
-            (λ start. IfSome start (λ column. column ≤ length (chars line.now))) }
+        ensures { IfSome result (IsFirstAhead pattern.now line.now direction column at_column) }
     {
-        if self.pattern.as_str() != pattern || self.line.as_str() != line {
+        if !self.key.is(pattern, line) {
             return None;
         }
         Some(nearest_start(self.columns.as_slice(), direction, column, at_column))
     }
 }
 
-/// Finds the starts of the pattern's matches in a line, in the memory of the starts before.
+/// Finds the starts of the pattern's matches in a line, in the memory of the starts before. Returns
+/// `None` for a line of more than 65,536 matches.
 pub(crate) fn line_starts(
     alloc: Global,
     before: Option<LineStarts>,
     matcher: &mut Matcher<'_>,
     pattern: &str,
     line: &str,
-) -> Result<LineStarts, AllocError>
+) -> Result<Option<LineStarts>, AllocError>
     requires { ListsMatchesOf pattern.now (matcher_pattern matcher.old) }
     ensures same { matcher_pattern matcher.new ≡ matcher_pattern matcher.old }
 {
-    let (mut own_pattern, mut own_line, mut columns) = match before {
-        Some(starts) => (starts.pattern, starts.line, starts.columns),
-        None => (String::new(alloc), String::new(alloc), Vec::new(alloc)),
+    let (own_key, mut columns) = match before {
+        Some(starts) => (Some(starts.key), starts.columns),
+        None => (None, Vec::new(alloc)),
     };
-    own_pattern.clear();
-    own_pattern.push_str(pattern)?;
-    own_line.clear();
-    own_line.push_str(line)?;
-    list_columns(matcher, line, &mut columns)?;
-    Ok(LineStarts {
-        pattern: own_pattern,
-        line: own_line,
-        columns,
-    })
+    if !list_columns(matcher, line, &mut columns)? {
+        return Ok(None);
+    }
+    let key = CacheKey::of(alloc, own_key, pattern, line)?;
+    Ok(Some(LineStarts { key, columns }))
 }
 
 // Returns the first of the ascending columns in the search's direction from the given one or, with

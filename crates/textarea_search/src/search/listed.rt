@@ -1,5 +1,5 @@
 //! The matches that `regex` lists for a line, one after another. A matcher serves for many lines.
-ghost use Rattle.std.specs.Prelude.{◌≡◌, ◌+◌, ◌≤◌, ◌<◌, [], ◌∷◌, All, length, take, find, reverse, slice_get, option_map, encode_utf8_all, IsCharBoundary, IsUtf8, IfSome, MatchOption, OnOk};
+ghost use Rattle.std.specs.Prelude.{◌≡◌, ◌+◌, ◌≤◌, ◌<◌, [], ◌∷◌, All, length, take, find, reverse, slice_get, option_map, encode_utf8_all, IsCharBoundary, IsUtf8, IfOk, IfSome, MatchOption, OnOk, true};
 ghost use Rattle.std.specs.List.Sorted.{IsNonDecreasingBy};
 ghost use Rattle.std.specs.Str.{chars};
 ghost use Rattle.regex.specs.Strings.{matcher_pattern, match_span, match_haystack};
@@ -13,8 +13,14 @@ use regex::{Match, Matcher};
 use std::alloc::AllocError;
 use textarea_text::rows::{byte_offset, column_count};
 
+const MOST_COLUMNS: usize = 65_536;
+
 /// Returns the next listed match after one that ended at `after - 1`; for 0 the first of all.
-fn next_listed<'h>(matcher: &mut Matcher<'_>, line: &'h str, after: usize) -> Option<Match<'h>>
+pub(crate) fn next_listed<'h>(
+    matcher: &mut Matcher<'_>,
+    line: &'h str,
+    after: usize,
+) -> Option<Match<'h>>
     ensures found { let left = spans_after (matcher_pattern matcher.old) line.now in
         MatchOption result (left after ≡ [])
         (λ m. left after ≡ match_span m ∷ left ((match_span m).1 + 1)) }
@@ -52,13 +58,14 @@ pub(crate) fn list_spans(
 }
 
 /// Replaces the content of a vector by the columns at which the listed matches of a line start.
+/// Returns whether these are all; it stops after the first 65,536.
 pub(crate) fn list_columns(
     matcher: &mut Matcher<'_>,
     line: &str,
     columns: &mut Vec<usize>,
-) -> Result<(), AllocError>
-    ensures found { OnOk result
-        (columns.new.items ≡ columns_in (matcher_pattern matcher.old) line.now) }
+) -> Result<bool, AllocError>
+    ensures found { IfOk result (λ all. all ≡ true →
+        columns.new.items ≡ columns_in (matcher_pattern matcher.old) line.now) }
     ensures within { OnOk result
         (All (λ column. column ≤ length (chars line.now)) columns.new.items) }
     ensures ascending { OnOk result (IsNonDecreasingBy (λ column. column) columns.new.items) }
@@ -70,14 +77,17 @@ pub(crate) fn list_columns(
     while let Some(found) = next_listed(matcher, line, after) {
         let start = found.start();
         last = (start, column_from(line, last, start));
+        if columns.len() == MOST_COLUMNS {
+            return Ok(false);
+        }
         columns.push(last.1)?;
         after = found.end() + 1;
     }
-    Ok(())
+    Ok(true)
 }
 
-// Returns the column of a byte offset, given an offset at or before it with its column.
-fn column_from(line: &str, known: (usize, usize), byte: usize) -> usize
+/// Returns the column of a byte offset, given an offset at or before it with its column.
+pub(crate) fn column_from(line: &str, known: (usize, usize), byte: usize) -> usize
     requires boundary { IsCharBoundary line.now byte }
     requires known_boundary { IsCharBoundary line.now known.0 }
     requires ordered { known.0 ≤ byte }

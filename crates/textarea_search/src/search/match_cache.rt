@@ -1,28 +1,33 @@
-ghost use Rattle.std.specs.Prelude.{◌≡◌, ◌≤◌, IfSome, find, length, string_bytes};
-ghost use Rattle.std.specs.Str.{chars};
+ghost use Rattle.std.specs.Prelude.{◌≡◌, IfOk, IfSome};
 ghost use Rattle.regex.specs.Strings.{matcher_pattern};
-ghost use Rattle.textarea_search.specs.Matches.{match_columns, match_spans};
+ghost use Rattle.textarea_search.specs.Matches.{match_spans};
 ghost use Rattle.textarea_search.specs.Spans.{ListsMatchesOf};
-ghost use Rattle.textarea_search.specs.Starts.{along, is_ahead_in_line};
+ghost use Rattle.textarea_search.specs.Starts.{IsFirstAhead};
 
+use crate::pattern::Pattern;
+use crate::search::cache_key::CacheKey;
 use crate::search::direction::Direction;
 use crate::search::line_starts::{LineStarts, line_starts};
+use crate::search::sparse_matches::{SparseMatches, sparse_matches};
 use regex::Matcher;
 use std::alloc::{AllocError, Global};
 use std::marker::Model;
 
 const LONGEST_CACHED: usize = 4096;
 
-const LONGEST_SEARCHED: usize = 65_536;
+const LONGEST_SEARCHED: usize = 33_554_432;
 
 /// Lists of matches that were found, each with the pattern and the line's text for which it was
 /// found. The lists stay true whatever changes, so contracts see nothing of them. It has the
-/// matches of the lines that were drawn, and those of the line in which searches began.
+/// matches of the lines that were drawn, and the starts of those in the line in which searches
+/// began: of at most 32 MiB of text, and 1.5 MiB of starts.
 #[derive(Drop)]
 pub struct MatchCache {
     alloc: Global,
     lines: Vec<Option<CachedLine>>,
+    // For the line of the last searches all starts, or some of very many; at most one of the two.
     starts: Option<LineStarts>,
+    sparse: Option<SparseMatches>,
     // The row and the length of the line for which the cache had no starts at the last search.
     missed: Option<(usize, usize)>,
 }
@@ -42,6 +47,7 @@ impl MatchCache {
             alloc,
             lines: Vec::new(alloc),
             starts: None,
+            sparse: None,
             missed: None,
         }
     }
@@ -87,31 +93,31 @@ impl MatchCache {
         Ok(())
     }
 
-    /// Returns, if the starts of the line's matches are stored, the first one in the search's
+    /// Returns, if starts of the line's matches are stored, the first start in the search's
     /// direction from the column or, with `at_column`, at it.
     pub(crate) fn start_ahead(
         &self,
-        pattern: &str,
+        pattern: &Pattern,
         line: &str,
         direction: Direction,
         column: usize,
         at_column: bool,
-    ) -> Option<Option<usize>>
-        ensures found { IfSome result (λ start. start
-            ≡ find (is_ahead_in_line direction column at_column)
-            (along direction (match_columns pattern.now line.now))) }
-        ensures within { IfSome result
-            (λ start. IfSome start (λ column. column ≤ length (chars line.now))) }
+    ) -> Result<Option<Option<usize>>, AllocError>
+        ensures { IfOk result (λ known. IfSome known
+            (IsFirstAhead pattern.now line.now direction column at_column)) }
     {
-        match &self.starts {
-            Some(starts) => starts.ahead(pattern, line, direction, column, at_column),
-            None => None,
+        if let Some(starts) = &self.starts {
+            return Ok(starts.ahead(pattern.text(), line, direction, column, at_column));
+        }
+        match &self.sparse {
+            Some(sparse) => sparse.ahead(pattern, line, direction, column, at_column),
+            None => Ok(None),
         }
     }
 
     /// Stores the starts of the line's matches, if the search before began in the same row too. So
-    /// a line is listed only for the second search in it. Nothing is stored for a line of more than
-    /// 65,536 bytes.
+    /// a line is listed only for the second search in it. Of more than 65,536 matches only some are
+    /// stored. Nothing is stored for a line of more than 33,554,432 bytes.
     pub(crate) fn put_starts(
         &mut self,
         row: usize,
@@ -130,8 +136,13 @@ impl MatchCache {
         if line.len() > LONGEST_SEARCHED {
             return Ok(());
         }
-        let before = self.starts.take();
-        self.starts = Some(line_starts(self.alloc, before, matcher, pattern, line)?);
+        let starts = self.starts.take();
+        let sparse = self.sparse.take();
+        self.starts = line_starts(self.alloc, starts, matcher, pattern, line)?;
+        if self.starts.is_none() {
+            let sparse = sparse_matches(self.alloc, sparse, matcher, pattern, line)?;
+            self.sparse = Some(sparse);
+        }
         Ok(())
     }
 }
@@ -139,10 +150,9 @@ impl MatchCache {
 // The matches of a pattern in a line.
 #[derive(Drop)]
 struct CachedLine {
-    pattern: String,
-    text: String,
+    key: CacheKey,
     spans: Vec<(usize, usize)>,
-    ghost found: { spans.items ≡ match_spans (string_bytes pattern) (string_bytes text) },
+    ghost found: { spans.items ≡ match_spans key.0 key.1 },
 }
 
 impl CachedLine {
@@ -150,7 +160,7 @@ impl CachedLine {
     fn spans_of(&self, pattern: &str, line: &str) -> Option<&[(usize, usize)]>
         ensures { IfSome result (λ spans. spans.now ≡ match_spans pattern.now line.now) }
     {
-        if self.pattern.as_str() != pattern || self.text.as_str() != line {
+        if !self.key.is(pattern, line) {
             return None;
         }
         Some(self.spans.as_slice())
@@ -167,19 +177,12 @@ fn cached_line(
 ) -> Result<CachedLine, AllocError>
     requires { spans.now ≡ match_spans pattern.now line.now }
 {
-    let (mut cached_pattern, mut text, mut list) = match before {
-        Some(cached) => (cached.pattern, cached.text, cached.spans),
-        None => (String::new(alloc), String::new(alloc), Vec::new(alloc)),
+    let (own_key, mut list) = match before {
+        Some(cached) => (Some(cached.key), cached.spans),
+        None => (None, Vec::new(alloc)),
     };
-    cached_pattern.clear();
-    cached_pattern.push_str(pattern)?;
-    text.clear();
-    text.push_str(line)?;
+    let key = CacheKey::of(alloc, own_key, pattern, line)?;
     list.clear();
     list.extend_from_slice(spans)?;
-    Ok(CachedLine {
-        pattern: cached_pattern,
-        text,
-        spans: list,
-    })
+    Ok(CachedLine { key, spans: list })
 }

@@ -1,12 +1,15 @@
 //! A pattern to search for, its matches in a line, and the search from a cursor to the next match.
+mod cache_key;
 mod caching_matcher;
 mod direction;
 mod line_matcher;
 mod line_starts;
 mod lines;
 mod listed;
+mod listed_match;
 mod match_cache;
 mod matches;
+mod sparse_matches;
 mod state;
 
 pub use crate::error::SearchError;

@@ -177,7 +177,7 @@ impl Search {
         };
         let (row, column) = cursor;
         let line = lines[row].as_str();
-        match cached.start_ahead(pattern.text(), line, direction, column, match_cursor) {
+        match cached.start_ahead(pattern, line, direction, column, match_cursor)? {
             Some(here) => find_known(pattern, direction, lines, row, here),
             None => find_and_store(pattern, cached, direction, lines, cursor, match_cursor),
         }

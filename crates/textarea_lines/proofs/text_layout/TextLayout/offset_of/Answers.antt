@@ -38,9 +38,9 @@ byte_offset_from-requires-clause-offset c = grind (arith, common_steps, offset_r
 pub byte_offset_from-requires-clause-column : goal.byte_offset_from-requires-clause-column
 byte_offset_from-requires-clause-column c = column (goal.at.byte_offset_from-requires-clause-column c).After-as_str-line
 
-pub returns-then-abs_diff-far : goal.returns-then-abs_diff-far
-returns-then-abs_diff-far c =
-    let known = (goal.at.returns-then-abs_diff-far c).After-as_str-line in
+pub returns-then-is_near : goal.returns-then-is_near
+returns-then-is_near c =
+    let known = (goal.at.returns-then-is_near c).After-as_str-line in
     offset_read c.self.inside.lines.items c.args.place c.index.result.now c.as_str-line.result.now c.byte_offset_from.result (there known) c.index.ensures c.as_str-line.ensures.value c.byte_offset_from.ensures
     ∙ same known
 

@@ -1,4 +1,4 @@
-use Rattle.std.proofs.Common.{◌≡◌, ◌∙◌, List, ℕ, ap, subst, sym}
+use Rattle.std.proofs.Common.{◌≡◌, ◌∙◌, List, ℕ, subst, sym}
 use Rattle.regex.specs.Patterns.{ReadsAsText}
 use Rattle.textarea_search.specs.Spans.{IsNeedleOf}
 use Rattle.textarea_search.proofs.PatternLemmas.{needle_of_plain}

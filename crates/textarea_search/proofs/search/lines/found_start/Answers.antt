@@ -1,5 +1,5 @@
 use Rattle.std.proofs.lemmas.Grind.{common_steps}
-use Rattle.std.proofs.Common.{◌≡◌, None, Some, sym, ap, ◌∙◌, arith, string_bytes, subst, IfSome}
+use Rattle.std.proofs.Common.{◌≡◌, None, Some, sym, ap, ◌∙◌, arith, subst, IfSome}
 use Rattle.std.specs.List.{find}
 use Rattle.regex.specs.Strings.{matcher_pattern}
 use Rattle.textarea_search.specs.Spans.{IsNeedleOf, columns_in}

@@ -1,4 +1,4 @@
-use Rattle.std.proofs.Common.{◌≡◌, ℕ, ◌+◌, ◌-◌, None, Some, length, map, take, drop, reverse, sym, ap, ◌∙◌, arith, string_bytes, subst, IfSome}
+use Rattle.std.proofs.Common.{◌+◌, ◌-◌, None, Some, length, map, take, drop, reverse, sym, ap, ◌∙◌, arith, string_bytes, subst, IfSome}
 use Rattle.std.specs.List.{slice_get}
 use Rattle.regex.specs.Strings.{matcher_pattern}
 use Rattle.textarea_search.specs.Spans.{IsNeedleOf, columns_in}

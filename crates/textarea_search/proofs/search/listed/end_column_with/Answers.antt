@@ -1,4 +1,4 @@
-use Rattle.std.proofs.Common.{◌≡◌, ◌+◌, List, ℕ, IfSome, length, subst}
+use Rattle.std.proofs.Common.{◌+◌, List, ℕ, IfSome, length, subst}
 use Rattle.memchr.specs.Find.{Nowhere, OccursAt}
 use Rattle.regex.specs.Strings.{matcher_pattern}
 use Rattle.textarea_search.specs.Spans.{IsNeedleOf}

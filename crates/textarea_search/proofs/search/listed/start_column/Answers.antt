@@ -1,5 +1,5 @@
 use Rattle.std.proofs.lemmas.Grind.{common_steps}
-use Rattle.std.proofs.Common.{arith, ◌≡◌, ◌≤◌}
+use Rattle.std.proofs.Common.{arith}
 use Rattle.textarea_search.proofs.ColumnLemmas.{column_at_boundary}
 use Rattle.textarea_search.proofs.search.listed.start_column.Goals as goal
 

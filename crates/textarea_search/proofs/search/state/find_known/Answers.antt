@@ -1,9 +1,8 @@
-use Rattle.std.proofs.Common.{◌≡◌, ◌≤◌, Option, None, Some, IfSome, ℕ, ap, arith, length, sym, refl, subst, ◌∙◌}
+use Rattle.std.proofs.Common.{◌≤◌, Option, IfSome, ℕ, ap, arith, length, sym, refl, subst, ◌∙◌}
 use Rattle.std.specs.List.{find}
 use Rattle.std.specs.Str.{chars}
 use Rattle.regex.specs.Strings.{matcher_pattern}
 use Rattle.textarea_search.specs.Matches.{match_columns}
-use Rattle.textarea_search.specs.Spans.{IsNeedleOf}
 use Rattle.textarea_search.specs.Starts.{along, bytes_at, found_start, is_ahead_in_line}
 use Rattle.textarea_search.proofs.PatternLemmas.{columns_listed, needle_for}
 use Rattle.textarea_search.proofs.PlaceLemmas.{place_at_bytes}

@@ -1,0 +1,51 @@
+use Rattle.std.proofs.Common.{◌≡◌, ◌+◌, false, true, [], cond, map, None, Some, rules, refl, sym, ap, ◌∙◌, subst, arith}
+use Rattle.std.specs.List.{find}
+use Rattle.regex.specs.Strings.{matcher_pattern}
+use Rattle.textarea_search.specs.ListedMatches.{after_of}
+use Rattle.textarea_search.specs.Spans.{columns_after, spans_after}
+use Rattle.textarea_search.specs.Starts.{is_past}
+use Rattle.textarea_search.proofs.ColumnLemmas.{column_of_span}
+use Rattle.textarea_search.proofs.FromMatchLemmas.{columns_step}
+use Rattle.textarea_search.proofs.search.listed_match.first_from.Goals as goal
+
+pub loop-found-init : goal.loop-found-init
+loop-found-init c = (refl, c.requires, refl)
+
+pub match_after-requires : goal.match_after-requires
+match_after-requires c = c.loop-found.invariant.1
+
+pub returns-in_err-found : goal.returns-in_err-found
+returns-in_err-found c =
+    let inv = c.loop-found.invariant in
+    let line = c.args.line.now in
+    let nothing : c.from_residual.result ≡ None = search rules in
+    let none = subst (λ t. spans_after t line (after_of c.loop-found.last) ≡ []) inv.0 c.in_err-found.ensures.found in
+    nothing ∙ sym (sym inv.2 ∙ ap (λ ss. find (is_past c.args.column c.args.at_column) (map (column_of_span line) ss)) none)
+
+pub returns-then-is_past : goal.returns-then-is_past
+returns-then-is_past c =
+    let inv = c.loop-found.invariant in
+    let tree = matcher_pattern c.args.matcher.now in
+    let line = c.args.line.now in
+    let found = c.in_ok-found.found in
+    let test = is_past c.args.column c.args.at_column in
+    let listed = columns_step _ tree line (after_of c.loop-found.last) found inv.0 c.in_ok-found.ensures.place c.in_ok-found.ensures.found in
+    let passes : test found.column ≡ true = sym c.is_past.ensures ∙ c.if-is_past.true in
+    sym (sym inv.2 ∙ ap (find test) listed ∙ ap (λ b. cond b (Some found.column) (find test (columns_after tree line (found.end + 1)))) passes)
+
+pub loop-found-preserved : goal.loop-found-preserved
+loop-found-preserved c =
+    let inv = c.loop-found.invariant in
+    let tree = matcher_pattern c.args.matcher.now in
+    let line = c.args.line.now in
+    let found = c.in_ok-found.found in
+    let test = is_past c.args.column c.args.at_column in
+    let listed = columns_step _ tree line (after_of c.loop-found.last) found inv.0 c.in_ok-found.ensures.place c.in_ok-found.ensures.found in
+    let fails : test found.column ≡ false = sym c.is_past.ensures ∙ c.if-is_past.false in (
+      c.in_ok-found.ensures.same ∙ inv.0,
+      c.in_ok-found.ensures.place,
+      sym (ap (λ b. cond b (Some found.column) (find test (columns_after tree line (found.end + 1)))) fails) ∙ sym (ap (find test) listed) ∙ inv.2,
+    )
+
+pub loop-found-smaller : goal.loop-found-smaller
+loop-found-smaller c = omega (arith, c.in_ok-found.ensures.forth, c.in_ok-found.ensures.place.inside)

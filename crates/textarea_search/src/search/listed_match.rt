@@ -1,0 +1,129 @@
+//! Listed matches with their columns: the next one, and the search from one of them.
+ghost use Rattle.std.specs.Prelude.{◌≡◌, ◌+◌, ◌<◌, ◌≤◌, [], ◌∷◌, find, reverse, option_map, length, IfSome, MatchOption};
+ghost use Rattle.std.specs.Option.{option_or};
+ghost use Rattle.std.specs.Str.{chars};
+ghost use Rattle.regex.specs.Strings.{matcher_pattern};
+ghost use Rattle.textarea_search.specs.ListedMatches.{IsMatchIn, IsOneOf, after_of};
+ghost use Rattle.textarea_search.specs.Spans.{columns_after, columns_in, spans_after};
+ghost use Rattle.textarea_search.specs.Starts.{along, is_ahead_in_line, is_past};
+
+use crate::search::direction::Direction;
+use crate::search::listed::{column_from, is_past, next_listed};
+use regex::Matcher;
+
+/// A match of a line: the byte offsets of its start and its end (exclusive), and its start's column.
+#[derive(Clone, Copy)]
+pub(crate) struct ListedMatch {
+    pub(crate) start: usize,
+    pub(crate) end: usize,
+    pub(crate) column: usize,
+}
+
+/// Returns the listed match after this one, or the first of all. It counts characters only from the
+/// start of the match before.
+pub(crate) fn match_after(
+    matcher: &mut Matcher<'_>,
+    line: &str,
+    before: Option<ListedMatch>,
+) -> Option<ListedMatch>
+    requires { IfSome before (IsMatchIn line.now) }
+    ensures found { let left = spans_after (matcher_pattern matcher.old) line.now in
+        MatchOption result (left (after_of before) ≡ [])
+        (λ found. left (after_of before) ≡ (found.start, found.end) ∷ left (found.end + 1)) }
+    ensures place { IfSome result (IsMatchIn line.now) }
+    ensures forth { IfSome result (λ found. after_of before ≤ found.end) }
+    ensures same { matcher_pattern matcher.new ≡ matcher_pattern matcher.old }
+{
+    let (after, known) = match before {
+        Some(last) => (last.end + 1, (last.start, last.column)),
+        None => (0, (0, 0)),
+    };
+    let found = next_listed(matcher, line, after)?;
+    let start = found.start();
+    Some(ListedMatch {
+        start,
+        end: found.end(),
+        column: column_from(line, known, start),
+    })
+}
+
+/// Returns the column of the first listed match after this one, or of all, that starts after the
+/// column or, with `at_column`, at it.
+fn first_from(
+    matcher: &mut Matcher<'_>,
+    line: &str,
+    before: Option<ListedMatch>,
+    column: usize,
+    at_column: bool,
+) -> Option<usize>
+    requires { IfSome before (IsMatchIn line.now) }
+    ensures { result ≡ find (is_past column at_column)
+        (columns_after (matcher_pattern matcher.old) line.now (after_of before)) }
+{
+    let mut last = before;
+    loop {
+        let found = match_after(matcher, line, last)?;
+        if is_past(column, at_column, found.column) {
+            return Some(found.column);
+        }
+        last = Some(found);
+    }
+}
+
+/// Returns the column of the last listed match after this one, or of all, that starts before the
+/// column or, with `at_column`, at it. If there is none, returns the column of this one.
+fn last_from(
+    matcher: &mut Matcher<'_>,
+    line: &str,
+    before: Option<ListedMatch>,
+    column: usize,
+    at_column: bool,
+) -> Option<usize>
+    requires { IfSome before (IsMatchIn line.now) }
+    ensures { result ≡ option_or (find (λ start. is_past start at_column column)
+        (reverse (columns_after (matcher_pattern matcher.old) line.now (after_of before))))
+        (option_map (λ known. known.column) before) }
+{
+    let mut last = before;
+    loop {
+        let Some(found) = match_after(matcher, line, last) else {
+            return start_of(last);
+        };
+        if is_past(found.column, at_column, column) {
+            last = Some(found);
+        } else {
+            return start_of(last);
+        }
+    }
+}
+
+fn start_of(found: Option<ListedMatch>) -> Option<usize>
+    ensures { result ≡ option_map (λ known. known.column) found }
+{
+    let found = found?;
+    Some(found.column)
+}
+
+/// Returns the first column in the search's direction from the given one or, with `at_column`, at
+/// it, at which a listed match starts. The search begins at a match before the column, or at the
+/// line's start.
+pub(crate) fn column_from_match(
+    matcher: &mut Matcher<'_>,
+    line: &str,
+    before: Option<ListedMatch>,
+    direction: Direction,
+    column: usize,
+    at_column: bool,
+) -> Option<usize>
+    requires listed { IfSome before
+        (IsOneOf (spans_after (matcher_pattern matcher.old) line.now 0) line.now) }
+    requires earlier { IfSome before (λ known. known.column < column) }
+    ensures found { result ≡ find (is_ahead_in_line direction column at_column)
+        (along direction (columns_in (matcher_pattern matcher.old) line.now)) }
+    ensures within { IfSome result (λ start. start ≤ length (chars line.now)) }
+{
+    match direction {
+        Direction::Forward => first_from(matcher, line, before, column, at_column),
+        Direction::Back => last_from(matcher, line, before, column, at_column),
+    }
+}
