@@ -1,6 +1,6 @@
 -- The symbol before a position of lines.
 use Rattle.std.proofs.Common.{◌≡◌, ℕ, ◌+◌, ◌-◌, ◌<◌, ◌≤◌, List, [], ◌∷◌, ◌++◌, length, take, drop, sym, ap, refl, ◌∙◌, arith, get_or, subst, String, encode_utf8_all, encode_utf8, Option, Some, None, MatchOption}
-use Rattle.textarea_text.proofs.Prelude.{common_steps, append-nil, length-append, length-take-le, length-map, drop_more, take_at, get_or-take, get_or_at, take-append-drop, drop-drop, cons_from_encodes, chars-append, IsUtf8-encode, IsUtf8-take, IsCharBoundary-at_seam}
+use Rattle.textarea_text.proofs.Prelude.{common_steps, append-nil, length-take-le, length-map, drop_more, take_at, get_or-take, get_or_at, take-append-drop, drop-drop, cons_from_encodes, chars-append, IsUtf8-encode, IsUtf8-take, IsCharBoundary-at_seam}
 use Rattle.textarea_text.specs.Prelude.{IsSome, IsScalar, chars, IsUtf8, Character, Break, characters, characters_of, joined, lines_of, text_of, Place, IsPlace, IsPlaceOf, IsSymbolBefore, OccursAt}
 use Rattle.textarea_text.proofs.Columns.{offset_in, take_offset, length-offset, chars-take, chars_from_bytes}
 use Rattle.textarea_text.proofs.Splices.{lines-joined}
@@ -80,10 +80,4 @@ last_before bs before rest column c text text' scalar some within is e =
     let one = IsUtf8-encode c scalar in
     let seam = IsCharBoundary-at_seam before rest (encode_utf8 c) e one in
     let text'' : IsUtf8 rest = subst IsUtf8 (ap (take (length rest)) e ∙ take_at rest (encode_utf8 c) (length rest) refl) (IsUtf8-take before (length rest) text' seam) in
-    let split : take column cs ≡ chars rest ++ c ∷ [] =
-    sym (chars-take bs before column text text' is) ∙ ap chars e ∙ chars-append rest (encode_utf8 c) text''
-    ∙ ap (λ t. chars rest ++ t) (chars_from_bytes (encode_utf8 c) (c ∷ []) one (sym (append-nil (encode_utf8 c)))) in
-    let at : length (chars rest) ≡ column - 1 = omega (arith, ap length split, length-append (chars rest) (c ∷ []), length-take-le column cs within) in
-    let found : get_or cs (column - 1) 0 ≡ c =
-    sym (get_or-take column cs (column - 1) 0 (omega arith)) ∙ ap (λ t. get_or t (column - 1) 0) split ∙ get_or_at (chars rest) c [] 0 (column - 1) at in
-    drop_more cs (column - 1) 0 (omega arith) ∙ ap (λ (n : ℕ). n ∷ drop (column - 1 + 1) cs) found
+    grind (arith, common_steps, take_at rest (encode_utf8 c) (length rest) refl, IsUtf8-take before (length rest) text' seam, chars-take bs before column text text' is, chars-append rest (encode_utf8 c) text'', chars_from_bytes (encode_utf8 c) (c ∷ []) one (sym (append-nil (encode_utf8 c))), get_or-take column cs (column - 1) 0 (omega arith), get_or_at (chars rest) c, drop_more cs (column - 1) 0 (omega arith))

@@ -22,11 +22,7 @@ count_within bs at = omega (arith, char_count-parts bs (take at bs) (drop at bs)
 -- past a byte that begins a character there is one more
 more_starts : (bs : List ℕ) (i j : ℕ) → i < j → j ≤ length bs → is_char_start (slice_index_or bs i 0) ≡ true → char_count (take i bs) + 1 ≤ char_count (take j bs)
 more_starts bs i j later within start =
-    omega (
-      arith,
-      char_count-more bs i 1 true (omega arith) (sym start) refl,
-      char_count-parts (take j bs) (take (i + 1) bs) (drop (i + 1) (take j bs)) (i + 1) (sym (take-take (i + 1) j bs (omega arith))) refl,
-    )
+    grind (arith, common_steps, char_count-more bs i 1 true (omega arith) (sym start) refl, char_count-parts (take j bs) (take (i + 1) bs) (drop (i + 1) (take j bs)) (i + 1) (sym (take-take (i + 1) j bs (omega arith))) refl)
 
 -- two bytes that begin characters, or ends, are one if as many characters begin before them
 same_start : (bs : List ℕ) (i j : ℕ) → i ≤ length bs → j ≤ length bs →

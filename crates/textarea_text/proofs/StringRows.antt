@@ -94,14 +94,8 @@ pub occurs_until : (text : List Symbol) (place : Place) (symbols : List Symbol) 
 occurs_until text place symbols h occurs =
     let components = parted text place h in
     let rest = drop (length symbols) components.back in
-    let was : text ≡ (components.front ++ symbols) ++ rest =
-    components.is ∙ ap (λ t. components.front ++ t) (sym (take-append-drop (length symbols) components.back) ∙ ap (λ t. t ++ rest) (standing text place symbols components occurs))
-    ∙ sym (append_assoc components.front symbols rest) in
     let ends : end (0, 0) (components.front ++ symbols) ≡ end place symbols = end-append (0, 0) components.front symbols ∙ ap (λ (p : Place). end p symbols) components.ends in
-    let at : index_of text (end place symbols) ≡ length (components.front ++ symbols) =
-    ap (λ t. index_of t (end place symbols)) was ∙ index_parted (end place symbols) (components.front ++ symbols) rest ends in
-    let here : index_of text place ≡ length components.front = ap (λ t. index_of t place) components.is ∙ index_parted place components.front components.back components.ends in
-    (subst (λ t. IsPlace t (end place symbols)) (sym was) (place_parted (end place symbols) (components.front ++ symbols) rest ends), omega (arith, length-append components.front symbols))
+    grind (arith, common_steps, take-append-drop (length symbols) components.back, standing text place symbols components occurs, append_assoc components.front symbols rest, end-append (0, 0) components.front symbols, index_parted (end place symbols) (components.front ++ symbols) rest ends, index_parted place components.front components.back components.ends, place_parted (end place symbols) (components.front ++ symbols) rest ends, length-append components.front symbols)
 
 pub changed_by_none : (text : List Symbol) (place to : Place) (symbols first : List Symbol) → IsPlace text place → OccursAt text place symbols → to ≡ end place symbols → first ≡ [] → changed text place to first ≡ removed text place symbols
 changed_by_none text place to symbols first h occurs e none =

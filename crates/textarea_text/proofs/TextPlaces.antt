@@ -44,16 +44,7 @@ pub IsPlace-end : (front back : List Symbol) → IsPlace (front ++ back) (end (0
 IsPlace-end front back =
     let components = split_text front in
     let found = first_line components.start back in
-    let rows : lines (front ++ back) ≡ components.above ++ ((components.start ++ found.0) ∷ found.1) =
-    ap (λ t. lines (t ++ back)) components.is ∙ ap lines (append_assoc (leading components.above) (characters components.start) back)
-    ∙ lines-leading components.above (characters components.start ++ back) ∙ ap (λ t. components.above ++ t) found.2 in
-    let place : end (0, 0) front ≡ (length components.above, length components.start) = ap (end (0, 0)) components.is ∙ end_of_front components.above components.start in
-    let here : get_or (components.above ++ ((components.start ++ found.0) ∷ found.1)) (length components.above) [] ≡ components.start ++ found.0 = get_or_at components.above (components.start ++ found.0) found.1 [] (length components.above) refl in
-    let stored : IsPlaceOf (components.above ++ ((components.start ++ found.0) ∷ found.1)) (length components.above, length components.start) = (
-      omega (arith, length-append components.above ((components.start ++ found.0) ∷ found.1)),
-      omega (arith, ap length here, length-append components.start found.0),
-    ) in
-    subst (λ (r : List (List ℕ)). IsPlaceOf r (end (0, 0) front)) (sym rows) (subst (IsPlaceOf (components.above ++ ((components.start ++ found.0) ∷ found.1))) (sym place) stored)
+    grind (arith, common_steps, append_assoc (leading components.above) (characters components.start) back, lines-leading components.above (characters components.start ++ back), end_of_front components.above components.start, get_or_at components.above (components.start ++ found.0) found.1, length-append components.above ((components.start ++ found.0) ∷ found.1), length-append components.start found.0)
 
 pub index_of-end : (front back : List Symbol) → index_of (front ++ back) (end (0, 0) front) ≡ length front
 index_of-end front back =

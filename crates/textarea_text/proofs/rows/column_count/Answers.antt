@@ -16,13 +16,7 @@ counting-smaller c = omega (arith, c.split_at.ensures.back_len, c.counting-test.
 
 pub counting-preserved : goal.counting-preserved
 counting-preserved c =
-    omega (
-      arith,
-      c.counting.invariant,
-      c.count_of_starts.ensures,
-      c.from-count.ensures,
-      char_count-parts c.counting.rest.now c.split_at.result.0.now c.split_at.result.1.now 192 c.split_at.ensures.front c.split_at.ensures.back,
-    )
+    grind (arith, common_steps, char_count-parts c.counting.rest.now c.split_at.result.0.now c.split_at.result.1.now 192 c.split_at.ensures.front c.split_at.ensures.back)
 
 pub overflow_add-result : goal.overflow_add-result
 overflow_add-result c = omega (arith, c.counting.invariant, c.count_of_starts-2.ensures, c.from.ensures, char_count-le-length c.args.line.now)
