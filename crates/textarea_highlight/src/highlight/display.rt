@@ -149,7 +149,7 @@ fn expand_tabs(
     ensures { IfOk result (λ s. string_bytes s
         ≡ encode_utf8_all (with_spaces tab_len column (chars segment.now))) }
 {
-    let mut expanded = String::new(alloc);
+    let mut expanded = String::with_capacity(alloc, 2 * segment.len())?;
     let mut at = column;
     for c in segment.chars() {
         let next = column_after(c, at, tab_len);
