@@ -1,11 +1,10 @@
 -- A change inside one line leaves the line's characters before it, and all other lines.
-use Rattle.std.proofs.lemmas.Grind.{common_steps}
-use Rattle.std.proofs.Common.{◌≡◌, ℕ, suc, ◌+◌, ◌-◌, ◌<◌, ◌≤◌, inl, inr, Bool, true, false, cond, List, [], ◌∷◌, ◌++◌, length, take, drop, get_or, sym, ap, refl, ◌∙◌, arith, subst, String}
+use Rattle.std.proofs.Common.{◌≡◌, ℕ, suc, ◌+◌, ◌-◌, ◌<◌, inl, inr, Bool, true, false, cond, List, [], ◌∷◌, ◌++◌, length, take, drop, get_or, sym, ap, refl, ◌∙◌, arith, subst, String}
 use Rattle.std.proofs.lemmas.Bool.{cases_lt}
-use Rattle.std.proofs.lemmas.List.{append-nil, get_or-append_right, get_or-drop, get_or-take, get_or_append_left, length-append, length-map, length-take-le, take_at, take-take}
-use Rattle.textarea_text.specs.Text.{Symbol, Character, Break, characters, characters_of, joined, lines, lines_of, text_of}
+use Rattle.std.proofs.lemmas.List.{append-nil, get_or-append_right, get_or-drop, get_or-take, get_or_append_left, length-append, length-map, length-take-le, take_at}
+use Rattle.textarea_text.specs.Text.{Symbol, Character, Break, characters, characters_of, joined, lines, lines_of}
 use Rattle.textarea_text.specs.Place.{Place, IsPlace, IsPlaceOf, changed, end, inserted, removed}
-use Rattle.textarea_text.specs.Splice.{Splice, Allows, Fits, applied}
+use Rattle.textarea_text.specs.Splice.{Splice, Allows}
 use Rattle.textarea_text.specs.Touched.{breaks_of}
 use Rattle.textarea_text.proofs.Splices.{characters-append, lines-joined}
 use Rattle.textarea_text.proofs.StringRows.{changed_by_none, rows_replaced, occurs_until}

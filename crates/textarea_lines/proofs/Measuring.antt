@@ -1,6 +1,6 @@
 -- The number of visual rows at a width: of the current rows, as measured last, and from scratch.
 use Rattle.std.proofs.lemmas.Grind.{common_steps}
-use Rattle.std.proofs.Common.{arith, ◌≡◌, ◌∙◌, ℕ, true, List, length, String, Option, Some}
+use Rattle.std.proofs.Common.{arith, ◌≡◌, ℕ, true, List, length, String, Option, Some}
 use Rattle.std.specs.Option.{IfSome}
 use Rattle.textarea_text.specs.Text.{lines, lines_of}
 use Rattle.textarea_screen_map.specs.declared.layout.Wrapping.{Wrapping}

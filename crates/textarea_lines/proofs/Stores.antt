@@ -5,7 +5,7 @@ use Rattle.std.proofs.lemmas.Str.{IsUtf8-string_bytes, length-le-encodes, encode
 use Rattle.std.proofs.lemmas.List.{length-map}
 use Rattle.textarea_util.specs.Limit.{size_limit}
 use Rattle.textarea_text.specs.Text.{characters_of, joined, lines, lines_of, text_of}
-use Rattle.textarea_text.specs.Place.{Place, IsPlace, IsPlaceOf}
+use Rattle.textarea_text.specs.Place.{Place, IsPlace}
 use Rattle.textarea_text.specs.Size.{size_of, weight}
 use Rattle.textarea_text.proofs.Sizes.{length-le-size_of, size_of_text}
 use Rattle.textarea_text.proofs.Splices.{lines-joined}

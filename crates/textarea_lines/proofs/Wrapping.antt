@@ -1,6 +1,6 @@
 -- The lines that a splice, another width and other settings wrap; the count never decreases.
 use Rattle.std.proofs.lemmas.Grind.{common_steps}
-use Rattle.std.proofs.Common.{◌≡◌, ◌≢◌, ◌⊎◌, inl, inr, ℕ, ◌+◌, ◌-◌, ◌==◌, ◌≤◌, Bool, true, false, cond, List, [], ◌∷◌, Option, None, Some, length, ap, refl, sym, subst, ◌∙◌, ⊎_elim, le_trans, arith, eq-eqb}
+use Rattle.std.proofs.Common.{◌≡◌, ◌≢◌, ◌⊎◌, inl, inr, ℕ, ◌+◌, ◌-◌, ◌==◌, ◌≤◌, Bool, true, false, cond, List, [], ◌∷◌, Option, None, Some, length, ap, refl, sym, subst, ◌∙◌, le_trans, arith, eq-eqb}
 use Rattle.std.proofs.lemmas.Bool.{eqb-true}
 use Rattle.textarea_text.specs.Splice.{Splice, Fits, applied}
 use Rattle.textarea_text.specs.Text.{Symbol, lines}

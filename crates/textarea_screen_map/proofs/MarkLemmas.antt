@@ -2,13 +2,13 @@
 use Rattle.std.proofs.lemmas.Grind.{common_steps}
 use Rattle.std.proofs.Common.{◌≡◌, ℕ, ◌+◌, ◌-◌, ◌*◌, ◌<◌, ◌≤◌, inl, inr, max, List, [], ◌++◌, length, take, drop, get_or, sym, ap, refl, subst, ◌∙◌, arith, encode_utf8, encode_utf8_all}
 use Rattle.std.proofs.lemmas.Bool.{cases_lt}
-use Rattle.std.proofs.lemmas.List.{get_or-take, length-append, length-drop, length-take, length-take-le, nil_from_length, take-take, take_all}
+use Rattle.std.proofs.lemmas.List.{get_or-take, length-drop, length-take, length-take-le, nil_from_length, take-take, take_all}
 use Rattle.std.proofs.Math.Seq.{take-add}
 use Rattle.std.proofs.lemmas.Str.{IsUtf8-past_char, IsUtf8-take, chars-append, chars_past_char, encodes-chars}
 use Rattle.std.specs.Str.{IsCharBoundary, IsUtf8, chars}
 use Rattle.textarea_text.proofs.Columns.{IsUtf8-column, chars-drop, chars-take, drop_offset, length_split, offset_in}
 use Rattle.textarea_wrap.specs.Columns.{column_after, display_end_column}
-use Rattle.textarea_wrap.proofs.ColumnLemmas.{end_column-append}
+use Rattle.textarea_wrap.proofs.ColumnLemmas.{end_column-append, shorter_after}
 use Rattle.textarea_screen_map.specs.declared.line_marks.Mark.{Mark}
 use Rattle.textarea_screen_map.specs.LineMarks.{AreMarks, AreMarksOf, IsMark, IsSameBefore, MarkedLine, line_start}
 use Rattle.textarea_screen_map.specs.VisualRows.{column_at}
@@ -50,55 +50,49 @@ cut_in old new row column count was is same here within up_to row_is tab_is mark
 
 -- ---- a walk from a mark on
 
--- the rest of a line after a position, in bytes and in characters
-pub record IsWalked (tab_len : ℕ) (line rest : List ℕ) (at : Mark) : Type 0 where
+-- the rest of a line after a column, which is at this display column
+pub record IsWalked (tab_len : ℕ) (line rest : List ℕ) (column display : ℕ) : Type 0 where
   pub text : IsUtf8 rest
-  pub left : drop at.column (chars line) ≡ chars rest
-  pub within : at.column ≤ length (chars line)
-  pub bytes : at.offset + length rest ≡ length line
-  pub display_is : at.display ≡ column_at tab_len (chars line) at.column
-  pub fits : at.display + 255 * length rest ≤ 255 * length line
+  pub left : drop column (chars line) ≡ chars rest
+  pub within : column ≤ length (chars line)
+  pub display_is : display ≡ column_at tab_len (chars line) column
+  pub fits : display + 255 * length rest ≤ 255 * length line
 
-pub walk_from : (tab_len : ℕ) (line rest : List ℕ) (mark : Mark) → IsUtf8 line → IsMark tab_len (chars line) mark → rest ≡ drop mark.offset line → IsWalked tab_len line rest mark
+pub walk_from : (tab_len : ℕ) (line rest : List ℕ) (mark : Mark) → IsUtf8 line → IsMark tab_len (chars line) mark → rest ≡ drop mark.offset line → IsWalked tab_len line rest mark.column mark.display × (mark.offset + length rest ≡ length line)
 walk_from tab_len line rest mark valid h is =
     let there : rest ≡ drop (offset_in (chars line) mark.column) line = is ∙ ap (λ n. drop n line) h.offset_is in
     let spelled : rest ≡ encode_utf8_all (drop mark.column (chars line)) = there ∙ drop_offset line mark.column valid in
     let text : IsUtf8 rest = subst IsUtf8 (sym spelled) (IsUtf8-column line mark.column valid) in
-    let bytes : mark.offset + length rest ≡ length line = omega (arith, h.offset_is, length_split line mark.column valid, ap length spelled) in
-    record {
-      text = text;
-      left = sym (chars-drop line rest mark.column valid text there);
-      within = h.within;
-      bytes = bytes;
-      display_is = h.display_is;
-      fits = omega (arith, h.near, bytes);
-    }
+    let bytes : mark.offset + length rest ≡ length line = omega (arith, h.offset_is, length_split line mark.column valid, ap length spelled) in (
+      record { text = text; left = sym (chars-drop line rest mark.column valid text there); within = h.within; display_is = h.display_is; fits = omega (arith, h.near, bytes) },
+      bytes,
+    )
 
--- the position after the next character
-pub walk_more : (tab_len : ℕ) (line rest more : List ℕ) (c size display : ℕ) (at : Mark) → IsWalked tab_len line rest at → rest ≡ encode_utf8 c ++ more → size ≡ length (encode_utf8 c) → 0 < size → display ≡ column_after (max tab_len 1) at.display c → display ≤ at.display + 255 → IsWalked tab_len line more (record { column = at.column + 1; offset = at.offset + size; display = display })
-walk_more tab_len line rest more c size display at was split size_is some display_is near =
+-- the column after the next character, which is there
+pub walk_more : (tab_len : ℕ) (line rest more : List ℕ) (c column display next : ℕ) → IsWalked tab_len line rest column display → rest ≡ encode_utf8 c ++ more → next ≡ column_after (max tab_len 1) display c → next ≤ display + 255 → (column < length (chars line)) × IsWalked tab_len line more (column + 1) next
+walk_more tab_len line rest more c column display next was split next_is near =
     let read = chars_past_char rest more c was.text split in
-    let step = passed (chars line) (chars more) at.column c was.within (was.left ∙ read) in
-    let bytes : length rest ≡ size + length more = omega (arith, ap length split, length-append (encode_utf8 c) more, size_is) in
-    record {
-      text = IsUtf8-past_char rest more c was.text split;
-      left = step.2;
-      within = omega (arith, step.0);
-      bytes = omega (arith, was.bytes, bytes);
-      display_is = cc (display_is, was.display_is, step.1, column_at-more tab_len (chars line) at.column 0 step.0);
-      fits = omega (arith, was.fits, near, bytes, some);
-    }
+    let step = passed (chars line) (chars more) column c was.within (was.left ∙ read) in (
+      step.0,
+      record {
+        text = IsUtf8-past_char rest more c was.text split;
+        left = step.2;
+        within = omega (arith, step.0);
+        display_is = cc (next_is, was.display_is, step.1, column_at-more tab_len (chars line) column 0 step.0);
+        fits = omega (arith, was.fits, near, shorter_after c more rest split);
+      },
+    )
 
 -- a position whose display column is past that of the position before it
-pub walk_mark : (tab_len : ℕ) (line rest : List ℕ) (at : Mark) (column : ℕ) → IsUtf8 line → IsWalked tab_len line rest at → at.column ≡ column + 1 → column_at tab_len (chars line) column < at.display → IsMark tab_len (chars line) at
-walk_mark tab_len line rest at column valid h is less =
+pub walk_mark : (tab_len : ℕ) (line rest : List ℕ) (at : Mark) (column : ℕ) → IsUtf8 line → IsWalked tab_len line rest at.column at.display → at.offset + length rest ≡ length line → at.column ≡ column + 1 → column_at tab_len (chars line) column < at.display → IsMark tab_len (chars line) at
+walk_mark tab_len line rest at column valid h bytes is less =
     let spelled : encode_utf8_all (drop at.column (chars line)) ≡ rest = ap encode_utf8_all h.left ∙ encodes-chars rest h.text in
     record {
       within = h.within;
-      offset_is = omega (arith, h.bytes, length_split line at.column valid, ap length spelled);
+      offset_is = omega (arith, bytes, length_split line at.column valid, ap length spelled);
       display_is = h.display_is;
       first = λ k below. omega (arith, column_at-le tab_len (chars line) k column (omega (arith, below, is)), less);
-      near = omega (arith, h.bytes, h.fits);
+      near = omega (arith, bytes, h.fits);
     }
 
 -- ---- a text that begins a line

@@ -196,7 +196,9 @@ impl<'a> TextLayoutView<'a> {
         let displayed = self.map.row_at(self.lines, row);
         let line = self.lines[displayed.line].as_str();
         if displayed.is_last && displayed.text.len() == line.len() {
-            return self.marks.at_display(displayed.line, self.tab_len(), display);
+            return self
+                .marks
+                .at_display(displayed.line, self.tab_len(), display);
         }
         LINE_START
     }

@@ -266,12 +266,7 @@ fn agrees_with_marks(alloc: Global, columns: &[usize]) -> Result<bool, AllocErro
     if lines.len() <= 1 {
         return Ok(false);
     }
-    let map = ScreenMap::new(
-        alloc,
-        lines,
-        wrapped(ONE_ROW_A_LINE),
-        &mut WrapCount::new(),
-    )?;
+    let map = ScreenMap::new(alloc, lines, wrapped(ONE_ROW_A_LINE), &mut WrapCount::new())?;
     let none = LineMarks::new(alloc);
     let without = TextLayoutView::new(lines, &map, &none);
     for column in columns {

@@ -1,6 +1,5 @@
 use Rattle.std.proofs.lemmas.Grind.{common_steps}
-use Rattle.std.proofs.Common.{arith, ◌≡◌, ◌∙◌, refl}
-use Rattle.textarea_text.specs.Text.{lines}
+use Rattle.std.proofs.Common.{arith, refl}
 use Rattle.textarea_lines.proofs.Stores.{lines_stored}
 use Rattle.textarea_lines.proofs.Widths.{next_wrap}
 use Rattle.textarea_lines.proofs.text_layout.TextLayout.count_rows_at.Goals as goal

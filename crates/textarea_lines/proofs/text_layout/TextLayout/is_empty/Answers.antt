@@ -1,5 +1,5 @@
 use Rattle.std.proofs.lemmas.Grind.{common_steps}
-use Rattle.std.proofs.Common.{◌≡◌, ◌≢◌, ◌∙◌, arith, eq-eqb}
+use Rattle.std.proofs.Common.{arith, eq-eqb}
 use Rattle.std.proofs.lemmas.Bool.{eqb-true}
 use Rattle.textarea_text.proofs.EmptyTexts.{empty_text, text_of-many}
 use Rattle.textarea_lines.proofs.text_layout.TextLayout.is_empty.Goals as goal

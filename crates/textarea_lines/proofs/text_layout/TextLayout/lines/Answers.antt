@@ -1,7 +1,7 @@
 use Rattle.std.proofs.lemmas.Grind.{common_steps}
 use Rattle.std.proofs.Common.{◌∙◌, sym, ap, arith, length, subst}
 use Rattle.textarea_text.specs.Size.{size_of}
-use Rattle.textarea_text.specs.Text.{lines, text_of}
+use Rattle.textarea_text.specs.Text.{text_of}
 use Rattle.textarea_text.specs.Place.{IsPlace}
 use Rattle.textarea_lines.specs.TextLayout.{TextAndLayout}
 use Rattle.textarea_lines.proofs.Stores.{lines_stored, small_place}

@@ -1,5 +1,5 @@
 use Rattle.std.proofs.lemmas.Grind.{common_steps}
-use Rattle.std.proofs.Common.{arith, ◌∙◌, subst, sym}
+use Rattle.std.proofs.Common.{arith, subst, sym}
 use Rattle.textarea_lines.specs.TextLayout.{TextAndLayout, at_width}
 use Rattle.textarea_lines.specs.View.{IsRewrappedIfOther, IsPrepared, PreparedView}
 use Rattle.textarea_lines.proofs.text_layout.TextLayout.put_width.Goals as goal
