@@ -1,13 +1,12 @@
 -- Worked cases of the definitions, each by computing.
 use Rattle.std.proofs.Common.{◌≡◌, ℕ, List, [], ◌∷◌, map, refl, Option, Some, None}
-use Rattle.textarea_document.specs.Prelude.{Symbol, joined, Place, class_of, target, word_end_after, word_start_before, CursorMove, Back, Up, Down, Head, End, Bottom, WordForward, WordEnd, WordBack, ParagraphForward, ParagraphBack, Jump}
+use Rattle.textarea_document.specs.Prelude.{Symbol, joined, Place, class_of, target, word_end_after, word_start_before, CursorMove, Back, Head, End, Bottom, WordForward, WordEnd, WordBack, ParagraphForward, ParagraphBack, Jump}
 use Rattle.textarea_data.specs.declared.cursor.CursorMove.TheVariants.{Forward}
 
--- each move leads from its position to the other one, or nowhere, in a text whose first visual row
--- is the cursor's, and whose last one is after it; the viewport shows its start
+-- each move, which needs no visual row, leads from its position to the other one, or nowhere
 abbrev pub Lead : List Symbol → List (Place × CursorMove × Option Place) → Type 0
 Lead text cases =
-    map (λ (c : Place × CursorMove × Option Place). target (record { above = None; below = Some (1, 0); inside = (0, 0) }) text c.0 c.1) cases
+    map (λ (c : Place × CursorMove × Option Place). target text c.0 c.1) cases
     ≡ map (λ (c : Place × CursorMove × Option Place). c.2) cases
 
 -- an `e` with a combining accent, and the line `x`
@@ -21,8 +20,6 @@ pub accented_cases : Lead accented (
     ((1, 1), Forward, None) ∷
     ((1, 0), Back, Some (0, 2)) ∷
     ((0, 0), Back, None) ∷
-    ((0, 0), Up, None) ∷
-    ((0, 0), Down, Some (1, 0)) ∷
     ((0, 2), Head, Some (0, 0)) ∷
     ((0, 0), End, Some (0, 2)) ∷
     ((0, 2), Bottom, Some (1, 1)) ∷

@@ -2,17 +2,7 @@
 use Rattle.std.proofs.Common.{◌≡◌, ℕ, ◌==◌, ◌<◌, nat_lt, ◌&&◌, Bool, List, [], ◌∷◌, length, encode_utf8_all, sym, ap, refl, ◌∙◌, arith, Option, String, string_len, string_bytes}
 use Rattle.std.proofs.lemmas.Bool.Decides.{nat_tests}
 use Rattle.std.proofs.lemmas.Str.{encodes-chars, length-le-encodes, IsUtf8-string_bytes}
-use Rattle.textarea_document.specs.Prelude.{is_some, characters_of, lines, lines_of, text_of, Place, IsPlaceOf, line_of, is_empty_line, is_paragraph_start, is_later_paragraph_start, is_earlier_paragraph_start, next_word_last, VisualTargets, is_later_word_row, target, CursorMove}
-use Rattle.textarea_text.proofs.Splices.{lines-joined}
-
--- the lines of some `String`s are those of their text
-pub rows_of_text : {Z : Type 0} (items : List (String Z)) (place : Place) → IsPlaceOf (lines_of items) place → lines_of items ≡ lines (text_of items)
-rows_of_text items place h = sym (lines-joined (lines_of items) (omega (arith, h.0)))
-
--- the target of a move is computed from the lines: the move is the intended one
-pub leads : {Z : Type 0} (visual : VisualTargets) (items : List (String Z)) (cursor : Place) (cursor_move meaning : CursorMove) (found : Option Place) (of_rows : List (List ℕ) → Option Place) → IsPlaceOf (lines_of items) cursor → cursor_move ≡ meaning → found ≡ of_rows (lines_of items) → of_rows (lines (text_of items)) ≡ target visual (text_of items) cursor meaning → found ≡ target visual (text_of items) cursor cursor_move
-leads visual items cursor cursor_move meaning found of_rows h is reported same =
-    reported ∙ ap of_rows (rows_of_text items cursor h) ∙ same ∙ ap (target visual (text_of items) cursor) (sym is)
+use Rattle.textarea_document.specs.Prelude.{is_some, characters_of, line_of, is_empty_line, is_paragraph_start, is_later_paragraph_start, is_earlier_paragraph_start, next_word_last, is_later_word_row}
 
 -- ---- empty lines
 

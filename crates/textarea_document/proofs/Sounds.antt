@@ -26,13 +26,10 @@ pub sound_edited : (document : DocumentState) (splice : Splice) (typed : Bool) (
 sound_edited document splice typed now h fits =
     sound_after document splice (recorded document.log splice typed now) h fits (log_edited (logged document) splice typed now (logged_sound document h) fits)
 
--- a document's parts after a change, with this log, make the document after it
-pub changed_is : (text_layout new : TextAndLayout) (cursor ahead : Place) (anchor : Option Place) (ranges stored : List AtomicRange) (log after left : Log) (splice : Splice) → new ≡ applied_to text_layout splice → ahead ≡ place_after splice → stored ≡ moved_ranges ranges splice → after ≡ left → document_of new ahead None stored after ≡ after_change (document_of text_layout cursor anchor ranges log) splice left
-changed_is text_layout new cursor ahead anchor ranges stored log after left splice layout_is cursor_is stored_is log_is =
-    ap (λ (l : TextAndLayout). document_of l ahead None stored after) layout_is
-    ∙ ap (λ (p : Place). document_of (applied_to text_layout splice) p None stored after) cursor_is
-    ∙ ap (λ (r : List AtomicRange). document_of (applied_to text_layout splice) (place_after splice) None r after) stored_is
-    ∙ ap (λ (l : Log). document_of (applied_to text_layout splice) (place_after splice) None (moved_ranges ranges splice) l) log_is
+-- a document's parts after the change of a splice, with this log, make the document after it
+pub changed_is : (text_layout new : TextAndLayout) (cursor ahead : Place) (anchor : Option Place) (ranges stored : List AtomicRange) (log after left : Log) (change splice : Splice) → change ≡ splice → new ≡ applied_to text_layout change → ahead ≡ place_after change → stored ≡ moved_ranges ranges change → after ≡ left → document_of new ahead None stored after ≡ after_change (document_of text_layout cursor anchor ranges log) splice left
+changed_is text_layout new cursor ahead anchor ranges stored log after left change splice is layout_is cursor_is stored_is log_is =
+    rw (layout_is, cursor_is, stored_is, log_is, is) refl
 
 -- the layout has no influence on the invariant
 pub resound : (document : DocumentState) (layout : Layout) → IsSound document → IsSound (record document { layout = layout })

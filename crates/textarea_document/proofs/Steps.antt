@@ -1,14 +1,13 @@
 -- One symbol on from a position of some lines, and one back.
-use Rattle.std.proofs.Common.{◌≡◌, ℕ, ◌+◌, ◌-◌, ◌≢◌, ◌<◌, ◌≤◌, List, [], ◌∷◌, length, get_or, sym, ap₂, subst, refl, arith, Some, None}
+use Rattle.std.proofs.Common.{◌≡◌, ℕ, ◌+◌, ◌-◌, ◌≢◌, ◌<◌, ◌≤◌, List, [], ◌∷◌, length, get_or, sym, ap₂, subst, refl, arith, Some}
 use Rattle.std.proofs.lemmas.Bool.Decides.{nat_tests}
 use Rattle.std.proofs.lemmas.Grind.{common_steps}
 use Rattle.std.proofs.lemmas.List.{drop_more}
-use Rattle.textarea_document.specs.Prelude.{Symbol, Character, Break, joined, Place, IsPlace, IsPlaceOf, OccursAt, end, index_of, line_end, place_of, next_place, previous_place}
+use Rattle.textarea_document.specs.Prelude.{Symbol, Character, Break, joined, Place, IsPlace, IsPlaceOf, OccursAt, end, index_of, line_end, place_of, IsSymbolAfter, next_place, previous_place}
 use Rattle.textarea_text.proofs.Splices.{lines-joined}
 use Rattle.textarea_text.proofs.TextPlaces.{index_within, place_of-index}
 use Rattle.textarea_text.proofs.StringRows.{occurs_until}
 use Rattle.textarea_text.proofs.Befores.{character_occurs, break_occurs}
-use Rattle.textarea_text.proofs.PlaceLemmas.{is_at_end}
 
 -- ---- neighbours
 
@@ -30,8 +29,12 @@ next_after text place symbol h occurs =
       within = index_within text (end place (symbol ∷ [])) until.0;
     }
 
-pub next_place-is : (text : List Symbol) (place next : Place) → IsNext text place next → Some next ≡ next_place text place
+next_place-is : (text : List Symbol) (place next : Place) → IsNext text place next → Some next ≡ next_place text place
 next_place-is text place next h = grind (arith, common_steps, nat_tests)
+
+-- the end of the symbol after a position
+pub next_place-after : (text : List Symbol) (place to : Place) (symbol : Symbol) → IsPlace text place → IsSymbolAfter text place to symbol → (Some to ≡ next_place text place) × IsPlace text to
+next_place-after text place to symbol h after = rw after.ends (next_place-is text place (end place (symbol ∷ [])) (next_after text place symbol h after.symbol_is), (occurs_until text place (symbol ∷ []) h after.symbol_is).0)
 
 pub previous_place-is : (text : List Symbol) (previous place : Place) → IsNext text previous place → Some previous ≡ previous_place text place
 previous_place-is text previous place h = grind (arith, common_steps, nat_tests)
@@ -56,14 +59,6 @@ IsNext-line rows row column within whole =
     let occurs : OccursAt (joined rows) (row, column) (Break ∷ []) =
     subst (λ (n : ℕ). OccursAt (joined rows) (row, n) (Break ∷ [])) (sym whole) (break_occurs rows row within) in
     next_after (joined rows) (row, column) Break (place_in rows (row, column) place) occurs
-
--- the last line's end is the text's end
-pub index_of-text_end : (rows : List (List ℕ)) (row column : ℕ) → IsPlaceOf rows (row, column) → length (get_or rows row []) ≤ column → length rows ≤ row + 1 → index_of (joined rows) (row, column) ≡ length (joined rows)
-index_of-text_end rows row column h whole last = (is_at_end rows row column (omega (arith, h.0)) (omega (arith, h.1))).index_is
-
--- nothing is after it
-pub next_place-none : (text : List Symbol) (place : Place) → index_of text place ≡ length text → None ≡ next_place text place
-next_place-none text place whole = grind (arith, common_steps, nat_tests)
 
 -- the column before a position inside a line
 pub IsNext-column-back : (rows : List (List ℕ)) (place : Place) → IsPlaceOf rows place → 0 < place.1 → IsNext (joined rows) (place.0, place.1 - 1) place

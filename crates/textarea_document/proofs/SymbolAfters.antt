@@ -1,16 +1,15 @@
 -- The symbol directly after a position.
-use Rattle.std.proofs.Common.{◌≡◌, ◌≢◌, ℕ, Bool, false, cond, ◌==◌, ◌+◌, ◌-◌, ◌≤◌, ◌<◌, List, [], ◌∷◌, ◌++◌, length, take, drop, get_or, sym, ap, refl, ◌∙◌, arith, String, subst, Option, Some, None, inl, inr, ◌^◌, encode_utf8, encode_utf8_all}
+use Rattle.std.proofs.Common.{◌≡◌, ◌≢◌, ℕ, Bool, false, cond, ◌==◌, ◌+◌, ◌≤◌, ◌<◌, List, [], ◌∷◌, ◌++◌, length, take, drop, get_or, sym, ap, refl, ◌∙◌, arith, String, subst, Option, Some, None, ◌^◌, encode_utf8, encode_utf8_all}
 use Rattle.std.specs.Str.{IsCharBoundary}
 use Rattle.std.proofs.lemmas.List.{drop_all, length-drop}
 use Rattle.std.proofs.lemmas.Str.{length-le-encodes}
-use Rattle.textarea_text.proofs.Columns.{IsCharBoundary-column, length_split, offset_in}
+use Rattle.textarea_text.proofs.Columns.{IsCharBoundary-column, offset_in}
 use Rattle.textarea_text.proofs.Befores.{next_is}
 use Rattle.textarea_document.proofs.Area.{column_bound}
-use Rattle.textarea_document.specs.Prelude.{MatchOption, chars, IsUtf8, Symbol, Character, Break, joined, lines, lines_of, text_of, Place, IsPlace, IsPlaceOf, IsSymbolBefore, OccursAt, index_of, line_end, Fits, inserts_of, symbols_of, EditKind, DocumentState, after_edit, unanchored, IsSymbolAfter, break_removal, symbol_removal, symbol_removed_before, symbol_removed_after}
+use Rattle.textarea_document.specs.Prelude.{MatchOption, chars, IsUtf8, Symbol, Character, Break, joined, lines, lines_of, Place, IsPlace, IsPlaceOf, IsSymbolBefore, OccursAt, index_of, line_end, Fits, inserts_of, symbols_of, EditKind, DocumentState, after_edit, IsSymbolAfter, break_removal, symbol_removed_before, symbol_removed_after}
 use Rattle.textarea_text.proofs.Befores.{break_occurs, character_occurs}
 use Rattle.textarea_history.specs.Edit.{splice_of}
 use Rattle.textarea_text.proofs.TextPlaces.{joined-lines, place_of-index}
-use Rattle.std.proofs.lemmas.Bool.{cases_lt}
 use Rattle.std.proofs.lemmas.Bool.Decides.{nat_tests}
 
 -- an index with a symbol is not the text's end
@@ -38,28 +37,6 @@ pub symbol_after_is : (Same : Type 0) (cs was rest : List ℕ) (column : ℕ) (f
 symbol_after_is Same cs was rest column None within e h = omega (arith, h.0, ap length e, length-le-encodes (drop column cs), length-drop column cs)
 symbol_after_is Same cs was rest column (Some c) within e h = next_is Same cs was rest column c (Some c) e h refl
 
--- a column has a character if and only if its byte offset is before the line's end
-pub is_before_end : (bs cs : List ℕ) (column offset : ℕ) → IsUtf8 bs → chars bs ≡ cs → offset ≡ offset_in cs column → offset < length bs → column < length cs
-is_before_end bs cs column offset utf8 e at within =
-    elim (cases_lt column (length cs)) [
-      | inl inside ↦ inside
-      | inr past ↦
-          let none : length (encode_utf8_all (drop column cs)) ≡ 0 = ap (λ rest. length (encode_utf8_all rest)) (drop_all column cs (omega (arith, past))) in
-          absurd (omega (arith, at, within, none, subst (λ c. offset_in c column + length (encode_utf8_all (drop column c)) ≡ length bs) e (length_split bs column utf8)))
-    ]
-
-pub is_line_end : (bs cs : List ℕ) (column offset : ℕ) → IsUtf8 bs → chars bs ≡ cs → offset ≡ offset_in cs column → column ≤ length cs → length bs ≤ offset → column ≡ length cs
-is_line_end bs cs column offset utf8 e at within past =
-    omega (
-      arith,
-      at,
-      within,
-      past,
-      subst (λ c. offset_in c column + length (encode_utf8_all (drop column c)) ≡ length bs) e (length_split bs column utf8),
-      length-le-encodes (drop column cs),
-      length-drop column cs,
-    )
-
 -- one can be added to a column of a string without overflow
 pub column_in_string : {Z : Type 0} (items : List (String Z)) (place : Place) → IsPlaceOf (lines_of items) place → place.1 + 1 < 2 ^ 64
 column_in_string items place h = omega (arith, h.1, column_bound items place.0)
@@ -76,52 +53,21 @@ break_removal_fits text row within =
       allowed = subst (λ t. OccursAt t (line_end rows row) (Break ∷ [])) (joined-lines text) (break_occurs rows row within);
     }
 
--- ---- the symbol after the cursor
+-- ---- the removal of the symbol after the cursor, and of the one before it
+
+not_equal : (m n : ℕ) → m ≢ n → (m == n) ≡ false
+not_equal m n apart = grind (arith, nat_tests)
 
 pub symbol_removed_after_is : (document : DocumentState) (to : Place) (symbol : Symbol) (typed : Bool) (now : ℕ) → IsPlace document.text document.cursor → IsSymbolAfter document.text document.cursor to symbol → after_edit document (record { place = document.cursor; symbols = symbol ∷ []; inserts = false }) typed now ≡ symbol_removed_after document typed now
-symbol_removed_after_is document to symbol typed now h is_after =
-    let index = index_of document.text document.cursor in
-    ap (λ (s : List Symbol). after_edit document (record { place = document.cursor; symbols = s; inserts = false }) typed now) (sym is_after.symbol_is)
-    ∙ ap (λ (p : Place). after_edit document (record { place = p; symbols = take 1 (drop index document.text); inserts = false }) typed now) (sym (place_of-index document.text document.cursor h))
-    ∙ ap (λ b. cond b (unanchored document) (after_edit document (symbol_removal document.text index) typed now)) (sym (not_equal index (length document.text) is_after.index))
-  where
-    not_equal : (m n : ℕ) → m ≢ n → (m == n) ≡ false
-    not_equal m n apart = grind (arith, nat_tests)
-
--- ---- the symbol before the cursor
-
-pub before_cursor : {Z : Type 0} (items : List (String Z)) (text : List Symbol) (at cursor start : Place) (symbol : Symbol) → text_of items ≡ text → at ≡ cursor → IsSymbolBefore (text_of items) at start symbol → IsSymbolBefore text cursor start symbol
-before_cursor items text at cursor start symbol text_is is h =
-    subst (λ t. IsSymbolBefore t cursor start symbol) text_is (subst (λ (p : Place). IsSymbolBefore (text_of items) p start symbol) is h)
+symbol_removed_after_is document to symbol typed now h after =
+    rw (not_equal (index_of document.text document.cursor) (length document.text) after.index, after.symbol_is, place_of-index document.text document.cursor h) refl
 
 pub symbol_removed_before_is : (document : DocumentState) (start : Place) (symbol : Symbol) (typed : Bool) (now : ℕ) → IsSymbolBefore document.text document.cursor start symbol → after_edit document (record { place = start; symbols = symbol ∷ []; inserts = false }) typed now ≡ symbol_removed_before document typed now
 symbol_removed_before_is document start symbol typed now before =
-    let index = index_of document.text document.cursor in
-    ap (λ (s : List Symbol). after_edit document (record { place = start; symbols = s; inserts = false }) typed now) (sym before.symbol_is)
-    ∙ ap (λ (p : Place). after_edit document (record { place = p; symbols = take 1 (drop (index - 1) document.text); inserts = false }) typed now) (sym before.start_is)
-    ∙ ap (λ b. cond b (unanchored document) (after_edit document (symbol_removal document.text (index - 1)) typed now)) (sym (not_zero index before.index))
-  where
-    not_zero : (m : ℕ) → m ≢ 0 → (m == 0) ≡ false
-    not_zero m apart = grind (arith, nat_tests)
-
--- at the text's start nothing is removed
-pub nothing_before : (document : DocumentState) (typed : Bool) (now : ℕ) → index_of document.text document.cursor ≡ 0 → unanchored document ≡ symbol_removed_before document typed now
-nothing_before document typed now start =
-    ap (λ (n : ℕ). cond (n == 0) (unanchored document) (after_edit document (symbol_removal document.text (index_of document.text document.cursor - 1)) typed now)) (sym start)
+    rw (not_equal (index_of document.text document.cursor) 0 before.index, before.symbol_is, before.start_is) refl
 
 -- the splice of an edit that removes
 pub removal_of_kind : (kind : EditKind) (before after : Place) (symbols : List Symbol) → inserts_of kind ≡ false → symbols_of kind ≡ symbols → splice_of kind before after ≡ record { place = after; symbols = symbols; inserts = false }
 removal_of_kind kind before after symbols removes e =
     ap (λ (b : Bool). record { place = cond b before after; symbols = symbols_of kind; inserts = b }) removes
     ∙ ap (λ (s : List Symbol). record { place = after; symbols = s; inserts = false }) e
-
--- ---- after the cursor, from what is found after a position that is the cursor
-
-pub after_cursor : {Z : Type 0} (items : List (String Z)) (text : List Symbol) (at cursor to : Place) (symbol : Symbol) → text_of items ≡ text → at ≡ cursor → IsSymbolAfter (text_of items) at to symbol → IsSymbolAfter text cursor to symbol
-after_cursor items text at cursor to symbol text_is is h =
-    subst (λ t. IsSymbolAfter t cursor to symbol) text_is (subst (λ (p : Place). IsSymbolAfter (text_of items) p to symbol) is h)
-
--- the splice of an edit that removes there
-pub removal_at_cursor : (kind : EditKind) (before at cursor : Place) (symbols : List Symbol) → inserts_of kind ≡ false → symbols_of kind ≡ symbols → at ≡ cursor → splice_of kind before at ≡ record { place = cursor; symbols = symbols; inserts = false }
-removal_at_cursor kind before at cursor symbols removes e is =
-    removal_of_kind kind before at symbols removes e ∙ ap (λ (p : Place). record { place = p; symbols = symbols; inserts = false }) is

@@ -2,7 +2,7 @@
 pub use Rattle.std.specs.Duration.{as_nanos}
 pub use Rattle.std.specs.List.{AllZip, cons_option}
 pub use Rattle.std.specs.Option.{IfSome, MatchOption, is_some}
-pub use Rattle.std.specs.Result.{IfOk, IsOk, MatchResult, OnErr, OnOk}
+pub use Rattle.std.specs.Result.{IfOk, IsOk, OnErr, OnOk}
 pub use Rattle.std.specs.Str.{IsUtf8}
 unfoldable pub use Rattle.std.specs.Str.{chars}
 pub use Rattle.std.specs.String.{string_len}
@@ -16,13 +16,13 @@ pub use Rattle.textarea_text.specs.Splice.{CanApply, Fits, Splice, IsTextBefore,
 pub use Rattle.textarea_text.specs.Text.{Break, Character, Symbol, characters_of, joined, lines, lines_of, symbol_in, text_of}
 pub use Rattle.textarea_text.specs.Words.{next_word_last}
 unfoldable pub use Rattle.textarea_text.specs.Words.{class_of}
-pub use Rattle.textarea_history.specs.Edit.{IsWellFormed, Stored, inserts_of, line_count_of, symbols_of}
+pub use Rattle.textarea_history.specs.Edit.{IsWellFormed, Stored, inserts_of, symbols_of}
 pub use Rattle.textarea_history.specs.HistoryLaw.{IsSame, times}
 pub use Rattle.textarea_history.specs.Log.{Log, Logged, done_after, empty_log, grown, is_typed, joins, remaining_done, redone_log, newest, next, recorded, undone_log, with_done}
 pub use Rattle.textarea_history.specs.Run.{merged}
 pub use Rattle.textarea_history.specs.declared.edit.EditKind.{EditKind}
 pub use Rattle.textarea_data.specs.declared.cursor.CursorMove.{CursorMove}
-pub use Rattle.textarea_data.specs.declared.cursor.CursorMove.TheVariants.{Back, Bottom, Down, End, Head, Jump, ParagraphBack, ParagraphForward, Top, Up, WordBack, WordEnd, WordForward}
+pub use Rattle.textarea_data.specs.declared.cursor.CursorMove.TheVariants.{Back, Bottom, End, Head, Jump, ParagraphBack, ParagraphForward, WordBack, WordEnd, WordForward}
 pub use Rattle.textarea_data.specs.declared.range.AtomicDeleteDirection.{AtomicDeleteDirection}
 pub use Rattle.textarea_data.specs.declared.range.AtomicDeleteDirection.TheVariants.{Backward, Forward}
 pub use Rattle.textarea_data.specs.declared.range.AtomicRange.{AtomicRange}
@@ -30,7 +30,7 @@ pub use Rattle.textarea_ranges.specs.Lookup.{AreApart, IsBeside, IsRangeAtPlace,
 pub use Rattle.textarea_ranges.specs.Moved.{CoversTheSame, DisturbsBy, IsMovable, moved_by, moved_range}
 unfoldable pub use Rattle.textarea_ranges.specs.Moved.{moved_ranges}
 pub use Rattle.textarea_ranges.specs.Order.{AreInOrder}
-pub use Rattle.textarea_ranges.specs.Rejected.{AreAccepted, AreRejected}
+pub use Rattle.textarea_ranges.specs.Rejected.{AreRejected}
 pub use Rattle.textarea_ranges.specs.Valid.{AreValid, IsRangeOfLine}
 pub use Rattle.textarea_blocks.specs.Sums.{row_total}
 pub use Rattle.textarea_lines.specs.LineWraps.{WrapsForSettings, WrapsForSplice, WrapsForWidth}
@@ -40,7 +40,7 @@ pub use Rattle.textarea_lines.specs.View.{IsPrepared, IsViewOf}
 pub use Rattle.textarea_lines.specs.Wrappings.{is_same_wrapping, wrapping_for}
 pub use Rattle.textarea_lines.specs.declared.settings.LayoutSettings.{LayoutSettings}
 pub use Rattle.textarea_document.specs.DocumentWraps.{WrapsAll, WrapsBySettings, WrapsByWidth, SplicesBy}
-pub use Rattle.textarea_document.specs.Edits.{Insert, HasEffect, IsSymbolAfter, Remove, RemoveBefore, RemoveAfter, RemoveBreak, EditStep, break_inserted, break_removal, break_removed, character_inserted, cursor_index, range_at_cursor, range_before, range_after, cursor_range_removed, insertion, insertion_place, is_at_end, is_at_start, has_symbols, nothing_inserted, removed_range_or, removal, splice_of_step, stepped, symbol_removal, symbol_removed_before, symbol_removed_after, symbols_inserted, removed_symbols}
+pub use Rattle.textarea_document.specs.Edits.{Insert, HasEffect, IsSymbolAfter, Remove, RemoveBefore, RemoveAfter, RemoveBreak, EditStep, break_inserted, break_removal, break_removed, character_inserted, cursor_index, range_at_cursor, range_before, range_after, cursor_range_removed, insertion, insertion_place, is_at_end, is_at_start, has_symbols, nothing_inserted, removal, splice_of_step, stepped, symbol_removal, symbol_removed_before, symbol_removed_after, symbols_inserted, removed_symbols}
 unfoldable pub use Rattle.textarea_document.specs.Edits.{between_removed, removed_before, removed_after}
 pub use Rattle.textarea_document.specs.RangesOverSplices.{AllStayOrAreDropped, AllStemFrom, SplitNoRange, RangesFollowSplices, RangesStayWhole, IsDroppedBy, StemsFrom, carried_range, ranges_over}
 pub use Rattle.textarea_document.specs.DocumentLaw.{RestoresAll, RestoresDocument, ListsFit}
@@ -51,4 +51,4 @@ unfoldable pub use Rattle.textarea_document.specs.DocumentRows.{HasRowsAt, IsAbo
 pub use Rattle.textarea_document.specs.Selection.{is_selected, selected_removed, selected_symbols, selection, selection_end, selection_start}
 pub use Rattle.textarea_document.specs.Sound.{IsSound}
 pub use Rattle.textarea_document.specs.DocumentState.{DocumentState, document_of, fresh_document, logged, new_document}
-pub use Rattle.textarea_document.specs.Target.{VisualTargets, first_word_end, place_or, is_later_word_row, is_visual, next_head, next_place, next_word_row, paragraph_back, paragraph_forward, previous_end, previous_place, target, word_back, word_end, word_end_after, word_forward, word_start_before}
+pub use Rattle.textarea_document.specs.Target.{IsDocumentTarget, first_word_end, place_or, is_later_word_row, next_head, next_place, next_word_row, paragraph_back, paragraph_forward, previous_end, previous_place, target, word_back, word_end, word_end_after, word_forward, word_start_before}

@@ -1,5 +1,5 @@
 -- The targets of cursor moves.
-use Rattle.std.specs.Prelude.{ℕ, ◌+◌, ◌-◌, ◌==◌, nat_lt, ◌&&◌, Bool, true, false, List, length, Option, Some, None, is_some, unwrap_or, if◌then◌else◌}
+use Rattle.std.specs.Prelude.{◌≡◌, ℕ, ◌+◌, ◌-◌, ◌==◌, nat_lt, ◌&&◌, Bool, List, length, Option, Some, None, is_some, unwrap_or, if◌then◌else◌}
 use Rattle.textarea_text.specs.Text.{Symbol, lines}
 use Rattle.textarea_text.specs.Place.{Place, index_of, last_row, line_end, line_of, place_of}
 use Rattle.textarea_text.specs.Nearest.{least_below}
@@ -7,7 +7,9 @@ use Rattle.textarea_text.specs.Words.{next_word_start, next_word_last, previous_
 use Rattle.textarea_text.specs.Paragraphs.{next_paragraph_start, previous_paragraph_start}
 use Rattle.textarea_text.specs.Between.{clip}
 use Rattle.textarea_data.specs.declared.cursor.CursorMove.{CursorMove}
-use Rattle.textarea_data.specs.declared.cursor.CursorMove.TheVariants.{Forward, Back, Up, Down, Head, End, Top, Bottom, WordForward, WordEnd, WordBack, ParagraphForward, ParagraphBack, Jump, InViewport}
+use Rattle.textarea_data.specs.declared.cursor.CursorMove.TheVariants.{Forward, Back, Up, Down, Head, End, Top, Bottom, WordForward, WordEnd, WordBack, ParagraphForward, ParagraphBack, Jump}
+use Rattle.textarea_document.specs.DocumentRows.{IsAboveCursor, IsBelowCursor}
+use Rattle.textarea_document.specs.DocumentState.{DocumentState}
 
 -- ---- the neighbours of a position
 
@@ -84,37 +86,29 @@ paragraph_back rows place =
 
 -- ---- all moves
 
--- the targets that depend on visual rows: up and down, if there is such a row, and in the viewport
-pub record VisualTargets : Type 0 where
-  pub above : Option Place
-  pub below : Option Place
-  pub inside : Place
+-- The target of a move from a cursor, if it has one and depends only on the text and the cursor:
+-- that of Up, Down and InViewport depends on visual rows.
+abbrev pub target : List Symbol → Place → CursorMove → Option Place
+target text cursor Forward = next_place text cursor
+target text cursor Back = previous_place text cursor
+target text cursor Head = Some (cursor.0, 0)
+target text cursor End = Some (line_end (lines text) cursor.0)
+target text cursor Top = Some (clip (lines text) (0, cursor.1))
+target text cursor Bottom = Some (clip (lines text) (last_row (lines text), cursor.1))
+target text cursor WordForward = Some (word_forward (lines text) cursor)
+target text cursor WordEnd = Some (word_end (lines text) cursor)
+target text cursor WordBack = Some (word_back (lines text) cursor)
+target text cursor ParagraphForward = Some (paragraph_forward (lines text) cursor)
+target text cursor ParagraphBack = paragraph_back (lines text) cursor
+target text cursor (Jump row column) = Some (clip (lines text) (row, column))
+target text cursor visual = None
 
--- The target of a move from a cursor, if it has one, with the targets that depend on visual rows.
--- For each move but Up, Down and InViewport it depends only on the text and the cursor.
-abbrev pub target : VisualTargets → List Symbol → Place → CursorMove → Option Place
-target visual text cursor Forward = next_place text cursor
-target visual text cursor Back = previous_place text cursor
-target visual text cursor Up = visual.above
-target visual text cursor Down = visual.below
-target visual text cursor Head = Some (cursor.0, 0)
-target visual text cursor End = Some (line_end (lines text) cursor.0)
-target visual text cursor Top = Some (clip (lines text) (0, cursor.1))
-target visual text cursor Bottom = Some (clip (lines text) (last_row (lines text), cursor.1))
-target visual text cursor WordForward = Some (word_forward (lines text) cursor)
-target visual text cursor WordEnd = Some (word_end (lines text) cursor)
-target visual text cursor WordBack = Some (word_back (lines text) cursor)
-target visual text cursor ParagraphForward = Some (paragraph_forward (lines text) cursor)
-target visual text cursor ParagraphBack = paragraph_back (lines text) cursor
-target visual text cursor (Jump row column) = Some (clip (lines text) (row, column))
-target visual text cursor InViewport = Some visual.inside
-
--- whether the move's target depends on visual rows
-abbrev pub is_visual : CursorMove → Bool
-is_visual Up = true
-is_visual Down = true
-is_visual InViewport = true
-is_visual other = false
+-- The target of a move of a document's cursor, if it has one: for Up the position one visual row
+-- above the cursor, for Down the one below it. InViewport has none, as a document has no viewport.
+abbrev pub IsDocumentTarget : DocumentState → CursorMove → Option Place → Type 0
+IsDocumentTarget document Up found = IsAboveCursor document found
+IsDocumentTarget document Down found = IsBelowCursor document found
+IsDocumentTarget document other found = found ≡ target document.text document.cursor other
 
 -- ---- the ends of a word's removal
 

@@ -2,10 +2,12 @@
 mod edits;
 pub mod insertions;
 mod laws;
+mod next_symbol;
 mod ranges;
 mod removals;
 mod rows;
 mod selection;
+mod target;
 
 ghost use Rattle.std.specs.Prelude.{◌≡◌, ◌<◌, ◌≤◌, ◌+◌, ◌↔◌, length, OnOk, OnErr, IsOk, IfOk, IfSome, None, IsTrue, is_some, [], vec_len};
 ghost use Rattle.textarea_document.specs.Prelude.{as_nanos, size_limit, lines, lines_of, text_of, IsPlace, size_of, Fits, place_after, IsWellFormed, empty_log, newest, next, clip, new_document, fresh_document, after_edit, after_move, after_redo, run_ended, after_undo, applied_to, moved_ranges, AreInOrder, AreValid, SplitsNoRange};

@@ -1,34 +1,13 @@
-//! The neighbours of a position, and the ends of a word's removal.
+//! The position before another one, and the ends of a word's removal.
 ghost use Rattle.std.specs.Prelude.{◌≡◌, ◌+◌, ◌<◌, ◌≤◌, length, IfSome, MatchOption};
-ghost use Rattle.textarea_document.specs.Prelude.{chars, lines_of, text_of, IsPlaceOf, index_of, next_place, offset_at, previous_place, word_end_after, word_start_before};
+ghost use Rattle.textarea_document.specs.Prelude.{chars, lines_of, text_of, IsPlaceOf, index_of, previous_place, word_end_after, word_start_before};
 
-use textarea_text::places::{line_end, line_of};
+use textarea_text::places::line_end;
 use textarea_text::rows::column_count;
 use textarea_text::word::{find_word_exclusive_end_forward, find_word_start_backward};
 
-/// Returns the position after the symbol at this position, whose byte offset in its line is
-/// `offset`; `None` at the text's end. Reads no character.
-pub fn next_place(lines: &[String], place: (usize, usize), offset: usize) -> Option<(usize, usize)>
-    requires place { IsPlaceOf (lines_of lines.now) place }
-    requires offset { offset ≡ offset_at (lines_of lines.now) place }
-    ensures value { result ≡ next_place (text_of lines.now) place }
-    ensures place { IfSome result (λ next. IsPlaceOf (lines_of lines.now) next) }
-    ensures index { MatchOption result
-        (index_of (text_of lines.now) place ≡ length (text_of lines.now))
-        (λ next. index_of (text_of lines.now) next ≡ index_of (text_of lines.now) place + 1) }
-{
-    let (row, column) = place;
-    if offset < line_of(lines, row).len() {
-        return Some((row, column + 1));
-    }
-    if row + 1 < lines.len() {
-        return Some((row + 1, 0));
-    }
-    None
-}
-
-/// Returns the position of the symbol directly before this position; `None` at the text's start.
-pub fn previous_place(lines: &[String], place: (usize, usize)) -> Option<(usize, usize)>
+// Returns the position of the symbol directly before this position; `None` at the text's start.
+pub(crate) fn previous_place(lines: &[String], place: (usize, usize)) -> Option<(usize, usize)>
     requires { IsPlaceOf (lines_of lines.now) place }
     ensures value { result ≡ previous_place (text_of lines.now) place }
     ensures place { IfSome result (λ previous. IsPlaceOf (lines_of lines.now) previous) }

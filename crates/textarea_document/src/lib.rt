@@ -6,7 +6,6 @@ pub mod document;
 pub mod ends;
 pub mod laws;
 mod paragraphs;
-pub mod target;
 mod words;
 
 pub use document::Document;

@@ -1,12 +1,12 @@
 -- Worked runs on an empty text, computed.
-use Rattle.std.proofs.Common.{◌≡◌, List, [], ◌∷◌, Option, None, Some, is_some, true, false, refl, subst}
+use Rattle.std.proofs.Common.{◌≡◌, List, [], ◌∷◌, Option, None, Some, is_some, true, false, refl}
 use Rattle.textarea_text.specs.Text.{Character, Break}
 use Rattle.textarea_text.specs.Place.{Place}
 use Rattle.textarea_ranges.specs.Moved.{moved_ranges}
 use Rattle.textarea_document.specs.Edits.{removed_before, removed_after, between_removed}
 use Rattle.tui_textarea.specs.Removals.{yanked}
 use Rattle.textarea_screen.specs.declared.screen.buffer.Buffer.{Buffer}
-use Rattle.textarea_document.specs.Target.{VisualTargets, target}
+use Rattle.textarea_document.specs.Target.{target}
 use Rattle.tui_textarea.specs.Moves.{IsMoved, IsTarget, after_move_by, pushed}
 use Rattle.tui_textarea.specs.State.{State, new_state}
 use Rattle.textarea_data.specs.declared.cursor.CursorMove.{CursorMove}
@@ -46,13 +46,9 @@ abbrev AreSettled : List Call → Type 0
 AreSettled [] = Unit {0}
 AreSettled (call ∷ calls) = IsSettled call × AreSettled calls
 
--- no target of a move over visual rows
-abbrev nowhere : VisualTargets
-nowhere = record { above = None; below = None; inside = (0, 0) }
-
 -- the target of such a move
 abbrev plain_target : State → CursorMove → Option Place
-plain_target state cursor_move = target nowhere state.document.text state.document.cursor cursor_move
+plain_target state cursor_move = target state.document.text state.document.cursor cursor_move
 
 -- the state after such a move
 abbrev after_move : State → CursorMove → State
@@ -83,13 +79,10 @@ settled-returned state (InputWithoutShortcuts input) settled = absurd settled
 settled-returned state call settled = refl
 
 plain-target : (state : State) (cursor_move : CursorMove) → IsPlain cursor_move → IsTarget state cursor_move (plain_target state cursor_move)
-plain-target state cursor_move plain = record {
-  visual = nowhere;
-  above_is = λ up. absurd (subst IsPlain up plain);
-  below_is = λ down. absurd (subst IsPlain down plain);
-  inside_is = λ inside. absurd (subst IsPlain inside plain);
-  found_is = refl;
-}
+plain-target state Up plain = absurd plain
+plain-target state Down plain = absurd plain
+plain-target state InViewport plain = absurd plain
+plain-target state cursor_move plain = refl
 
 plain-moved : (state : State) (cursor_move : CursorMove) → IsPlain cursor_move → IsMoved state cursor_move (after_move state cursor_move)
 plain-moved state cursor_move plain = record {

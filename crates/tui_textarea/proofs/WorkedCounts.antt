@@ -79,10 +79,10 @@ abbrev at_end : State → State
 at_end state = after_move_by state (is_some state.document.anchor) (pushed state.document.ranges End (Some (line_end (lines state.document.text) state.document.cursor.0)))
 
 below_is : (old new : State) → IsMoved old Bottom new → new ≡ below_all old
-below_is old new h = h.new_is ∙ ap (λ (found : Option Place). after_move_by old (is_some old.document.anchor) (pushed old.document.ranges Bottom found)) h.target_is.found_is
+below_is old new h = h.new_is ∙ ap (λ (found : Option Place). after_move_by old (is_some old.document.anchor) (pushed old.document.ranges Bottom found)) h.target_is
 
 end_is : (old new : State) → IsMoved old End new → new ≡ at_end old
-end_is old new h = h.new_is ∙ ap (λ (found : Option Place). after_move_by old (is_some old.document.anchor) (pushed old.document.ranges End found)) h.target_is.found_is
+end_is old new h = h.new_is ∙ ap (λ (found : Option Place). after_move_by old (is_some old.document.anchor) (pushed old.document.ranges End found)) h.target_is
 
 -- at the end of the last line, after a drawing into an area of this width
 abbrev nine : WrapMode → Style → ℕ → DrawingState → State

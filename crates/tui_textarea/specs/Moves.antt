@@ -12,9 +12,8 @@ use Rattle.textarea_data.specs.declared.range.AtomicCursorBias.TheVariants.{Back
 use Rattle.textarea_ranges.specs.Lookup.{moved_out}
 use Rattle.textarea_document.specs.Outcomes.{after_move}
 use Rattle.textarea_document.specs.DocumentState.{DocumentState}
-use Rattle.textarea_document.specs.DocumentRows.{IsAboveCursor, IsBelowCursor}
 use Rattle.tui_textarea.specs.Hit.{IsNearestVisible}
-use Rattle.textarea_document.specs.Target.{VisualTargets, target}
+use Rattle.textarea_document.specs.Target.{IsDocumentTarget}
 use Rattle.tui_textarea.specs.Drawing.{viewport_scrolled}
 use Rattle.tui_textarea.specs.State.{State, with_document}
 
@@ -43,15 +42,13 @@ bias_of other = Forward
 abbrev pub pushed : List AtomicRange → CursorMove → Option Place → Option Place
 pushed ranges cursor_move found = option_map (λ place. moved_out ranges place (bias_of cursor_move)) found
 
--- The target of the move, if it has one: for Up the position one visual row above the cursor, for
--- Down the one below it, for InViewport the nearest visible one, in the layout as it is; for any
--- other move it depends only on the text and the cursor.
-pub record IsTarget (state : State) (cursor_move : CursorMove) (found : Option Place) : Type 0 where
-  pub visual : VisualTargets
-  pub above_is : cursor_move ≡ move.Up → IsAboveCursor state.document visual.above
-  pub below_is : cursor_move ≡ move.Down → IsBelowCursor state.document visual.below
-  pub inside_is : cursor_move ≡ move.InViewport → IsNearestVisible state.document state.drawing.viewport visual.inside
-  pub found_is : found ≡ target visual state.document.text state.document.cursor cursor_move
+-- The target of the move, if it has one: for InViewport the nearest visible position; for any other
+-- move that of the document, which for Up is the position one visual row above the cursor, for Down
+-- the one below it, in the layout as it is, and else depends only on the text and the cursor.
+abbrev pub IsTarget : State → CursorMove → Option Place → Type 0
+IsTarget state move.InViewport found =
+    (place : Place) × (found ≡ Some place) × IsNearestVisible state.document state.drawing.viewport place
+IsTarget state other found = IsDocumentTarget state.document other found
 
 -- the state after the move, with or without Shift: the cursor is at the target, if there is one
 pub record IsMovedWith (old : State) (shift : Bool) (cursor_move : CursorMove) (new : State) : Type 0 where

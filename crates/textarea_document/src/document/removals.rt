@@ -1,6 +1,6 @@
 //! Removals from a document.
-ghost use Rattle.std.specs.Prelude.{◌≡◌, ◌<◌, ◌≤◌, OnOk, OnErr, IsOk, IfOk, IfSome, MatchOption, not, true, false, ◌==◌, ◌++◌, ◌∷◌, ◌+◌, None, [], drop, take, encode_utf8_all, length};
-ghost use Rattle.textarea_document.specs.Prelude.{chars, as_nanos, offset_at, lines_of, symbol_in, text_of, IsPlace, IsPlaceOf, index_of, symbols_between, Backward, Forward, TakesWhole, widened, IsSymbolAfter, range_at_cursor, range_before, range_after, cursor_range_removed, is_at_end, is_at_start, removal, removed_symbols, removed_before, removed_after, break_removed, between_removed, symbol_removed_before, symbol_removed_after, after_edit};
+ghost use Rattle.std.specs.Prelude.{◌≡◌, ◌<◌, OnOk, OnErr, IsOk, IfOk, IfSome, not, true, false, ◌==◌, None};
+ghost use Rattle.textarea_document.specs.Prelude.{as_nanos, text_of, IsPlace, index_of, symbols_between, Backward, Forward, TakesWhole, widened, range_at_cursor, range_before, range_after, cursor_range_removed, is_at_end, is_at_start, removal, removed_symbols, removed_before, removed_after, break_removed, between_removed, symbol_removed_before, symbol_removed_after, after_edit};
 
 use crate::document::Document;
 use crate::document::edits::edit_of;
@@ -180,8 +180,7 @@ impl Document {
         ensures nothing { is_at_end self.old ≡ true → IsOk result }
     {
         let cursor = self.cursor();
-        let offset = self.text_layout.offset_of(cursor);
-        let Some(after) = symbol_after(self.lines(), cursor, offset) else {
+        let Some(after) = self.symbol_after_cursor() else {
             self.set_anchor(None);
             return Ok(false);
         };
@@ -210,45 +209,4 @@ impl Document {
         )?;
         Ok(true)
     }
-}
-
-// The symbol after a position, and its end: a character, or `None` for the break between two lines.
-#[derive(Clone, Copy)]
-struct SymbolAfter {
-    end: (usize, usize),
-    character: Option<char>,
-}
-
-// Returns the symbol after the position, at byte `offset` of its line; `None` at the text's end.
-fn symbol_after(lines: &[String], place: (usize, usize), offset: usize) -> Option<SymbolAfter>
-    requires place { IsPlaceOf (lines_of lines.now) place }
-    requires offset { offset ≡ offset_at (lines_of lines.now) place }
-    ensures { MatchOption result (index_of (text_of lines.now) place ≡ length (text_of lines.now))
-        (λ after.
-        IsSymbolAfter (text_of lines.now) place after.end (symbol_in after.character)) }
-{
-    let (row, column) = place;
-    if let Some(c) = character_after(lines[row].as_str(), column, offset) {
-        return Some(SymbolAfter {
-            end: (row, column + 1),
-            character: Some(c),
-        });
-    }
-    if row + 1 == lines.len() {
-        return None;
-    }
-    Some(SymbolAfter {
-        end: (row + 1, 0),
-        character: None,
-    })
-}
-
-// Returns the character after the column of a line, at byte `offset`; `None` at the line's end.
-fn character_after(line: &str, column: usize, offset: usize) -> Option<char>
-    requires column { column ≤ length (chars line.now) }
-    requires offset { offset ≡ length (encode_utf8_all (take column (chars line.now))) }
-    ensures { MatchOption result (column ≡ length (chars line.now))
-        (λ c. drop column (chars line.now) ≡ c ∷ drop (column + 1) (chars line.now)) }
-{
-    line[offset..].chars().next()
 }

@@ -1,9 +1,8 @@
 //! The visual rows of a document.
 ghost use Rattle.std.specs.Prelude.{◌≡◌, true, IfOk, IfSome, IsOk, OnErr, OnOk};
-ghost use Rattle.textarea_document.specs.Prelude.{IsPlace, row_total, at_width, is_wrapped_at, keeps_wrapping, OfRows, IsPrepared, IsViewOf, HasRowsAt, IsAboveCursor, IsBelowCursor, next_place, text_and_layout, with_inner_width, with_layout_settings};
+ghost use Rattle.textarea_document.specs.Prelude.{IsPlace, row_total, at_width, is_wrapped_at, keeps_wrapping, OfRows, IsPrepared, IsViewOf, HasRowsAt, IsAboveCursor, IsBelowCursor, text_and_layout, with_inner_width, with_layout_settings};
 
 use crate::document::Document;
-use crate::ends::next_place;
 use std::alloc::AllocError;
 use textarea_lines::settings::LayoutSettings;
 use textarea_lines::text_layout::PreparedWidth;
@@ -26,17 +25,6 @@ impl Document {
             result }
     {
         self.text_layout.set_layout_settings(settings)
-    }
-
-    /// Returns the position after the symbol at the cursor; `None` at the text's end. Of a long line
-    /// only the text from the nearest known position on is read.
-    pub fn after_cursor(&self) -> Option<(usize, usize)>
-        ensures value { result ≡ next_place self.now.text self.now.cursor }
-        ensures place { IfSome result (IsPlace self.now.text) }
-    {
-        let cursor = self.cursor();
-        let offset = self.text_layout.offset_of(cursor);
-        next_place(self.lines(), cursor, offset)
     }
 
     /// Returns the position one visual row above the cursor; `None` in the first visual row.

@@ -5,7 +5,6 @@ ghost use Rattle.tui_textarea.specs.Prelude.{IsPlace, IsMoved, gone_to, IsMovedW
 use crate::textarea::TextArea;
 use textarea_data::cursor::CursorMove;
 use textarea_data::range::AtomicCursorBias;
-use textarea_document::target::target;
 use textarea_ranges::lookup::move_out;
 use textarea_text::places::clip;
 
@@ -68,11 +67,8 @@ impl TextArea<'_> {
         ensures target { IsTarget self.now cursor_move result }
     {
         match cursor_move {
-            CursorMove::Forward => self.document.after_cursor(),
-            CursorMove::Up => self.document.above(),
-            CursorMove::Down => self.document.below(),
             CursorMove::InViewport => Some(self.drawing.nearest_visible_place(&self.document)),
-            _ => target(self.document.lines(), self.document.cursor(), cursor_move),
+            _ => self.document.target(cursor_move),
         }
     }
 }

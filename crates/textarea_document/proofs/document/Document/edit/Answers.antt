@@ -1,5 +1,5 @@
 use Rattle.std.proofs.Common.{◌≡◌, ◌∙◌, None, ap, refl, sym, subst}
-use Rattle.textarea_document.specs.Prelude.{as_nanos, Fits, place_after, applied_to, moved_ranges, Log, DocumentState, document_of, after_edit, recorded, IsSound}
+use Rattle.textarea_document.specs.Prelude.{as_nanos, Fits, Log, DocumentState, document_of, after_edit, recorded, IsSound}
 use Rattle.textarea_document.proofs.Sounds.{changed_is, same_document, sound_edited}
 use Rattle.textarea_document.proofs.document.Document.edit.Goals as goal
 use Rattle.textarea_document.proofs.document.Document.edit.Goals.{After-put}
@@ -14,10 +14,7 @@ left c =
     let inside = c.self.inside in
     let splice = c.args.edit.splice in
     let is = c.in_ok-ahead.ensures in
-    changed_is inside.text_layout c.make_change.new.text_layout inside.cursor c.in_ok-ahead.ahead inside.anchor inside.ranges.items c.make_change.new.ranges.items inside.history.log c.put.new.self.log (recorded inside.history.log splice c.args.typed (as_nanos c.args.now)) splice
-    (is.text_layout ∙ ap (applied_to inside.text_layout) c.change.ensures)
-    (is.cursor ∙ ap place_after c.change.ensures)
-    (is.ranges ∙ ap (moved_ranges inside.ranges.items) c.change.ensures)
+    changed_is inside.text_layout c.make_change.new.text_layout inside.cursor c.in_ok-ahead.ahead inside.anchor inside.ranges.items c.make_change.new.ranges.items inside.history.log c.put.new.self.log (recorded inside.history.log splice c.args.typed (as_nanos c.args.now)) _ splice c.change.ensures is.text_layout is.cursor is.ranges
     (c.put.ensures ∙ ap (λ (l : Log). recorded l splice c.args.typed (as_nanos c.args.now)) c.reserve.ensures.same)
 
 pub invariant_of-self : goal.invariant_of-self

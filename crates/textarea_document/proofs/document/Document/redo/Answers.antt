@@ -1,5 +1,5 @@
-use Rattle.std.proofs.Common.{◌≡◌, ◌∙◌, None, Option, Some, ap, sym, subst}
-use Rattle.textarea_document.specs.Prelude.{Splice, Fits, place_after, redone_log, applied_to, moved_ranges, DocumentState, document_of, IsSound, after_redo, after_redo_by}
+use Rattle.std.proofs.Common.{◌≡◌, None, Some, sym, subst}
+use Rattle.textarea_document.specs.Prelude.{Fits, redone_log, document_of, IsSound, after_redo_by}
 use Rattle.textarea_document.proofs.Sounds.{changed_is, next_fits, sound_redone}
 use Rattle.textarea_document.proofs.document.Document.redo.Goals as goal
 use Rattle.textarea_document.proofs.document.Document.redo.Goals.{After-step_forward}
@@ -15,22 +15,12 @@ left : (c : After-step_forward) → document_of c.make_change.new.text_layout c.
 left c =
     let inside = c.self.inside in
     let splice = c.in-Some.edit.now.splice in
-    changed_is inside.text_layout c.make_change.new.text_layout inside.cursor c.in_ok-ahead.ahead inside.anchor inside.ranges.items c.make_change.new.ranges.items inside.history.log c.step_forward.new.self.log (redone_log inside.history.log splice) splice
-    (c.in_ok-ahead.ensures.text_layout ∙ ap (applied_to inside.text_layout) c.change.ensures)
-    (c.in_ok-ahead.ensures.cursor ∙ ap place_after c.change.ensures)
-    (c.in_ok-ahead.ensures.ranges ∙ ap (moved_ranges inside.ranges.items) c.change.ensures)
-    (c.step_forward.ensures splice c.in-Some.ensures.edit)
+    let is = c.in_ok-ahead.ensures in
+    changed_is inside.text_layout c.make_change.new.text_layout inside.cursor c.in_ok-ahead.ahead inside.anchor inside.ranges.items c.make_change.new.ranges.items inside.history.log c.step_forward.new.self.log (redone_log inside.history.log splice) _ (splice) c.change.ensures is.text_layout is.cursor is.ranges (c.step_forward.ensures splice c.in-Some.ensures.edit)
 
 pub invariant_of-self-2 : goal.invariant_of-self-2
 invariant_of-self-2 c =
-    let inside = c.self.inside in
-    let document = document_of inside.text_layout inside.cursor inside.anchor inside.ranges.items inside.history.log in
-    subst IsSound (sym (left (goal.at.invariant_of-self-2 c).After-step_forward)) (sound_redone document c.in-Some.edit.now.splice c.self.invariant c.in-Some.ensures.edit)
+    subst IsSound (sym (left (goal.at.invariant_of-self-2 c).After-step_forward)) (sound_redone _ c.in-Some.edit.now.splice c.self.invariant c.in-Some.ensures.edit)
 
 pub returns-clause-ok : goal.returns-clause-ok
-returns-clause-ok c =
-    let inside = c.self.inside in
-    let document = document_of inside.text_layout inside.cursor inside.anchor inside.ranges.items inside.history.log in
-    left (goal.at.returns-clause-ok c).After-step_forward
-    ∙ ap (λ (o : Option Splice). after_redo_by o document) (sym c.in-Some.ensures.edit)
-    ∙ ap (λ (s : DocumentState). after_redo s) c.self.view_is
+returns-clause-ok c = rw (← c.self.view_is, c.in-Some.ensures.edit) (left (goal.at.returns-clause-ok c).After-step_forward)

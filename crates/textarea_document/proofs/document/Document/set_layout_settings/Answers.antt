@@ -1,6 +1,6 @@
-use Rattle.std.proofs.Common.{◌≡◌, ◌∙◌, ap, subst, true}
+use Rattle.std.proofs.Common.{◌∙◌, ap}
 use Rattle.std.proofs.lemmas.Result.{on_ok_weaker}
-use Rattle.textarea_document.specs.Prelude.{IsOk, keeps_wrapping, DocumentState, text_and_layout, with_layout_settings}
+use Rattle.textarea_document.specs.Prelude.{DocumentState, with_layout_settings}
 use Rattle.textarea_document.proofs.Sounds.{settings_put, sound_viewed}
 use Rattle.textarea_document.proofs.document.Document.set_layout_settings.Goals as goal
 
@@ -18,5 +18,4 @@ returns-clause-ok c =
     c.set_layout_settings.ensures.ok
 
 pub returns-clause-no_memory : goal.returns-clause-no_memory
-returns-clause-no_memory c =
-    subst (λ (s : DocumentState). keeps_wrapping (text_and_layout s) c.args.settings ≡ true → IsOk c.set_layout_settings.result) c.self.view_is c.set_layout_settings.ensures.no_memory
+returns-clause-no_memory c = rw (← c.self.view_is) c.set_layout_settings.ensures.no_memory

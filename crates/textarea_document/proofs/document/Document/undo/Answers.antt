@@ -1,5 +1,5 @@
-use Rattle.std.proofs.Common.{◌≡◌, ◌∙◌, None, Option, Some, ap, sym, subst}
-use Rattle.textarea_document.specs.Prelude.{Splice, Fits, inverse, place_after, undone_log, applied_to, moved_ranges, DocumentState, document_of, IsSound, after_undo, after_undo_by}
+use Rattle.std.proofs.Common.{◌≡◌, None, Some, sym, subst}
+use Rattle.textarea_document.specs.Prelude.{Fits, inverse, undone_log, document_of, IsSound, after_undo_by}
 use Rattle.textarea_document.proofs.Sounds.{changed_is, newest_fits, sound_undone}
 use Rattle.textarea_document.proofs.document.Document.undo.Goals as goal
 use Rattle.textarea_document.proofs.document.Document.undo.Goals.{After-step_back}
@@ -15,22 +15,12 @@ left : (c : After-step_back) → document_of c.make_change.new.text_layout c.in_
 left c =
     let inside = c.self.inside in
     let splice = c.in-Some.edit.now.splice in
-    changed_is inside.text_layout c.make_change.new.text_layout inside.cursor c.in_ok-back.back inside.anchor inside.ranges.items c.make_change.new.ranges.items inside.history.log c.step_back.new.self.log (undone_log inside.history.log splice) (inverse splice)
-    (c.in_ok-back.ensures.text_layout ∙ ap (applied_to inside.text_layout) c.inverse.ensures)
-    (c.in_ok-back.ensures.cursor ∙ ap place_after c.inverse.ensures)
-    (c.in_ok-back.ensures.ranges ∙ ap (moved_ranges inside.ranges.items) c.inverse.ensures)
-    (c.step_back.ensures splice c.in-Some.ensures.edit)
+    let is = c.in_ok-back.ensures in
+    changed_is inside.text_layout c.make_change.new.text_layout inside.cursor c.in_ok-back.back inside.anchor inside.ranges.items c.make_change.new.ranges.items inside.history.log c.step_back.new.self.log (undone_log inside.history.log splice) _ (inverse splice) c.inverse.ensures is.text_layout is.cursor is.ranges (c.step_back.ensures splice c.in-Some.ensures.edit)
 
 pub invariant_of-self-2 : goal.invariant_of-self-2
 invariant_of-self-2 c =
-    let inside = c.self.inside in
-    let document = document_of inside.text_layout inside.cursor inside.anchor inside.ranges.items inside.history.log in
-    subst IsSound (sym (left (goal.at.invariant_of-self-2 c).After-step_back)) (sound_undone document c.in-Some.edit.now.splice c.self.invariant c.in-Some.ensures.edit)
+    subst IsSound (sym (left (goal.at.invariant_of-self-2 c).After-step_back)) (sound_undone _ c.in-Some.edit.now.splice c.self.invariant c.in-Some.ensures.edit)
 
 pub returns-clause-ok : goal.returns-clause-ok
-returns-clause-ok c =
-    let inside = c.self.inside in
-    let document = document_of inside.text_layout inside.cursor inside.anchor inside.ranges.items inside.history.log in
-    left (goal.at.returns-clause-ok c).After-step_back
-    ∙ ap (λ (o : Option Splice). after_undo_by o document) (sym c.in-Some.ensures.edit)
-    ∙ ap (λ (s : DocumentState). after_undo s) c.self.view_is
+returns-clause-ok c = rw (← c.self.view_is, c.in-Some.ensures.edit) (left (goal.at.returns-clause-ok c).After-step_back)

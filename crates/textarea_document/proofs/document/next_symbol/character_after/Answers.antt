@@ -2,7 +2,7 @@ use Rattle.std.proofs.Common.{◌∙◌, ap, drop}
 use Rattle.std.specs.Str.{chars}
 use Rattle.textarea_text.proofs.Columns.{drop_offset}
 use Rattle.textarea_document.proofs.SymbolAfters.{symbol_after_is, boundary_of}
-use Rattle.textarea_document.proofs.document.removals.character_after.Goals as goal
+use Rattle.textarea_document.proofs.document.next_symbol.character_after.Goals as goal
 
 pub range_from-requires : goal.range_from-requires
 range_from-requires c = λ _. boundary_of c.args.line.now c.args.column c.args.offset c.utf8.line c.requires.offset

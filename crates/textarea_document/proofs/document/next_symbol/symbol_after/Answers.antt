@@ -4,7 +4,7 @@ use Rattle.textarea_document.specs.Prelude.{chars, characters_of, lines_of}
 use Rattle.textarea_text.proofs.StringRows.{line_at, row_within}
 use Rattle.textarea_text.proofs.PlaceLemmas.{is_at_end}
 use Rattle.textarea_document.proofs.SymbolAfters.{break_is_after, character_is_after, column_in_string}
-use Rattle.textarea_document.proofs.document.removals.symbol_after.Goals as goal
+use Rattle.textarea_document.proofs.document.next_symbol.symbol_after.Goals as goal
 
 pub overflow_add-result : goal.overflow_add-result
 overflow_add-result c = omega (arith, column_in_string c.args.lines.now c.args.place c.requires.place)
