@@ -14,7 +14,6 @@ use Rattle.textarea_text.specs.Place.{Place, last_row, line_end}
 use Rattle.textarea_text.specs.Text.{lines}
 use Rattle.textarea_text.specs.Between.{clip}
 use Rattle.textarea_wrap.specs.declared.wrap.WrapMode.{WrapMode}
-use Rattle.textarea_wrap.specs.declared.wrap.WrapMode.TheVariants as mode
 use Rattle.tui_textarea.specs.Drawing.{IsRendered}
 use Rattle.tui_textarea.specs.Frames.{HasLayoutFor}
 use Rattle.tui_textarea.specs.Moves.{IsMoved, after_move_by, pushed}
