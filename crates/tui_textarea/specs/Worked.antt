@@ -1,13 +1,15 @@
 -- Text areas of the worked cases of the wrap counter, and calls on them.
-use Rattle.std.specs.Prelude.{ℕ, List, [], ◌∷◌, replicate}
+use Rattle.std.specs.Prelude.{◌≡◌, ℕ, List, [], ◌∷◌, replicate}
 use Rattle.std.specs.List.{range_with_len}
 use Rattle.textarea_data.specs.declared.cursor.CursorMove.TheVariants.{Bottom, End}
 use Rattle.textarea_document.specs.Outcomes.{after_redo, after_undo}
 use Rattle.textarea_text.specs.Fragment.{fragment_symbols}
+use Rattle.textarea_screen.specs.declared.screen.rect.Rect.{Rect}
 use Rattle.textarea_screen.specs.declared.screen.style.Style.{Style}
 use Rattle.textarea_text.specs.Text.{Symbol, joined}
 use Rattle.textarea_wrap.specs.declared.wrap.WrapMode.{WrapMode}
 use Rattle.textarea_wrap.specs.declared.wrap.WrapMode.TheVariants as mode
+use Rattle.tui_textarea.specs.Drawing.{IsRendered}
 use Rattle.tui_textarea.specs.Edits.{char_inserted, str_inserted}
 use Rattle.tui_textarea.specs.LayoutCalls.{with_line_numbers, with_wrap_mode}
 use Rattle.tui_textarea.specs.Moves.{IsMoved}
@@ -46,3 +48,15 @@ with_redone state = with_document state (after_redo state.document)
 -- the cursor has moved to the last line, and to its end
 abbrev pub IsAtEndOf : State → State → Type 0
 IsAtEndOf old new = (below : State) × IsMoved old Bottom below × IsMoved below End new
+
+-- ---- what is said of them
+
+-- the fact holds after a drawing of the hundred lines into an area of 6 columns
+abbrev pub HoldsForHundred : (State → Type 0) → Type 0
+HoldsForHundred Fact = (drawn : State) (area : Rect) → area.width ≡ 6 → IsRendered hundred_lines area drawn → Fact drawn
+
+-- the fact holds at the end of the nine lines in a mode, after a drawing into an area of this width
+abbrev pub HoldsForNine : WrapMode → ℕ → (State → Type 0) → Type 0
+HoldsForNine mode width Fact =
+    (style : Style) (drawn ended : State) (area : Rect) → area.width ≡ width →
+    IsRendered (nine_lines mode style) area drawn → IsAtEndOf drawn ended → Fact ended

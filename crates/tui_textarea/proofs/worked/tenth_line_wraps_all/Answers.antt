@@ -1,14 +1,21 @@
-use Rattle.tui_textarea.proofs.WorkedCounts.{narrow_after, ninth_wraps_all, tenth_wraps_all, wide_before}
+use Rattle.std.proofs.Common.{refl}
+use Rattle.std.specs.Fmt.{digits}
+use Rattle.textarea_wrap.specs.declared.wrap.WrapMode.TheVariants as mode
+use Rattle.tui_textarea.proofs.WorkedCounts.{nine_holds}
 use Rattle.tui_textarea.proofs.worked.tenth_line_wraps_all.Goals as goal
 
 pub returns-clause-width : goal.returns-clause-width
-returns-clause-width c = wide_before
+unfolding digits
+returns-clause-width c = nine_holds mode.Glyph 11 _ (λ style drawing. refl)
 
 pub returns-clause-narrower : goal.returns-clause-narrower
-returns-clause-narrower c = narrow_after
+unfolding digits
+returns-clause-narrower c = nine_holds mode.Glyph 11 _ (λ style drawing. refl)
 
 pub returns-clause-all : goal.returns-clause-all
-returns-clause-all c = tenth_wraps_all
+unfolding digits
+returns-clause-all c = nine_holds mode.Glyph 11 _ (λ style drawing. refl)
 
 pub returns-clause-undone : goal.returns-clause-undone
-returns-clause-undone c = ninth_wraps_all
+unfolding digits
+returns-clause-undone c = nine_holds mode.Glyph 11 _ (λ style drawing. refl)

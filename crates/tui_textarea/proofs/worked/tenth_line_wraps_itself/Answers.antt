@@ -1,8 +1,12 @@
-use Rattle.tui_textarea.proofs.WorkedCounts.{tenth_is_narrow, tenth_is_whole}
+use Rattle.std.proofs.Common.{refl}
+use Rattle.std.specs.Fmt.{digits}
+use Rattle.textarea_wrap.specs.declared.wrap.WrapMode.TheVariants as mode
+use Rattle.tui_textarea.proofs.WorkedCounts.{nine_holds}
 use Rattle.tui_textarea.proofs.worked.tenth_line_wraps_itself.Goals as goal
 
 pub returns-clause-narrow : goal.returns-clause-narrow
-returns-clause-narrow c = tenth_is_narrow
+unfolding digits
+returns-clause-narrow c = nine_holds mode.Glyph 3 _ (λ style drawing. refl)
 
 pub returns-clause-whole : goal.returns-clause-whole
-returns-clause-whole c = tenth_is_whole
+returns-clause-whole c = nine_holds mode.None 11 _ (λ style drawing. refl)

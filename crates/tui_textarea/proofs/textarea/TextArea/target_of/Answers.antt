@@ -1,5 +1,5 @@
 use Rattle.std.proofs.Common.{subst, refl}
-use Rattle.tui_textarea.specs.Moves.{IsTarget}
+use Rattle.textarea_document.specs.Target.{IsDocumentTarget}
 use Rattle.tui_textarea.specs.State.{State}
 use Rattle.tui_textarea.proofs.OneTarget.{document_target}
 use Rattle.tui_textarea.proofs.textarea.TextArea.target_of.Goals as goal
@@ -10,4 +10,5 @@ returns-in-InViewport-clause-target c =
 
 pub returns-in_default-clause-target : goal.returns-in_default-clause-target
 returns-in_default-clause-target c =
-    subst (λ (s : State). IsTarget s c.args.cursor_move c.target.result) c.self.view_is (document_target _ c.args.cursor_move c.target.result c.in_default.not-InViewport c.target.ensures.value)
+    document_target c.args.self.now c.args.cursor_move c.target.result c.in_default.not-InViewport
+    (subst (λ (s : State). IsDocumentTarget s.document c.args.cursor_move c.target.result) c.self.view_is c.target.ensures.value)
