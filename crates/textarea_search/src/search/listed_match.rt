@@ -19,8 +19,8 @@ pub(crate) struct ListedMatch {
     pub(crate) column: usize,
 }
 
-/// Returns the listed match after this one, or the first of all. It counts characters only from the
-/// start of the match before.
+/// Returns the listed match after `before` or, for `None`, the first of all. It counts characters
+/// only from the start of `before`.
 pub(crate) fn match_after(
     matcher: &mut Matcher<'_>,
     line: &str,
@@ -47,8 +47,8 @@ pub(crate) fn match_after(
     })
 }
 
-/// Returns the column of the first listed match after this one, or of all, that starts after the
-/// column or, with `at_column`, at it.
+/// Returns the first column after the given one or, with `at_column`, at it, at which a match
+/// starts that is listed after `before`.
 fn first_from(
     matcher: &mut Matcher<'_>,
     line: &str,
@@ -70,8 +70,8 @@ fn first_from(
     }
 }
 
-/// Returns the column of the last listed match after this one, or of all, that starts before the
-/// column or, with `at_column`, at it. If there is none, returns the column of this one.
+/// Returns the last column before the given one or, with `at_column`, at it, at which a match
+/// starts that is listed after `before`. If there is none, returns the column of `before`.
 fn last_from(
     matcher: &mut Matcher<'_>,
     line: &str,
@@ -105,8 +105,8 @@ fn start_of(found: Option<ListedMatch>) -> Option<usize>
 }
 
 /// Returns the first column in the search's direction from the given one or, with `at_column`, at
-/// it, at which a listed match starts. The search begins at a match before the column, or at the
-/// line's start.
+/// it, at which a listed match starts. It searches only after `before`, a match before the column;
+/// for `None`, in the whole line.
 pub(crate) fn column_from_match(
     matcher: &mut Matcher<'_>,
     line: &str,

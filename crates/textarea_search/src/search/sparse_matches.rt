@@ -15,8 +15,8 @@ use std::alloc::{AllocError, Global};
 
 const MOST_STORED: usize = 65_536;
 
-/// Matches of a pattern in a line, from the left. A line of n bytes is cut into 65,536 sections,
-/// and two matches that are stored are at least as far apart as a section is long.
+/// Matches of a pattern in a line, from the left. Each starts more than a 65,536th of the line's
+/// length after the one before, so there are at most 65,536.
 #[derive(Drop)]
 pub(crate) struct SparseMatches {
     key: CacheKey,
@@ -26,7 +26,7 @@ pub(crate) struct SparseMatches {
 
 impl SparseMatches {
     /// Returns the first start in the search's direction from the column or, with `at_column`, at
-    /// it; `None` if these are not matches of this pattern in this line. It lists the matches from
+    /// it; `None` if these are not matches of this pattern in this line. It lists the matches after
     /// the last one that is stored before the column.
     pub(crate) fn ahead(
         &self,
@@ -68,8 +68,7 @@ pub(crate) fn sparse_matches(
     Ok(SparseMatches { key, matches })
 }
 
-// Replaces the content of a vector by listed matches of a line, of which each is a section or more
-// after the one before.
+// Replaces the content of a vector by the listed matches of a line that are stored.
 fn list_matches(
     matcher: &mut Matcher<'_>,
     line: &str,
@@ -80,28 +79,28 @@ fn list_matches(
         matches.new.items) }
     ensures same { matcher_pattern matcher.new ≡ matcher_pattern matcher.old }
 {
-    let section = line.len() / MOST_STORED + 1;
+    let least = line.len() / MOST_STORED + 1;
     matches.clear();
     let mut last = None;
     while let Some(found) = match_after(matcher, line, last) {
-        push_if_far(matches, found, section)?;
+        push_if_far(matches, found, least)?;
         last = Some(found);
     }
     Ok(())
 }
 
-// Appends a match if it starts at least a section after the last one.
+// Appends a match if it starts at least so many bytes after the last one.
 fn push_if_far(
     matches: &mut Vec<ListedMatch>,
     found: ListedMatch,
-    section: usize,
+    least: usize,
 ) -> Result<(), AllocError>
     ensures { (spans : List (ℕ × ℕ)) (line : List ℕ) → IsOneOf spans line found →
         All (IsOneOf spans line) matches.old.items →
         OnOk result (All (IsOneOf spans line) matches.new.items) }
 {
     if let Some(last) = matches.last() {
-        if found.start.saturating_sub(last.start) < section {
+        if found.start.saturating_sub(last.start) < least {
             return Ok(());
         }
     }
@@ -110,6 +109,7 @@ fn push_if_far(
 }
 
 // Returns the last of the matches, which are listed from the left, that starts before the column.
+// That it starts there is tested, and so doesn't depend on their order.
 fn last_before(matches: &[ListedMatch], column: usize) -> Option<ListedMatch>
     ensures { IfSome result (λ found. Contains matches.now found × (found.column < column)) }
 {
