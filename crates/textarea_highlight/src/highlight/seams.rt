@@ -86,7 +86,7 @@ fn seam_from(row: &str, tab_len: u8, mark: RowMark, column: usize) -> RowOffset
 }
 
 // Returns the offset of the first seam after `start` that is at or after a column, or the row's
-// end.
+// end. No seam is looked for if no more bytes follow than there are columns up to this one.
 fn seam_after(row: &str, tab_len: u8, start: RowOffset, column: usize) -> usize
     requires room { 255 * length row.now < 2 ^ 63 }
     requires start { IsColumnAt row.now tab_len start }
@@ -95,6 +95,9 @@ fn seam_after(row: &str, tab_len: u8, start: RowOffset, column: usize) -> usize
     ensures seam { result < length row.now → IsSeam row.now result }
     ensures right { result < length row.now → column ≤ column_of row.now tab_len result }
 {
+    if row.len() - start.offset <= column.saturating_sub(start.column) {
+        return row.len();
+    }
     let mut walk = walk_from(start);
     'walking: while walk.at.offset < row.len() {
         walk = next_character(row, tab_len, walk);
