@@ -179,10 +179,10 @@ END
 size_row "a call that does nothing" microseconds 1000 1000 in_line 'word ' 0 '' 'now 0'
 size_row "the next match of a text, forward, by the line's length" microseconds 1000 10000000 in_line 'word ' size/2 "$text_set"$'\n'"$forward" "$forward"
 size_row "the next match of a text, back, by the line's length" microseconds 1000 10000000 in_line 'word ' size/2 "$text_set"$'\n'"$back" "$back"
-size_row "the next match of \`\\w+\`, forward, by the line's length" microseconds 1000 100000 in_line 'word ' size/2 "$word_set"$'\n'"$forward" "$forward"
-size_row "the next match of \`\\w+\`, back, by the line's length" microseconds 1000 100000 in_line 'word ' size/2 "$word_set"$'\n'"$back" "$back"
+size_row "the next match of \`\\w+\`, forward, by the line's length" microseconds 1000 10000000 in_line 'word ' size/2 "$word_set"$'\n'"$forward" "$forward"
+size_row "the next match of \`\\w+\`, back, by the line's length" microseconds 1000 10000000 in_line 'word ' size/2 "$word_set"$'\n'"$back" "$back"
 size_row "a text is set and searched for, by the line's length" microseconds 2000 10000000 in_line 'word ' size/2 '' "$other_text"
-size_row "a pattern of words is set and searched for, by the line's length" microseconds 2000 100000 in_line 'word ' size/2 '' "$other_word"
+size_row "a pattern of words is set and searched for, by the line's length" microseconds 2000 1000000 in_line 'word ' size/2 '' "$other_word"
 size_row "a text in the last line, by lines" "nanoseconds a line" size 1000000 in_lines 0 needle 'set_search_pattern needle' "$forward"
 size_row "a cell's position at the end of a wrapped line, by its length" microseconds 1000 10000000 in_line 'word ' size-20 "$glyph" 'hit 5 12'
 size_row "the same, of characters of two bytes" microseconds 1000 10000000 in_line 'éàüöß' size-20 "$glyph" 'hit 5 12'
