@@ -5,9 +5,9 @@
 # processor time, the fastest of some runs, less that of the same script without the calls of the
 # row, and less that of reading the commands; the printing of a call's result is in it. A row makes
 # its calls as often as takes at least 50 ms.
-# - In a line full of matches: the next match, forward and back, where the match before was found in
-#   the same line; and a pattern that is set, and its first search. Then a text in the last of all
-#   lines.
+# - In a line full of matches: the next match, forward and back, where the two matches before were
+#   found in the same line; a pattern that is set, and its first search, or its first two, of which
+#   the second one stores matches. Then a text in the last of all lines.
 # - In a line that is wrapped at each 80 columns, and in wrapped lines of ten characters, at the
 #   end: the position that a cell shows, and Up and Down.
 # - Forward and Back in a line that isn't wrapped, by characters and by words.
@@ -162,7 +162,12 @@ forward='search_forward false'
 back='search_back false'
 text_set='set_search_pattern word'
 word_set='set_search_pattern \\w+'
+text_twice=$text_set$'\n'$forward$'\n'$forward
+text_twice_back=$text_set$'\n'$back$'\n'$back
+word_twice=$word_set$'\n'$forward$'\n'$forward
+word_twice_back=$word_set$'\n'$back$'\n'$back
 other_text=$text_set$'\n'$forward$'\nset_search_pattern ord\n'$forward
+other_twice=$text_twice$'\nset_search_pattern ord\n'$forward$'\n'$forward
 other_word=$word_set$'\n'$forward$'\nset_search_pattern [a-z]+\n'$forward
 
 cat << END
@@ -177,11 +182,12 @@ dash: not measured.
 |---|---|---:|---:|---:|---:|---:|---:|
 END
 size_row "a call that does nothing" microseconds 1000 1000 in_line 'word ' 0 '' 'now 0'
-size_row "the next match of a text, forward, by the line's length" microseconds 1000 10000000 in_line 'word ' size/2 "$text_set"$'\n'"$forward" "$forward"
-size_row "the next match of a text, back, by the line's length" microseconds 1000 10000000 in_line 'word ' size/2 "$text_set"$'\n'"$back" "$back"
-size_row "the next match of \`\\w+\`, forward, by the line's length" microseconds 1000 10000000 in_line 'word ' size/2 "$word_set"$'\n'"$forward" "$forward"
-size_row "the next match of \`\\w+\`, back, by the line's length" microseconds 1000 10000000 in_line 'word ' size/2 "$word_set"$'\n'"$back" "$back"
+size_row "the next match of a text, forward, by the line's length" microseconds 1000 10000000 in_line 'word ' size/2 "$text_twice" "$forward"
+size_row "the next match of a text, back, by the line's length" microseconds 1000 10000000 in_line 'word ' size/2 "$text_twice_back" "$back"
+size_row "the next match of \`\\w+\`, forward, by the line's length" microseconds 1000 10000000 in_line 'word ' size/2 "$word_twice" "$forward"
+size_row "the next match of \`\\w+\`, back, by the line's length" microseconds 1000 10000000 in_line 'word ' size/2 "$word_twice_back" "$back"
 size_row "a text is set and searched for, by the line's length" microseconds 2000 10000000 in_line 'word ' size/2 '' "$other_text"
+size_row "a text is set and searched for twice, by the line's length" microseconds 2000 10000000 in_line 'word ' size/2 '' "$other_twice"
 size_row "a pattern of words is set and searched for, by the line's length" microseconds 2000 1000000 in_line 'word ' size/2 '' "$other_word"
 size_row "a text in the last line, by lines" "nanoseconds a line" size 1000000 in_lines 0 needle 'set_search_pattern needle' "$forward"
 size_row "a cell's position at the end of a wrapped line, by its length" microseconds 1000 10000000 in_line 'word ' size-20 "$glyph" 'hit 5 12'
