@@ -12,7 +12,7 @@ use textarea_history::edit::Change;
 use textarea_screen_map::layout::{VisualPosition, Wrapping, rows_in};
 use textarea_screen_map::line_marks::LineMarks;
 use textarea_screen_map::screen_map::ScreenMap;
-use textarea_text::rows::{Replacement, byte_offset_from, size_within_limit};
+use textarea_text::rows::{Replacement, byte_offset, byte_offset_from, size_within_limit};
 use textarea_text::util::Pos;
 use textarea_util::limit::within_limit;
 use textarea_wrap::wrap::WrapCount;
@@ -267,11 +267,14 @@ impl TextLayout {
         requires { IsPlace self.now.text place }
         ensures { result ≡ offset_at (lines self.now.text) place }
     {
+        let line = self.lines[place.0].as_str();
         let steps = place.1.abs_diff(self.found.col);
         let is_near = steps < NEARBY || steps < place.1 - self.marked_column(place);
         if self.found.row == place.0 && is_near {
-            let line = self.lines[place.0].as_str();
             return byte_offset_from(line, (self.found.col, self.found.offset), place.1);
+        }
+        if place.1 < NEARBY {
+            return byte_offset(line, place.1);
         }
         self.view().offset_of(place)
     }
