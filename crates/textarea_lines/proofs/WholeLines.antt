@@ -60,12 +60,12 @@ total_next (r ∷ rows) (suc i) within =
     ap (λ n. row_total (take n (r ∷ rows))) next ∙ omega (arith, total_next rows i (omega arith))
 
 -- one row is replaced by one row
-pub size_of_one : (rows new : List RowsView) (wrapped : RowsView) (row bytes : ℕ) → new ≡ wrapped ∷ [] → line_bytes wrapped.ranges ≡ bytes → (bytes + 1 ≡ size_total new) × (size_total (replaced rows row 1 new) ≡ size_total (take row rows) + (bytes + 1) + size_total (drop (row + 1) rows))
+pub size_of_one : (rows new : List RowsView) (wrapped : RowsView) (row bytes : ℕ) → new ≡ wrapped ∷ [] → line_bytes wrapped.ranges ≡ bytes → size_total (replaced rows row 1 new) ≡ size_total (take row rows) + (bytes + 1) + size_total (drop (row + 1) rows)
 size_of_one rows new wrapped row bytes is e =
     grind (arith, common_steps, size_total-append (take row rows) (new ++ drop (row + 1) rows), size_total-append new (drop (row + 1) rows))
 
-pub total_of_one : (rows new : List RowsView) (wrapped : RowsView) (row : ℕ) → row < length rows → length (ranges_at rows row) ≡ 1 → new ≡ wrapped ∷ [] → length wrapped.ranges ≡ 1 → row_total rows ≤ size_limit → (1 ≡ row_total new) × (row_total (replaced rows row 1 new) ≤ size_limit)
-total_of_one rows new wrapped row within one is has few = grind (arith, common_steps, row_total-replaced rows new row 1, total_next rows row within)
+pub total_of_one : (rows new : List RowsView) (wrapped : RowsView) (row : ℕ) → row < length rows → length (ranges_at rows row) ≡ 1 → new ≡ wrapped ∷ [] → length wrapped.ranges ≡ 1 → row_total (replaced rows row 1 new) ≡ row_total rows
+total_of_one rows new wrapped row within one is has = grind (arith, common_steps, row_total-replaced rows new row 1, total_next rows row within)
 
 -- a push for which there is room
 pub pushed : {T E X : Type 0} (r : Result T E) (old new : List X) (x : X) → new ≡ cond (is_ok r) (old ++ x ∷ []) old → IsOk r → old ≡ [] → new ≡ x ∷ []
@@ -118,7 +118,7 @@ line_borrowed settings old now borrowed_lines size after map splice row h =
     grind (arith, common_steps, inside_line settings old now borrowed_lines size after map splice row h, length-take-le, get_or-append_right)
 
 -- the line can be wrapped
-pub can_wrap : {Z : Type 0} (settings : LayoutSettings) (old now borrowed_lines : List (String Z)) (size after : ℕ) (map : MapView) (splice : Splice) (row : ℕ) → Inside settings old now borrowed_lines size after map splice row → CanStayWhole borrowed_lines map.rows row
+pub can_wrap : {Z : Type 0} (settings : LayoutSettings) (old now borrowed_lines : List (String Z)) (size after : ℕ) (map : MapView) (splice : Splice) (row : ℕ) → Inside settings old now borrowed_lines size after map splice row → CanStayWhole borrowed_lines map.rows row after
 can_wrap settings old now borrowed_lines size after map splice row h =
     let line = inside_line settings old now borrowed_lines size after map splice row h in
     let right = inside_rows settings old now borrowed_lines size after map splice row h in
@@ -132,7 +132,8 @@ can_wrap settings old now borrowed_lines size after map splice row h =
       same = omega (arith, length-AreRowsOf whole (lines_of old) map.rows right, length-map old characters_of, many, ap length h.borrowed_is);
       one = one_range settings (lines_of old) map.rows row right line.within;
       few = omega (arith, total_whole settings (lines_of old) map.rows right, length-map old characters_of, length-le-size_of old, h.holds.stored.size_is, h.holds.stored.limit);
-      size = omega (arith, above.0, below.0, ap line_size (line_borrowed settings old now borrowed_lines size after map splice row h), weight_replaced (lines_of old) row line.line, ap (λ t. weight (following t)) line.new_is, weight_of_following now, stored.size_is, stored.limit);
+      size_is = omega (arith, above.0, below.0, ap line_size (line_borrowed settings old now borrowed_lines size after map splice row h), weight_replaced (lines_of old) row line.line, ap (λ t. weight (following t)) line.new_is, weight_of_following now, stored.size_is);
+      limit = h.limit;
     }
 
 pub holds_inside : {Z : Type 0} (settings : LayoutSettings) (old now borrowed_lines : List (String Z)) (size after : ℕ) (map new : MapView) (splice : Splice) (row tick : ℕ) → Inside settings old now borrowed_lines size after map splice row → HasWholeLine map.wrapping.tab_len (get_or (lines_of borrowed_lines) row []) row tick map.rows new.rows → new.wrapping ≡ map.wrapping → HoldsRows settings now after new

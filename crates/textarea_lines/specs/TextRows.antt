@@ -45,13 +45,14 @@ abbrev pub line_size : List ℕ → ℕ
 line_size line = length (encode_utf8_all line) + 1
 
 -- What a line needs so that it can be wrapped without a width, and its one row can replace the one
--- that it had: with it, all lines are within the limit.
-pub record CanStayWhole {Z : Type 0} (lines : List (String Z)) (rows : List RowsView) (row : ℕ) : Type 0 where
+-- that it had: all lines then have this size, which is within the limit.
+pub record CanStayWhole {Z : Type 0} (lines : List (String Z)) (rows : List RowsView) (row size : ℕ) : Type 0 where
   pub within : row < length lines
   pub same : length rows ≡ length lines
   pub one : length (ranges_at rows row) ≡ 1
   pub few : row_total rows ≤ size_limit
-  pub size : size_total (take row rows) + line_size (get_or (lines_of lines) row []) + size_total (drop (row + 1) rows) ≤ size_limit
+  pub size_is : size_total (take row rows) + line_size (get_or (lines_of lines) row []) + size_total (drop (row + 1) rows) ≡ size
+  pub limit : size ≤ size_limit
 
 -- The line `row`, given by its characters, which are Unicode scalar values, is shorter than 2^48
 -- bytes and has one new row with this tick. All other lines keep their rows.

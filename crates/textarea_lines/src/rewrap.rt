@@ -121,19 +121,20 @@ pub(crate) fn prepare_rows_for(
     Ok((prepared, after))
 }
 
-// Replaces the row of a line that isn't wrapped. `rows` has room for the new row, so this allocates
-// nothing.
+// Replaces the row of a line that isn't wrapped. `size` is that of all lines then. `rows` has room
+// for the new row, so this allocates nothing.
 pub(crate) fn put_whole_line(
     alloc: Global,
     map: &mut ScreenMap,
     mut rows: Vec<Rows>,
     lines: &[String],
     row: usize,
+    size: usize,
     count: &mut WrapCount,
 )
     requires empty { vec_len rows ≡ 0 }
     requires room { 1 ≤ vec_capacity rows }
-    requires whole { CanStayWhole lines.now map.old.rows row }
+    requires whole { CanStayWhole lines.now map.old.rows row size }
     ensures rows { HasWholeLine map.old.wrapping.tab_len (get_or (lines_of lines.now) row []) row
         (count.old + 1) map.old.rows map.new.rows }
     ensures wrapping { map.new.wrapping ≡ map.old.wrapping }
@@ -147,8 +148,8 @@ pub(crate) fn put_whole_line(
         row,
         count: 1,
         rows: NewRows::Few(rows),
-        total: 1,
-        size: line.len() + 1,
+        total: map.row_count(),
+        size,
         wrapping,
     });
 }

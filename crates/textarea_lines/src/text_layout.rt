@@ -346,7 +346,15 @@ impl TextLayout {
         let rows = Vec::with_capacity(alloc, 1)?;
         change.apply_inside(&mut self.lines, offset)?;
         let lines = self.lines.as_slice();
-        put_whole_line(alloc, &mut self.map, rows, lines, row, &mut self.count);
+        put_whole_line(
+            alloc,
+            &mut self.map,
+            rows,
+            lines,
+            row,
+            size,
+            &mut self.count,
+        );
         self.size = size;
         self.measured = None;
         drop_measured(&mut self.cached);

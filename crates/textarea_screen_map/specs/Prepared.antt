@@ -31,8 +31,8 @@ HasRoom all blocks row count (new.Many rows) = IsEdge blocks.blocks row × (leng
 pub record CanPutRows (map : MapView) (prepared : PreparedRows) : Type 0 where
   pub within : prepared.row + prepared.count ≤ length map.rows
   pub room : HasRoom map.rows map.room prepared.row prepared.count prepared.rows
-  pub total : prepared.total ≡ row_total (rows_in prepared.rows)
-  pub size : prepared.size ≡ size_total (rows_in prepared.rows)
+  pub total : prepared.total ≡ row_total (rows_with map.rows prepared)
+  pub size : prepared.size ≡ size_total (rows_with map.rows prepared)
   pub limit : IsWithinLimit (rows_with map.rows prepared)
 
 -- the rows can be put in for those of the `count` lines from the row on, with this wrapping

@@ -51,8 +51,9 @@ pub enum NewRows {
     Many(RowBlocks),
 }
 
-/// Rows that will replace those of the `count` lines from `row` on, their number, the bytes and the
-/// number of their lines in all, and the map's wrapping after that. The map has room for them.
+/// Rows that will replace those of the `count` lines from `row` on, and what the map has after that:
+/// the number of all rows, the bytes and the number of all lines together, and the wrapping. The map
+/// has room for the rows.
 #[derive(Drop)]
 pub struct PreparedRows {
     pub row: usize,
@@ -281,8 +282,8 @@ impl ScreenMap {
         self.blocks.reserve(more)
     }
 
-    // Returns the number of the rows and the size of their lines. Out of memory if the map would
-    // exceed the limit once they replace the rows of the `count` lines from `row` on.
+    // Returns the number of all rows and the size of all lines once these rows replace those of the
+    // `count` lines from `row` on. Out of memory if the map would exceed the limit then.
     fn within_limit_with(
         &self,
         row: usize,
@@ -290,15 +291,17 @@ impl ScreenMap {
         rows: &NewRows,
     ) -> Result<(usize, usize), AllocError>
         requires { row + count ≤ length self.now.rows }
-        ensures total { IfOk result (λ coming. coming.0 ≡ row_total (rows_in rows.now)) }
-        ensures size { IfOk result (λ coming. coming.1 ≡ size_total (rows_in rows.now)) }
+        ensures total { IfOk result (λ after.
+            after.0 ≡ row_total (replaced self.now.rows row count (rows_in rows.now))) }
+        ensures size { IfOk result (λ after.
+            after.1 ≡ size_total (replaced self.now.rows row count (rows_in rows.now))) }
         ensures limit { IsOk result
             ↔ IsWithinLimit (replaced self.now.rows row count (rows_in rows.now)) }
     {
         let (old, old_size) = self.blocks.sums_of(row, count);
-        let (total, size) = sums_of(rows);
-        within_limit((self.size - old_size).saturating_add(size))?;
-        within_limit((self.total - old).saturating_add(total))?;
+        let (new, new_size) = sums_of(rows);
+        let size = within_limit((self.size - old_size).saturating_add(new_size))?;
+        let total = within_limit((self.total - old).saturating_add(new))?;
         Ok((total, size))
     }
 
@@ -317,10 +320,9 @@ impl ScreenMap {
             size,
             wrapping,
         } = prepared;
-        let (old, old_size) = self.blocks.sums_of(row, count);
         put_rows(&mut self.blocks, row, count, rows);
-        self.total = self.total - old + total;
-        self.size = self.size - old_size + size;
+        self.total = total;
+        self.size = size;
         self.wrapping = wrapping;
     }
 
