@@ -1,6 +1,6 @@
 use Rattle.std.proofs.Common.{◌≡◌, ◌+◌, ◌∙◌, None, Some, ap, arith, cond, rules, subst, sym}
 use Rattle.memchr.specs.Find.{FindsNeedle}
-use Rattle.textarea_search.proofs.ColumnLemmas.{IsByteOfColumn, boundary_within, column_within}
+use Rattle.textarea_search.proofs.ColumnLemmas.{boundary_within, column_within}
 use Rattle.textarea_search.proofs.OccurrenceLemmas.{at_or_after, first_of, text_column}
 use Rattle.textarea_search.proofs.search.listed.text_ahead.Goals as goal
 use Rattle.textarea_search.proofs.search.listed.text_ahead.Goals.{then-at_column, else-at_column}
