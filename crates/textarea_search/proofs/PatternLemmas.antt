@@ -1,6 +1,6 @@
 -- From a compiled pattern to its text.
 use Rattle.std.proofs.lemmas.Grind.{common_steps}
-use Rattle.std.proofs.Common.{◌≡◌, ℕ, zero, suc, ◌+◌, ◌<◌, ◌≤◌, Bool, true, false, cond, ◌∷◌, List, [], map, length, drop, get_or, Option, None, Some, IfSome, IsSomeAnd, option_map, refl, sym, ap, ◌∙◌, subst, inl, inr, arith, zero-le, IsUtf8, string_bytes, Global}
+use Rattle.std.proofs.Common.{◌≡◌, ℕ, zero, suc, ◌+◌, ◌<◌, ◌≤◌, Bool, true, false, cond, ◌∷◌, List, [], map, length, get_or, Option, None, Some, IfSome, IsSomeAnd, option_map, refl, sym, ap, ◌∙◌, subst, inl, inr, arith, zero-le, IsUtf8, string_bytes, Global}
 use Rattle.std.specs.Prelude.{All, String, nat_le}
 use Rattle.std.specs.Coded.{coded_ℕ, coded_list, coded×, Coded-set}
 use Rattle.std.specs.Option.{option_map_or}
@@ -8,7 +8,6 @@ use Rattle.std.proofs.Math.Logic.{∥∥₁_elim}
 use Rattle.std.proofs.Math.Utf8.{encode, encodes, scalar, scalars}
 use Rattle.std.specs.List.{find, slice_get}
 use Rattle.std.proofs.lemmas.Bool.{and_parts, cases_Bool, cond-false}
-use Rattle.std.proofs.lemmas.List.{get_or_append_left, get_or-drop}
 use Rattle.std.proofs.lemmas.Bool.Decides.{nat_tests}
 use Rattle.std.proofs.lemmas.List.Elements.{All-nil, All-append}
 use Rattle.std.proofs.lemmas.Str.{IsUtf8-nil, IsUtf8-string_bytes}
@@ -17,7 +16,6 @@ use Rattle.regex_hir.specs.Find.{Match, find_str, matches_from}
 use Rattle.regex_hir.specs.Re.{Re, accept, attempt, literal}
 use Rattle.regex_hir.specs.Text.{has_bytes_at, is_boundary}
 use Rattle.regex_hir.proofs.FindLemmas.{first_between_none}
-use Rattle.regex_hir.proofs.TextLemmas.{has_bytes_at_fits, has_bytes_at_parts}
 use Rattle.regex_syntax.specs.Brackets.{Nested}
 use Rattle.regex_syntax.specs.Captures.{SameCaptures}
 use Rattle.regex_syntax.specs.Grammar.{Names, group_count}
