@@ -190,6 +190,7 @@ fn byte_of(line: &str, column: usize) -> usize
     if count < column {
         return line.len() + 1;
     }
+    // Each character is one byte.
     if count == line.len() {
         return column;
     }

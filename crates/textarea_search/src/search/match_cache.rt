@@ -119,8 +119,9 @@ impl MatchCache {
     }
 
     /// Stores the starts of the line's matches, if the search before was for the same pattern and
-    /// began in the same row. So a line is listed only for the second search in it. Of more than
-    /// 65,536 matches only some are stored, and none of a line of more than 33,554,432 bytes.
+    /// began in the same row. So a line is listed only for the pattern's second search in it. Of
+    /// more than 65,536 matches only some are stored, and none of a line of more than 33,554,432
+    /// bytes.
     pub(crate) fn put_starts(
         &mut self,
         row: usize,
@@ -144,8 +145,8 @@ impl MatchCache {
         Ok(())
     }
 
-    // Returns whether the search before that the cache had no starts for was for the same pattern
-    // in the same line, and keeps this one.
+    // Returns whether the last search for which the cache had no starts was for this pattern in
+    // this line, and notes this search as the last.
     fn is_missed_again(
         &mut self,
         row: usize,
