@@ -1,17 +1,17 @@
 -- Byte offsets of a line and their columns.
 use Rattle.std.proofs.lemmas.Grind.{common_steps}
-use Rattle.std.proofs.Common.{◌≡◌, ℕ, zero, suc, ◌+◌, ◌-◌, ◌<◌, ◌≤◌, Bool, true, List, [], ◌∷◌, ◌++◌, map, length, take, drop, option_map, refl, sym, ap, ◌∙◌, ⊎_elim, arith, IsUtf8, IsCharBoundary, encode_utf8_all, encode_utf8}
+use Rattle.std.proofs.Common.{◌≡◌, ℕ, zero, suc, ◌+◌, ◌-◌, ◌<◌, ◌≤◌, Bool, true, List, [], ◌∷◌, ◌++◌, map, length, take, drop, option_map, refl, sym, ap, subst, ◌∙◌, inl, inr, ⊎_elim, arith, IsUtf8, IsCharBoundary, encode_utf8_all, encode_utf8}
 use Rattle.std.specs.Prelude.{All}
 use Rattle.std.specs.List.{find, slice_get}
 use Rattle.std.specs.Str.{chars}
 use Rattle.std.proofs.Math.Seq.{take-add}
 use Rattle.std.proofs.lemmas.Bool.{cases_lt}
 use Rattle.std.proofs.lemmas.Bool.Decides.{nat_tests}
-use Rattle.std.proofs.lemmas.List.{take-append-drop, take_at, length-append, length-take-le}
+use Rattle.std.proofs.lemmas.List.{take-append-drop, take_at, length-append, length-drop, length-take-le}
 use Rattle.std.proofs.lemmas.List.Elements.{All-weaker}
 use Rattle.std.proofs.lemmas.Option.{slice_get-map}
-use Rattle.std.proofs.lemmas.Str.{chars-append, encodes-chars, IsUtf8-take, length-encode, len_utf8_bounds}
-use Rattle.textarea_text.proofs.Columns.{length-offset, length_split}
+use Rattle.std.proofs.lemmas.Str.{chars-append, encodes-chars, IsUtf8-take, length-encode, length-le-encodes, len_utf8_bounds}
+use Rattle.textarea_text.proofs.Columns.{IsCharBoundary-column, chars-take, length-offset, length_split}
 use Rattle.textarea_search.specs.Columns.{column_of_byte}
 use Rattle.textarea_search.specs.Starts.{along, is_ahead_in_line}
 use Rattle.textarea_search.specs.declared.search.direction.Direction.{Direction}
@@ -74,6 +74,26 @@ byte_at-below (c ∷ cs) (suc i) (suc j) lt le =
 pub record IsByteOfColumn (line : List ℕ) (column byte : ℕ) : Type 0 where
   pub inside : column ≤ length (chars line) → byte ≡ byte_at (chars line) column
   pub past : length (chars line) < column → length line < byte
+
+-- an offset that isn't past the line is that of the column
+pub within_line : (line : List ℕ) (column byte : ℕ) → IsByteOfColumn line column byte → byte ≤ length line → (column ≤ length (chars line)) × (byte ≡ byte_at (chars line) column)
+within_line line column byte is le =
+    elim (cases_lt (length (chars line)) column) [ inl far ↦ absurd (omega (arith, is.past far)) | inr near ↦ (near, is.inside near) ]
+
+pub boundary_within : (line : List ℕ) (column byte : ℕ) → IsUtf8 line → IsByteOfColumn line column byte → byte ≤ length line → IsCharBoundary line byte
+boundary_within line column byte text is le =
+    subst (IsCharBoundary line) (sym (within_line line column byte is le).1) (IsCharBoundary-column line column text)
+
+pub column_within : (line : List ℕ) (column byte : ℕ) → IsUtf8 line → IsByteOfColumn line column byte → byte ≤ length line → column ≡ column_of_byte line byte
+column_within line column byte text is le =
+    let near = within_line line column byte is le in
+    let front = IsUtf8-take line byte text (boundary_within line column byte text is le) in
+    sym (ap length (chars-take line (take byte line) column text front (ap (λ n. take n line) near.1)) ∙ length-take-le column (chars line) near.0)
+
+-- if each character is one byte, columns are byte offsets
+pub offset_of_single : (line : List ℕ) (column : ℕ) → IsUtf8 line → length (chars line) ≡ length line → column ≤ length (chars line) → column ≡ byte_at (chars line) column
+offset_of_single line column text single le =
+    omega (arith, length-offset line column text le, length_split line column text, length-le-encodes (drop column (chars line)), length-drop column (chars line))
 
 -- two pairs of numbers are in the same order
 record SameOrder (x y m n : ℕ) : Type 0 where

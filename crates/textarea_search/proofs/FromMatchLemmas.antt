@@ -169,13 +169,40 @@ columns_within tree line text =
     (All-weaker (LiesFrom line 0) (λ s. column_of_span line s ≤ length (chars line)) (λ s lies. (column_at_boundary line s.0 text lies.1).0) (spans_after tree line 0) (spans_lie tree line 0))
 
 -- no match after one that isn't before the column is before it
-pub none_before : (column : ℕ) (at : Bool) (first : ℕ) (rest : List ℕ) → is_past first at column ≡ false → All (λ c. first ≤ c) rest →
+none_before : (column : ℕ) (at : Bool) (first : ℕ) (rest : List ℕ) → is_past first at column ≡ false → All (λ c. first ≤ c) rest →
     find (λ c. is_past c at column) (reverse (first ∷ rest)) ≡ None
 none_before column at first rest fails above =
     let test : ℕ → Bool = λ c. is_past c at column in
     find-none test (reverse (first ∷ rest)) (All-reverse (λ c. test c ≡ false) (first ∷ rest)
     (All-cons (λ c. test c ≡ false) first rest fails
     (All-weaker (λ c. first ≤ c) (λ c. test c ≡ false) (λ c le. later_fails column at first c fails le) rest above)))
+
+-- ---- a step of a search: what `match_after` found passes, or doesn't
+
+module _ (used tree : Re) (line : List ℕ) (after : ℕ) (found : ListedMatch) (same : used ≡ tree) (place : IsMatchIn line found)
+    (left : spans_after used line after ≡ (found.start, found.end) ∷ spans_after used line (found.end + 1)) (column : ℕ) (at : Bool) where
+  abbrev rest : List ℕ
+  rest = columns_after tree line (found.end + 1)
+
+  listed : columns_after tree line after ≡ found.column ∷ rest
+  listed = columns_step used tree line after found same place left
+
+  pub first_passes : is_past column at found.column ≡ true → find (is_past column at) (columns_after tree line after) ≡ Some found.column
+  first_passes e = ap (find (is_past column at)) listed ∙ ap (λ b. cond b (Some found.column) (find (is_past column at) rest)) e
+
+  pub first_fails : is_past column at found.column ≡ false → find (is_past column at) (columns_after tree line after) ≡ find (is_past column at) rest
+  first_fails e = ap (find (is_past column at)) listed ∙ ap (λ b. cond b (Some found.column) (find (is_past column at) rest)) e
+
+  pub last_passes : (known : Option ℕ) → is_past found.column at column ≡ true →
+      option_or (find (λ c. is_past c at column) (reverse (columns_after tree line after))) known ≡ option_or (find (λ c. is_past c at column) (reverse rest)) (Some found.column)
+  last_passes known e =
+      ap (λ cs. option_or (find (λ c. is_past c at column) (reverse cs)) known) listed ∙ last_of_some (λ c. is_past c at column) found.column rest known e
+
+  pub last_fails : IsUtf8 line → (known : Option ℕ) → is_past found.column at column ≡ false →
+      option_or (find (λ c. is_past c at column) (reverse (columns_after tree line after))) known ≡ known
+  last_fails text known e =
+      ap (λ cs. option_or (find (λ c. is_past c at column) (reverse cs)) known) listed
+      ∙ ap (λ o. option_or o known) (none_before column at found.column rest e (columns_above tree line text found place))
 
 -- a match that is stored for a pattern is one of those that its tree lists
 pub one_of_tree : (pattern line : List ℕ) (key : List ℕ × List ℕ) (tree : Re) (matches : List ListedMatch) (before : Option ListedMatch) (column : ℕ) → key ≡ (pattern, line) → IsUtf8 line →

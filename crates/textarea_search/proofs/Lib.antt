@@ -1,5 +1,6 @@
 mod FailureLemmas
 mod FromMatchLemmas
+mod OccurrenceLemmas
 mod PatternLemmas
 mod AscendingLemmas
 mod ColumnLemmas

@@ -1,14 +1,13 @@
 -- From a compiled pattern to its text.
 use Rattle.std.proofs.lemmas.Grind.{common_steps}
-use Rattle.std.proofs.Common.{◌≡◌, ℕ, zero, suc, ◌+◌, ◌<◌, ◌≤◌, Bool, true, false, cond, ◌∷◌, List, [], map, length, drop, get_or, Option, None, Some, IfSome, IsSomeAnd, refl, sym, ap, ◌∙◌, subst, inl, inr, arith, zero-le, IsUtf8, string_bytes, Global}
-use Rattle.std.specs.Prelude.{All, String}
+use Rattle.std.proofs.Common.{◌≡◌, ℕ, zero, suc, ◌+◌, ◌<◌, ◌≤◌, Bool, true, false, cond, ◌∷◌, List, [], map, length, get_or, Option, None, Some, IfSome, IsSomeAnd, option_map, refl, sym, ap, ◌∙◌, subst, inl, inr, arith, zero-le, IsUtf8, string_bytes, Global}
+use Rattle.std.specs.Prelude.{All, String, nat_le}
 use Rattle.std.specs.Coded.{coded_ℕ, coded_list, coded×, Coded-set}
 use Rattle.std.specs.Option.{option_map_or}
 use Rattle.std.proofs.Math.Logic.{∥∥₁_elim}
 use Rattle.std.proofs.Math.Utf8.{encode, encodes, scalar, scalars}
-use Rattle.std.specs.List.{slice_get}
+use Rattle.std.specs.List.{find, slice_get}
 use Rattle.std.proofs.lemmas.Bool.{and_parts, cases_Bool, cond-false}
-use Rattle.std.proofs.lemmas.List.{get_or_append_left, get_or-drop}
 use Rattle.std.proofs.lemmas.Bool.Decides.{nat_tests}
 use Rattle.std.proofs.lemmas.List.Elements.{All-nil, All-append}
 use Rattle.std.proofs.lemmas.Str.{IsUtf8-nil, IsUtf8-string_bytes}
@@ -17,7 +16,6 @@ use Rattle.regex_hir.specs.Find.{Match, find_str, matches_from}
 use Rattle.regex_hir.specs.Re.{Re, accept, attempt, literal}
 use Rattle.regex_hir.specs.Text.{has_bytes_at, is_boundary}
 use Rattle.regex_hir.proofs.FindLemmas.{first_between_none}
-use Rattle.regex_hir.proofs.TextLemmas.{has_bytes_at_fits, has_bytes_at_parts}
 use Rattle.regex_syntax.specs.Brackets.{Nested}
 use Rattle.regex_syntax.specs.Captures.{SameCaptures}
 use Rattle.regex_syntax.specs.Grammar.{Names, group_count}
@@ -33,6 +31,7 @@ use Rattle.textarea_search.specs.Spans.{IsNeedleOf, ListsMatchesOf, columns_in, 
 use Rattle.textarea_search.specs.Starts.{along, bytes_at, starts_from}
 use Rattle.textarea_search.specs.declared.search.direction.Direction.{Direction}
 use Rattle.textarea_search.specs.declared.search.direction.Direction.TheVariants.{Forward, Back}
+use Rattle.textarea_search.proofs.OccurrenceLemmas.{first_left, occurs}
 
 -- ---- the bytes of a text
 
@@ -104,14 +103,6 @@ columns_listed pattern tree lines row lists =
 
 -- ---- a pattern without syntax, and a line that lacks its text
 
-occurs : (line word : List ℕ) (i : ℕ) → i ≤ length line → has_bytes_at line i word ≡ true → OccursAt line word i
-occurs line word i within e = record {
-  fits = omega (arith, has_bytes_at_fits line i word e);
-  reads = λ j lt.
-      sym (get_or-drop i line j 0) ∙ ap (λ bs. get_or bs j 0) (has_bytes_at_parts line i word e)
-      ∙ get_or_append_left word (drop (i + length word) line) 0 j lt;
-}
-
 none_if_false : {A : Type 0} (b : Bool) (o : Option A) → o ≡ None → cond b o None ≡ None
 none_if_false true o e = e
 none_if_false false o e = refl
@@ -139,17 +130,27 @@ module _ (line word : List ℕ) (missing : Nowhere (OccursAt line word) 0 (lengt
       ap (λ o. map span (matches_from (find_str (literal word) line) (length line + 1) o)) none_found
       ∙ ap (map span) (none_follow (find_str (literal word) line) (length line + 1))
 
-  none_read : (o : Option (Nested Re × Names)) → AreBytes line →
-      IsSomeAnd o (λ (re, names). (re.depth ≤ 1) × SameCaptures re.value (literal word) × (names ≡ None ∷ [])) →
-      option_map_or (λ (found, _). map span (find_all_str found.value line)) o [] ≡ []
-  none_read None bytes h = refl
-  none_read (Some found) bytes h = spans_alike h.1 line (each_byte line bytes) true ∙ none_listed
+  none_listed-text : spans_after (literal word) line 0 ≡ []
+  none_listed-text = ap (map span) (matches_after_text (literal word) line) ∙ none_listed
+
+spans_as_text : (line word : List ℕ) (o : Option (Nested Re × Names)) → AreBytes line →
+    IsSomeAnd o (λ (re, names). (re.depth ≤ 1) × SameCaptures re.value (literal word) × (names ≡ None ∷ [])) →
+    option_map_or (λ (found, _). map span (find_all_str found.value line)) o [] ≡ spans_after (literal word) line 0
+spans_as_text line word None bytes h = absurd h
+spans_as_text line word (Some found) bytes h = spans_alike h.1 line (each_byte line bytes) true ∙ sym (ap (map span) (matches_after_text (literal word) line))
 
 -- the pattern is the needle
-pub needle_of_plain : (pattern : List ℕ) → ReadsAsText pattern pattern → (tree : Re) → ListsMatchesOf pattern tree → IsNeedleOf pattern tree
+pub needle_of_plain : (pattern : List ℕ) → IsUtf8 pattern → ReadsAsText pattern pattern → (tree : Re) → ListsMatchesOf pattern tree → IsNeedleOf pattern tree
 unfolding match_spans ReadsAsText
-needle_of_plain pattern plain tree lists line text missing =
-    lists line text ∙ none_read line pattern missing _ (bytes_of_text line text) (plain default_config refl refl)
+needle_of_plain pattern utf8 plain tree lists =
+    let same : (line : List ℕ) → IsUtf8 line → spans_after tree line 0 ≡ spans_after (literal pattern) line 0 =
+    λ line text. lists line text ∙ spans_as_text line pattern _ (bytes_of_text line text) (plain default_config refl refl) in
+    record {
+      lacks = λ line text missing. same line text ∙ none_listed-text line pattern missing;
+      first = λ once line text from start finds.
+          ap (λ ss. option_map (λ s. s.0) (find (λ s. nat_le from s.0) ss)) (same line text)
+          ∙ first_left line pattern utf8 once (length line + 1) 0 from start (omega arith) (λ k low high. absurd (omega arith)) finds;
+    }
 
 -- a line without listed matches has no start
 pub no_columns : (tree : Re) (line : List ℕ) (direction : Direction) → spans_after tree line 0 ≡ [] → None ≡ slice_get (along direction (columns_in tree line)) 0

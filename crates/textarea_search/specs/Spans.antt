@@ -1,6 +1,6 @@
 -- The matches of a line, listed by the syntax tree of a compiled pattern.
-use Rattle.std.specs.Prelude.{◌≡◌, ℕ, ◌+◌, true, [], IsUtf8, List, length, map}
-use Rattle.memchr.specs.Find.{Nowhere, OccursAt}
+use Rattle.std.specs.Prelude.{◌≡◌, ◌≢◌, ℕ, ◌+◌, ◌<◌, true, nat_le, [], IsUtf8, List, Option, find, length, map, option_map, slice_index}
+use Rattle.memchr.specs.Find.{FindsNeedle, Nowhere, OccursAt}
 use Rattle.regex.specs.Patterns.{Re, span}
 use Rattle.regex.specs.Search.{matches_after}
 use Rattle.textarea_search.specs.Columns.{column_of_byte}
@@ -22,7 +22,14 @@ columns_in tree line = columns_after tree line 0
 abbrev pub ListsMatchesOf : List ℕ → Re → Type 0
 ListsMatchesOf pattern tree = (line : List ℕ) → IsUtf8 line → spans_after tree line 0 ≡ match_spans pattern line
 
--- the tree has no match in a line that lacks the text
-abbrev pub IsNeedleOf : List ℕ → Re → Type 0
-IsNeedleOf needle tree =
-    (line : List ℕ) → IsUtf8 line → Nowhere (OccursAt line needle) 0 (length line + 1) → spans_after tree line 0 ≡ []
+-- the text has a first byte, which isn't in the rest of it; so the text can't overlap itself
+pub record StartsOnce (text : List ℕ) : Type 0 where
+  pub some : 0 < length text
+  pub once : (k : ℕ) → 0 < k → k < length text → slice_index text k ≢ slice_index text 0
+
+-- the tree has no match in a line that lacks the text; and if the text can't overlap itself, the
+-- first match from an offset on starts where the line has the text for the first time from there on
+pub record IsNeedleOf (needle : List ℕ) (tree : Re) : Type 0 where
+  pub lacks : (line : List ℕ) → IsUtf8 line → Nowhere (OccursAt line needle) 0 (length line + 1) → spans_after tree line 0 ≡ []
+  pub first : StartsOnce needle → (line : List ℕ) → IsUtf8 line → (from : ℕ) (start : Option ℕ) → FindsNeedle line needle from start →
+      option_map (λ s. s.0) (find (λ s. nat_le from s.0) (spans_after tree line 0)) ≡ start

@@ -1,8 +1,10 @@
 //! A search for one text in many lines.
-ghost use Rattle.std.specs.Prelude.{◌≡◌};
+ghost use Rattle.std.specs.Prelude.{◌≡◌, ◌↔◌, ◌<◌, ◌≤◌, length, IfSome, IsCharBoundary, IsTrue};
 ghost use Rattle.memchr.specs.Find.{FindsNeedle};
+ghost use Rattle.textarea_search.specs.Spans.{StartsOnce};
 
 use crate::byte_pair::BytePair;
+use memchr::memchr;
 use memchr::memmem::Finder;
 use std::marker::Model;
 
@@ -14,24 +16,24 @@ pub(crate) struct LineFinder<'n> {
 }
 
 impl<'n> Model for LineFinder<'n> {
-    ghost use Rattle.std.specs.Prelude.{ℕ, List, IfSome};
+    ghost use Rattle.std.specs.Prelude.{ℕ, List, IfSome, IsUtf8};
     ghost use Rattle.textarea_search.specs.BytePairs.{IsPairOf};
 
     ghost Value = { List ℕ };
 
     ghost view = { λ f. f.finder };
 
-    ghost invariant = { λ f. IfSome f.pair (λ pair. IsPairOf pair f.finder) };
+    ghost invariant = { λ f. IfSome f.pair (λ pair. IsPairOf pair f.finder) × IsUtf8 f.finder };
 }
 
 impl<'n> LineFinder<'n> {
     /// Returns a finder of this text.
-    pub(crate) fn new(text: &'n [u8]) -> LineFinder<'n>
+    pub(crate) fn new(text: &'n str) -> LineFinder<'n>
         ensures { result ≡ text.now }
     {
         LineFinder {
-            finder: Finder::new(text),
-            pair: BytePair::of(text),
+            finder: Finder::new(text.as_bytes()),
+            pair: BytePair::of(text.as_bytes()),
         }
     }
 
@@ -46,5 +48,26 @@ impl<'n> LineFinder<'n> {
             }
         }
         self.finder.find(line)
+    }
+
+    /// Returns the first index at or after `from` at which a line has the text.
+    pub(crate) fn find_from(&self, line: &str, from: usize) -> Option<usize>
+        requires { from ≤ length line.now }
+        ensures found { FindsNeedle line.now self.now from result }
+        ensures boundary { 0 < length self.now → IfSome result (IsCharBoundary line.now) }
+    {
+        let found = self.finder.find(&line.as_bytes()[from..])?;
+        Some(from + found)
+    }
+
+    /// Returns whether the text's first byte isn't in the rest of it, so that the text can't
+    /// overlap itself.
+    pub(crate) fn starts_once(&self) -> bool
+        ensures { IsTrue result ↔ StartsOnce self.now }
+    {
+        match self.finder.needle().split_first() {
+            Some((first, rest)) => memchr(*first, rest).is_none(),
+            None => false,
+        }
     }
 }

@@ -103,7 +103,7 @@ impl Pattern {
             IsNeedleOf needle tree) }
     {
         if self.plain {
-            Some(LineFinder::new(self.text().as_bytes()))
+            Some(LineFinder::new(self.text()))
         } else {
             None
         }

@@ -1,5 +1,5 @@
 //! What a cache compares before it returns matches: the pattern and the text of the line.
-ghost use Rattle.std.specs.Prelude.{◌≡◌, IfOk, true};
+ghost use Rattle.std.specs.Prelude.{◌≡◌, ◌↔◌, IfOk, IsTrue};
 
 use std::alloc::{AllocError, Global};
 use std::marker::Model;
@@ -22,7 +22,7 @@ impl Model for CacheKey {
 impl CacheKey {
     /// Returns whether the key is of this pattern and this line.
     pub(crate) fn is(&self, pattern: &str, line: &str) -> bool
-        ensures { result ≡ true → self.now ≡ (pattern.now, line.now) }
+        ensures { IsTrue result ↔ self.now ≡ (pattern.now, line.now) }
     {
         self.pattern.as_str() == pattern && self.line.as_str() == line
     }

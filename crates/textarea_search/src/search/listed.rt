@@ -1,10 +1,11 @@
 //! The matches that `regex` lists for a line, one after another. A matcher serves for many lines.
-ghost use Rattle.std.specs.Prelude.{◌≡◌, ◌+◌, ◌≤◌, ◌<◌, [], ◌∷◌, All, length, take, find, reverse, slice_get, option_map, encode_utf8_all, IsCharBoundary, IsUtf8, IfOk, IfSome, MatchOption, OnOk, true};
+ghost use Rattle.std.specs.Prelude.{◌≡◌, ◌↔◌, ◌+◌, ◌≤◌, ◌<◌, [], ◌∷◌, All, length, take, find, reverse, slice_get, option_map, encode_utf8_all, IsCharBoundary, IsUtf8, IfOk, IfSome, MatchOption, OnOk, IsTrue, true};
 ghost use Rattle.std.specs.List.Sorted.{IsNonDecreasingBy};
 ghost use Rattle.std.specs.Str.{chars};
+ghost use Rattle.regex.specs.Patterns.{Re};
 ghost use Rattle.regex.specs.Strings.{matcher_pattern, match_span, match_haystack};
 ghost use Rattle.textarea_search.specs.Columns.{column_of_byte};
-ghost use Rattle.textarea_search.specs.Spans.{IsNeedleOf, spans_after, columns_in};
+ghost use Rattle.textarea_search.specs.Spans.{IsNeedleOf, StartsOnce, spans_after, columns_in};
 ghost use Rattle.textarea_search.specs.Starts.{along, is_ahead_in_line, is_past};
 
 use crate::line_finder::LineFinder;
@@ -64,7 +65,9 @@ pub(crate) fn list_columns(
     line: &str,
     columns: &mut Vec<usize>,
 ) -> Result<bool, AllocError>
-    ensures found { IfOk result (λ all. all ≡ true →
+    ensures all { IfOk result (λ all. IsTrue all
+        ↔ length (columns_in (matcher_pattern matcher.old) line.now) ≤ 65536) }
+    ensures found { IfOk result (λ all. IsTrue all →
         columns.new.items ≡ columns_in (matcher_pattern matcher.old) line.now) }
     ensures within { OnOk result
         (All (λ column. column ≤ length (chars line.now)) columns.new.items) }
@@ -96,7 +99,7 @@ pub(crate) fn column_from(line: &str, known: (usize, usize), byte: usize) -> usi
     ensures least { known.1 ≤ result }
     ensures within { result ≤ length (chars line.now) }
 {
-    known.1 + line[known.0..byte].chars().count()
+    known.1 + column_count(&line[known.0..byte])
 }
 
 /// Returns whether an offset or column is past the mark or, with `at_mark`, at it.
@@ -183,8 +186,13 @@ fn byte_of(line: &str, column: usize) -> usize
         result ≡ length (encode_utf8_all (take column (chars line.now))) }
     ensures past { length (chars line.now) < column → length line.now < result }
 {
-    if column_count(line) < column {
+    let count = column_count(line);
+    if count < column {
         return line.len() + 1;
+    }
+    // Each character is one byte.
+    if count == line.len() {
+        return column;
     }
     byte_offset(line, column)
 }
@@ -194,7 +202,7 @@ fn column_of_byte(line: &str, byte: usize) -> usize
     requires { IsCharBoundary line.now byte }
     ensures { result ≡ column_of_byte line.now byte }
 {
-    line[..byte].chars().count()
+    column_count(&line[..byte])
 }
 
 /// Returns the column at which a match of a line starts.
@@ -224,6 +232,46 @@ pub(crate) fn column_ahead(
 {
     let byte = byte_of(line, column);
     start_column(line, nearest(matcher, line, direction, byte, at_column))
+}
+
+/// Does the same, but a forward search for a text that can't overlap itself begins at the column.
+pub(crate) fn column_ahead_with(
+    matcher: &mut Matcher<'_>,
+    needle: &Option<LineFinder<'_>>,
+    line: &str,
+    direction: Direction,
+    column: usize,
+    at_column: bool,
+) -> Option<usize>
+    requires { IfSome needle.now (λ finder. IsNeedleOf finder (matcher_pattern matcher.old)) }
+    ensures found { result ≡ find (is_ahead_in_line direction column at_column)
+        (along direction (columns_in (matcher_pattern matcher.old) line.now)) }
+    ensures within { IfSome result (λ start. start ≤ length (chars line.now)) }
+    ensures same { matcher_pattern matcher.new ≡ matcher_pattern matcher.old }
+{
+    match (needle, direction) {
+        (Some(finder), Direction::Forward) if finder.starts_once() => {
+            text_ahead(finder, line, column, at_column)
+        }
+        _ => column_ahead(matcher, line, direction, column, at_column),
+    }
+}
+
+/// Returns the first column after the given one or, with `at_column`, at it, at which the line has
+/// a text that can't overlap itself. A match of the text starts there.
+fn text_ahead(finder: &LineFinder<'_>, line: &str, column: usize, at_column: bool) -> Option<usize>
+    requires { StartsOnce finder.now }
+    ensures found { (tree : Re) → IsNeedleOf finder.now tree →
+        result ≡ find (is_past column at_column) (columns_in tree line.now) }
+    ensures within { IfSome result (λ start. start ≤ length (chars line.now)) }
+{
+    let byte = byte_of(line, column);
+    if line.len() <= byte {
+        return None;
+    }
+    let from = if at_column { byte } else { byte + 1 };
+    let start = finder.find_from(line, from)?;
+    Some(column_from(line, (byte, column), start))
 }
 
 /// Does the same as `end_column`, but passes over a line that lacks a text that each match has.

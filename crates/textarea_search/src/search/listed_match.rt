@@ -1,10 +1,9 @@
 //! Listed matches with their columns: the next one, and the search from one of them.
 ghost use Rattle.std.specs.Prelude.{◌≡◌, ◌+◌, ◌<◌, ◌≤◌, [], ◌∷◌, find, reverse, option_map, length, IfSome, MatchOption};
-ghost use Rattle.std.specs.Option.{option_or};
 ghost use Rattle.std.specs.Str.{chars};
 ghost use Rattle.regex.specs.Strings.{matcher_pattern};
 ghost use Rattle.textarea_search.specs.ListedMatches.{IsMatchIn, IsOneOf, after_of};
-ghost use Rattle.textarea_search.specs.Spans.{columns_after, columns_in, spans_after};
+ghost use Rattle.textarea_search.specs.Spans.{columns_in, spans_after};
 ghost use Rattle.textarea_search.specs.Starts.{along, is_ahead_in_line, is_past};
 
 use crate::search::direction::Direction;
@@ -47,8 +46,8 @@ pub(crate) fn match_after(
     })
 }
 
-/// Returns the first column after the given one or, with `at_column`, at it, at which a match
-/// starts that is listed after `before`.
+/// Returns the first column after the given one or, with `at_column`, at it, at which a listed
+/// match starts. It searches only after `before`.
 fn first_from(
     matcher: &mut Matcher<'_>,
     line: &str,
@@ -56,9 +55,11 @@ fn first_from(
     column: usize,
     at_column: bool,
 ) -> Option<usize>
-    requires { IfSome before (IsMatchIn line.now) }
+    requires listed { IfSome before
+        (IsOneOf (spans_after (matcher_pattern matcher.old) line.now 0) line.now) }
+    requires earlier { IfSome before (λ known. known.column < column) }
     ensures { result ≡ find (is_past column at_column)
-        (columns_after (matcher_pattern matcher.old) line.now (after_of before)) }
+        (columns_in (matcher_pattern matcher.old) line.now) }
 {
     let mut last = before;
     loop {
@@ -70,8 +71,8 @@ fn first_from(
     }
 }
 
-/// Returns the last column before the given one or, with `at_column`, at it, at which a match
-/// starts that is listed after `before`. If there is none, returns the column of `before`.
+/// Returns the last column before the given one or, with `at_column`, at it, at which a listed
+/// match starts. It searches only after `before`.
 fn last_from(
     matcher: &mut Matcher<'_>,
     line: &str,
@@ -79,10 +80,11 @@ fn last_from(
     column: usize,
     at_column: bool,
 ) -> Option<usize>
-    requires { IfSome before (IsMatchIn line.now) }
-    ensures { result ≡ option_or (find (λ start. is_past start at_column column)
-        (reverse (columns_after (matcher_pattern matcher.old) line.now (after_of before))))
-        (option_map (λ known. known.column) before) }
+    requires listed { IfSome before
+        (IsOneOf (spans_after (matcher_pattern matcher.old) line.now 0) line.now) }
+    requires earlier { IfSome before (λ known. known.column < column) }
+    ensures { result ≡ find (λ start. is_past start at_column column)
+        (reverse (columns_in (matcher_pattern matcher.old) line.now)) }
 {
     let mut last = before;
     loop {

@@ -28,8 +28,10 @@ pub struct MatchCache {
     // For the line of the last searches all starts, or some of very many; at most one of the two.
     starts: Option<LineStarts>,
     sparse: Option<SparseMatches>,
-    // The row and the length of the line for which the cache had no starts at the last search.
-    missed: Option<(usize, usize)>,
+    // The pattern of the last search for which the cache had no starts, and the row and the length
+    // of its line.
+    missed_pattern: String,
+    missed_line: Option<(usize, usize)>,
 }
 
 impl Model for MatchCache {
@@ -48,7 +50,8 @@ impl MatchCache {
             lines: Vec::new(alloc),
             starts: None,
             sparse: None,
-            missed: None,
+            missed_pattern: String::new(alloc),
+            missed_line: None,
         }
     }
 
@@ -115,9 +118,10 @@ impl MatchCache {
         }
     }
 
-    /// Stores the starts of the line's matches, if the search before began in the same row too. So
-    /// a line is listed only for the second search in it. Of more than 65,536 matches only some are
-    /// stored. Nothing is stored for a line of more than 33,554,432 bytes.
+    /// Stores the starts of the line's matches, if the search before was for the same pattern and
+    /// began in the same row. So a line is listed only for the pattern's second search in it. Of
+    /// more than 65,536 matches only some are stored, and none of a line of more than 33,554,432
+    /// bytes.
     pub(crate) fn put_starts(
         &mut self,
         row: usize,
@@ -128,12 +132,7 @@ impl MatchCache {
         requires { ListsMatchesOf pattern.now (matcher_pattern matcher.old) }
         ensures same { matcher_pattern matcher.new ≡ matcher_pattern matcher.old }
     {
-        let missed = Some((row, line.len()));
-        if self.missed != missed {
-            self.missed = missed;
-            return Ok(());
-        }
-        if line.len() > LONGEST_SEARCHED {
+        if !self.is_missed_again(row, pattern, line)? || line.len() > LONGEST_SEARCHED {
             return Ok(());
         }
         let starts = self.starts.take();
@@ -144,6 +143,24 @@ impl MatchCache {
             self.sparse = Some(sparse);
         }
         Ok(())
+    }
+
+    // Returns whether the last search for which the cache had no starts was for this pattern in
+    // this line, and notes this search as the last.
+    fn is_missed_again(
+        &mut self,
+        row: usize,
+        pattern: &str,
+        line: &str,
+    ) -> Result<bool, AllocError> {
+        let missed_line = Some((row, line.len()));
+        if self.missed_line == missed_line && self.missed_pattern.as_str() == pattern {
+            return Ok(true);
+        }
+        self.missed_line = missed_line;
+        self.missed_pattern.clear();
+        self.missed_pattern.push_str(pattern)?;
+        Ok(false)
     }
 }
 

@@ -159,8 +159,8 @@ impl Search {
         ))
     }
 
-    /// Does the same, but from the second search in a line on it looks the matches of that line up,
-    /// which it stores in `cached` if there is memory for that.
+    /// Does the same, but from the second search for the pattern in a line on it looks its matches
+    /// there up, which it stores in `cached` if there is memory for that.
     pub fn find_cached(
         &self,
         cached: &mut MatchCache,

@@ -17,7 +17,7 @@ pub returns-then-not-may_be_in : goal.returns-then-not-may_be_in
 returns-then-not-may_be_in c =
     let line = c.args.line.now in
     let text = c.self.inside.finder in
-    let is : IsPairOf c.in-Some.pair text = subst (λ o. IfSome o (λ pair. IsPairOf pair text)) c.in-Some.is c.self.invariant in
+    let is : IsPairOf c.in-Some.pair text = subst (λ o. IfSome o (λ pair. IsPairOf pair text)) c.in-Some.is c.self.invariant.0 in
     let lacks = lacks_text c.in-Some.pair line text is (c.may_be_in.ensures c.if-not-may_be_in.true) in
     subst (λ word. Nowhere (OccursAt line word) 0 (length line + 1)) c.self.view_is lacks
 

@@ -10,5 +10,5 @@ returns-in_default-find-clause-found c =
     let tree = matcher_pattern c.args.matcher.now in
     let needle : IsNeedleOf c.in-Some.finder tree = subst (λ o. IfSome o (λ finder. IsNeedleOf finder tree)) c.in-Some.is c.requires in
     no_columns tree c.args.line.now c.args.direction
-    (needle c.args.line.now c.utf8.line
+    (needle.lacks c.args.line.now c.utf8.line
     (subst (λ (bs : List ℕ). Nowhere (OccursAt bs c.in-Some.finder) 0 (length bs + 1)) c.as_bytes.ensures.value c.in_default-find.ensures))

@@ -1,4 +1,4 @@
-use Rattle.std.proofs.Common.{◌≡◌, ℕ, ◌+◌, ◌≤◌, List, [], ◌∷◌, ◌++◌, length, map, refl, sym, ap, subst, ◌∙◌, arith, IsCharBoundary}
+use Rattle.std.proofs.Common.{◌≡◌, ℕ, ◌+◌, ◌≤◌, List, [], ◌∷◌, ◌++◌, length, map, refl, sym, length-append, ap, subst, ◌∙◌, arith, IsCharBoundary}
 use Rattle.std.specs.Prelude.{All}
 use Rattle.std.proofs.lemmas.List.Elements.{All-nil}
 use Rattle.std.proofs.lemmas.List.Sorted.{IsNonDecreasingBy-short}
@@ -20,6 +20,7 @@ loop-found-init c = (
   ap (λ (columns : List ℕ). columns ++ map (λ s. column_of_byte c.args.line.now s.0) (spans_after (matcher_pattern c.args.matcher.now) c.args.line.now 0)) c.clear.ensures.items,
   subst (All (λ column. column ≤ 0)) (sym c.clear.ensures.items) (All-nil (λ column. column ≤ 0)),
   IsNonDecreasingBy-short (λ column. column) c.clear.new.self.items (omega (arith, ap length c.clear.ensures.items)),
+  omega (arith, ap length c.clear.ensures.items),
 )
 
 pub loop-found-preserved : goal.loop-found-preserved
@@ -51,4 +52,5 @@ loop-found-preserved c =
       listed_more c.loop-found.columns.items c.push.new.self.items _ _ _ column pushed rest inv.6,
       subst (All (λ n. n ≤ column)) (sym pushed) (below_more c.loop-found.columns.items c.loop-found.last.1 column inv.7 c.column_from.ensures.least),
       subst IsAscending (sym pushed) (ascending_more c.loop-found.columns.items c.loop-found.last.1 column inv.7 c.column_from.ensures.least inv.8),
+      omega (arith, ap length pushed, length-append c.loop-found.columns.items (column ∷ []), inv.9),
     )

@@ -19,6 +19,7 @@ invariant-loop-found l =
     × (l.columns.items ++ map (λ s. column_of_byte l.line s.0) (spans_after tree l.line l.after) ≡ columns_in tree l.line)
     × All (λ column. column ≤ l.last.1) l.columns.items
     × IsAscending l.columns.items
+    × (length l.columns.items ≤ 65536)
 
 abbrev pub decreases-loop-found : goal.decreases-loop-found
 decreases-loop-found l = length l.line + 1 - l.after

@@ -1,15 +1,20 @@
-use Rattle.std.proofs.Common.{◌≡◌, ◌+◌, false, true, [], cond, map, None, Some, rules, refl, sym, ap, ◌∙◌, subst, arith}
+use Rattle.std.proofs.Common.{◌≡◌, [], map, None, rules, refl, sym, ap, ◌∙◌, subst, arith}
 use Rattle.std.specs.List.{find}
+use Rattle.std.proofs.lemmas.Option.{IfSome_then}
 use Rattle.regex.specs.Strings.{matcher_pattern}
 use Rattle.textarea_search.specs.ListedMatches.{after_of}
-use Rattle.textarea_search.specs.Spans.{columns_after, spans_after}
+use Rattle.textarea_search.specs.Spans.{spans_after}
 use Rattle.textarea_search.specs.Starts.{is_past}
 use Rattle.textarea_search.proofs.ColumnLemmas.{column_of_span}
-use Rattle.textarea_search.proofs.FromMatchLemmas.{columns_step}
+use Rattle.textarea_search.proofs.FromMatchLemmas.{first_fails, first_from_start, first_passes}
 use Rattle.textarea_search.proofs.search.listed_match.first_from.Goals as goal
 
 pub loop-found-init : goal.loop-found-init
-loop-found-init c = (refl, c.requires, refl)
+loop-found-init c = (
+  refl,
+  IfSome_then c.args.before c.requires.listed (λ found one. one.place),
+  sym (first_from_start (matcher_pattern c.args.matcher.now) c.args.line.now c.utf8.line c.args.column c.args.at_column c.args.before c.requires.listed c.requires.earlier),
+)
 
 pub match_after-requires : goal.match_after-requires
 match_after-requires c = c.loop-found.invariant.1
@@ -25,26 +30,17 @@ returns-in_err-found c =
 pub returns-then-is_past : goal.returns-then-is_past
 returns-then-is_past c =
     let inv = c.loop-found.invariant in
-    let tree = matcher_pattern c.args.matcher.now in
-    let line = c.args.line.now in
-    let found = c.in_ok-found.found in
-    let test = is_past c.args.column c.args.at_column in
-    let listed = columns_step _ tree line (after_of c.loop-found.last) found inv.0 c.in_ok-found.ensures.place c.in_ok-found.ensures.found in
-    let passes : test found.column ≡ true = sym c.is_past.ensures ∙ c.if-is_past.true in
-    sym (sym inv.2 ∙ ap (find test) listed ∙ ap (λ b. cond b (Some found.column) (find test (columns_after tree line (found.end + 1)))) passes)
+    sym (sym inv.2 ∙ first_passes _ _ c.args.line.now (after_of c.loop-found.last) c.in_ok-found.found inv.0 c.in_ok-found.ensures.place c.in_ok-found.ensures.found c.args.column c.args.at_column
+    (sym c.is_past.ensures ∙ c.if-is_past.true))
 
 pub loop-found-preserved : goal.loop-found-preserved
 loop-found-preserved c =
-    let inv = c.loop-found.invariant in
-    let tree = matcher_pattern c.args.matcher.now in
-    let line = c.args.line.now in
-    let found = c.in_ok-found.found in
-    let test = is_past c.args.column c.args.at_column in
-    let listed = columns_step _ tree line (after_of c.loop-found.last) found inv.0 c.in_ok-found.ensures.place c.in_ok-found.ensures.found in
-    let fails : test found.column ≡ false = sym c.is_past.ensures ∙ c.if-is_past.false in (
+    let inv = c.loop-found.invariant in (
       c.in_ok-found.ensures.same ∙ inv.0,
       c.in_ok-found.ensures.place,
-      sym (ap (λ b. cond b (Some found.column) (find test (columns_after tree line (found.end + 1)))) fails) ∙ sym (ap (find test) listed) ∙ inv.2,
+      sym (first_fails _ _ c.args.line.now (after_of c.loop-found.last) c.in_ok-found.found inv.0 c.in_ok-found.ensures.place c.in_ok-found.ensures.found c.args.column c.args.at_column
+          (sym c.is_past.ensures ∙ c.if-is_past.false))
+          ∙ inv.2,
     )
 
 pub loop-found-smaller : goal.loop-found-smaller

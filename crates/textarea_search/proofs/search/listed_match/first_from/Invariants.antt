@@ -2,7 +2,7 @@ use Rattle.std.proofs.Common.{◌≡◌, ◌+◌, ◌-◌, IfSome, length}
 use Rattle.std.specs.List.{find}
 use Rattle.regex.specs.Strings.{matcher_pattern}
 use Rattle.textarea_search.specs.ListedMatches.{IsMatchIn, after_of}
-use Rattle.textarea_search.specs.Spans.{columns_after}
+use Rattle.textarea_search.specs.Spans.{columns_after, columns_in}
 use Rattle.textarea_search.specs.Starts.{is_past}
 use Rattle.textarea_search.proofs.search.listed_match.first_from.Given as goal
 
@@ -12,7 +12,7 @@ invariant-loop-found l =
     (matcher_pattern l.matcher ≡ tree)
     × IfSome l.last (IsMatchIn l.line)
     × (find (is_past l.column l.at_column) (columns_after tree l.line (after_of l.last))
-    ≡ find (is_past l.column l.at_column) (columns_after tree l.line (after_of l.fn.before)))
+    ≡ find (is_past l.column l.at_column) (columns_in tree l.line))
 
 abbrev pub decreases-loop-found : goal.decreases-loop-found
 decreases-loop-found l = length l.line + 1 - after_of l.last

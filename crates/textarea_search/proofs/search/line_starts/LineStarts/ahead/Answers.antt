@@ -9,7 +9,7 @@ use Rattle.textarea_search.proofs.search.line_starts.LineStarts.ahead.Goals as g
 
 pub returns : goal.returns
 returns c =
-    let key : c.args.self.now.key ≡ (c.args.pattern.now, c.args.line.now) = c.is.ensures c.if-not-is.false in
+    let key : c.args.self.now.key ≡ (c.args.pattern.now, c.args.line.now) = c.is.ensures.0 c.if-not-is.false in
     let value = c.as_slice.ensures.value in
     let columns : c.as_slice.result.now ≡ match_columns c.args.pattern.now c.args.line.now =
     value ∙ c.args.self.now.found ∙ ap (λ (k : List ℕ × List ℕ). match_columns k.0 k.1) key in

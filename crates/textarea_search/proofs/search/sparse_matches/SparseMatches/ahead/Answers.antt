@@ -12,7 +12,7 @@ use Rattle.textarea_search.proofs.search.sparse_matches.SparseMatches.ahead.Goal
 pub column_from_match-requires-clause-listed : goal.column_from_match-requires-clause-listed
 column_from_match-requires-clause-listed c =
     let line = c.args.line.now in
-    let key : c.args.self.now.key ≡ (c.args.pattern.now, line) = c.is.ensures c.if-not-is.false ∙ ap (λ (p : List ℕ). (p, line)) c.text.ensures in
+    let key : c.args.self.now.key ≡ (c.args.pattern.now, line) = c.is.ensures.0 c.if-not-is.false ∙ ap (λ (p : List ℕ). (p, line)) c.text.ensures in
     one_of_tree c.args.pattern.now line c.args.self.now.key (matcher_pattern c.in_ok-matcher.matcher) c.args.self.now.matches.items c.last_before-before.result c.args.column key c.utf8.line
     c.in_ok-matcher.ensures.lists c.args.self.now.listed
     (subst (λ (ms : List ListedMatch). IfSome c.last_before-before.result (λ (found : ListedMatch). Contains ms found × (found.column < c.args.column))) c.as_slice.ensures.value c.last_before-before.ensures)
