@@ -128,7 +128,7 @@ impl Cell {
     }
 
     /// Does what `put_inline` does, faster if the text is empty.
-    pub fn fill(&mut self, text: &str, style: Style)
+    pub(super) fn fill(&mut self, text: &str, style: Style)
         requires { length text.now ≤ INLINE_BYTES }
         ensures { cell_view self.new ≡ with_symbol text.now style (cell_view self.old) }
     {
