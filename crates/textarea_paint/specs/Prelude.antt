@@ -2,7 +2,7 @@
 pub use Rattle.ucd_table.specs.Rows.{in_ranges}
 pub use Rattle.unicode_segmentation.specs.Grapheme.{graphemes}
 pub use Rattle.textarea_screen.specs.Block.{block_view}
-pub use Rattle.textarea_screen.specs.Buffer.{Changes, HasNone, KeepsOutside, area_of, is_between}
+pub use Rattle.textarea_screen.specs.Buffer.{Changes, HasNone, KeepsOutside, area_of}
 pub use Rattle.textarea_screen.specs.Cell.{with_symbol}
 pub use Rattle.textarea_screen.specs.Inset.{inset_of}
 pub use Rattle.textarea_screen.specs.Rect.{contains, is_in_row}

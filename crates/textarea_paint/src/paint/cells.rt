@@ -1,6 +1,6 @@
 //! Grapheme clusters in the cells of a row, from left to right.
-ghost use Rattle.std.specs.Prelude.{◌≡◌, ◌+◌, ◌≤◌, ◌==◌, ℕ, false, max, length, [], ◌∷◌, All, IfOk, IsOk, IsTrue, OnOk, OnErr, if◌then◌else◌};
-ghost use Rattle.textarea_paint.specs.Prelude.{AreInline, Changes, KeepsOutside, with_symbol, INLINE_BYTES, IsPenAt, IsColumnWithin, IsPrintable, row_change, is_in_cells, is_between, place_from, placed_at, symbol_of, clusters_width, columns_of, plain_clusters, run_clusters, styled_cluster};
+ghost use Rattle.std.specs.Prelude.{◌≡◌, ◌+◌, ◌≤◌, ℕ, false, max, length, [], ◌∷◌, All, IfOk, IsOk, IsTrue, OnOk, OnErr};
+ghost use Rattle.textarea_paint.specs.Prelude.{AreInline, Changes, KeepsOutside, INLINE_BYTES, IsPenAt, IsColumnWithin, IsPrintable, row_change, is_in_cells, place_from, placed_at, symbol_of, clusters_width, columns_of, plain_clusters, run_clusters, styled_cluster};
 
 use super::clusters::{ClusterRun, StyledCluster};
 use std::alloc::AllocError;

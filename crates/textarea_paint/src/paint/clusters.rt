@@ -29,7 +29,8 @@ pub(crate) struct ClusterRun<'a> {
     pub(crate) is_plain: bool,
 }
 
-/// The rest of a span's text.
+/// The rest of a span's text. It is split into clusters once it begins with one that isn't found
+/// without a table.
 #[derive(Drop)]
 enum SpanRest<'a> {
     Text(&'a str),
