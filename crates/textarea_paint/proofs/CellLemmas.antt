@@ -3,11 +3,10 @@ use Rattle.std.proofs.Common.{◌≡◌, ℕ, ◌+◌, ◌-◌, ◌<◌, ◌≤�
 use Rattle.std.specs.List.{find}
 use Rattle.std.proofs.lemmas.Bool.Decides.{nat_tests}
 use Rattle.std.proofs.lemmas.Bool.{cond-true, cond-false}
-use Rattle.textarea_screen.specs.Buffer.{is_between}
+use Rattle.textarea_screen.specs.Buffer.{is_between, wide_change}
 use Rattle.textarea_screen.specs.Cell.{CellView, with_symbol}
 use Rattle.textarea_screen.specs.Rect.{contains}
 use Rattle.textarea_screen.specs.declared.screen.rect.Rect.{Rect}
-use Rattle.textarea_screen.specs.declared.screen.style.Style.{Style}
 use Rattle.textarea_paint.specs.Cells.{Placed, placed_at, place_from, covers, is_in_cells, is_whole, symbol_of, symbol_in_column, covered_cell, row_change, IsPenAt}
 use Rattle.textarea_paint.specs.Clusters.{Cluster}
 use Rattle.textarea_paint.specs.Columns.{columns_of}
@@ -117,27 +116,15 @@ cond-one cells left column placed test false here symbol cell is same = cond-fal
 -- the result is the row of only this cluster
 pub row_change-one : (cells : RowCells) (pen : Pen) (left column hidden displayed : ℕ) (cluster : Cluster) → IsPenAt cells left column pen →
     IsDrawnAt cells pen (columns_of cluster.text) hidden displayed → (x y : ℕ) (cell : CellView) →
-    cond (is_between cells.y pen.x (pen.x + displayed) x y) (with_symbol (symbol_of (eqb displayed (columns_of cluster.text)) (eqb x pen.x) cluster.text) cluster.style cell) cell
+    wide_change pen.x cells.y (pen.x + displayed) (symbol_of (eqb displayed (columns_of cluster.text)) true cluster.text) (symbol_of (eqb displayed (columns_of cluster.text)) false cluster.text) cluster.style x y cell
     ≡ row_change cells left (placed_at column cluster ∷ []) x y cell
 unfolding row_change
 row_change-one cells pen left column hidden displayed cluster at drawn x y cell =
     cond-one cells left (left + (x - cells.x)) (placed_at column cluster) (is_between cells.y pen.x (pen.x + displayed) x y) (is_in_cells cells x y)
-    (covers (left + (x - cells.x)) (placed_at column cluster)) (symbol_of (eqb displayed (columns_of cluster.text)) (eqb x pen.x) cluster.text) cell
+    (covers (left + (x - cells.x)) (placed_at column cluster))
+    (cond (eqb x pen.x) (symbol_of (eqb displayed (columns_of cluster.text)) true cluster.text) (symbol_of (eqb displayed (columns_of cluster.text)) false cluster.text)) cell
     (drawn_test cells pen left column hidden displayed cluster at drawn x y)
     (λ h.
     let whole = drawn_whole cells pen left column hidden displayed cluster at drawn x y h in
     let first = drawn_first cells pen left column hidden displayed cluster at drawn x y h in
     grind (arith, nat_tests))
-
--- ---- one column after another
-
--- the cells up to a column, and then the cell of that column
-pub between_more : (row first from at : ℕ) (whole : Bool) (text symbol : List ℕ) (style : Style) (x y : ℕ) (cell : CellView) → from ≤ at → symbol ≡ symbol_of whole (eqb at first) text →
-    cond (eqb x at && eqb y row) (with_symbol symbol style (cond (is_between row from at x y) (with_symbol (symbol_of whole (eqb x first) text) style cell) cell))
-    (cond (is_between row from at x y) (with_symbol (symbol_of whole (eqb x first) text) style cell) cell)
-    ≡ cond (is_between row from (at + 1) x y) (with_symbol (symbol_of whole (eqb x first) text) style cell) cell
-between_more row first from at whole text symbol style x y cell begun is = grind (arith, nat_tests)
-
--- the cells before a column between two others are between those two
-pub between_narrower : (row from to first at x y : ℕ) → from ≤ first → at ≤ to → is_between row from to x y ≡ false → is_between row first at x y ≡ false
-between_narrower row from to first at x y left right outside = grind (arith, nat_tests)

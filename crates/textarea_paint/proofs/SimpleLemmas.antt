@@ -220,7 +220,7 @@ module _ (b c : ℕ) (first : IsHalf b) (second : IsHalf c) where
   unfolding cut
   cut-flag cs is = cond-false _ _ _ (joins-flag (cs ++ [])) ∙ ap (prepend (b ∷ [])) (cut-second cs is)
 
-pub graphemes-simple : (text after : List ℕ) (c : ℕ) → IsUtf8 text → text ≡ encode_utf8 c ++ after → is_simple c ≡ true → begins_apart (chars after) ≡ true →
+graphemes-simple : (text after : List ℕ) (c : ℕ) → IsUtf8 text → text ≡ encode_utf8 c ++ after → is_simple c ≡ true → begins_apart (chars after) ≡ true →
     graphemes true text ≡ encode_utf8 c ∷ graphemes true after
 unfolding segments
 graphemes-simple text after c utf8 is simple apart =
@@ -228,7 +228,7 @@ graphemes-simple text after c utf8 is simple apart =
     ∙ ap (map encode_utf8_all) (cut-simple c (simple-apart c simple) (chars after) apart)
     ∙ ap (λ (bytes : List ℕ). bytes ∷ map encode_utf8_all (cut (is_grapheme_break true) [] (chars after) [])) (append-nil (encode_utf8 c))
 
-pub graphemes-flag : (text rest after : List ℕ) (b c : ℕ) → IsUtf8 text → text ≡ encode_utf8 b ++ rest → rest ≡ encode_utf8 c ++ after →
+graphemes-flag : (text rest after : List ℕ) (b c : ℕ) → IsUtf8 text → text ≡ encode_utf8 b ++ rest → rest ≡ encode_utf8 c ++ after →
     is_flag_half b ≡ true → is_flag_half c ≡ true → begins_apart (chars after) ≡ true → graphemes true text ≡ (encode_utf8 b ++ encode_utf8 c) ∷ graphemes true after
 unfolding segments
 graphemes-flag text rest after b c utf8 is rest_is first second apart =
@@ -245,7 +245,7 @@ first-scalar c cs scalar = grind (arith, nat_tests)
 first-scalars : (b c : ℕ) (cs : List ℕ) → all_scalars (b ∷ c ∷ cs) ≡ true → all_scalars (b ∷ c ∷ []) ≡ true
 first-scalars b c cs scalar = grind (arith, nat_tests)
 
-pub columns-simple : (text after : List ℕ) (c : ℕ) → IsUtf8 text → text ≡ encode_utf8 c ++ after → is_simple c ≡ true → columns_of (encode_utf8 c) ≡ char_columns c
+columns-simple : (text after : List ℕ) (c : ℕ) → IsUtf8 text → text ≡ encode_utf8 c ++ after → is_simple c ≡ true → columns_of (encode_utf8 c) ≡ char_columns c
 columns-simple text after c utf8 is simple =
     let scalar = first-scalar c (chars after) (ap all_scalars (sym (chars_past_char text after c utf8 is)) ∙ scalars-chars text utf8) in
     ap columns_of (sym (append-nil (encode_utf8 c))) ∙ columns_of-encoded (c ∷ []) scalar
@@ -263,7 +263,7 @@ half-column c is =
     let at : 0x1F1E6 + (c - 0x1F1E6) ≡ c = omega arith in
     eqb-true _ _ (subst (λ x. (char_columns x == 1) ≡ true) at (all_below-at (λ k. char_columns (0x1F1E6 + k) == 1) 26 (c - 0x1F1E6) all_one below))
 
-pub columns-flag : (text rest after : List ℕ) (b c : ℕ) → IsUtf8 text → text ≡ encode_utf8 b ++ rest → rest ≡ encode_utf8 c ++ after →
+columns-flag : (text rest after : List ℕ) (b c : ℕ) → IsUtf8 text → text ≡ encode_utf8 b ++ rest → rest ≡ encode_utf8 c ++ after →
     is_flag_half b ≡ true → is_flag_half c ≡ true → columns_of (encode_utf8 b ++ encode_utf8 c) ≡ 2
 columns-flag text rest after b c utf8 is rest_is first second =
     let all = chars_past_char text rest b utf8 is ∙ ap (λ cs. b ∷ cs) (chars_past_char rest after c (IsUtf8-past_char text rest b utf8 is) rest_is) in
@@ -275,29 +275,48 @@ columns-flag text rest after b c utf8 is rest_is first second =
 
 -- ---- a text that is split after its first cluster
 
-pub flag_bytes : (text rest after : List ℕ) (b c : ℕ) → text ≡ encode_utf8 b ++ rest → rest ≡ encode_utf8 c ++ after → text ≡ (encode_utf8 b ++ encode_utf8 c) ++ after
-flag_bytes text rest after b c is rest_is = is ∙ ap (λ (t : List ℕ). encode_utf8 b ++ t) rest_is ∙ sym (append_assoc (encode_utf8 b) (encode_utf8 c) after)
+-- the first cluster of a text, its columns, and the text after it
+pub record IsFirst (text first after : List ℕ) (columns : ℕ) : Type 0 where
+  pub bytes : text ≡ first ++ after
+  pub clusters : graphemes true text ≡ first ∷ graphemes true after
+  pub width : columns_of first ≡ columns
 
-module _ (text first after : List ℕ) (is : text ≡ first ++ after) where
+pub first-simple : (text after : List ℕ) (c columns : ℕ) → IsUtf8 text → text ≡ encode_utf8 c ++ after → is_simple c ≡ true → begins_apart (chars after) ≡ true → columns ≡ char_columns c →
+    IsFirst text (encode_utf8 c) after columns
+first-simple text after c columns utf8 is simple apart counted = record {
+  bytes = is;
+  clusters = graphemes-simple text after c utf8 is simple apart;
+  width = columns-simple text after c utf8 is simple ∙ sym counted;
+}
+
+pub first-flag : (text rest after : List ℕ) (b c : ℕ) → IsUtf8 text → text ≡ encode_utf8 b ++ rest → rest ≡ encode_utf8 c ++ after →
+    is_flag_half b ≡ true → is_flag_half c ≡ true → begins_apart (chars after) ≡ true → IsFirst text (encode_utf8 b ++ encode_utf8 c) after 2
+first-flag text rest after b c utf8 is rest_is first second apart = record {
+  bytes = is ∙ ap (λ (t : List ℕ). encode_utf8 b ++ t) rest_is ∙ sym (append_assoc (encode_utf8 b) (encode_utf8 c) after);
+  clusters = graphemes-flag text rest after b c utf8 is rest_is first second apart;
+  width = columns-flag text rest after b c utf8 is rest_is first second;
+}
+
+module _ {text first after : List ℕ} {columns : ℕ} (h : IsFirst text first after columns) where
   same_length : length text - length after ≡ length first
-  same_length = omega (arith, ap length is, length-append first after)
+  same_length = omega (arith, ap length h.bytes, length-append first after)
 
   taken : take (length text - length after) text ≡ first
-  taken = ap₂ (λ (n : ℕ) (t : List ℕ). take n t) same_length is ∙ take-append_seam first after
+  taken = ap₂ (λ (n : ℕ) (t : List ℕ). take n t) same_length h.bytes ∙ take-append_seam first after
 
   dropped : drop (length text - length after) text ≡ after
-  dropped = ap₂ (λ (n : ℕ) (t : List ℕ). drop n t) same_length is ∙ drop-append_seam first after
+  dropped = ap₂ (λ (n : ℕ) (t : List ℕ). drop n t) same_length h.bytes ∙ drop-append_seam first after
 
   pub split-clusters : {X : Type 0} (r : Option X) (front back : X → List ℕ) → IfSome r (λ x. front x ≡ take (length text - length after) text) →
-      IfSome r (λ x. back x ≡ drop (length text - length after) text) → graphemes true text ≡ first ∷ graphemes true after → IfSome r (λ x. graphemes true text ≡ front x ∷ graphemes true (back x))
-  split-clusters None front back is_front is_back clusters = tt
-  split-clusters (Some x) front back is_front is_back clusters =
-      clusters ∙ ap₂ (λ (f : List ℕ) (b : List ℕ). f ∷ graphemes true b) (sym (is_front ∙ taken)) (sym (is_back ∙ dropped))
+      IfSome r (λ x. back x ≡ drop (length text - length after) text) → IfSome r (λ x. graphemes true text ≡ front x ∷ graphemes true (back x))
+  split-clusters None front back is_front is_back = tt
+  split-clusters (Some x) front back is_front is_back =
+      h.clusters ∙ ap₂ (λ (f : List ℕ) (b : List ℕ). f ∷ graphemes true b) (sym (is_front ∙ taken)) (sym (is_back ∙ dropped))
 
-  pub split-columns : {X : Type 0} (r : Option X) (front : X → List ℕ) (columns : X → ℕ) (n : ℕ) → IfSome r (λ x. front x ≡ take (length text - length after) text) →
-      IfSome r (λ x. columns x ≡ n) → columns_of first ≡ n → IfSome r (λ x. columns x ≡ columns_of (front x))
-  split-columns None front columns n is_front counted is_first = tt
-  split-columns (Some x) front columns n is_front counted is_first = counted ∙ sym is_first ∙ ap columns_of (sym (is_front ∙ taken))
+  pub split-columns : {X : Type 0} (r : Option X) (front : X → List ℕ) (counted : X → ℕ) → IfSome r (λ x. front x ≡ take (length text - length after) text) →
+      IfSome r (λ x. counted x ≡ columns) → IfSome r (λ x. counted x ≡ columns_of (front x))
+  split-columns None front counted is_front is_counted = tt
+  split-columns (Some x) front counted is_front is_counted = is_counted ∙ sym h.width ∙ ap columns_of (sym (is_front ∙ taken))
 
 -- ---- the first character of a text
 

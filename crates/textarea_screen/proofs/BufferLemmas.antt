@@ -110,18 +110,20 @@ unfolding cell_at
 cell_at-listed buffer cells x y inside is =
     ap (λ all. option_map cell_view (slice_get all (place_in buffer.area x y))) is ∙ sym (cond-true (contains buffer.area x y) _ _ inside)
 
--- ---- an ASCII text is written
+-- ---- texts are written into cells that follow each other
 
 -- one character of a text
 pub slice_one : (text : List ℕ) (at : ℕ) → at < length text → slice_range text at (at + 1) ≡ get_or text at 0 ∷ []
 slice_one text at below = let one : (at + 1) - at ≡ 1 = omega arith in ap₂ (λ (n : ℕ) (rest : List ℕ). take n rest) one (drop_more text at 0 below)
 
--- the cells up to a column, and then the cell of that column
-pub ascii_more : (row first at x : ℕ) (text : List ℕ) (style : Style) (u v : ℕ) (cell : CellView) → first ≤ at →
-    cond (eqb u at && eqb v row) (with_symbol (get_or text (at - x) 0 ∷ []) style (cond (is_between row first at u v) (with_symbol (get_or text (u - x) 0 ∷ []) style cell) cell))
-    (cond (is_between row first at u v) (with_symbol (get_or text (u - x) 0 ∷ []) style cell) cell)
-    ≡ cond (is_between row first (at + 1) u v) (with_symbol (get_or text (u - x) 0 ∷ []) style cell) cell
-ascii_more row first at x text style u v cell begun = grind (arith, nat_tests)
+-- the texts of the cells up to a column, and then that of the cell of that column
+pub symbols_more : (row first at : ℕ) (symbol : ℕ → List ℕ) (style : Style) (u v : ℕ) (cell : CellView) → first ≤ at →
+    cond (eqb u at && eqb v row) (with_symbol (symbol at) style (cond (is_between row first at u v) (with_symbol (symbol u) style cell) cell)) (cond (is_between row first at u v) (with_symbol (symbol u) style cell) cell)
+    ≡ cond (is_between row first (at + 1) u v) (with_symbol (symbol u) style cell) cell
+symbols_more row first at symbol style u v cell begun = grind (arith, nat_tests)
+
+pub between_none : (row at u v : ℕ) → is_between row at at u v ≡ false
+between_none row at u v = grind (arith, nat_tests)
 
 -- the text begins in no cell that the area has, or in a row that it does not have
 pub ascii_outside : (area : Rect) (row x end first u v : ℕ) → first ≡ max x area.x → contains area first row ≡ false → contains area u v ≡ true →

@@ -34,6 +34,11 @@ abbrev pub ascii_change : ℕ → ℕ → List ℕ → Style → Change
 ascii_change from row text style x y cell =
     if is_between row from (from + length text) x y then with_symbol (slice_index text (x - from) ∷ []) style cell else cell
 
+-- a text in a row's cell in column `from`, and another in those after it up to column `to`
+abbrev pub wide_change : ℕ → ℕ → ℕ → List ℕ → List ℕ → Style → Change
+wide_change from row to first others style x y cell =
+    if is_between row from to x y then with_symbol (if x == from then first else others) style cell else cell
+
 -- the buffer has the same area, and each of its cells is changed by the change
 pub record Changes (old new : Buffer) (change : Change) : Type 0 where
   pub area : area_of new ≡ area_of old

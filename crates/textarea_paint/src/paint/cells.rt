@@ -1,9 +1,8 @@
 //! Grapheme clusters in the cells of a row, from left to right.
-ghost use Rattle.std.specs.Prelude.{◌≡◌, ◌+◌, ◌≤◌, ◌==◌, ℕ, false, max, length, [], ◌∷◌, All, IfOk, IsOk, IsTrue, OnOk, OnErr, if◌then◌else◌};
-ghost use Rattle.textarea_paint.specs.Prelude.{AreInline, Changes, KeepsOutside, with_symbol, INLINE_BYTES, IsPenAt, IsColumnWithin, IsPrintable, row_change, is_in_cells, is_between, place_from, placed_at, symbol_of, clusters_width, columns_of, plain_clusters, run_clusters, styled_cluster};
+ghost use Rattle.std.specs.Prelude.{◌≡◌, ◌+◌, ◌≤◌, ℕ, false, max, length, [], ◌∷◌, All, IfOk, IsOk, IsTrue, OnOk, OnErr};
+ghost use Rattle.textarea_paint.specs.Prelude.{AreInline, Changes, KeepsOutside, INLINE_BYTES, IsPenAt, IsColumnWithin, IsPrintable, row_change, is_in_cells, place_from, placed_at, symbol_of, clusters_width, columns_of, plain_clusters, run_clusters, styled_cluster};
 
 use super::clusters::{ClusterRun, StyledCluster};
-use super::columns::cluster_columns;
 use std::alloc::AllocError;
 use textarea_screen::screen::{Buffer, Style};
 
@@ -50,7 +49,7 @@ pub(crate) fn draw_run(
             text: run.text,
             style: run.style,
         };
-        draw_sized(buffer, cells, pen, cluster, run.columns)
+        draw_cluster(buffer, cells, pen, cluster, run.columns)
     }
 }
 
@@ -78,30 +77,9 @@ fn draw_plain(buffer: &mut Buffer, cells: RowCells, pen: Pen, text: &str, style:
     }
 }
 
-/// Draws a cluster at the pen, and moves the pen after it, at most to the end of the cells.
-pub(crate) fn draw_cluster(
-    buffer: &mut Buffer,
-    cells: RowCells,
-    pen: Pen,
-    cluster: StyledCluster,
-) -> Result<Pen, AllocError>
-    requires edge { cells.x + cells.width ≤ 65535 }
-    requires within { IsColumnWithin cells pen.x }
-    ensures moved { (left column : ℕ) → IsPenAt cells left column pen
-        → IfOk result (IsPenAt cells left (column + columns_of cluster.entry.text.now)) }
-    ensures drawn { (left column : ℕ) → IsPenAt cells left column pen
-        → OnOk result (Changes buffer.old buffer.new
-        (row_change cells left (placed_at column (styled_cluster cluster.entry) ∷ []))) }
-    ensures within { IfOk result (λ moved. IsColumnWithin cells moved.x) }
-    ensures inline { length cluster.entry.text.now ≤ INLINE_BYTES → IsOk result }
-    ensures err { OnErr result (KeepsOutside (is_in_cells cells) buffer.old buffer.new) }
-{
-    draw_sized(buffer, cells, pen, cluster, cluster_columns(cluster.text))
-}
-
 /// Draws a cluster of this number of columns at the pen, and moves the pen after it, at most to the
 /// end of the cells.
-fn draw_sized(
+pub(crate) fn draw_cluster(
     buffer: &mut Buffer,
     cells: RowCells,
     pen: Pen,
@@ -124,37 +102,13 @@ fn draw_sized(
     let room = usize::from(cells.x + cells.width - pen.x);
     let displayed = (columns - hidden).min(room);
     let end = pen.x + displayed as u16;
-    draw_columns(buffer, cells.y, pen.x, end, cluster, displayed == columns)?;
+    let first = symbol_of(displayed == columns, true, cluster.text);
+    let others = symbol_of(displayed == columns, false, cluster.text);
+    buffer.put_wide(pen.x, cells.y, end, first, others, cluster.style)?;
     Ok(Pen {
         hidden: pen.hidden - hidden,
         x: end,
     })
-}
-
-/// Draws a cluster into those cells from column `x` up to column `end` that the buffer has.
-fn draw_columns(
-    buffer: &mut Buffer,
-    y: u16,
-    x: u16,
-    end: u16,
-    cluster: StyledCluster,
-    is_whole: bool,
-) -> Result<(), AllocError>
-    requires { x ≤ end }
-    ensures drawn { OnOk result (Changes buffer.old buffer.new (λ column row cell.
-        if is_between y x end column row
-        then with_symbol (symbol_of is_whole (column == x) cluster.entry.text.now)
-        cluster.entry.style cell
-        else cell)) }
-    ensures inline { length cluster.entry.text.now ≤ INLINE_BYTES → IsOk result }
-    ensures err { OnErr result (KeepsOutside (is_between y x end) buffer.old buffer.new) }
-{
-    let area = buffer.area();
-    for column in x.max(area.x)..end.min(area.x + area.width) {
-        let symbol = symbol_of(is_whole, column == x, cluster.text);
-        buffer.put(column, y, symbol, cluster.style)?;
-    }
-    Ok(())
 }
 
 /// Returns the text that a cluster puts into a cell: its own text in its first cell and the empty
@@ -162,6 +116,7 @@ fn draw_columns(
 fn symbol_of<'a>(is_whole: bool, is_first: bool, text: &'a str) -> &'a str
     ensures value { result.now ≡ symbol_of is_whole is_first text.now }
     ensures len { length result.now ≤ max (length text.now) 1 }
+    ensures short { is_first ≡ false → length result.now ≤ 1 }
 {
     if !is_whole {
         " "

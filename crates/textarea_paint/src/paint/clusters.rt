@@ -1,7 +1,9 @@
 //! The grapheme clusters of a line.
-ghost use Rattle.std.specs.Prelude.{◌≡◌, ◌<◌, ◌≤◌, ◌++◌, [], length, true, false, All, IsTrue, IfSome, MatchOption, ◌↔◌, map, ◌∷◌};
-ghost use Rattle.textarea_paint.specs.Prelude.{columns_of, graphemes, line_view, row_clusters, IsPrintable, is_printable, plain_count, singles};
+ghost use Rattle.std.specs.Prelude.{◌≡◌, ℕ, ◌<◌, ◌≤◌, ◌++◌, [], length, true, All, IfSome, MatchOption, map};
+ghost use Rattle.textarea_paint.specs.Prelude.{graphemes, in_style, line_view, row_clusters, IsPrintable, is_printable, plain_count, singles};
+ghost use Rattle.textarea_paint.specs.LineClusters.{IsRun, rest_clusters, run_clusters};
 ghost use Rattle.std.specs.Iterator.{YieldsFirstBy, item_count};
+ghost use Rattle.unicode_segmentation.specs.Iter.{graphemes_left};
 
 use super::columns::cluster_columns;
 use super::simple::split_simple;
@@ -27,19 +29,54 @@ pub(crate) struct ClusterRun<'a> {
     pub(crate) is_plain: bool,
 }
 
+/// The rest of a span's text. It is split into clusters once it begins with one that isn't found
+/// without a table.
+#[derive(Drop)]
+enum SpanRest<'a> {
+    Text(&'a str),
+    Clusters(Graphemes<'a>),
+}
+
+impl<'a> SpanRest<'a> {
+    /// Returns the next clusters, or `None` at the end: one, or at most `most` plain ones.
+    fn next_run(&mut self, most: usize, style: Style) -> Option<ClusterRun<'a>>
+        requires { 0 < most }
+        ensures steps { MatchOption result
+            ((rest_clusters self.old ≡ []) × (rest_clusters self.new ≡ []))
+            (λ run. map (in_style style) (rest_clusters self.old)
+            ≡ run_clusters run ++ map (in_style style) (rest_clusters self.new)) }
+        ensures run { IfSome result (IsRun most) }
+    {
+        match self {
+            SpanRest::Text(text) => {
+                if let Some((run, after)) = split_run(text, most, style) {
+                    *text = after;
+                    return Some(run);
+                }
+                if text.is_empty() {
+                    return None;
+                }
+                let mut texts = text.graphemes(true);
+                let run = next_split(&mut texts, style);
+                *self = SpanRest::Clusters(texts);
+                run
+            }
+            SpanRest::Clusters(texts) => next_split(texts, style),
+        }
+    }
+}
+
 /// An iterator over the clusters of a line, span after span.
 #[derive(Drop)]
 pub(crate) struct LineClusters<'a, 'b> {
     base: Style,
     style: Style,
-    texts: Graphemes<'a>,
-    /// The rest of the span's text, after `texts`.
-    after: &'a str,
+    rest: SpanRest<'a>,
     spans: slice::Iter<'a, Span<'b>>,
 }
 
 impl<'a, 'b> LineClusters<'a, 'b> {
-    ghost use Rattle.textarea_paint.specs.LineClusters.{clusters_left, run_clusters};
+    ghost use Rattle.textarea_paint.specs.LineClusters.{clusters_left};
     ghost use Rattle.textarea_paint.specs.DrawnText.{spans_clusters};
     ghost use Rattle.textarea_screen.specs.Text.{span_view};
 
@@ -48,13 +85,7 @@ impl<'a, 'b> LineClusters<'a, 'b> {
         ensures { clusters_left result ≡ row_clusters style (line_view line.now) }
     {
         let base = style.patch(line.style);
-        LineClusters {
-            base,
-            style: base,
-            texts: "".graphemes(true),
-            after: "",
-            spans: line.spans.iter(),
-        }
+        LineClusters::of_spans(line.spans.as_slice(), base)
     }
 
     /// Returns an iterator over the clusters of spans, whose styles are patched over `style`.
@@ -64,8 +95,7 @@ impl<'a, 'b> LineClusters<'a, 'b> {
         LineClusters {
             base: style,
             style,
-            texts: "".graphemes(true),
-            after: "",
+            rest: SpanRest::Text(""),
             spans: spans.iter(),
         }
     }
@@ -76,47 +106,16 @@ impl<'a, 'b> LineClusters<'a, 'b> {
         ensures steps { MatchOption result
             ((clusters_left self.old ≡ []) × (clusters_left self.new ≡ []))
             (λ run. clusters_left self.old ≡ run_clusters run ++ clusters_left self.new) }
-        ensures columns { IfSome result (λ run.
-            run.is_plain ≡ false → run.columns ≡ columns_of run.text.now) }
-        ensures plain { IfSome result (λ run.
-            IsTrue run.is_plain → All IsPrintable run.text.now) }
-        ensures some { IfSome result (λ run. 0 < length (run_clusters run)) }
-        ensures most { IfSome result (λ run. length (run_clusters run) ≤ most) }
+        ensures run { IfSome result (IsRun most) }
     {
         loop {
-            if let Some(text) = self.texts.next() {
-                return Some(ClusterRun {
-                    text,
-                    style: self.style,
-                    columns: cluster_columns(text),
-                    is_plain: false,
-                });
+            let style = self.style;
+            if let Some(run) = self.rest.next_run(most, style) {
+                return Some(run);
             }
-            if let Some((text, after)) = split_plain(self.after, most) {
-                self.after = after;
-                return Some(ClusterRun {
-                    text,
-                    style: self.style,
-                    columns: 1,
-                    is_plain: true,
-                });
-            }
-            if self.after.is_empty() {
-                let span = self.spans.next()?;
-                self.style = self.base.patch(span.style);
-                self.after = span.content.as_str();
-            } else if let Some(first) = split_simple(self.after) {
-                self.after = first.after;
-                return Some(ClusterRun {
-                    text: first.text,
-                    style: self.style,
-                    columns: first.columns,
-                    is_plain: false,
-                });
-            } else {
-                self.texts = self.after.graphemes(true);
-                self.after = "";
-            }
+            let span = self.spans.next()?;
+            self.style = self.base.patch(span.style);
+            self.rest = SpanRest::Text(span.content.as_str());
         }
     }
 }
@@ -139,6 +138,50 @@ impl<'a, 'b> Iterator for LineClusters<'a, 'b> {
     }
 }
 
+/// Returns the next of these clusters, or `None` at the end.
+fn next_split<'a>(texts: &mut Graphemes<'a>, style: Style) -> Option<ClusterRun<'a>>
+    ensures steps { MatchOption result
+        ((graphemes_left texts.old ≡ []) × (graphemes_left texts.new ≡ []))
+        (λ run. map (in_style style) (graphemes_left texts.old)
+        ≡ run_clusters run ++ map (in_style style) (graphemes_left texts.new)) }
+    ensures run { (most : ℕ) → 0 < most → IfSome result (IsRun most) }
+{
+    let text = texts.next()?;
+    Some(ClusterRun {
+        text,
+        style,
+        columns: cluster_columns(text),
+        is_plain: false,
+    })
+}
+
+/// Splits clusters that are found without a table off the start of a text: one, or at most `most`
+/// plain ones.
+fn split_run<'a>(text: &'a str, most: usize, style: Style) -> Option<(ClusterRun<'a>, &'a str)>
+    requires { 0 < most }
+    ensures steps { IfSome result (λ parts. map (in_style style) (graphemes true text.now)
+        ≡ run_clusters parts.0 ++ map (in_style style) (graphemes true parts.1.now)) }
+    ensures run { IfSome result (λ parts. IsRun most parts.0) }
+{
+    if let Some((text, after)) = split_plain(text, most) {
+        let run = ClusterRun {
+            text,
+            style,
+            columns: 1,
+            is_plain: true,
+        };
+        return Some((run, after));
+    }
+    let first = split_simple(text)?;
+    let run = ClusterRun {
+        text: first.text,
+        style,
+        columns: first.columns,
+        is_plain: false,
+    };
+    Some((run, first.after))
+}
+
 /// Splits printable ASCII off the start of a text, at most `most` characters. Each of them is a
 /// cluster by itself, and they are found without a table.
 fn split_plain<'a>(text: &'a str, most: usize) -> Option<(&'a str, &'a str)>
@@ -147,7 +190,6 @@ fn split_plain<'a>(text: &'a str, most: usize) -> Option<(&'a str, &'a str)>
     ensures printable { IfSome result (λ parts. All IsPrintable parts.0.now) }
     ensures some { IfSome result (λ parts. 0 < length parts.0.now) }
     ensures most { IfSome result (λ parts. length parts.0.now ≤ most) }
-    ensures shorter { IfSome result (λ parts. length parts.1.now < length text.now) }
 {
     let count = plain_count(text.as_bytes(), most);
     if count == 0 {

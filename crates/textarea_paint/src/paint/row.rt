@@ -144,7 +144,7 @@ fn draw_fitting(
                 break;
             }
             room -= columns as u16;
-            pen = draw_cluster(buffer, cells, pen, cluster)?;
+            pen = draw_cluster(buffer, cells, pen, cluster, columns)?;
         }
     }
     Ok(())

@@ -1,5 +1,5 @@
 //! Grapheme clusters that are found without a table: one simple character, or a flag.
-ghost use Rattle.std.specs.Prelude.{◌≡◌, ◌-◌, ◌<◌, ◌≤◌, ◌∷◌, ◌||◌, true, length, take, drop, IfSome, chars};
+ghost use Rattle.std.specs.Prelude.{◌≡◌, ◌-◌, ◌≤◌, ◌∷◌, ◌||◌, true, length, take, drop, IfSome, chars};
 ghost use Rattle.std.specs.Int.{is_in_range};
 ghost use Rattle.textarea_paint.specs.Prelude.{begins_apart, columns_of, early_ranges, graphemes, in_ranges, is_flag_half, is_simple, late_ranges};
 
@@ -19,7 +19,6 @@ pub(super) fn split_simple<'a>(text: &'a str) -> Option<FirstCluster<'a>>
     ensures clusters { IfSome result (λ first.
         graphemes true text.now ≡ first.text.now ∷ graphemes true first.after.now) }
     ensures columns { IfSome result (λ first. first.columns ≡ columns_of first.text.now) }
-    ensures shorter { IfSome result (λ first. length first.after.now < length text.now) }
 {
     let mut characters = text.chars();
     let first = characters.next()?;
@@ -46,7 +45,6 @@ fn split_before<'a>(text: &'a str, after: &str, columns: usize) -> Option<FirstC
     ensures after { IfSome result (λ first.
         first.after.now ≡ drop (length text.now - length after.now) text.now) }
     ensures columns { IfSome result (λ first. first.columns ≡ columns) }
-    ensures len { IfSome result (λ first. length first.after.now ≡ length after.now) }
 {
     let (text, after) = text.split_at_checked(text.len() - after.len())?;
     Some(FirstCluster {

@@ -6,6 +6,7 @@ ghost use Rattle.textarea_screen.specs.Text.{span_view};
 
 use super::cells::{Pen, RowCells, draw_cluster};
 use super::clusters::LineClusters;
+use super::columns::cluster_columns;
 use super::row::{draw_left, visible_end};
 use std::alloc::AllocError;
 use textarea_screen::screen::{Buffer, Line, Span, Style};
@@ -91,7 +92,8 @@ fn draw_spans(
         if end <= pen.x {
             break;
         }
-        pen = draw_cluster(buffer, cells, pen, cluster)?;
+        let columns = cluster_columns(cluster.text);
+        pen = draw_cluster(buffer, cells, pen, cluster, columns)?;
     }
     Ok(())
 }

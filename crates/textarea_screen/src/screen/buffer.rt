@@ -20,7 +20,7 @@ pub struct Buffer {
 impl Buffer {
     ghost use Rattle.textarea_screen.specs.Rect.{contains, is_in_row};
     ghost use Rattle.textarea_screen.specs.Cell.{cell_view, fresh_cell, styled, with_symbol};
-    ghost use Rattle.textarea_screen.specs.Buffer.{area_of, ascii_change, cell_at, place_in, Changes};
+    ghost use Rattle.textarea_screen.specs.Buffer.{area_of, ascii_change, wide_change, cell_at, place_in, Changes};
 
     /// Returns a buffer of fresh cells, in one allocation.
     pub fn empty(alloc: Global, area: Rect) -> Result<Buffer, AllocError>
@@ -105,6 +105,47 @@ impl Buffer {
                 cell.put_inline(&text[at..at + 1], style);
             }
         }
+    }
+
+    /// Puts a text into the cell at column `x` of row `y`, another one of at most `INLINE_BYTES`
+    /// bytes into each of the next cells up to column `end`, and applies a style to these cells.
+    /// Leaves out those that the buffer doesn't have. If it runs out of memory, which needs a first
+    /// text of more than `INLINE_BYTES` bytes, the buffer is unchanged.
+    pub fn put_wide(
+        &mut self,
+        x: u16,
+        y: u16,
+        end: u16,
+        first: &str,
+        others: &str,
+        style: Style,
+    ) -> Result<(), AllocError>
+        requires { length others.now ≤ INLINE_BYTES }
+        ensures ok { OnOk result
+            (Changes self.old self.new (wide_change x y end first.now others.now style)) }
+        ensures inline { length first.now ≤ INLINE_BYTES → IsOk result }
+        ensures err { OnErr result (self.new ≡ self.old) }
+    {
+        let area = self.area;
+        let start = x.max(area.x);
+        let end = end.min(area.x + area.width);
+        if start < end && area.contains(Position { x: start, y }) {
+            let place = self.place(start, y);
+            let mut next = start;
+            if x == start {
+                let alloc = *self.cells.allocator();
+                let cell = &mut self.cells[place];
+                cell.set_symbol(alloc, first)?;
+                cell.set_style(style);
+                next = start + 1;
+            }
+            for column in next..end {
+                let right = usize::from(column - start);
+                let cell = &mut self.cells[place + right];
+                cell.fill(others, style);
+            }
+        }
+        Ok(())
     }
 
     /// Makes each cell fresh: a blank in the terminal's own colours, without modifiers.

@@ -1,4 +1,4 @@
-ghost use Rattle.std.specs.Prelude.{◌≡◌, ◌≤◌, length, IsOk, OnOk, OnErr};
+ghost use Rattle.std.specs.Prelude.{◌≡◌, ◌≤◌, [], length, IsOk, OnOk, OnErr};
 
 use super::color::Color;
 use super::modifier::Modifier;
@@ -48,6 +48,16 @@ impl CellText {
                 inline.push_str(text);
                 *self = CellText::Inline(inline);
             }
+        }
+    }
+
+    /// Replaces the text by the empty one.
+    fn clear(&mut self)
+        ensures { cell_text self.new ≡ [] }
+    {
+        match self {
+            CellText::Inline(retained) => retained.clear(),
+            _ => *self = CellText::Inline(ArrayString::new()),
         }
     }
 
@@ -117,6 +127,19 @@ impl Cell {
         self.set_style(style);
     }
 
+    /// Does what `put_inline` does, faster if the text is empty.
+    pub(super) fn fill(&mut self, text: &str, style: Style)
+        requires { length text.now ≤ INLINE_BYTES }
+        ensures { cell_view self.new ≡ with_symbol text.now style (cell_view self.old) }
+    {
+        if text.is_empty() {
+            self.text.clear();
+        } else {
+            self.text.replace_inline(text);
+        }
+        self.set_style(style);
+    }
+
     /// Returns the style that sets these colours and adds these modifiers.
     pub fn style(&self) -> Style
         ensures { result ≡ style_of (cell_view self.now) }
@@ -133,8 +156,12 @@ impl Cell {
     pub fn set_style(&mut self, style: Style)
         ensures { cell_view self.new ≡ styled style (cell_view self.old) }
     {
-        self.fg = style.fg.unwrap_or(self.fg);
-        self.bg = style.bg.unwrap_or(self.bg);
+        if let Some(fg) = style.fg {
+            self.fg = fg;
+        }
+        if let Some(bg) = style.bg {
+            self.bg = bg;
+        }
         self.modifier = self
             .modifier
             .union(style.add_modifier)

@@ -24,4 +24,4 @@ returns-else-run-clause-inline c = λ short.
     let run = c.args.run in
     let cluster = in_style run.style run.text.now in
     let all : AreInline (cluster ∷ []) = subst AreInline (cond-false run.is_plain (plain_clusters run.style run.text.now) (cluster ∷ []) c.if-run.false) short in
-    c.draw_sized.ensures.inline (All-head (λ (k : Cluster). length k.text ≤ INLINE_BYTES) cluster [] all)
+    c.draw_cluster.ensures.inline (All-head (λ (k : Cluster). length k.text ≤ INLINE_BYTES) cluster [] all)

@@ -5,7 +5,7 @@ use Rattle.textarea_screen.specs.Cell.{with_symbol, cell_view}
 use Rattle.textarea_screen.specs.Rect.{contains}
 use Rattle.textarea_screen.specs.declared.screen.cell.Cell.{Cell}
 use Rattle.textarea_screen.specs.declared.screen.rect.Rect.{Rect}
-use Rattle.textarea_screen.proofs.BufferLemmas.{Changes-set, place_in-right, place_in-below, contains-right, slice_one, ascii_more, ascii_outside, between_clipped}
+use Rattle.textarea_screen.proofs.BufferLemmas.{Changes-set, place_in-right, place_in-below, contains-right, slice_one, symbols_more, ascii_outside, between_clipped}
 use Rattle.textarea_screen.proofs.ChangeLemmas.{Changes-none, Changes-inside, Changes-then}
 use Rattle.textarea_screen.proofs.screen.buffer.Buffer.put_ascii.Goals as goal
 
@@ -32,7 +32,7 @@ loop-column-preserved c =
           (omega (arith, c.loop-column.self.full, c.loop-column.self.cells.ok.0)) refl refl
           (c.put_inline.ensures
           ∙ ap₂ (λ (t : List ℕ) (cell : Cell). with_symbol t c.args.style (cell_view cell)) (c.range.ensures.value ∙ slice_one text at (omega arith) ∙ ap (λ n. get_or text n 0 ∷ []) (omega arith)) c.index_mut-cell.ensures.value))
-          (λ u v cell. ascii_more y first column x text c.args.style u v cell (omega arith));
+          (λ u v cell. symbols_more y first column (λ n. get_or text (n - x) 0 ∷ []) c.args.style u v cell (omega arith));
       after = omega arith;
     }
 
