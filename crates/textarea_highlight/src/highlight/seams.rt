@@ -1,10 +1,10 @@
 //! Offsets at which a row can be split so that its cells stay the same.
-ghost use Rattle.std.specs.Prelude.{◌≡◌, ◌⊎◌, ◌+◌, ◌*◌, ◌^◌, ◌<◌, ◌≤◌, ◌↔◌, length, slice_index, take, drop, chars, IsCharBoundary, IsTrue, IsUtf8};
-ghost use Rattle.std.specs.List.{list_all};
+ghost use Rattle.std.specs.Prelude.{◌≡◌, ◌⊎◌, ◌+◌, ◌-◌, ◌*◌, ◌^◌, ◌<◌, ◌≤◌, ◌↔◌, length, slice_index, take, drop, chars, IsCharBoundary, IsTrue, IsUtf8};
+ghost use Rattle.std.specs.List.{All, list_all};
 ghost use Rattle.textarea_highlight.specs.Columns.{column_of};
 ghost use Rattle.textarea_highlight.specs.Marks.{IsRowMark};
 ghost use Rattle.textarea_highlight.specs.Plain.{ends_conjunct, is_plain, is_single};
-ghost use Rattle.textarea_highlight.specs.Seams.{BeginsPlain, EndsPlain, IsBetweenSeams, IsColumnAt, IsSeam, IsVisible, IsWalk};
+ghost use Rattle.textarea_highlight.specs.Seams.{AreVisible, BeginsPlain, EndsPlain, IsBetweenSeams, IsColumnAt, IsSeam, IsVisible, IsWalk};
 
 use super::highlighter::RowPart;
 use super::marks::{ROW_START, RowMark};
@@ -80,13 +80,13 @@ fn seam_from(row: &str, tab_len: u8, mark: RowMark, column: usize) -> RowOffset
         column: mark.column,
     });
     'walking: while walk.at.offset < row.len() && walk.at.column < column {
-        walk = next_character(row, tab_len, walk);
+        walk = next_characters(row, tab_len, walk, column);
     }
     walk.seam
 }
 
 // Returns the offset of the first seam after `start` that is at or after a column, or the row's
-// end. No seam is looked for if no more bytes follow than there are columns up to this one.
+// end. No seam is looked for where the rest of the row is short.
 fn seam_after(row: &str, tab_len: u8, start: RowOffset, column: usize) -> usize
     requires room { 255 * length row.now < 2 ^ 63 }
     requires start { IsColumnAt row.now tab_len start }
@@ -95,17 +95,28 @@ fn seam_after(row: &str, tab_len: u8, start: RowOffset, column: usize) -> usize
     ensures seam { result < length row.now → IsSeam row.now result }
     ensures right { result < length row.now → column ≤ column_of row.now tab_len result }
 {
-    if row.len() - start.offset <= column.saturating_sub(start.column) {
-        return row.len();
-    }
     let mut walk = walk_from(start);
-    'walking: while walk.at.offset < row.len() {
-        walk = next_character(row, tab_len, walk);
+    'walking: while !is_rest_short(row, walk.at, column) {
+        walk = next_characters(row, tab_len, walk, column);
         if start.offset < walk.seam.offset && column <= walk.seam.column {
             return walk.seam.offset;
         }
     }
     row.len()
+}
+
+// The bytes for one column with which a rest that isn't ASCII still counts as short. To draw what is
+// right of the view then costs less than to look for a seam there.
+const BYTES_OF_COLUMN: usize = 8;
+
+// Returns whether few bytes follow an offset, for the columns that are left up to another column.
+fn is_rest_short(row: &str, at: RowOffset, column: usize) -> bool
+    requires { at.offset ≤ length row.now }
+    ensures { at.offset ≡ length row.now → IsTrue result }
+{
+    let columns = column.saturating_sub(at.column);
+    let rest = &row.as_bytes()[at.offset..];
+    rest.len() <= columns || rest.len() / BYTES_OF_COLUMN <= columns && 128 <= rest[0]
 }
 
 fn walk_from(start: RowOffset) -> Walk
@@ -117,6 +128,28 @@ fn walk_from(start: RowOffset) -> Walk
         at: start,
         seam: start,
         after_plain: false,
+    }
+}
+
+// Walks over the visible characters of ASCII before a column, or over one character.
+fn next_characters(row: &str, tab_len: u8, walk: Walk, column: usize) -> Walk
+    requires room { 255 * length row.now < 2 ^ 63 }
+    requires inside { walk.at.offset < length row.now }
+    requires known { IsWalk row.now tab_len walk }
+    ensures known { IsWalk row.now tab_len result }
+    ensures further { walk.at.offset < result.at.offset }
+    ensures seam { (result.seam ≡ walk.seam) ⊎ (IsSeam row.now result.seam.offset
+        × (walk.at.offset ≤ result.seam.offset)
+        × (walk.at.column < column → result.seam.column < column)) }
+{
+    let count = visible_before(row, walk.at, column);
+    if count < 2 {
+        return next_character(row, tab_len, walk);
+    }
+    Walk {
+        at: after_visible(row, tab_len, walk.at, count),
+        seam: after_visible(row, tab_len, walk.at, count - 1),
+        after_plain: true,
     }
 }
 
@@ -153,24 +186,24 @@ fn after_character(row: &str, tab_len: u8, at: RowOffset) -> (RowOffset, bool)
         × EndsPlain (take result.0.offset row.now) }
 {
     if is_visible(row.as_bytes()[at.offset]) {
-        return (after_visible(row, tab_len, at), true);
+        return (after_visible(row, tab_len, at, 1), true);
     }
     let next = after_other(row, tab_len, at);
     (next, are_plain(&row[at.offset..next.offset]))
 }
 
-// Returns the offset after a visible character of ASCII.
-fn after_visible(row: &str, tab_len: u8, at: RowOffset) -> RowOffset
+// Returns the offset after visible characters of ASCII.
+fn after_visible(row: &str, tab_len: u8, at: RowOffset, count: usize) -> RowOffset
     requires room { 255 * length row.now < 2 ^ 63 }
-    requires inside { at.offset < length row.now }
     requires known { IsColumnAt row.now tab_len at }
-    requires visible { IsVisible (slice_index row.now at.offset) }
+    requires visible { AreVisible row.now at.offset count }
     ensures known { IsColumnAt row.now tab_len result }
-    ensures next { result.offset ≡ at.offset + 1 }
+    ensures offset { result.offset ≡ at.offset + count }
+    ensures column { result.column ≡ at.column + count }
 {
     RowOffset {
-        offset: at.offset + 1,
-        column: at.column + 1,
+        offset: at.offset + count,
+        column: at.column + count,
     }
 }
 
@@ -187,6 +220,47 @@ fn after_other(row: &str, tab_len: u8, at: RowOffset) -> RowOffset
         offset: end,
         column: column_after_text(&row[at.offset..end], at.column, tab_len),
     }
+}
+
+// Returns how many visible characters of ASCII follow an offset before a column.
+fn visible_before(row: &str, at: RowOffset, column: usize) -> usize
+    requires { at.offset ≤ length row.now }
+    ensures visible { AreVisible row.now at.offset result }
+    ensures left { result ≤ column - at.column }
+{
+    let from = at.offset;
+    let columns = column.saturating_sub(at.column);
+    visible_count(&row.as_bytes()[from..from + columns.min(row.len() - from)])
+}
+
+// Returns with how many visible characters of ASCII the bytes begin.
+fn visible_count(bytes: &[u8]) -> usize
+    ensures within { result ≤ length bytes.now }
+    ensures visible { All IsVisible (take result bytes.now) }
+{
+    let mut count = 0;
+    'stretches: while STRETCH <= bytes.len() - count
+        && are_visible(&bytes[count..count + STRETCH])
+    {
+        count += STRETCH;
+    }
+    'bytes: while count < bytes.len() && is_visible(bytes[count]) {
+        count += 1;
+    }
+    count
+}
+
+// The number of bytes that a processor can compare at once.
+const STRETCH: usize = 32;
+
+fn are_visible(bytes: &[u8]) -> bool
+    ensures { IsTrue result → All IsVisible bytes.now }
+{
+    let mut all = true;
+    for byte in bytes {
+        all = all & is_visible(*byte);
+    }
+    all
 }
 
 fn is_visible(byte: u8) -> bool

@@ -5,7 +5,7 @@ use Rattle.textarea_highlight.proofs.highlight.seams.after_character.Goals as go
 
 pub returns-then-is_visible-clause-plain : goal.returns-then-is_visible-clause-plain
 returns-then-is_visible-clause-plain c = λ _.
-    visible_between c.args.row.now c.args.tab_len c.args.at c.after_visible.result c.utf8.row c.requires.known c.after_visible.ensures.known c.after_visible.ensures.next c.requires.inside
+    visible_between c.args.row.now c.args.tab_len c.args.at c.after_visible.result c.utf8.row c.requires.known c.after_visible.ensures.known c.after_visible.ensures.offset c.requires.inside
     (subst (λ (bytes : List ℕ). IsVisible (get_or bytes c.args.at.offset 0)) c.as_bytes.ensures.value (c.if-is_visible.ensures.0 cc))
 
 pub returns-clause-plain : goal.returns-clause-plain
