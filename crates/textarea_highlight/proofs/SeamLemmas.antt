@@ -1,17 +1,18 @@
 -- A walk over a row: the columns of the offsets on the way, and the seams among them.
-use Rattle.std.proofs.Common.{◌≡◌, ℕ, zero, suc, ◌+◌, ◌-◌, ◌*◌, ◌<◌, ◌≤◌, Bool, true, ◌&&◌, List, drop, take, length, get_or, slice_range, refl, sym, ap, subst, ◌∙◌, arith, IsUtf8, IsCharBoundary}
+use Rattle.std.proofs.Common.{◌≡◌, ℕ, zero, suc, ◌+◌, ◌-◌, ◌*◌, ◌<◌, ◌≤◌, Bool, true, ◌&&◌, List, [], ◌∷◌, ◌++◌, drop, take, length, get_or, slice_range, refl, sym, ap, subst, ◌∙◌, arith, IsUtf8, IsCharBoundary, encode_utf8}
+use Rattle.std.specs.Char.{len_utf8}
 use Rattle.std.specs.List.{All, list_all}
 use Rattle.std.specs.Str.{chars}
 use Rattle.std.proofs.lemmas.Bool.Decides.{nat_tests}
-use Rattle.std.proofs.lemmas.List.{get_or-drop, get_or-take, length-drop, length-take, take_more}
+use Rattle.std.proofs.lemmas.List.{append-nil, get_or-drop, get_or-take, length-drop, length-take, take_more}
 use Rattle.std.proofs.lemmas.List.Elements.{All-append, All-get_or, All-push}
-use Rattle.std.proofs.Math.Seq.{take-add}
-use Rattle.std.proofs.lemmas.Str.{chars-nil, IsCharBoundary-after_ascii, IsCharBoundary-start}
+use Rattle.std.proofs.Math.Seq.{take-add, take-append_seam}
+use Rattle.std.proofs.lemmas.Str.{chars-nil, chars_past_char, IsCharBoundary-after_ascii, IsCharBoundary-past_char, IsCharBoundary-start, IsUtf8-between, IsUtf8-drop, len_utf8_bounds, length-encode}
 use Rattle.unicode_width.specs.Width.{char_width}
 use Rattle.textarea_wrap.specs.Columns.{column_after, end_column}
 use Rattle.textarea_highlight.specs.Columns.{column_of}
 use Rattle.textarea_highlight.specs.Plain.{is_plain}
-use Rattle.textarea_highlight.specs.Seams.{AreVisible, BeginsPlain, EndsPlain, IsColumnAt, IsSeam, IsVisible}
+use Rattle.textarea_highlight.specs.Seams.{AreVisible, BeginsPlain, BeginsWith, EndsPlain, IsColumnAt, IsSeam, IsVisible}
 use Rattle.textarea_highlight.specs.Split.{segment_of}
 use Rattle.textarea_highlight.specs.declared.highlight.seams.RowOffset.{RowOffset}
 use Rattle.textarea_highlight.proofs.PlainLemmas.{begins_plain, ends_plain, visible-plain}
@@ -27,6 +28,23 @@ known_after row tab_len at end column utf8 known boundary order is near = record
   column = is ∙ ap (λ n. end_column tab_len n (segment_of row at.offset end)) known.column ∙ column_to tab_len row at.offset end utf8 order known.boundary boundary;
   near = omega (arith, near, known.near, order, length-take (end - at.offset) (drop at.offset row));
 }
+
+module _ (row : List ℕ) (at end c : ℕ) (utf8 : IsUtf8 row) (boundary : IsCharBoundary row at) (first : BeginsWith (drop at row) c) (is : end ≡ at + len_utf8 c) where
+  pub end_of_first : IsCharBoundary row end
+  end_of_first = subst (IsCharBoundary row) (sym is) (IsCharBoundary-past_char row first.0 at c boundary.0 (IsUtf8-drop row at utf8 boundary) first.1)
+
+  bytes_of_first : slice_range row at end ≡ encode_utf8 c
+  bytes_of_first =
+      let size : end - at ≡ length (encode_utf8 c) = omega (arith, is, length-encode c) in
+      ap (take (end - at)) first.1 ∙ ap (λ n. take n (encode_utf8 c ++ first.0)) size ∙ take-append_seam (encode_utf8 c) first.0
+
+  pub segment_of_first : segment_of row at end ≡ c ∷ []
+  segment_of_first =
+      chars_past_char (slice_range row at end) [] c (IsUtf8-between row at end utf8 (omega (arith, is)) boundary end_of_first) (bytes_of_first ∙ sym (append-nil (encode_utf8 c)))
+      ∙ ap (λ cs. c ∷ cs) chars-nil
+
+  pub size_of_first : 1 ≤ length (slice_range row at end)
+  size_of_first = omega (arith, ap length bytes_of_first, length-encode c, len_utf8_bounds c)
 
 visible-column : (tab_len column c : ℕ) → IsVisible c → column_after tab_len column c ≡ column + 1
 unfolding char_width
@@ -55,18 +73,12 @@ known_start row tab_len utf8 = record {
 
 -- ---- plain characters on the way
 
-plain_between : (row : List ℕ) (tab_len : ℕ) (at next : RowOffset) → IsUtf8 row → IsColumnAt row tab_len at → IsColumnAt row tab_len next → at.offset < next.offset →
+pub plain_between : (row : List ℕ) (tab_len : ℕ) (at next : RowOffset) → IsUtf8 row → IsColumnAt row tab_len at → IsColumnAt row tab_len next → at.offset < next.offset →
     list_all is_plain (segment_of row at.offset next.offset) ≡ true → BeginsPlain (drop at.offset row) × EndsPlain (take next.offset row)
 plain_between row tab_len at next utf8 known further order plain = (
   begins_plain row at.offset next.offset utf8 known.boundary further.boundary order plain,
   ends_plain row at.offset next.offset utf8 known.boundary further.boundary order plain,
 )
-
--- the text between two offsets is plain
-pub text_between : (row : List ℕ) (tab_len : ℕ) (at next : RowOffset) (text : List ℕ) → IsUtf8 row → IsColumnAt row tab_len at → IsColumnAt row tab_len next → at.offset < next.offset →
-    text ≡ slice_range row at.offset next.offset → list_all is_plain (chars text) ≡ true → BeginsPlain (drop at.offset row) × EndsPlain (take next.offset row)
-text_between row tab_len at next text utf8 known further order is plain =
-    plain_between row tab_len at next utf8 known further order (ap (λ bytes. list_all is_plain (chars bytes)) (sym is) ∙ plain)
 
 -- a visible character of ASCII is between them
 pub visible_between : (row : List ℕ) (tab_len : ℕ) (at next : RowOffset) → IsUtf8 row → IsColumnAt row tab_len at → IsColumnAt row tab_len next → next.offset ≡ at.offset + 1 → at.offset < length row →

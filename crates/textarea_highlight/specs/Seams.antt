@@ -1,5 +1,5 @@
 -- Offsets at which a row can be split so that its cells stay the same.
-use Rattle.std.specs.Prelude.{◌≡◌, ℕ, ◌+◌, ◌*◌, ◌<◌, ◌≤◌, true, List, [], ◌∷◌, ◌++◌, length, get_or, take, drop, chars, IsCharBoundary, IsTrue}
+use Rattle.std.specs.Prelude.{◌≡◌, ℕ, ◌+◌, ◌*◌, ◌<◌, ◌≤◌, true, List, [], ◌∷◌, ◌++◌, length, get_or, take, drop, chars, encode_utf8, IsCharBoundary, IsTrue}
 use Rattle.textarea_highlight.specs.Columns.{column_of}
 use Rattle.textarea_highlight.specs.Plain.{is_plain}
 use Rattle.textarea_highlight.specs.declared.highlight.highlighter.RowPart.{RowPart}
@@ -14,6 +14,10 @@ IsVisible c = (32 ≤ c) × (c < 127)
 pub record AreVisible (row : List ℕ) (from count : ℕ) : Type 0 where
   pub within : from + count ≤ length row
   pub visible : (k : ℕ) → k < count → IsVisible (get_or row (from + k) 0)
+
+-- a text whose first character is this one
+abbrev pub BeginsWith : List ℕ → ℕ → Type 0
+BeginsWith text c = (rest : List ℕ) × (text ≡ encode_utf8 c ++ rest)
 
 -- a text whose first character is plain
 pub record BeginsPlain (text : List ℕ) : Type 0 where

@@ -1,14 +1,15 @@
 //! Offsets at which a row can be split so that its cells stay the same.
-ghost use Rattle.std.specs.Prelude.{◌≡◌, ◌⊎◌, ◌+◌, ◌-◌, ◌*◌, ◌^◌, ◌<◌, ◌≤◌, ◌↔◌, length, slice_index, take, drop, chars, IsCharBoundary, IsTrue, IsUtf8};
-ghost use Rattle.std.specs.List.{All, list_all};
+ghost use Rattle.std.specs.Prelude.{◌≡◌, ◌⊎◌, ◌+◌, ◌-◌, ◌*◌, ◌^◌, ◌<◌, ◌≤◌, ◌↔◌, length, slice_index, take, drop, IsCharBoundary, IsTrue, IsUtf8};
+ghost use Rattle.std.specs.Char.{len_utf8};
+ghost use Rattle.std.specs.List.{All};
 ghost use Rattle.textarea_highlight.specs.Columns.{column_of};
 ghost use Rattle.textarea_highlight.specs.Marks.{IsRowMark};
 ghost use Rattle.textarea_highlight.specs.Plain.{ends_conjunct, is_plain, is_single};
-ghost use Rattle.textarea_highlight.specs.Seams.{AreVisible, BeginsPlain, EndsPlain, IsBetweenSeams, IsColumnAt, IsSeam, IsVisible, IsWalk};
+ghost use Rattle.textarea_highlight.specs.Seams.{AreVisible, BeginsPlain, BeginsWith, EndsPlain, IsBetweenSeams, IsColumnAt, IsSeam, IsVisible, IsWalk};
 
 use super::highlighter::RowPart;
 use super::marks::{ROW_START, RowMark};
-use textarea_wrap::wrap::columns::column_after_text;
+use textarea_wrap::wrap::columns::column_after;
 use ucd_breaks::GraphemeClusterBreak;
 use ucd_derived::IndicConjunctBreak;
 
@@ -188,8 +189,9 @@ fn after_character(row: &str, tab_len: u8, at: RowOffset) -> (RowOffset, bool)
     if is_visible(row.as_bytes()[at.offset]) {
         return (after_visible(row, tab_len, at, 1), true);
     }
-    let next = after_other(row, tab_len, at);
-    (next, are_plain(&row[at.offset..next.offset]))
+    let c = first_character(&row[at.offset..]);
+    let next = after_other(row, tab_len, at, c);
+    (next, is_plain(c))
 }
 
 // Returns the offset after visible characters of ASCII.
@@ -208,17 +210,27 @@ fn after_visible(row: &str, tab_len: u8, at: RowOffset, count: usize) -> RowOffs
 }
 
 // Returns the offset after any character.
-fn after_other(row: &str, tab_len: u8, at: RowOffset) -> RowOffset
+fn after_other(row: &str, tab_len: u8, at: RowOffset, c: char) -> RowOffset
     requires room { 255 * length row.now < 2 ^ 63 }
-    requires inside { at.offset < length row.now }
     requires known { IsColumnAt row.now tab_len at }
+    requires first { BeginsWith (drop at.offset row.now) c }
     ensures known { IsColumnAt row.now tab_len result }
-    ensures further { at.offset < result.offset }
+    ensures next { result.offset ≡ at.offset + len_utf8 c }
 {
-    let end = row.ceil_char_boundary(at.offset + 1);
     RowOffset {
-        offset: end,
-        column: column_after_text(&row[at.offset..end], at.column, tab_len),
+        offset: at.offset + c.len_utf8(),
+        column: column_after(c, at.column, tab_len),
+    }
+}
+
+// Returns the first character of a text that isn't empty.
+fn first_character(text: &str) -> char
+    requires { 0 < length text.now }
+    ensures { BeginsWith text.now result }
+{
+    match text.chars().next() {
+        Some(c) => c,
+        None => unreachable!(),
     }
 }
 
@@ -269,13 +281,7 @@ fn is_visible(byte: u8) -> bool
     32 <= byte && byte < 127
 }
 
-// Returns whether each character is plain: between two such ones a grapheme cluster ends.
-fn are_plain(text: &str) -> bool
-    ensures { result ≡ list_all is_plain (chars text.now) }
-{
-    text.chars().all(|c| is_plain(c))
-}
-
+// Returns whether a character is plain: between two such ones a grapheme cluster ends.
 fn is_plain(c: char) -> bool
     ensures { result ≡ is_plain c }
 {
