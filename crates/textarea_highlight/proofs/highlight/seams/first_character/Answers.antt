@@ -4,5 +4,5 @@ use Rattle.textarea_highlight.proofs.highlight.seams.first_character.Goals as go
 pub returns : goal.returns
 returns c = (_, sym c.chars.ensures.rest ∙ c.in-Some.ensures.steps.0)
 
-pub unreachable-unreachable : goal.unreachable-unreachable
-unreachable-unreachable c = omega (arith, ap length c.chars.ensures.rest, c.in-None.ensures.steps.0.0, c.requires)
+pub unreachable-requires : goal.unreachable-requires
+unreachable-requires c = omega (arith, ap length c.chars.ensures.rest, c.in-None.ensures.steps.0.0, c.requires)
