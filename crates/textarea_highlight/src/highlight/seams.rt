@@ -106,9 +106,9 @@ fn seam_after(row: &str, tab_len: u8, start: RowOffset, column: usize) -> usize
     row.len()
 }
 
-// The bytes for one column with which a rest that isn't ASCII still counts as short. To draw what is
-// right of the view then costs less than to look for a seam there.
-const BYTES_OF_COLUMN: usize = 8;
+// The most bytes for each column with which a rest that begins with an emoji or a flag is short. Such
+// a rest hardly ends right of the view, and to draw it costs less than to look for a seam in it.
+const BYTES_OF_COLUMN: usize = 4;
 
 // Returns whether few bytes follow an offset, for the columns that are left up to another column.
 fn is_rest_short(row: &str, at: RowOffset, column: usize) -> bool
@@ -117,7 +117,7 @@ fn is_rest_short(row: &str, at: RowOffset, column: usize) -> bool
 {
     let columns = column.saturating_sub(at.column);
     let rest = &row.as_bytes()[at.offset..];
-    rest.len() <= columns || rest.len() / BYTES_OF_COLUMN <= columns && 128 <= rest[0]
+    rest.len() <= columns || rest.len() / BYTES_OF_COLUMN <= columns && 0xf0 <= rest[0]
 }
 
 fn walk_from(start: RowOffset) -> Walk
