@@ -1,5 +1,5 @@
 //! Offsets at which a row can be split so that its cells stay the same.
-ghost use Rattle.std.specs.Prelude.{◌≡◌, ◌⊎◌, ◌+◌, ◌-◌, ◌*◌, ◌^◌, ◌<◌, ◌≤◌, ◌↔◌, length, slice_index, take, drop, IsCharBoundary, IsTrue, IsUtf8};
+ghost use Rattle.std.specs.Prelude.{◌≡◌, ◌⊎◌, ◌+◌, ◌-◌, ◌*◌, ◌^◌, ◌<◌, ◌≤◌, ◌↔◌, length, take, drop, IsCharBoundary, IsTrue, IsUtf8};
 ghost use Rattle.std.specs.Char.{len_utf8};
 ghost use Rattle.std.specs.List.{All};
 ghost use Rattle.textarea_highlight.specs.Columns.{column_of};
