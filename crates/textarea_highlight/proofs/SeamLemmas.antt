@@ -1,15 +1,18 @@
 -- A walk over a row: the columns of the offsets on the way, and the seams among them.
-use Rattle.std.proofs.Common.{◌≡◌, ℕ, ◌+◌, ◌-◌, ◌*◌, ◌<◌, ◌≤◌, Bool, true, ◌&&◌, List, drop, take, length, get_or, slice_range, sym, ap, ◌∙◌, arith, IsUtf8, IsCharBoundary}
-use Rattle.std.specs.List.{list_all}
+use Rattle.std.proofs.Common.{◌≡◌, ℕ, zero, suc, ◌+◌, ◌-◌, ◌*◌, ◌<◌, ◌≤◌, Bool, true, ◌&&◌, List, [], ◌∷◌, ◌++◌, drop, take, length, get_or, slice_range, refl, sym, ap, subst, ◌∙◌, arith, IsUtf8, IsCharBoundary, encode_utf8}
+use Rattle.std.specs.Char.{len_utf8}
+use Rattle.std.specs.List.{All, list_all}
 use Rattle.std.specs.Str.{chars}
 use Rattle.std.proofs.lemmas.Bool.Decides.{nat_tests}
-use Rattle.std.proofs.lemmas.List.{length-take}
-use Rattle.std.proofs.lemmas.Str.{chars-nil, IsCharBoundary-after_ascii, IsCharBoundary-start}
+use Rattle.std.proofs.lemmas.List.{append-nil, get_or-drop, get_or-take, length-drop, length-take, take_more}
+use Rattle.std.proofs.lemmas.List.Elements.{All-append, All-get_or, All-push}
+use Rattle.std.proofs.Math.Seq.{take-add, take-append_seam}
+use Rattle.std.proofs.lemmas.Str.{chars-nil, chars_past_char, IsCharBoundary-after_ascii, IsCharBoundary-past_char, IsCharBoundary-start, IsUtf8-between, IsUtf8-drop, len_utf8_bounds, length-encode}
 use Rattle.unicode_width.specs.Width.{char_width}
 use Rattle.textarea_wrap.specs.Columns.{column_after, end_column}
 use Rattle.textarea_highlight.specs.Columns.{column_of}
 use Rattle.textarea_highlight.specs.Plain.{is_plain}
-use Rattle.textarea_highlight.specs.Seams.{BeginsPlain, EndsPlain, IsColumnAt, IsVisible}
+use Rattle.textarea_highlight.specs.Seams.{AreVisible, BeginsPlain, BeginsWith, EndsPlain, IsColumnAt, IsSeam, IsVisible}
 use Rattle.textarea_highlight.specs.Split.{segment_of}
 use Rattle.textarea_highlight.specs.declared.highlight.seams.RowOffset.{RowOffset}
 use Rattle.textarea_highlight.proofs.PlainLemmas.{begins_plain, ends_plain, visible-plain}
@@ -25,6 +28,23 @@ known_after row tab_len at end column utf8 known boundary order is near = record
   column = is ∙ ap (λ n. end_column tab_len n (segment_of row at.offset end)) known.column ∙ column_to tab_len row at.offset end utf8 order known.boundary boundary;
   near = omega (arith, near, known.near, order, length-take (end - at.offset) (drop at.offset row));
 }
+
+module _ (row : List ℕ) (at end c : ℕ) (utf8 : IsUtf8 row) (boundary : IsCharBoundary row at) (first : BeginsWith (drop at row) c) (is : end ≡ at + len_utf8 c) where
+  pub end_of_first : IsCharBoundary row end
+  end_of_first = subst (IsCharBoundary row) (sym is) (IsCharBoundary-past_char row first.0 at c boundary.0 (IsUtf8-drop row at utf8 boundary) first.1)
+
+  bytes_of_first : slice_range row at end ≡ encode_utf8 c
+  bytes_of_first =
+      let size : end - at ≡ length (encode_utf8 c) = omega (arith, is, length-encode c) in
+      ap (take (end - at)) first.1 ∙ ap (λ n. take n (encode_utf8 c ++ first.0)) size ∙ take-append_seam (encode_utf8 c) first.0
+
+  pub segment_of_first : segment_of row at end ≡ c ∷ []
+  segment_of_first =
+      chars_past_char (slice_range row at end) [] c (IsUtf8-between row at end utf8 (omega (arith, is)) boundary end_of_first) (bytes_of_first ∙ sym (append-nil (encode_utf8 c)))
+      ∙ ap (λ cs. c ∷ cs) chars-nil
+
+  pub size_of_first : 1 ≤ length (slice_range row at end)
+  size_of_first = omega (arith, ap length bytes_of_first, length-encode c, len_utf8_bounds c)
 
 visible-column : (tab_len column c : ℕ) → IsVisible c → column_after tab_len column c ≡ column + 1
 unfolding char_width
@@ -53,18 +73,12 @@ known_start row tab_len utf8 = record {
 
 -- ---- plain characters on the way
 
-plain_between : (row : List ℕ) (tab_len : ℕ) (at next : RowOffset) → IsUtf8 row → IsColumnAt row tab_len at → IsColumnAt row tab_len next → at.offset < next.offset →
+pub plain_between : (row : List ℕ) (tab_len : ℕ) (at next : RowOffset) → IsUtf8 row → IsColumnAt row tab_len at → IsColumnAt row tab_len next → at.offset < next.offset →
     list_all is_plain (segment_of row at.offset next.offset) ≡ true → BeginsPlain (drop at.offset row) × EndsPlain (take next.offset row)
 plain_between row tab_len at next utf8 known further order plain = (
   begins_plain row at.offset next.offset utf8 known.boundary further.boundary order plain,
   ends_plain row at.offset next.offset utf8 known.boundary further.boundary order plain,
 )
-
--- the text between two offsets is plain
-pub text_between : (row : List ℕ) (tab_len : ℕ) (at next : RowOffset) (text : List ℕ) → IsUtf8 row → IsColumnAt row tab_len at → IsColumnAt row tab_len next → at.offset < next.offset →
-    text ≡ slice_range row at.offset next.offset → list_all is_plain (chars text) ≡ true → BeginsPlain (drop at.offset row) × EndsPlain (take next.offset row)
-text_between row tab_len at next text utf8 known further order is plain =
-    plain_between row tab_len at next utf8 known further order (ap (λ bytes. list_all is_plain (chars bytes)) (sym is) ∙ plain)
 
 -- a visible character of ASCII is between them
 pub visible_between : (row : List ℕ) (tab_len : ℕ) (at next : RowOffset) → IsUtf8 row → IsColumnAt row tab_len at → IsColumnAt row tab_len next → next.offset ≡ at.offset + 1 → at.offset < length row →
@@ -75,3 +89,73 @@ visible_between row tab_len at next utf8 known further one inside visible =
     ∙ ap (λ bytes. list_all is_plain (chars bytes)) (slice_range-one row at.offset inside)
     ∙ ap (list_all is_plain) (visible-chars (get_or row at.offset 0) visible)
     ∙ ap (λ (b : Bool). b && true) (visible-plain (get_or row at.offset 0) visible))
+
+-- ---- visible characters of ASCII
+
+pub visible_more : (bytes : List ℕ) (count : ℕ) → count < length bytes → All IsVisible (take count bytes) → IsVisible (get_or bytes count 0) → All IsVisible (take (count + 1) bytes)
+visible_more bytes count below front is =
+    subst (All IsVisible) (sym (take_more bytes count 0 below)) (All-push IsVisible (take count bytes) (get_or bytes count 0) front is)
+
+pub visible_further : (bytes text : List ℕ) (count more : ℕ) → All IsVisible (take count bytes) → text ≡ slice_range bytes count (count + more) → All IsVisible text → All IsVisible (take (count + more) bytes)
+visible_further bytes text count more front is back =
+    let size : count + more - count ≡ more = omega arith in
+    subst (All IsVisible) (sym (take-add count more bytes))
+    (All-append IsVisible (take count bytes) (take more (drop count bytes)) front (subst (All IsVisible) (is ∙ ap (λ n. take n (drop count bytes)) size) back))
+
+pub run_visible : (row bytes : List ℕ) (from to count : ℕ) → bytes ≡ row → from ≤ length row → count ≤ length (slice_range bytes from to) → All IsVisible (take count (slice_range bytes from to)) → AreVisible row from count
+run_visible row bytes from to count is inside within visible =
+    let size = length-take (to - from) (drop from bytes) in
+    let rest = length-drop from bytes in
+    let same = ap length is in
+    record {
+      within = omega (arith, size, rest, same, inside, within);
+      visible = λ k below.
+          subst IsVisible
+          (get_or-take count (slice_range bytes from to) k 0 below
+          ∙ get_or-take (to - from) (drop from bytes) k 0 (omega (arith, size, within, below))
+          ∙ get_or-drop from bytes k 0
+          ∙ ap (λ (xs : List ℕ). get_or xs (from + k) 0) is)
+          (All-get_or IsVisible (take count (slice_range bytes from to)) k 0 (omega (arith, length-take count (slice_range bytes from to), within, below)) visible);
+    }
+
+moved : (row : List ℕ) (tab_len : ℕ) (place : RowOffset) (offset column : ℕ) → offset ≡ place.offset → column ≡ place.column → IsColumnAt row tab_len place →
+    IsColumnAt row tab_len (record { offset = offset; column = column })
+moved row tab_len place offset column at is known = record {
+  boundary = subst (IsCharBoundary row) (sym at) known.boundary;
+  column = is ∙ known.column ∙ ap (column_of row tab_len) (sym at);
+  near = omega (arith, at, is, known.near);
+}
+
+module _ (row : List ℕ) (tab_len : ℕ) (at : RowOffset) (count : ℕ) (utf8 : IsUtf8 row) (known : IsColumnAt row tab_len at) (visible : AreVisible row at.offset count) where
+  -- this many of them further
+  pub known_further : (n : ℕ) → n ≤ count → IsColumnAt row tab_len (record { offset = at.offset + n; column = at.column + n })
+  known_further zero within = moved row tab_len at (at.offset + zero) (at.column + zero) (omega arith) (omega arith) known
+  known_further (suc n) within =
+      let place : RowOffset = record { offset = at.offset + n; column = at.column + n } in
+      moved row tab_len (record { offset = at.offset + n + 1; column = at.column + n + 1 }) (at.offset + suc n) (at.column + suc n) (omega arith) (omega arith)
+      (known_next row tab_len place utf8 (known_further n (omega (arith, within))) (omega (arith, within, visible.within)) (visible.visible n (omega (arith, within))))
+
+  one_between : (n : ℕ) → n < count → BeginsPlain (drop (at.offset + n) row) × EndsPlain (take (at.offset + n + 1) row)
+  one_between n below =
+      let place : RowOffset = record { offset = at.offset + n; column = at.column + n } in
+      let next : RowOffset = record { offset = at.offset + n + 1; column = at.column + n + 1 } in
+      let here = known_further n (omega (arith, below)) in
+      let inside : at.offset + n < length row = omega (arith, below, visible.within) in
+      visible_between row tab_len place next utf8 here
+      (known_next row tab_len place utf8 here inside (visible.visible n below)) refl inside (visible.visible n below)
+
+  pub ends_visible : 0 < count → (end : ℕ) → end ≡ at.offset + count → EndsPlain (take end row)
+  ends_visible some end is = subst (λ n. EndsPlain (take n row)) (omega (arith, some, is)) (one_between (count - 1) (omega (arith, some))).1
+
+  -- between the last two of them is a seam
+  pub seam_before_last : 1 < count → (seam : ℕ) → seam ≡ at.offset + (count - 1) → IsSeam row seam
+  seam_before_last some seam is =
+      let before = one_between (count - 2) (omega (arith, some)) in
+      let after = one_between (count - 1) (omega (arith, some)) in
+      record {
+        inside = omega (arith, some, is);
+        within = omega (arith, some, is, visible.within);
+        boundary = subst (IsCharBoundary row) (sym is) (known_further (count - 1) (omega arith)).boundary;
+        left = subst (λ n. EndsPlain (take n row)) (omega (arith, some, is)) before.1;
+        right = subst (λ n. BeginsPlain (drop n row)) (sym is) after.0;
+      }

@@ -1,5 +1,5 @@
 -- Offsets at which a row can be split so that its cells stay the same.
-use Rattle.std.specs.Prelude.{◌≡◌, ℕ, ◌*◌, ◌<◌, ◌≤◌, true, List, [], ◌∷◌, ◌++◌, length, take, drop, chars, IsCharBoundary, IsTrue}
+use Rattle.std.specs.Prelude.{◌≡◌, ℕ, ◌+◌, ◌*◌, ◌<◌, ◌≤◌, true, List, [], ◌∷◌, ◌++◌, length, get_or, take, drop, chars, encode_utf8, IsCharBoundary, IsTrue}
 use Rattle.textarea_highlight.specs.Columns.{column_of}
 use Rattle.textarea_highlight.specs.Plain.{is_plain}
 use Rattle.textarea_highlight.specs.declared.highlight.highlighter.RowPart.{RowPart}
@@ -9,6 +9,15 @@ use Rattle.textarea_highlight.specs.declared.highlight.seams.Walk.{Walk}
 -- a character of ASCII that is shown in one column
 abbrev pub IsVisible : ℕ → Type 0
 IsVisible c = (32 ≤ c) × (c < 127)
+
+-- this many such characters follow an offset
+pub record AreVisible (row : List ℕ) (from count : ℕ) : Type 0 where
+  pub within : from + count ≤ length row
+  pub visible : (k : ℕ) → k < count → IsVisible (get_or row (from + k) 0)
+
+-- a text whose first character is this one
+abbrev pub BeginsWith : List ℕ → ℕ → Type 0
+BeginsWith text c = (rest : List ℕ) × (text ≡ encode_utf8 c ++ rest)
 
 -- a text whose first character is plain
 pub record BeginsPlain (text : List ℕ) : Type 0 where

@@ -1,14 +1,15 @@
 //! Offsets at which a row can be split so that its cells stay the same.
-ghost use Rattle.std.specs.Prelude.{◌≡◌, ◌⊎◌, ◌+◌, ◌*◌, ◌^◌, ◌<◌, ◌≤◌, ◌↔◌, length, slice_index, take, drop, chars, IsCharBoundary, IsTrue, IsUtf8};
-ghost use Rattle.std.specs.List.{list_all};
+ghost use Rattle.std.specs.Prelude.{◌≡◌, ◌⊎◌, ◌+◌, ◌-◌, ◌*◌, ◌^◌, ◌<◌, ◌≤◌, ◌↔◌, length, take, drop, IsCharBoundary, IsTrue, IsUtf8};
+ghost use Rattle.std.specs.Char.{len_utf8};
+ghost use Rattle.std.specs.List.{All};
 ghost use Rattle.textarea_highlight.specs.Columns.{column_of};
 ghost use Rattle.textarea_highlight.specs.Marks.{IsRowMark};
 ghost use Rattle.textarea_highlight.specs.Plain.{ends_conjunct, is_plain, is_single};
-ghost use Rattle.textarea_highlight.specs.Seams.{BeginsPlain, EndsPlain, IsBetweenSeams, IsColumnAt, IsSeam, IsVisible, IsWalk};
+ghost use Rattle.textarea_highlight.specs.Seams.{AreVisible, BeginsPlain, BeginsWith, EndsPlain, IsBetweenSeams, IsColumnAt, IsSeam, IsVisible, IsWalk};
 
 use super::highlighter::RowPart;
 use super::marks::{ROW_START, RowMark};
-use textarea_wrap::wrap::columns::column_after_text;
+use textarea_wrap::wrap::columns::column_after;
 use ucd_breaks::GraphemeClusterBreak;
 use ucd_derived::IndicConjunctBreak;
 
@@ -80,13 +81,13 @@ fn seam_from(row: &str, tab_len: u8, mark: RowMark, column: usize) -> RowOffset
         column: mark.column,
     });
     'walking: while walk.at.offset < row.len() && walk.at.column < column {
-        walk = next_character(row, tab_len, walk);
+        walk = next_characters(row, tab_len, walk, column);
     }
     walk.seam
 }
 
 // Returns the offset of the first seam after `start` that is at or after a column, or the row's
-// end. No seam is looked for if no more bytes follow than there are columns up to this one.
+// end. No seam is looked for where the rest of the row is short.
 fn seam_after(row: &str, tab_len: u8, start: RowOffset, column: usize) -> usize
     requires room { 255 * length row.now < 2 ^ 63 }
     requires start { IsColumnAt row.now tab_len start }
@@ -95,17 +96,28 @@ fn seam_after(row: &str, tab_len: u8, start: RowOffset, column: usize) -> usize
     ensures seam { result < length row.now → IsSeam row.now result }
     ensures right { result < length row.now → column ≤ column_of row.now tab_len result }
 {
-    if row.len() - start.offset <= column.saturating_sub(start.column) {
-        return row.len();
-    }
     let mut walk = walk_from(start);
-    'walking: while walk.at.offset < row.len() {
-        walk = next_character(row, tab_len, walk);
+    'walking: while !is_rest_short(row, walk.at, column) {
+        walk = next_characters(row, tab_len, walk, column);
         if start.offset < walk.seam.offset && column <= walk.seam.column {
             return walk.seam.offset;
         }
     }
     row.len()
+}
+
+// The most bytes for each column with which a rest that begins with an emoji or a flag is short. Such
+// a rest hardly ends right of the view, and to draw it costs less than to look for a seam in it.
+const BYTES_OF_COLUMN: usize = 4;
+
+// Returns whether few bytes follow an offset, for the columns that are left up to another column.
+fn is_rest_short(row: &str, at: RowOffset, column: usize) -> bool
+    requires { at.offset ≤ length row.now }
+    ensures { at.offset ≡ length row.now → IsTrue result }
+{
+    let columns = column.saturating_sub(at.column);
+    let rest = &row.as_bytes()[at.offset..];
+    rest.len() <= columns || rest.len() / BYTES_OF_COLUMN <= columns && 0xf0 <= rest[0]
 }
 
 fn walk_from(start: RowOffset) -> Walk
@@ -117,6 +129,28 @@ fn walk_from(start: RowOffset) -> Walk
         at: start,
         seam: start,
         after_plain: false,
+    }
+}
+
+// Walks over the visible characters of ASCII before a column, or over one character.
+fn next_characters(row: &str, tab_len: u8, walk: Walk, column: usize) -> Walk
+    requires room { 255 * length row.now < 2 ^ 63 }
+    requires inside { walk.at.offset < length row.now }
+    requires known { IsWalk row.now tab_len walk }
+    ensures known { IsWalk row.now tab_len result }
+    ensures further { walk.at.offset < result.at.offset }
+    ensures seam { (result.seam ≡ walk.seam) ⊎ (IsSeam row.now result.seam.offset
+        × (walk.at.offset ≤ result.seam.offset)
+        × (walk.at.column < column → result.seam.column < column)) }
+{
+    let count = visible_before(row, walk.at, column);
+    if count < 2 {
+        return next_character(row, tab_len, walk);
+    }
+    Walk {
+        at: after_visible(row, tab_len, walk.at, count),
+        seam: after_visible(row, tab_len, walk.at, count - 1),
+        after_plain: true,
     }
 }
 
@@ -153,40 +187,92 @@ fn after_character(row: &str, tab_len: u8, at: RowOffset) -> (RowOffset, bool)
         × EndsPlain (take result.0.offset row.now) }
 {
     if is_visible(row.as_bytes()[at.offset]) {
-        return (after_visible(row, tab_len, at), true);
+        return (after_visible(row, tab_len, at, 1), true);
     }
-    let next = after_other(row, tab_len, at);
-    (next, are_plain(&row[at.offset..next.offset]))
+    let c = first_character(&row[at.offset..]);
+    let next = after_other(row, tab_len, at, c);
+    (next, is_plain(c))
 }
 
-// Returns the offset after a visible character of ASCII.
-fn after_visible(row: &str, tab_len: u8, at: RowOffset) -> RowOffset
+// Returns the offset after visible characters of ASCII.
+fn after_visible(row: &str, tab_len: u8, at: RowOffset, count: usize) -> RowOffset
     requires room { 255 * length row.now < 2 ^ 63 }
-    requires inside { at.offset < length row.now }
     requires known { IsColumnAt row.now tab_len at }
-    requires visible { IsVisible (slice_index row.now at.offset) }
+    requires visible { AreVisible row.now at.offset count }
     ensures known { IsColumnAt row.now tab_len result }
-    ensures next { result.offset ≡ at.offset + 1 }
+    ensures offset { result.offset ≡ at.offset + count }
+    ensures column { result.column ≡ at.column + count }
 {
     RowOffset {
-        offset: at.offset + 1,
-        column: at.column + 1,
+        offset: at.offset + count,
+        column: at.column + count,
     }
 }
 
 // Returns the offset after any character.
-fn after_other(row: &str, tab_len: u8, at: RowOffset) -> RowOffset
+fn after_other(row: &str, tab_len: u8, at: RowOffset, c: char) -> RowOffset
     requires room { 255 * length row.now < 2 ^ 63 }
-    requires inside { at.offset < length row.now }
     requires known { IsColumnAt row.now tab_len at }
+    requires first { BeginsWith (drop at.offset row.now) c }
     ensures known { IsColumnAt row.now tab_len result }
-    ensures further { at.offset < result.offset }
+    ensures next { result.offset ≡ at.offset + len_utf8 c }
 {
-    let end = row.ceil_char_boundary(at.offset + 1);
     RowOffset {
-        offset: end,
-        column: column_after_text(&row[at.offset..end], at.column, tab_len),
+        offset: at.offset + c.len_utf8(),
+        column: column_after(c, at.column, tab_len),
     }
+}
+
+// Returns the first character of a text that isn't empty.
+fn first_character(text: &str) -> char
+    requires { 0 < length text.now }
+    ensures { BeginsWith text.now result }
+{
+    match text.chars().next() {
+        Some(c) => c,
+        None => unreachable!(),
+    }
+}
+
+// Returns how many visible characters of ASCII follow an offset before a column.
+fn visible_before(row: &str, at: RowOffset, column: usize) -> usize
+    requires { at.offset ≤ length row.now }
+    ensures visible { AreVisible row.now at.offset result }
+    ensures left { result ≤ column - at.column }
+{
+    let from = at.offset;
+    let columns = column.saturating_sub(at.column);
+    visible_count(&row.as_bytes()[from..from + columns.min(row.len() - from)])
+}
+
+// Returns with how many visible characters of ASCII the bytes begin.
+fn visible_count(bytes: &[u8]) -> usize
+    ensures within { result ≤ length bytes.now }
+    ensures visible { All IsVisible (take result bytes.now) }
+{
+    let mut count = 0;
+    'stretches: while STRETCH <= bytes.len() - count
+        && are_visible(&bytes[count..count + STRETCH])
+    {
+        count += STRETCH;
+    }
+    'bytes: while count < bytes.len() && is_visible(bytes[count]) {
+        count += 1;
+    }
+    count
+}
+
+// The number of bytes that a processor can compare at once.
+const STRETCH: usize = 32;
+
+fn are_visible(bytes: &[u8]) -> bool
+    ensures { IsTrue result → All IsVisible bytes.now }
+{
+    let mut all = true;
+    for byte in bytes {
+        all = all & is_visible(*byte);
+    }
+    all
 }
 
 fn is_visible(byte: u8) -> bool
@@ -195,13 +281,7 @@ fn is_visible(byte: u8) -> bool
     32 <= byte && byte < 127
 }
 
-// Returns whether each character is plain: between two such ones a grapheme cluster ends.
-fn are_plain(text: &str) -> bool
-    ensures { result ≡ list_all is_plain (chars text.now) }
-{
-    text.chars().all(|c| is_plain(c))
-}
-
+// Returns whether a character is plain: between two such ones a grapheme cluster ends.
 fn is_plain(c: char) -> bool
     ensures { result ≡ is_plain c }
 {

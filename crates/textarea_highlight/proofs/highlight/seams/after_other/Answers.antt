@@ -1,15 +1,18 @@
-use Rattle.std.proofs.Common.{ap, ◌∙◌, List, ℕ, length, arith}
-use Rattle.std.specs.Str.{chars}
+use Rattle.std.proofs.Common.{◌+◌, ap, ◌∙◌, arith, sym}
 use Rattle.textarea_wrap.specs.Columns.{end_column}
-use Rattle.textarea_highlight.proofs.SeamLemmas.{known_after}
+use Rattle.textarea_highlight.proofs.SeamLemmas.{end_of_first, known_after, segment_of_first, size_of_first}
 use Rattle.textarea_highlight.proofs.highlight.seams.after_other.Goals as goal
+
+pub column_after-requires : goal.column_after-requires
+column_after-requires c = omega (arith, c.requires.known.near, c.requires.known.boundary.0, c.requires.room)
 
 pub returns-clause-known : goal.returns-clause-known
 returns-clause-known c =
     let row = c.args.row.now in
     let at = c.args.at in
-    let end = c.ceil_char_boundary-end.result in
-    known_after row c.args.tab_len at end c.column_after_text.result c.utf8.row c.requires.known c.ceil_char_boundary-end.ensures.boundary
-    (omega (arith, c.ceil_char_boundary-end.ensures.bound (omega (arith, c.requires.inside))))
-    (c.column_after_text.ensures.value ∙ ap (λ (text : List ℕ). end_column c.args.tab_len at.column (chars text)) c.range.ensures.value)
-    (omega (arith, c.column_after_text.ensures.near, ap length c.range.ensures.value))
+    let end = at.offset + c.len_utf8.result in
+    let known = c.requires.known in
+    known_after row c.args.tab_len at end c.column_after.result c.utf8.row known
+    (end_of_first row at.offset end c.args.c c.utf8.row known.boundary c.requires.first (omega arith)) (omega arith)
+    (c.column_after.ensures.value ∙ ap (end_column c.args.tab_len at.column) (sym (segment_of_first row at.offset end c.args.c c.utf8.row known.boundary c.requires.first (omega arith))))
+    (omega (arith, c.column_after.ensures.near, size_of_first row at.offset end c.args.c c.utf8.row known.boundary c.requires.first (omega arith)))
