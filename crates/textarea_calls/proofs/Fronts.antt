@@ -4,26 +4,21 @@ use Rattle.std.specs.Prelude.{chars, encode_utf8, slice_get, slice_index}
 use Rattle.std.specs.Str.{IsUtf8, encode_utf8_all}
 use Rattle.std.proofs.lemmas.Grind.{common_steps}
 use Rattle.std.proofs.lemmas.Str.{chars_past_char, encode_ascii, IsCharBoundary-before_ascii, IsUtf8-past_char, IsUtf8-take}
-use Rattle.textarea_calls.specs.Escapes.{escape, first_character, in_front, unescaped_lines}
+use Rattle.textarea_calls.specs.Escapes.{HasNoBackslash, escape, first_character, in_front, unescaped_lines}
 use Rattle.textarea_calls.proofs.Escapes.{first_plain}
 use Rattle.textarea_calls.proofs.Tokens.{line_ended, line_grown, lines_break, lines_first, lines_none, lines_nothing, no_break}
 
--- no byte is a backslash
-abbrev pub Without : List ℕ → Type 0
-Without [] = Unit {0}
-Without (byte ∷ bytes) = (byte ≢ 92) × Without bytes
-
-pub without : (bytes : List ℕ) → ((k : ℕ) → k < length bytes → slice_index bytes k ≢ 92) → Without bytes
+pub without : (bytes : List ℕ) → ((k : ℕ) → k < length bytes → slice_index bytes k ≢ 92) → HasNoBackslash bytes
 without [] none = tt
 without (byte ∷ bytes) none = (none 0 (omega arith), without bytes (λ k within. none (suc k) (omega (arith, within))))
 
-without_front : (front bytes : List ℕ) → Without (front ++ bytes) → Without bytes
+without_front : (front bytes : List ℕ) → HasNoBackslash (front ++ bytes) → HasNoBackslash bytes
 without_front [] bytes none = none
 without_front (byte ∷ front) bytes none = without_front front bytes none.1
 
-other_character : (c : ℕ) (bytes : List ℕ) → Without (encode_utf8 c ++ bytes) → c ≢ 92
+other_character : (c : ℕ) (bytes : List ℕ) → HasNoBackslash (encode_utf8 c ++ bytes) → c ≢ 92
 other_character c bytes none same =
-    (subst (λ (front : List ℕ). Without (front ++ bytes)) (ap encode_utf8 same ∙ encode_ascii 92 (lit< tt)) none).0 refl
+    (subst (λ (front : List ℕ). HasNoBackslash (front ++ bytes)) (ap encode_utf8 same ∙ encode_ascii 92 (lit< tt)) none).0 refl
 
 -- a text whose first character is not a backslash
 begun : (text rest : List ℕ) (c : ℕ) → IsUtf8 text → text ≡ encode_utf8 c ++ rest → c ≢ 92 → first_character text ≡ Some (c, rest)
@@ -43,7 +38,7 @@ in_front-nothing (Some (line ∷ lines)) = refl
 
 -- ---- ---- the characters before a backslash, one after another
 
-line_front : (cs text rest : List ℕ) → IsUtf8 text → text ≡ encode_utf8_all cs ++ rest → Without (encode_utf8_all cs) → unescaped_lines text ≡ option_map (λ lines. in_front (encode_utf8_all cs) lines) (unescaped_lines rest)
+line_front : (cs text rest : List ℕ) → IsUtf8 text → text ≡ encode_utf8_all cs ++ rest → HasNoBackslash (encode_utf8_all cs) → unescaped_lines text ≡ option_map (λ lines. in_front (encode_utf8_all cs) lines) (unescaped_lines rest)
 line_front [] text rest utf8 is none = ap unescaped_lines is ∙ in_front-nothing (unescaped_lines rest)
 line_front (c ∷ cs) text rest utf8 is none =
     let after : List ℕ = encode_utf8_all cs ++ rest in
@@ -53,9 +48,9 @@ line_front (c ∷ cs) text rest utf8 is none =
     ∙ ap (option_map (λ lines. in_front (encode_utf8 c) lines)) (line_front cs after rest (IsUtf8-past_char text after c utf8 first) refl (without_front (encode_utf8 c) (encode_utf8_all cs) none))
     ∙ line_grown (encode_utf8 c) (encode_utf8_all cs) (unescaped_lines rest)
 
-line_after_front : (front text rest : List ℕ) → IsUtf8 text → IsUtf8 front → text ≡ front ++ rest → Without front → unescaped_lines text ≡ option_map (λ lines. in_front front lines) (unescaped_lines rest)
+line_after_front : (front text rest : List ℕ) → IsUtf8 text → IsUtf8 front → text ≡ front ++ rest → HasNoBackslash front → unescaped_lines text ≡ option_map (λ lines. in_front front lines) (unescaped_lines rest)
 line_after_front front text rest utf8 whole is none =
-    subst (λ (bytes : List ℕ). text ≡ bytes ++ rest → Without bytes → unescaped_lines text ≡ option_map (λ lines. in_front bytes lines) (unescaped_lines rest)) whole.1.1 (line_front whole.0 text rest utf8) is none
+    subst (λ (bytes : List ℕ). text ≡ bytes ++ rest → HasNoBackslash bytes → unescaped_lines text ≡ option_map (λ lines. in_front bytes lines) (unescaped_lines rest)) whole.1.1 (line_front whole.0 text rest utf8) is none
 
 -- ---- the first backslash
 
@@ -71,18 +66,18 @@ unfolding first_character
 backslash escaped = refl
 
 -- a text without a backslash
-pub line_plain : (text : List ℕ) → IsUtf8 text → Without text → unescaped_lines text ≡ Some (text ∷ [])
+pub line_plain : (text : List ℕ) → IsUtf8 text → HasNoBackslash text → unescaped_lines text ≡ Some (text ∷ [])
 line_plain text utf8 none =
     line_after_front text text [] utf8 utf8 (sym (append-nil text)) none
     ∙ ap (option_map (λ lines. in_front text lines)) lines_nothing
     ∙ ap (λ (line : List ℕ). Some (line ∷ [])) (append-nil text)
 
-pub line_unread : (text front escaped : List ℕ) → IsUtf8 text → text ≡ front ++ (92 ∷ escaped) → Without front → escape escaped ≡ None → unescaped_lines text ≡ None
+pub line_unread : (text front escaped : List ℕ) → IsUtf8 text → text ≡ front ++ (92 ∷ escaped) → HasNoBackslash front → escape escaped ≡ None → unescaped_lines text ≡ None
 line_unread text front escaped utf8 is none unread =
     line_after_front front text (92 ∷ escaped) utf8 (front_whole text front escaped utf8 is) is none
     ∙ ap (option_map (λ lines. in_front front lines)) (lines_none (92 ∷ escaped) (omega arith) (backslash escaped ∙ unread))
 
-pub line_escaped : (text front escaped after : List ℕ) (c : ℕ) → IsUtf8 text → text ≡ front ++ (92 ∷ escaped) → Without front → ((rest : List ℕ) → escaped ≢ 110 ∷ rest) → escape escaped ≡ Some (c, after) → unescaped_lines text ≡ option_map (λ lines. in_front (front ++ encode_utf8 c) lines) (unescaped_lines after)
+pub line_escaped : (text front escaped after : List ℕ) (c : ℕ) → IsUtf8 text → text ≡ front ++ (92 ∷ escaped) → HasNoBackslash front → ((rest : List ℕ) → escaped ≢ 110 ∷ rest) → escape escaped ≡ Some (c, after) → unescaped_lines text ≡ option_map (λ lines. in_front (front ++ encode_utf8 c) lines) (unescaped_lines after)
 line_escaped text front escaped after c utf8 is none other read =
     let unbroken : (rest : List ℕ) → 92 ∷ escaped ≢ 92 ∷ 110 ∷ rest = λ rest same. other rest (ap (λ (bytes : List ℕ). tail bytes) same) in
     line_after_front front text (92 ∷ escaped) utf8 (front_whole text front escaped utf8 is) is none
@@ -93,7 +88,7 @@ line_escaped text front escaped after c utf8 is none other read =
     tail [] = []
     tail (byte ∷ bytes) = bytes
 
-pub line_broken : (text front escaped after : List ℕ) → IsUtf8 text → text ≡ front ++ (92 ∷ escaped) → Without front → escaped ≡ 110 ∷ after → unescaped_lines text ≡ option_map (λ lines. front ∷ lines) (unescaped_lines after)
+pub line_broken : (text front escaped after : List ℕ) → IsUtf8 text → text ≡ front ++ (92 ∷ escaped) → HasNoBackslash front → escaped ≡ 110 ∷ after → unescaped_lines text ≡ option_map (λ lines. front ∷ lines) (unescaped_lines after)
 line_broken text front escaped after utf8 is none broken =
     line_after_front front text (92 ∷ escaped) utf8 (front_whole text front escaped utf8 is) is none
     ∙ ap (option_map (λ lines. in_front front lines)) (lines_break (92 ∷ escaped) after (ap (λ (bytes : List ℕ). 92 ∷ bytes) broken))

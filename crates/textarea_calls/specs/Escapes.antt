@@ -1,9 +1,13 @@
 -- Texts with escapes, as lists of bytes. They are read character by character from the front.
-use Rattle.std.specs.Prelude.{ℕ, zero, suc, ◌==◌, Bool, ◌&&◌, if◌then◌else◌, nat_lt, nat_le, List, [], ◌∷◌, ◌++◌, length, drop, chars, encode_utf8, slice_get, slice_index, Option, Some, None, option_map, option_and_then}
+use Rattle.std.specs.Prelude.{◌≢◌, ℕ, zero, suc, ◌==◌, Bool, ◌&&◌, if◌then◌else◌, nat_lt, nat_le, List, [], ◌∷◌, ◌++◌, length, drop, chars, encode_utf8, slice_get, slice_index, Option, Some, None, option_map, option_and_then}
 use Rattle.std.specs.Char.{is_ascii_hexdigit, len_utf8}
 use Rattle.std.specs.List.{after_first, before_first, list_all, position_or_len}
 use Rattle.std.specs.Str.Parse.{digits_value}
 use lib.Utf8.{scalar}
+
+abbrev pub HasNoBackslash : List ℕ → Type 0
+HasNoBackslash [] = Unit {0}
+HasNoBackslash (byte ∷ bytes) = (byte ≢ 92) × HasNoBackslash bytes
 
 -- the character whose number the digits write: 1 to 6 hexadecimal digits, not a surrogate
 abbrev pub character_numbered : List ℕ → Option ℕ

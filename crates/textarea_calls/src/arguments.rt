@@ -1,10 +1,10 @@
 // Reads the arguments of commands: numbers, truth values, names, and texts with escapes.
 ghost use Rattle.std.specs.Char.{is_ascii_digit, is_ascii_hexdigit};
 ghost use Rattle.std.specs.List.{list_all};
-ghost use Rattle.std.specs.Prelude.{◌≡◌, ◌<◌, ◌≤◌, ◌∷◌, length, map, option_copied, option_map, string_bytes, vec_len, IfOk, IfSome, MatchOption};
+ghost use Rattle.std.specs.Prelude.{◌≡◌, ◌<◌, ◌≤◌, ◌++◌, ◌∷◌, length, map, option_copied, option_map, string_bytes, vec_len, IfOk, IfSome, MatchOption};
 ghost use Rattle.textarea_calls.specs.Arguments.{IsReadAs, byte_number, mode_named, move_named, number, page, split_first, scroll_amounts, short_number, sides, sides_of_area, signed_number, truth, two_numbers, two_short_numbers};
 ghost use Rattle.textarea_calls.specs.FirstLine.{IsFirstLineOf};
-ghost use Rattle.textarea_calls.specs.Escapes.{character, character_numbered, escape, first_character, numbered_escape, unescaped, unescaped_lines};
+ghost use Rattle.textarea_calls.specs.Escapes.{HasNoBackslash, character, character_numbered, escape, first_character, numbered_escape, unescaped, unescaped_lines};
 ghost use Rattle.textarea_calls.specs.Inputs.{modifiers_named, input_named, key_without_arguments, key_named, key_with};
 ghost use Rattle.textarea_calls.specs.Ranges.{range, ranges, ranges_after_space};
 
@@ -370,7 +370,7 @@ fn first_line(alloc: Global, text: &str) -> Result<(String, Option<&str>), Unpar
 {
     let mut line = String::new(alloc);
     let mut rest = text;
-    while let Some((front, escaped)) = rest.split_once('\\') {
+    while let Some((front, escaped)) = split_at_backslash(rest) {
         line.push_str(front)?;
         if let Some(after) = escaped.strip_prefix('n') {
             return Ok((line, Some(after)));
@@ -383,6 +383,21 @@ fn first_line(alloc: Global, text: &str) -> Result<(String, Option<&str>), Unpar
     }
     line.push_str(rest)?;
     Ok((line, None))
+}
+
+// Splits the text at its first backslash: the text before it, and the text after it. Most such texts
+// are short, so its bytes are tested one by one.
+fn split_at_backslash(text: &str) -> Option<(&str, &str)>
+    ensures { MatchOption result (HasNoBackslash text.now)
+        (λ x. (text.now ≡ x.0.now ++ (92 ∷ x.1.now)) × HasNoBackslash x.0.now) }
+{
+    let bytes = text.as_bytes();
+    for index in 0..bytes.len() {
+        if bytes[index] == b'\\' {
+            return Some((&text[..index], &text[index + 1..]));
+        }
+    }
+    None
 }
 
 // The first character of a text with escapes, and the text after it.

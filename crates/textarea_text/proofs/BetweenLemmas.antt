@@ -1,7 +1,8 @@
 -- The text between two positions, and its lines.
-use Rattle.std.proofs.Common.{◌≡◌, ℕ, zero, suc, ◌+◌, ◌-◌, ◌<◌, ◌≤◌, List, [], ◌∷◌, ◌++◌, length, take, drop, get_or, refl, sym, ap, ◌∙◌, arith, String}
-use Rattle.textarea_text.proofs.Prelude.{common_steps, nat_tests, append-nil, append_assoc, drop_more, length-append, length-drop}
-use Rattle.textarea_text.specs.Prelude.{Symbol, characters, characters_of, following, joined, lines_of, text_of, Place, IsPlaceOf, IsUpTo, index_of, symbols_between}
+use Rattle.std.proofs.Common.{◌≡◌, ℕ, ◌+◌, ◌-◌, ◌<◌, ◌≤◌, List, [], ◌∷◌, ◌++◌, length, take, drop, get_or, sym, ap, ◌∙◌, arith, String, string_bytes}
+use Rattle.textarea_text.proofs.Prelude.{common_steps, nat_tests, append-nil, append_assoc, drop-append-le, drop-map, drop-take, drop_more, length-append, length-drop, length-take, map-append, take-map}
+use Rattle.textarea_text.specs.Prelude.{AllZip, Symbol, characters, characters_of, following, joined, lines_of, text_of, Place, IsPlaceOf, IsUpTo, index_of, symbols_between}
+use Rattle.textarea_text.proofs.Copies.{lines_copied}
 use Rattle.textarea_text.proofs.Splices.{joined-append}
 use Rattle.textarea_text.proofs.TextPlaces.{parted_rows, index_parted}
 
@@ -81,36 +82,33 @@ index-lower rows place lower h h' below =
 pub up_to_from_index : (rows : List (List ℕ)) (from to : Place) → IsPlaceOf rows from → IsPlaceOf rows to → index_of (joined rows) from ≤ index_of (joined rows) to → IsUpTo from to
 up_to_from_index rows from to h h' ordered = grind (arith, index-lower rows to from h' h)
 
--- ---- the lines of a fragment, copied one by one
+-- ---- the lines of a fragment
 
 -- the lines of the text between the positions
 abbrev pub lines_between : List (List ℕ) → Place → Place → List (List ℕ)
 lines_between rows from to = lines_from_column from.1 (drop from.0 (lines_until rows to))
 
--- the lines so far, and those still to be copied, from the column of the row on
-abbrev pub LinesSoFar : {Z : Type 0} → List (String Z) → List (List ℕ) → Place → Place → ℕ → ℕ → Type 0
-LinesSoFar fragment_lines rows from to row column =
-    lines_of fragment_lines ++ lines_from_column column (drop row (lines_until rows to)) ≡ lines_between rows from to
+-- of one row, and of several
+pub between_within : (rows : List (List ℕ)) (from to : Place) → to.0 < length rows → from.0 ≡ to.0 → lines_between rows from to ≡ drop from.1 (take to.1 (get_or rows to.0 [])) ∷ []
+between_within rows from to within same = grind (arith, common_steps, nat_tests)
 
--- at first there is no line
-pub lines_none : {Z : Type 0} (fragment_lines : List (String Z)) (rows : List (List ℕ)) (from to : Place) (row : ℕ) → fragment_lines ≡ [] → row ≡ from.0 → LinesSoFar fragment_lines rows from to row from.1
-lines_none fragment_lines rows from to row none first =
-    grind (arith, common_steps)
-
-pub lines_more : {Z : Type 0} (fragment_lines more : List (String Z)) (fragment_line : List ℕ) (rows : List (List ℕ)) (from to : Place) (row column next_row : ℕ) → to.0 < length rows → row < to.0 → LinesSoFar fragment_lines rows from to row column → lines_of more ≡ lines_of fragment_lines ++ fragment_line ∷ [] → fragment_line ≡ drop column (get_or rows row []) → next_row ≡ row + 1 → LinesSoFar more rows from to next_row 0
-lines_more fragment_lines more fragment_line rows from to row column next_row within below h is split_text next = grind (arith, common_steps, nat_tests)
-
-pub lines_done : {Z : Type 0} (fragment_lines more : List (String Z)) (fragment_line : List ℕ) (rows : List (List ℕ)) (from to : Place) (row column : ℕ) → to.0 < length rows → row ≡ to.0 → LinesSoFar fragment_lines rows from to row column → lines_of more ≡ lines_of fragment_lines ++ fragment_line ∷ [] → fragment_line ≡ drop column (take to.1 (get_or rows to.0 [])) → lines_of more ≡ lines_between rows from to
-lines_done fragment_lines more fragment_line rows from to row column within last h is split_text = grind (arith, common_steps, nat_tests)
+pub between_apart : (rows : List (List ℕ)) (from to : Place) → to.0 < length rows → from.0 < to.0 → lines_between rows from to ≡ drop from.1 (get_or rows from.0 []) ∷ (take (to.0 - (from.0 + 1)) (drop (from.0 + 1) rows) ++ take to.1 (get_or rows to.0 []) ∷ [])
+between_apart rows from to within below =
+    let until = lines_until rows to in
+    let next = from.0 + 1 in
+    let last = take to.1 (get_or rows to.0 []) ∷ [] in
+    let first : get_or until from.0 [] ≡ get_or rows from.0 [] = grind (arith, common_steps, nat_tests) in
+    let middle : drop next (take to.0 rows) ≡ take (to.0 - next) (drop next rows) = ap (λ t. drop next (take t rows)) (omega arith) ∙ drop-take next (to.0 - next) rows in
+    ap (lines_from_column from.1) (drop_more until from.0 [] (omega (arith, length-lines_until rows to within)))
+    ∙ ap (λ line. drop from.1 line ∷ drop next until) first
+    ∙ ap (λ t. drop from.1 (get_or rows from.0 []) ∷ t) (drop-append-le next (take to.0 rows) last (omega (arith, length-take to.0 rows)) ∙ ap (λ t. t ++ last) middle)
 
 pub between_from_lines : {Z : Type 0} (lines fragment_lines : List (String Z)) (from to : Place) → IsPlaceOf (lines_of lines) from → IsPlaceOf (lines_of lines) to → IsUpTo from to → lines_of fragment_lines ≡ lines_between (lines_of lines) from to → text_of fragment_lines ≡ symbols_between (text_of lines) from to
 between_from_lines lines fragment_lines from to h h' before e = ap joined e ∙ sym (between (lines_of lines) from to h h' before).between_is
 
--- ---- the rows from the start's to the end's, counted from the start's
-
-pub line_in_between : {Z : Type 0} (lines : List (String Z)) (start count i : ℕ) (line : String Z) → start + count ≤ length lines → i < count → line ≡ get_or (take count (drop start lines)) i line → get_or (lines_of lines) (start + i) [] ≡ characters_of line
-line_in_between lines start count i line within below is = grind (arith, common_steps, nat_tests)
-
-pub column_within_last : (from to : Place) (i column : ℕ) → IsUpTo from to → from.0 + i ≡ to.0 → (i ≡ 0 → column ≡ from.1) → (0 < i → column ≡ 0) → column ≤ to.1
-column_within_last from to zero column up e first later = omega (arith, first refl, up.1 (omega arith))
-column_within_last from to (suc i) column up e first later = omega (arith, later (omega arith))
+-- the first and the last line are parts of lines, and those between them are copies
+pub copied_between : {Z : Type 0} (lines one all new copies : List (String Z)) (from to : Place) (first last : List ℕ) → to.0 < length (lines_of lines) → from.0 < to.0 → lines_of one ≡ first ∷ [] → all ≡ one ++ copies → AllZip (λ s t. string_bytes t ≡ string_bytes s) (take (to.0 - (from.0 + 1)) (drop (from.0 + 1) lines)) copies → lines_of new ≡ lines_of all ++ last ∷ [] → first ≡ drop from.1 (get_or (lines_of lines) from.0 []) → last ≡ take to.1 (get_or (lines_of lines) to.0 []) → lines_of new ≡ lines_between (lines_of lines) from to
+copied_between lines one all new copies from to first last within below begins more same ends is_first is_last =
+    let middle : lines_of copies ≡ take (to.0 - (from.0 + 1)) (drop (from.0 + 1) (lines_of lines)) = lines_copied (take (to.0 - (from.0 + 1)) (drop (from.0 + 1) lines)) copies same
+    ∙ grind (arith, common_steps, take-map characters_of (to.0 - (from.0 + 1)) (drop (from.0 + 1) lines), drop-map characters_of (from.0 + 1) lines) in
+    grind (arith, common_steps, between_apart (lines_of lines) from to within below, map-append characters_of one copies, middle)

@@ -112,11 +112,6 @@ written_more first text next_text fragment_line rest number h within now e =
 pub written_done : {Z : Type 0} (first : String Z) (fragment_lines rest : List (String Z)) (begins text : List ℕ) (number : ℕ) → text ≡ begins ++ fragment_text (following (take number (lines_of rest))) → take number (lines_of rest) ≡ lines_of rest → begins ≡ characters_of first → fragment_lines ≡ first ∷ rest → text ≡ fragment_text (text_of fragment_lines)
 written_done first fragment_lines rest begins text number h all e is = rw (h, all, e, is, written-append, written-characters) refl
 
--- ---- copied lines
-
-pub copied_more : {Z : Type 0} (fragment_lines copy more : List (String Z)) (fragment_line : String Z) (number : ℕ) → lines_of copy ≡ take number (lines_of fragment_lines) → more ≡ copy ++ fragment_line ∷ [] → number < length fragment_lines → characters_of fragment_line ≡ get_or (lines_of fragment_lines) number [] → lines_of more ≡ take (number + 1) (lines_of fragment_lines)
-copied_more fragment_lines copy more fragment_line number h is within e = grind (arith, common_steps)
-
 -- ---- line ends of pasted texts
 
 -- no carriage return, 13, is among the characters

@@ -7,7 +7,7 @@ pub use Rattle.std.proofs.lemmas.Bool.Decides.{nat_tests}
 pub use Rattle.std.proofs.lemmas.Grind.{common_steps, get_or-set_at}
 pub use Rattle.std.proofs.lemmas.Iterator.{YieldsList-from_chars, YieldsList-from_take}
 pub use Rattle.std.proofs.lemmas.Iterator.Consumers.{YieldsList-end, YieldsList-from_enumerate, YieldsList-turn}
-pub use Rattle.std.proofs.lemmas.List.{append-nil, append_assoc, drop-drop, drop-map, drop_all, drop_at, drop_more, get_or-drop, get_or-map, get_or-take, get_or_at, get_or_default, length-append, length-drop, length-map, length-replicate, length-set, length-take, length-take-le, length_push, map-append, nil_from_length, reverse-append, set_split, take-append-drop, take-map, take-replicate, take-take, take_all, take_at, take_more}
+pub use Rattle.std.proofs.lemmas.List.{append-nil, append_assoc, drop-append-le, drop-drop, drop-map, drop-take, drop_all, drop_at, drop_more, get_or-drop, get_or-map, get_or-take, get_or_at, get_or_default, length-append, length-drop, length-map, length-replicate, length-set, length-take, length-take-le, length_push, map-append, nil_from_length, reverse-append, set_split, take-append-drop, take-map, take-replicate, take-take, take_all, take_at, take_more}
 pub use Rattle.std.proofs.lemmas.List.Elements.{All-replicate}
 pub use Rattle.std.proofs.lemmas.List.FromFn.{get_or-enumerate_from, length-enumerate_from}
 pub use Rattle.std.proofs.lemmas.Result.{on_err_weaker}

@@ -1,9 +1,10 @@
 -- Lines of `String`s that are read, split and joined.
 use Rattle.std.proofs.Common.{subst, encode_utf8_all, ◌≡◌, ℕ, ◌+◌, ◌<◌, ◌≤◌, List, [], ◌∷◌, ◌++◌, length, take, drop, sym, ap, ◌∙◌, arith, get_or, String, string_bytes, ◌^◌}
-use Rattle.textarea_text.proofs.Prelude.{common_steps, append-nil, append_assoc, length-append, take-append-drop, map-append, get_or-map, take_all, take_more, take_at, drop_at, take-map, drop-map, length-map, IsUtf8-string_bytes, encodes-chars, length-le-encodes}
-use Rattle.textarea_text.specs.Prelude.{chars, IsCharBoundary, replaced, Symbol, Character, Break, characters, following, leading, joined, characters_of, lines_of, text_of, Place, IsPlaceOf, IsPlace, OccursAt, end, index_of, changed, removed, ReplacesRows}
+use Rattle.textarea_text.proofs.Prelude.{common_steps, append-nil, append_assoc, length-append, take-append-drop, map-append, get_or-map, take_at, drop_at, take-map, drop-map, length-map, IsUtf8-string_bytes, encodes-chars, length-le-encodes}
+use Rattle.textarea_text.specs.Prelude.{AllZip, chars, IsCharBoundary, replaced, Symbol, Character, Break, characters, following, leading, joined, characters_of, lines_of, text_of, Place, IsPlaceOf, IsPlace, OccursAt, end, index_of, changed, removed, ReplacesRows}
+use Rattle.textarea_text.proofs.Copies.{lines_copied}
 use Rattle.textarea_text.proofs.Columns.{IsCharBoundary-column, offset_in}
-use Rattle.textarea_text.proofs.Splices.{joined-append, joined-append_below, characters-append, following-append, whole, lines-joined, end-append}
+use Rattle.textarea_text.proofs.Splices.{joined-append, characters-append, whole, lines-joined, end-append}
 use Rattle.textarea_text.proofs.TextPlaces.{parted_rows, index_parted, parted, standing, place_parted}
 
 pub line_at : {Z : Type 0} (items : List (String Z)) (row : ℕ) (line : String Z) → row < length items → line ≡ get_or items row line → get_or (lines_of items) row [] ≡ characters_of line
@@ -23,29 +24,16 @@ joined_last : (rows : List (List ℕ)) (line more : List ℕ) → joined (rows +
 joined_last rows line more =
     grind (arith, common_steps, joined-append, append-nil (characters (line ++ more)), characters-append line more, append_assoc (leading rows) (characters line) (characters more), append-nil (characters line))
 
-joined_next : (rows : List (List ℕ)) (line next_line : List ℕ) → joined ((rows ++ line ∷ []) ++ next_line ∷ []) ≡ joined (rows ++ line ∷ []) ++ (Break ∷ characters next_line)
-joined_next rows line next_line =
-    grind (arith, common_steps, joined-append_below, length-append rows (line ∷ []), append-nil (characters next_line))
-
--- the lines so far, with the one being written: the start of the first, and those of the fragment
-abbrev pub RowsSoFar : {Z : Type 0} → List (String Z) → String Z → List ℕ → List (List ℕ) → ℕ → Type 0
-RowsSoFar rows line first rest number = joined (lines_of rows ++ characters_of line ∷ []) ≡ characters first ++ following (take number rest)
-
-pub rows_more : {Z : Type 0} (rows more : List (String Z)) (line next_line : String Z) (first : List ℕ) (rest : List (List ℕ)) (number : ℕ) → RowsSoFar rows line first rest number → more ≡ rows ++ line ∷ [] → number < length rest → characters_of next_line ≡ get_or rest number [] → RowsSoFar more next_line first rest (number + 1)
-rows_more rows more line next_line first rest number h is within e =
-    grind (arith, common_steps, map-append, joined_next, append_assoc, append-nil, following-append, take_more)
-
--- before the first of them, and after the last
-pub rows_none : {Z : Type 0} (rows : List (String Z)) (line : String Z) (rest : List (List ℕ)) → rows ≡ [] → RowsSoFar rows line (characters_of line) rest 0
-rows_none rows line rest none = ap (λ t. joined (lines_of t ++ characters_of line ∷ [])) none
-
-pub rows_all : {Z : Type 0} (rows : List (String Z)) (line : String Z) (first : List ℕ) (rest : List (List ℕ)) (number : ℕ) → RowsSoFar rows line first rest number → length rest ≤ number → joined (lines_of rows ++ characters_of line ∷ []) ≡ characters first ++ following rest
-rows_all rows line first rest number h all = h ∙ ap (λ t. characters first ++ following t) (take_all number rest all)
+-- the first line, and copies of the others after it
+pub rows_copied : {Z : Type 0} (old one all rest copies : List (String Z)) (line : String Z) → old ≡ [] → one ≡ old ++ line ∷ [] → all ≡ one ++ copies → AllZip (λ s t. string_bytes t ≡ string_bytes s) rest copies → joined (lines_of all) ≡ characters (characters_of line) ++ following (lines_of rest)
+rows_copied old one all rest copies line none first is same =
+    ap (λ t. joined (lines_of t)) (is ∙ ap (λ t. t ++ copies) (first ∙ ap (λ t. t ++ line ∷ []) none))
+    ∙ ap (λ t. characters (characters_of line) ++ following t) (lines_copied rest copies same)
 
 -- the last line gets the tail, and is added to the others
-pub rows_done : {Z : Type 0} (rows new : List (String Z)) (line last : String Z) (head first tail : List ℕ) (whole_first : List ℕ) (rest : List (List ℕ)) → joined (lines_of rows ++ characters_of line ∷ []) ≡ characters whole_first ++ following rest → whole_first ≡ head ++ first → characters_of last ≡ characters_of line ++ tail → new ≡ rows ++ last ∷ [] → joined (lines_of new) ≡ characters head ++ ((characters first ++ following rest) ++ characters tail)
-rows_done rows new line last head first tail whole_first rest h begins e is =
-    grind (arith, common_steps, map-append characters_of rows (last ∷ []), joined_last (lines_of rows) (characters_of line) tail, characters-append head first, append_assoc (characters head) (characters first) (following rest), append_assoc (characters head) (characters first ++ following rest) (characters tail))
+pub rows_done : {Z : Type 0} (all rows new : List (String Z)) (line last : String Z) (head first tail : List ℕ) (whole_first : List ℕ) (rest : List (List ℕ)) → joined (lines_of all) ≡ characters whole_first ++ following rest → all ≡ rows ++ line ∷ [] → whole_first ≡ head ++ first → characters_of last ≡ characters_of line ++ tail → new ≡ rows ++ last ∷ [] → joined (lines_of new) ≡ characters head ++ ((characters first ++ following rest) ++ characters tail)
+rows_done all rows new line last head first tail whole_first rest h popped begins e is =
+    grind (arith, common_steps, map-append characters_of rows (line ∷ []), map-append characters_of rows (last ∷ []), joined_last (lines_of rows) (characters_of line) tail, characters-append head first, append_assoc (characters head) (characters first) (following rest), append_assoc (characters head) (characters first ++ following rest) (characters tail))
 
 front_of : (rows : List (List ℕ)) (place : Place) (h : IsPlaceOf rows place) → take (index_of (joined rows) place) (joined rows) ≡ (parted_rows rows place.0 place.1 h).front
 front_of rows place h =

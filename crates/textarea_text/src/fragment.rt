@@ -115,9 +115,5 @@ pub fn copy_fragment(alloc: Global, fragment_lines: &[String]) -> Result<Vec<Str
     ensures same { IfOk result (λ copy. lines_of copy.items ≡ lines_of fragment_lines.now) }
     ensures len { IfOk result (λ copy. vec_len copy ≡ length fragment_lines.now) }
 {
-    let mut copy = Vec::with_capacity(alloc, fragment_lines.len())?;
-    for fragment_line in fragment_lines {
-        copy.push(String::from_str(alloc, fragment_line.as_str())?)?;
-    }
-    Ok(copy)
+    Vec::from_clones(alloc, fragment_lines)
 }

@@ -285,10 +285,11 @@ fn push_rows(
         ++ characters (chars tail.now))) }
     ensures len { OnOk result (vec_len rows.new ≡ length rest.now + 1) }
 {
-    let mut line = put_together(*rows.allocator(), head, first)?;
-    push_new_lines(rows, &mut line, rest)?;
-    line.push_str(tail)?;
-    rows.push(line)?;
+    rows.push(put_together(*rows.allocator(), head, first)?)?;
+    rows.extend_from_slice(rest)?;
+    let mut last = rows.pop().unwrap();
+    last.push_str(tail)?;
+    rows.push(last)?;
     Ok(())
 }
 
@@ -299,27 +300,6 @@ fn put_together(alloc: Global, front: &str, back: &str) -> Result<String, AllocE
     let mut line = String::from_str(alloc, front)?;
     line.push_str(back)?;
     Ok(line)
-}
-
-// Pushes to no lines: `line`, then the lines of `rest`, but for the last of all, which becomes
-// `line`.
-fn push_new_lines(
-    rows: &mut Vec<String>,
-    line: &mut String,
-    rest: &[String],
-) -> Result<(), AllocError>
-    requires none { rows.old.items ≡ [] }
-    ensures rows { OnOk result
-        (joined (lines_of rows.new.items ++ chars (string_bytes line.new) ∷ [])
-        ≡ characters (chars (string_bytes line.old)) ++ following (lines_of rest.now)) }
-    ensures len { OnOk result (vec_len rows.new ≡ length rest.now) }
-{
-    let alloc = *rows.allocator();
-    for fragment_line in rest {
-        let next = String::from_str(alloc, fragment_line.as_str())?;
-        rows.push(std::mem::replace(line, next))?;
-    }
-    Ok(())
 }
 
 // The byte offset of `end` in its line, given the byte offset of `start` in its own line.

@@ -21,15 +21,14 @@ pub fn between(
         to) }
 {
     let mut fragment_lines = Vec::with_capacity(alloc, to.0 - from.0 + 1)?;
-    let mut start = from.1;
-    for line in &lines[from.0..to.0] {
-        push_line(&mut fragment_lines, text_from(line.as_str(), start))?;
-        start = 0;
+    let first = lines[from.0].as_str();
+    if from.0 == to.0 {
+        push_line(&mut fragment_lines, text_between(first, from.1, to.1))?;
+        return Ok(fragment_lines);
     }
-    push_line(
-        &mut fragment_lines,
-        text_between(lines[to.0].as_str(), start, to.1),
-    )?;
+    push_line(&mut fragment_lines, text_from(first, from.1))?;
+    fragment_lines.extend_from_slice(&lines[from.0 + 1..to.0])?;
+    push_line(&mut fragment_lines, text_before(lines[to.0].as_str(), to.1))?;
     Ok(fragment_lines)
 }
 
