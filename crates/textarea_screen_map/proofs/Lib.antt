@@ -9,3 +9,4 @@ pub mod Once
 pub mod RowSizes
 pub mod FittingRows
 pub mod MarkLemmas
+pub mod VisibleMarks

@@ -8,10 +8,10 @@ pub use textarea_blocks::blocks::RowBlocks;
 use textarea_wrap::wrap::WrapCount;
 
 /// The number of lines in each block of newly wrapped lines, except for the last block.
-pub const BLOCK: usize = 384;
+pub const BLOCK: usize = 128;
 
-/// Wraps the lines and appends their rows, in blocks of 384 lines and a last one. Each line adds
-/// one to `count`. More than 2^48 lines or rows are out of memory.
+/// Wraps the lines and appends their rows, in blocks of `BLOCK` lines and a last one. Each line
+/// adds one to `count`. More than 2^48 lines or rows are out of memory.
 pub fn push_lines(
     alloc: Global,
     blocks: &mut RowBlocks,

@@ -5,7 +5,9 @@ ghost use Rattle.textarea_screen_map.specs.Prelude.{size_limit, display_end_colu
 
 use crate::line_marks::{LINE_START, Mark};
 use textarea_text::rows::column_count;
-use textarea_wrap::wrap::columns::{display_column_after, display_column_after_text};
+use textarea_wrap::wrap::columns::{
+    display_column_after, display_column_after_text, visible_count,
+};
 
 /// Returns the text of a row up to the greatest cursor column: all of it in the last row of its
 /// line, else all but the last character.
@@ -53,6 +55,23 @@ pub fn width_between(line: &str, start: usize, end: usize, known: Mark, tab_len:
 /// Returns the number of characters of a text before the position for a display column, or for the
 /// text's width if that is less. Reads the text from a known position on.
 pub fn character_near_column(text: &str, known: Mark, column: usize, tab_len: u8) -> usize
+    requires short { length text.now < size_limit }
+    requires known { IsMark tab_len (chars text.now) known }
+    requires before { known.display ≤ column }
+    ensures { LeadsTo tab_len (chars text.now)
+        (min column (display_end_column tab_len 0 (chars text.now))) result }
+{
+    let count = visible_count(&text[known.offset..], column - known.display);
+    let further = Mark {
+        column: known.column + count,
+        offset: known.offset + count,
+        display: known.display + count,
+    };
+    character_ahead(text, further, column, tab_len)
+}
+
+// The same as `character_near_column`, character by character.
+fn character_ahead(text: &str, known: Mark, column: usize, tab_len: u8) -> usize
     requires short { length text.now < size_limit }
     requires known { IsMark tab_len (chars text.now) known }
     requires before { known.display ≤ column }

@@ -78,8 +78,8 @@ impl Clone for ScreenMap {
     }
 }
 
-/// Returns the rows of all these lines, in blocks if they are more than 384 lines. Each line adds
-/// one to `count`. More than 2^48 lines or rows are out of memory.
+/// Returns the rows of all these lines, in blocks if they are more than `BLOCK` lines. Each line
+/// adds one to `count`. More than 2^48 lines or rows are out of memory.
 pub fn new_rows(
     alloc: Global,
     lines: &[String],

@@ -1,7 +1,7 @@
 //! Read access to lines with their visual rows, and look-ups in them: from a position to its visual
 //! position and back, and where a cursor moves up and down. They allocate nothing. A tab reaches to
 //! the next tab stop, and takes one column without tab stops.
-ghost use Rattle.std.specs.Prelude.{◌≡◌, ◌+◌, ◌<◌, ◌≤◌, length, take, MatchOption};
+ghost use Rattle.std.specs.Prelude.{◌≡◌, ◌+◌, ◌<◌, ◌≤◌, [], encode_utf8_all, get_or, length, take, MatchOption};
 ghost use Rattle.textarea_text.specs.Offset.{offset_at};
 ghost use Rattle.textarea_screen_map.specs.Prelude.{size_limit, AreMarksOf, IsMark, reachable_text, IsPlaceOf, size_of, lines_of, AreRowsOf, range_at, row_total, greatest_column, row_at, row_width, IsAbove, IsBelow, IsInFirstRow, IsInLastRow, IsPlaceAt, IsPlaceNear, IsVisualPosition, HasFrontOfLine, row_of_texts, AreRowsRight, borrowed_rows};
 
@@ -163,7 +163,7 @@ impl<'a> TextLayoutView<'a> {
             visual result }
     {
         let displayed = self.map.row_at(self.lines, visual.row);
-        let known = self.mark_before(visual.row, visual.column);
+        let known = self.mark_in(displayed, visual.column);
         let reachable = reachable_text(displayed.text, displayed.is_last);
         let index = character_near_column(reachable, known, visual.column, self.tab_len());
         self.place_in(displayed, index)
@@ -183,7 +183,6 @@ impl<'a> TextLayoutView<'a> {
     /// Returns the last known position of a visual row's text at or before a display column: its
     /// column and byte offset in the row, and its display column. So a long row needn't be read
     /// from its start. Of a row that is its whole line, marks are known, of others only the start.
-    #[tactic(auto, using(crate::proofs::MarkLemmas::start_is_mark))]
     pub fn mark_before(&self, row: usize, display: usize) -> Mark
         requires { row < row_total self.now.rows }
         ensures mark { IsMark self.now.wrapping.tab_len
@@ -193,8 +192,23 @@ impl<'a> TextLayoutView<'a> {
             (row_at self.now.lines self.now.rows row).is_last) result }
         ensures before { result.display ≤ display }
     {
-        let displayed = self.map.row_at(self.lines, row);
-        let line = self.lines[displayed.line].as_str();
+        self.mark_in(self.map.row_at(self.lines, row), display)
+    }
+
+    // The same for a visual row that is looked up.
+    #[tactic(auto, using(crate::proofs::MarkLemmas::start_is_mark))]
+    fn mark_in(&self, displayed: RowText<'_>, display: usize) -> Mark
+        requires line { displayed.line < length self.now.lines }
+        requires whole { length displayed.text.now
+            ≡ length (encode_utf8_all (get_or self.now.lines displayed.line []))
+            → displayed.text.now ≡ encode_utf8_all (get_or self.now.lines displayed.line []) }
+        ensures mark { IsMark self.now.wrapping.tab_len (row_of_texts displayed.entry).text result }
+        ensures reachable { IsMark self.now.wrapping.tab_len
+            (reachable_text (row_of_texts displayed.entry).text displayed.entry.is_last) result }
+        ensures before { result.display ≤ display }
+    {
+        let lines = self.lines;
+        let line = lines[displayed.line].as_str();
         if displayed.is_last && displayed.text.len() == line.len() {
             return self
                 .marks

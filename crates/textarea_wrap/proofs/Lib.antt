@@ -13,5 +13,6 @@ pub mod OneWrappingLemmas
 pub mod OneRowLemmas
 pub mod RestLemmas
 pub mod RowLemmas
+pub mod VisibleLemmas
 pub mod WordLemmas
 mod TallyWalks

@@ -11,7 +11,7 @@ use textarea_util::replace::replace_items;
 use textarea_wrap::rows::Rows;
 
 /// The number of lines above which a block is halved before lines are added to it.
-const FULL: usize = 512;
+const FULL: usize = 192;
 
 impl RowBlocks {
     // Replaces the rows of `count` lines of one block. Allocates nothing.
@@ -128,7 +128,7 @@ impl RowBlocks {
     }
 
     /// Reserves room for `replace_few` to replace the `count` lines from `row` on by `come` lines.
-    /// A block that would get more than 512 lines is halved first.
+    /// A block that would get more than `FULL` lines is halved first.
     pub fn reserve_lines(&mut self, row: usize, count: usize, come: usize) -> Result<(), AllocError>
         requires { row < length (all_rows self.old.blocks) }
         ensures same { all_rows self.new.blocks ≡ all_rows self.old.blocks }
@@ -140,7 +140,7 @@ impl RowBlocks {
         self.blocks[block].reserve(come.saturating_sub(shared))
     }
 
-    // Halves the block of a line if `come` lines more would make it longer than 512 lines.
+    // Halves the block of a line if `come` lines more would make it longer than `FULL` lines.
     fn halve_full(&mut self, line: usize, come: usize) -> Result<(), AllocError>
         requires { line < length (all_rows self.old.blocks) }
         ensures { all_rows self.new.blocks ≡ all_rows self.old.blocks }

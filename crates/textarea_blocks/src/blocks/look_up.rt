@@ -129,9 +129,12 @@ fn row_in(rows: &[Rows], row: usize) -> (usize, usize)
 {
     let mut line = 0;
     let mut left = row;
-    'walking: while rows[line].as_slice().len() <= left {
-        left -= rows[line].as_slice().len();
+    'walking: loop {
+        let count = rows[line].as_slice().len();
+        if left < count {
+            return (line, left);
+        }
+        left -= count;
         line += 1;
     }
-    (line, left)
 }

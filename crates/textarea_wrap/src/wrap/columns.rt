@@ -3,8 +3,9 @@
 //! and one display column in moves of the cursor.
 //!
 //! Only other crates of this repository call these. No facade exports them.
-ghost use Rattle.std.specs.Prelude.{◌≡◌, ◌+◌, ◌*◌, ◌^◌, ◌<◌, ◌≤◌, ◌↔◌, length, chars, IsTrue};
-ghost use Rattle.textarea_wrap.specs.Columns.{plain_width, column_after, end_column, display_column_after, display_end_column};
+ghost use Rattle.std.specs.Prelude.{◌≡◌, ◌+◌, ◌*◌, ◌^◌, ◌<◌, ◌≤◌, ◌↔◌, length, take, chars, IsTrue};
+ghost use Rattle.std.specs.List.{AllByRecursion};
+ghost use Rattle.textarea_wrap.specs.Columns.{IsVisible, plain_width, column_after, end_column, display_column_after, display_end_column};
 
 use unicode_width::UnicodeWidthChar;
 
@@ -35,6 +36,23 @@ pub fn column_after(c: char, column: usize, tab_len: u8) -> usize
     }
 }
 
+/// Returns the number of visible ASCII characters that a text begins with, at most `most`. Each is
+/// one byte and takes one column.
+pub fn visible_count(text: &str, most: usize) -> usize
+    ensures within { result ≤ length text.now }
+    ensures most { result ≤ most }
+    ensures visible { AllByRecursion IsVisible (take result text.now) }
+{
+    let bytes = text.as_bytes();
+    let end = bytes.len().min(most);
+    for at in 0..end {
+        if bytes[at] < 32 || 127 <= bytes[at] {
+            return at;
+        }
+    }
+    end
+}
+
 /// Returns the column after a text that begins at `column`.
 pub fn column_after_text(text: &str, column: usize, tab_len: u8) -> usize
     requires { column + 255 * length text.now < 2 ^ 63 }
@@ -42,8 +60,9 @@ pub fn column_after_text(text: &str, column: usize, tab_len: u8) -> usize
     ensures after { column ≤ result }
     ensures near { result ≤ column + 255 * length text.now }
 {
-    let mut end = column;
-    for c in text.chars() {
+    let visible = visible_count(text, text.len());
+    let mut end = column + visible;
+    for c in text[visible..].chars() {
         end = column_after(c, end, tab_len);
     }
     end
@@ -76,8 +95,9 @@ pub fn fits_width(text: &str, width: usize, tab_len: u8) -> bool
     requires { 255 * length text.now < 2 ^ 63 }
     ensures { IsTrue result ↔ (end_column tab_len 0 (chars text.now) ≤ width) }
 {
-    let mut column = 0;
-    for c in text.chars() {
+    let visible = visible_count(text, width);
+    let mut column = visible;
+    for c in text[visible..].chars() {
         column = column_after(c, column, tab_len);
         if width < column {
             return false;

@@ -6,5 +6,5 @@ use Rattle.textarea_blocks.proofs.blocks.look_up.row_in.Goals as goal
 pub walking-preserved : goal.walking-preserved
 walking-preserved c = grind (arith, common_steps, line_there, row_total-more)
 
-pub returns-clause-inside : goal.returns-clause-inside
-returns-clause-inside c = grind (arith, common_steps, line_there, row_total-more)
+pub returns-then-left-count-clause-inside : goal.returns-then-left-count-clause-inside
+returns-then-left-count-clause-inside c = grind (arith, common_steps, line_there, row_total-more)

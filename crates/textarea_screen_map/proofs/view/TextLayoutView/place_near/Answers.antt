@@ -1,14 +1,13 @@
 use Rattle.std.proofs.lemmas.Grind.{common_steps}
-use Rattle.std.proofs.Common.{◌≡◌, ◌+◌, ◌<◌, arith, min, subst, sym}
+use Rattle.std.proofs.Common.{◌≡◌, ◌+◌, ◌<◌, [], arith, encode_utf8_all, get_or, length, min, subst, sym}
 use Rattle.std.specs.Str.{chars}
 use Rattle.textarea_util.specs.Limit.{size_limit}
 use Rattle.textarea_text.specs.Place.{Place}
 use Rattle.textarea_wrap.specs.Columns.{display_end_column}
 use Rattle.textarea_screen_map.specs.BorrowedLines.{BorrowedRows}
-use Rattle.textarea_screen_map.specs.LineMarks.{IsMark}
 use Rattle.textarea_screen_map.specs.LineRows.{AreRowsOf}
 use Rattle.textarea_screen_map.specs.RowTexts.{row_of_texts}
-use Rattle.textarea_screen_map.specs.VisualRows.{VisualRow, greatest_column, reachable_text, row_at}
+use Rattle.textarea_screen_map.specs.VisualRows.{VisualRow, greatest_column, row_at}
 use Rattle.textarea_screen_map.specs.VisualPositions.{IsPlaceNear, LeadsTo}
 use Rattle.textarea_screen_map.proofs.RowColumns.{leads_in_row}
 use Rattle.textarea_screen_map.proofs.Layouts.{length-AreRowsOf}
@@ -33,12 +32,17 @@ place_is c row_is =
     place_of_index view.wrapping view.lines view.rows (record { row = c.args.visual.row; column = min column (greatest_column tab_len (row_at view.lines view.rows c.args.visual.row)) }) (row_of_texts displayed) index
     (subst (λ (v : BorrowedRows). AreRowsOf v.wrapping v.lines v.rows) c.self.view_is c.self.invariant.0.right) c.requires row_is leads
 
+pub mark_in-known-requires-clause-line : goal.mark_in-known-requires-clause-line
+mark_in-known-requires-clause-line c = grind (arith, common_steps, length-AreRowsOf)
+
+pub mark_in-known-requires-clause-whole : goal.mark_in-known-requires-clause-whole
+mark_in-known-requires-clause-whole c =
+    let row = c.row_at-displayed.result in
+    subst (λ (v : BorrowedRows). length row.text.now ≡ length (encode_utf8_all (get_or v.lines row.line [])) → row.text.now ≡ encode_utf8_all (get_or v.lines row.line [])) c.self.view_is c.row_at-displayed.ensures.whole
+
 pub character_near_column-index-requires-clause-known : goal.character_near_column-index-requires-clause-known
 character_near_column-index-requires-clause-known c =
-    let tab_len = c.args.self.now.wrapping.tab_len in
-    let known = c.mark_before-known.result in
-    rw (c.reachable_text-reachable.ensures.characters, c.tab_len.ensures)
-    (subst (λ (v : VisualRow). IsMark tab_len (reachable_text v.text v.is_last) known) (sym (row_is (goal.at.character_near_column-index-requires-clause-known c).After-row_at-displayed)) c.mark_before-known.ensures.reachable)
+    rw (c.reachable_text-reachable.ensures.characters, c.tab_len.ensures) c.mark_in-known.ensures.reachable
 
 pub place_in-requires-clause-line : goal.place_in-requires-clause-line
 place_in-requires-clause-line c = grind (arith, common_steps, length-AreRowsOf)

@@ -3,7 +3,7 @@ use Rattle.std.specs.Str.{chars}
 use Rattle.std.specs.Str.Iter.{chars_rest}
 use Rattle.textarea_screen_map.specs.VisualRows.{column_at}
 use Rattle.textarea_screen_map.proofs.MarkLemmas.{IsWalked}
-use Rattle.textarea_screen_map.proofs.columns.character_near_column.Given as goal
+use Rattle.textarea_screen_map.proofs.columns.character_ahead.Given as goal
 
 -- the characters so far are before the column, and `first` is the first position at `at`
 abbrev pub invariant-loop-c : goal.invariant-loop-c
