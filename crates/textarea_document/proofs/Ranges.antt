@@ -1,7 +1,6 @@
 -- Ranges of a text, and the condition that an edit satisfies for them.
 use Rattle.std.proofs.Common.{◌≡◌, ℕ, ◌+◌, ◌<◌, ◌≤◌, ◌==◌, inl, inr, Bool, true, false, cond, List, [], ◌∷◌, length, drop, take, get_or, Option, Some, None, All, Contains, MatchOption, refl, sym, ap, subst, ◌∙◌, arith}
-use Rattle.std.proofs.lemmas.Bool.{cases_lt}
-use Rattle.std.proofs.lemmas.Bool.Decides.{nat_tests}
+use Rattle.std.proofs.lemmas.Bool.{cases_lt, ne_eqb}
 use Rattle.std.proofs.lemmas.List.{drop_more, map-id}
 use Rattle.std.proofs.lemmas.List.Elements.{All-contains}
 use Rattle.std.proofs.lemmas.Slice.Zip.{AllZip-map}
@@ -76,18 +75,12 @@ pub stored_ordered : (text : List Symbol) (found : Option AtomicRange) → IfSom
 stored_ordered text None h = tt
 stored_ordered text (Some range) h = h.ordered
 
-not_equal : (m n : ℕ) → m < n → (m == n) ≡ false
-not_equal m n less = grind (arith, nat_tests)
-
 -- with a range at the position, backward, the position isn't the text's start
 pub range_starts_before : (text : List Symbol) (ranges : List AtomicRange) (place : Place) (found : Option AtomicRange) → range_at_place ranges place DeleteBackward ≡ found → IfSome found (λ _. (index_of text place == 0) ≡ false)
 range_starts_before text ranges place None e = tt
 range_starts_before text ranges place (Some range) e =
     let h : Contains ranges range × IsRangeAtPlace place DeleteBackward range = subst (λ o. MatchOption o (All (λ range. ¬ IsRangeAtPlace place DeleteBackward range) ranges) (λ range. Contains ranges range × IsRangeAtPlace place DeleteBackward range)) e (MatchOption-at_place ranges place DeleteBackward) in
-    positive (index_of text place) (omega (arith, h.1.1))
-  where
-    positive : (n : ℕ) → 0 < n → (n == 0) ≡ false
-    positive n some = grind (arith, nat_tests)
+    ne_eqb (index_of text place) 0 (λ none. omega (arith, h.1.1))
 
 -- with one forward, it isn't the text's end
 pub range_ends_after : (text : List Symbol) (ranges : List AtomicRange) (place : Place) (found : Option AtomicRange) → AreValid (lines text) ranges → range_at_place ranges place DeleteForward ≡ found → IfSome found (λ _. (index_of text place == length text) ≡ false)
@@ -96,8 +89,7 @@ range_ends_after text ranges place (Some range) valid e =
     let h : Contains ranges range × IsRangeAtPlace place DeleteForward range = subst (λ o. MatchOption o (All (λ range. ¬ IsRangeAtPlace place DeleteForward range) ranges) (λ range. Contains ranges range × IsRangeAtPlace place DeleteForward range)) e (MatchOption-at_place ranges place DeleteForward) in
     let stored : IsStoredRange text range = subst (λ o. IfSome o (IsStoredRange text)) e (range_is_stored text ranges place DeleteForward valid) in
     let row : index_of text place ≡ index_of text (range.row, place.1) = ap (λ n. index_of text (n, place.1)) (sym h.1.0) in
-    let before : index_of text place < length text = omega (arith, index_within text (range_end range) stored.end_is, h.1.2, row) in
-    not_equal (index_of text place) (length text) before
+    ne_eqb (index_of text place) (length text) (λ at_end. omega (arith, index_within text (range_end range) stored.end_is, h.1.2, row))
 
 -- ---- ends of a removal that are strictly inside no range
 

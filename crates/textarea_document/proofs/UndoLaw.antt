@@ -90,7 +90,7 @@ pub gives_all_back : (document : DocumentState) (splice : Splice) (typed : Bool)
 gives_all_back document splice typed now h fits some =
     let log = document.log in
     let left = after_edit document splice typed now in
-    let remembers : (log.maximum == 0) ≡ false = positive log.maximum some in
+    let remembers : (log.maximum == 0) ≡ false = grind (arith, nat_tests) in
     let found = newest_after log splice typed now (joins log splice typed now) refl in
     let log_is : left.log ≡ with_done log (done_after log splice (joins log splice typed now)) (is_typed splice typed) now = cond-false (log.maximum == 0) log (with_done log (done_after log splice (joins log splice typed now)) (is_typed splice typed) now) remembers in
     let newest_is : newest left.log ≡ Some found.0 = ap newest log_is ∙ found.1 in
@@ -98,6 +98,3 @@ gives_all_back document splice typed now h fits some =
     let back = gives_back 1 left (sound_edited document splice typed now h fits) within in
     let cursor : (after_redo (after_undo left)).cursor ≡ place_after found.0 = subst (λ (o : Option Splice). IfSome o (λ s. (after_redo (after_undo left)).cursor ≡ place_after s)) newest_is (back.cursor (omega arith)) in
     record { same = back.again; cursor = cursor ∙ found.2 }
-  where
-    positive : (n : ℕ) → 0 < n → (n == 0) ≡ false
-    positive n some = grind (arith, nat_tests)

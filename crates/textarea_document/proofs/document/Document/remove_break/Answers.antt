@@ -1,5 +1,5 @@
 use Rattle.std.proofs.Common.{◌≡◌, ◌≢◌, ◌∙◌, ◌==◌, ◌-◌, ◌+◌, ◌<◌, ℕ, ap, cond, sym, arith, false, length, refl}
-use Rattle.std.proofs.lemmas.Bool.Decides.{nat_tests}
+use Rattle.std.proofs.lemmas.Bool.{ne_eqb}
 use Rattle.textarea_document.specs.Prelude.{as_nanos, lines, Place, line_end, Splice, break_removal, after_edit, unanchored}
 use Rattle.textarea_document.proofs.SymbolAfters.{break_removal_fits}
 use Rattle.textarea_document.proofs.Ranges.{whole_break}
@@ -35,7 +35,4 @@ returns-clause-ok c =
     let made = (goal.at.returns-clause-ok c).After-between in
     c.in_ok-edit.ensures.ok
     ∙ ap (λ (s : Splice). after_edit document s false (as_nanos c.args.now)) (removes made)
-    ∙ ap (λ b. cond b (unanchored document) (after_edit document (break_removal document.text (document.cursor.0 - 1)) false (as_nanos c.args.now))) (sym (not_first document.cursor.0 (λ first. c.if-row-eq0.false (row_is made ∙ first))))
-  where
-    not_first : (row : ℕ) → row ≢ 0 → (row == 0) ≡ false
-    not_first row apart = grind (arith, nat_tests)
+    ∙ ap (λ b. cond b (unanchored document) (after_edit document (break_removal document.text (document.cursor.0 - 1)) false (as_nanos c.args.now))) (sym (ne_eqb document.cursor.0 0 (λ first. c.if-row-eq0.false (row_is made ∙ first))))
