@@ -1,5 +1,5 @@
 -- Symbols inserted at the cursor.
-use Rattle.std.proofs.Common.{◌≡◌, ◌≢◌, ◌<◌, ℕ, Bool, true, false, List, [], ◌∷◌, arith, length, refl, sym, ◌==◌, not, get_or, String}
+use Rattle.std.proofs.Common.{◌≡◌, ◌≢◌, ◌<◌, Bool, true, false, List, [], ◌∷◌, arith, length, refl, sym, ◌==◌, not, get_or, String}
 use Rattle.std.proofs.lemmas.Bool.{eqb-false, eqb-true}
 use Rattle.textarea_text.proofs.EmptyTexts.{empty_text}
 use Rattle.textarea_document.specs.Prelude.{string_len, Symbol, text_of, has_symbols}

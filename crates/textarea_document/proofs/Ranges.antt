@@ -4,7 +4,7 @@ use Rattle.std.proofs.lemmas.Bool.{cases_lt, ne_eqb}
 use Rattle.std.proofs.lemmas.List.{drop_more, map-id}
 use Rattle.std.proofs.lemmas.List.Elements.{All-contains}
 use Rattle.std.proofs.lemmas.Slice.Zip.{AllZip-map}
-use Rattle.textarea_document.specs.Prelude.{IfSome, AllZip, Symbol, Character, Break, lines, Place, IsPlace, IsSymbolBefore, IsUpTo, OccursAt, end, index_of, is_same_place, Fits, AtomicRange, AtomicDeleteDirection, SplitsNoRange, anchor_out, unless_empty, IsRangeAtPlace, IsInside, TakesWhole, range_at_place, moved_out, range_start, range_end, AreApart, AreInOrder, AreValid, IsRangeOfLine}
+use Rattle.textarea_document.specs.Prelude.{size_limit, IfSome, AllZip, Symbol, Character, Break, lines, Place, IsPlace, IsUpTo, OccursAt, end, index_of, is_same_place, Fits, AtomicRange, AtomicDeleteDirection, SplitsNoRange, anchor_out, unless_empty, IsMovable, IsRangeAtPlace, IsInside, TakesWhole, range_at_place, moved_out, range_start, range_end, AreApart, AreInOrder, AreValid, IsRangeOfLine}
 use Rattle.textarea_text.proofs.Befores.{character_occurs}
 use Rattle.textarea_text.proofs.TextPlaces.{index_within, joined-lines}
 use Rattle.textarea_text.proofs.BetweenLemmas.{up_to_from_index as up_to_in_lines}
@@ -62,18 +62,6 @@ range_some text ranges place direction (Some range) valid h =
 
 pub range_is_stored : (text : List Symbol) (ranges : List AtomicRange) (place : Place) (direction : AtomicDeleteDirection) → AreValid (lines text) ranges → IfSome (range_at_place ranges place direction) (IsStoredRange text)
 range_is_stored text ranges place direction valid = range_some text ranges place direction (range_at_place ranges place direction) valid (MatchOption-at_place ranges place direction)
-
-pub stored_start : (text : List Symbol) (found : Option AtomicRange) → IfSome found (IsStoredRange text) → IfSome found (λ range. IsPlace text (range_start range))
-stored_start text None h = tt
-stored_start text (Some range) h = h.start_is
-
-pub stored_end : (text : List Symbol) (found : Option AtomicRange) → IfSome found (IsStoredRange text) → IfSome found (λ range. IsPlace text (range_end range))
-stored_end text None h = tt
-stored_end text (Some range) h = h.end_is
-
-pub stored_ordered : (text : List Symbol) (found : Option AtomicRange) → IfSome found (IsStoredRange text) → IfSome found (λ range. index_of text (range_start range) < index_of text (range_end range))
-stored_ordered text None h = tt
-stored_ordered text (Some range) h = h.ordered
 
 -- with a range at the position, backward, the position isn't the text's start
 pub range_starts_before : (text : List Symbol) (ranges : List AtomicRange) (place : Place) (found : Option AtomicRange) → range_at_place ranges place DeleteBackward ≡ found → IfSome found (λ _. (index_of text place == 0) ≡ false)
@@ -135,9 +123,6 @@ before_by text ranges place from (Character c) valid none h occurs ends =
 before_by text ranges place from Break valid none h occurs ends =
     whole_from_ends ranges from place (outside_end (lines text) ranges from valid (break_at_end text from h occurs)) (outside_start ranges place (ap (λ (p : Place). p.1) ends))
 
-pub whole_before : (text : List Symbol) (ranges : List AtomicRange) (place from : Place) (symbol : Symbol) → AreValid (lines text) ranges → range_at_place ranges place DeleteBackward ≡ None → IsSymbolBefore text place from symbol → TakesWhole ranges from place
-whole_before text ranges place from symbol valid none before = before_by text ranges place from symbol valid none before.is_place before.occurs before.ends
-
 -- and so does the removal of the symbol after it
 pub whole_after : (ranges : List AtomicRange) (place to : Place) (symbol : Symbol) → range_at_place ranges place DeleteForward ≡ None → to ≡ end place (symbol ∷ []) → TakesWhole ranges place to
 whole_after ranges place to (Character c) none ends =
@@ -169,6 +154,14 @@ anchor_place text ranges (Some place) cursor valid h =
 pub whole_break : (text : List Symbol) (ranges : List AtomicRange) (place : Place) → AreValid (lines text) ranges → Fits text (record { place = place; symbols = Break ∷ []; inserts = false }) → SplitsNoRange ranges (record { place = place; symbols = Break ∷ []; inserts = false })
 whole_break text ranges place valid fits =
     whole_from_ends ranges place (place.0 + 1, 0) (outside_end (lines text) ranges place valid (break_at_end text place fits.is_place fits.allowed)) (outside_start ranges (place.0 + 1, 0) refl)
+
+-- ranges of a text whose positions are small can be moved
+pub movable : (text : List Symbol) (ranges : List AtomicRange) → ((place : Place) → IsPlace text place → (place.0 < size_limit) × (place.1 ≤ size_limit)) → AreValid (lines text) ranges → All IsMovable ranges
+movable text ranges small valid k d within =
+    let range = get_or ranges k d in
+    let segment = valid.components k d within in
+    let after = small (range_end range) (segment.0, segment.2) in
+    record { ordered = omega (arith, segment.1); row = omega (arith, after.0); column = after.1 }
 
 pub copy_ranges : (ranges copies : List AtomicRange) → AllZip (λ range copy. copy ≡ range) ranges copies → copies ≡ ranges
 copy_ranges ranges copies h = AllZip-map (λ range. range) ranges copies h ∙ map-id ranges

@@ -1,13 +1,12 @@
 -- The symbol directly after a position.
-use Rattle.std.proofs.Common.{◌≡◌, ◌≢◌, ℕ, Bool, false, cond, ◌==◌, ◌+◌, ◌≤◌, ◌<◌, List, [], ◌∷◌, ◌++◌, length, take, drop, get_or, sym, ap, refl, ◌∙◌, arith, String, subst, Option, Some, None, ◌^◌, encode_utf8, encode_utf8_all}
+use Rattle.std.proofs.Common.{◌≡◌, ◌≢◌, ℕ, Bool, false, cond, ◌+◌, ◌≤◌, ◌<◌, List, [], ◌∷◌, ◌++◌, length, take, drop, get_or, sym, ap, refl, ◌∙◌, arith, subst, Option, Some, None, encode_utf8, encode_utf8_all}
 use Rattle.std.specs.Str.{IsCharBoundary}
 use Rattle.std.proofs.lemmas.Bool.{ne_eqb}
 use Rattle.std.proofs.lemmas.List.{drop_all, length-drop}
 use Rattle.std.proofs.lemmas.Str.{length-le-encodes}
 use Rattle.textarea_text.proofs.Columns.{IsCharBoundary-column, offset_in}
 use Rattle.textarea_text.proofs.Befores.{next_is}
-use Rattle.textarea_document.proofs.Area.{column_bound}
-use Rattle.textarea_document.specs.Prelude.{MatchOption, chars, IsUtf8, Symbol, Character, Break, joined, lines, lines_of, Place, IsPlace, IsPlaceOf, IsSymbolBefore, OccursAt, index_of, line_end, Fits, inserts_of, symbols_of, EditKind, DocumentState, after_edit, IsSymbolAfter, break_removal, symbol_removed_before, symbol_removed_after}
+use Rattle.textarea_document.specs.Prelude.{MatchOption, chars, IsUtf8, Symbol, Character, Break, joined, lines, Place, IsPlace, IsPlaceOf, IsSymbolBefore, OccursAt, index_of, line_end, Fits, inserts_of, symbols_of, EditKind, DocumentState, after_edit, IsSymbolAfter, break_removal, symbol_removed_before, symbol_removed_after}
 use Rattle.textarea_text.proofs.Befores.{break_occurs, character_occurs}
 use Rattle.textarea_history.specs.Edit.{splice_of}
 use Rattle.textarea_text.proofs.TextPlaces.{joined-lines, place_of-index}
@@ -36,10 +35,6 @@ boundary_of line column offset utf8 e = subst (IsCharBoundary line) (sym e) (IsC
 pub symbol_after_is : (Same : Type 0) (cs was rest : List ℕ) (column : ℕ) (found : Option ℕ) → column ≤ length cs → was ≡ encode_utf8_all (drop column cs) → MatchOption found ((length was ≡ 0) × Same) (λ d. was ≡ encode_utf8 d ++ rest) → MatchOption found (column ≡ length cs) (λ c. drop column cs ≡ c ∷ drop (column + 1) cs)
 symbol_after_is Same cs was rest column None within e h = omega (arith, h.0, ap length e, length-le-encodes (drop column cs), length-drop column cs)
 symbol_after_is Same cs was rest column (Some c) within e h = next_is Same cs was rest column c (Some c) e h refl
-
--- one can be added to a column of a string without overflow
-pub column_in_string : {Z : Type 0} (items : List (String Z)) (place : Place) → IsPlaceOf (lines_of items) place → place.1 + 1 < 2 ^ 64
-column_in_string items place h = omega (arith, h.1, column_bound items place.0)
 
 -- ---- the break before a line
 

@@ -3,6 +3,7 @@ ghost use Rattle.std.specs.Prelude.{◌≡◌, ◌≤◌, IfSome, MatchOption, �
 ghost use Rattle.textarea_document.specs.Prelude.{chars, offset_at, lines_of, symbol_in, text_of, IsPlace, IsPlaceOf, index_of, cursor_index, IsSymbolAfter, next_place};
 
 use crate::document::Document;
+use textarea_text::places::line_of;
 
 // The symbol after a position, and its end: a character, or `None` for the break between two lines.
 #[derive(Clone, Copy)]
@@ -37,7 +38,7 @@ fn symbol_after(lines: &[String], place: (usize, usize), offset: usize) -> Optio
         IsSymbolAfter (text_of lines.now) place after.end (symbol_in after.character)) }
 {
     let (row, column) = place;
-    if let Some(c) = character_after(lines[row].as_str(), column, offset) {
+    if let Some(c) = character_after(line_of(lines, row), column, offset) {
         return Some(SymbolAfter {
             end: (row, column + 1),
             character: Some(c),

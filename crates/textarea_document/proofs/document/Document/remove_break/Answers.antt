@@ -1,4 +1,4 @@
-use Rattle.std.proofs.Common.{◌≡◌, ◌≢◌, ◌∙◌, ◌==◌, ◌-◌, ◌+◌, ◌<◌, ℕ, ap, cond, sym, arith, false, length, refl}
+use Rattle.std.proofs.Common.{◌≡◌, ◌∙◌, ◌-◌, ◌+◌, ◌<◌, ap, cond, sym, arith, false, length, refl}
 use Rattle.std.proofs.lemmas.Bool.{ne_eqb}
 use Rattle.textarea_document.specs.Prelude.{as_nanos, lines, Place, line_end, Splice, break_removal, after_edit, unanchored}
 use Rattle.textarea_document.proofs.SymbolAfters.{break_removal_fits}
