@@ -1,10 +1,9 @@
 -- Ranges of a text, and the condition that an edit satisfies for them.
 use Rattle.std.proofs.Common.{◌≡◌, ℕ, ◌+◌, ◌<◌, ◌≤◌, ◌==◌, inl, inr, Bool, true, false, cond, List, [], ◌∷◌, length, drop, take, get_or, Option, Some, None, All, Contains, MatchOption, refl, sym, ap, subst, ◌∙◌, arith}
 use Rattle.std.proofs.lemmas.Bool.{cases_lt, ne_eqb}
-use Rattle.std.proofs.lemmas.List.{drop_more, map-id}
+use Rattle.std.proofs.lemmas.List.{drop_more}
 use Rattle.std.proofs.lemmas.List.Elements.{All-contains}
-use Rattle.std.proofs.lemmas.Slice.Zip.{AllZip-map}
-use Rattle.textarea_document.specs.Prelude.{size_limit, IfSome, AllZip, Symbol, Character, Break, lines, Place, IsPlace, IsUpTo, OccursAt, end, index_of, is_same_place, Fits, AtomicRange, AtomicDeleteDirection, SplitsNoRange, anchor_out, unless_empty, IsMovable, IsRangeAtPlace, IsInside, TakesWhole, range_at_place, moved_out, range_start, range_end, AreApart, AreInOrder, AreValid, IsRangeOfLine}
+use Rattle.textarea_document.specs.Prelude.{size_limit, IfSome, Symbol, Character, Break, lines, Place, IsPlace, IsUpTo, OccursAt, end, index_of, is_same_place, Fits, AtomicRange, AtomicDeleteDirection, SplitsNoRange, anchor_out, unless_empty, IsMovable, IsRangeAtPlace, IsInside, TakesWhole, range_at_place, moved_out, range_start, range_end, AreApart, AreInOrder, AreValid, IsRangeOfLine}
 use Rattle.textarea_text.proofs.Befores.{character_occurs}
 use Rattle.textarea_text.proofs.TextPlaces.{index_within, joined-lines}
 use Rattle.textarea_text.proofs.BetweenLemmas.{up_to_from_index as up_to_in_lines}
@@ -162,6 +161,3 @@ movable text ranges small valid k d within =
     let segment = valid.components k d within in
     let after = small (range_end range) (segment.0, segment.2) in
     record { ordered = omega (arith, segment.1); row = omega (arith, after.0); column = after.1 }
-
-pub copy_ranges : (ranges copies : List AtomicRange) → AllZip (λ range copy. copy ≡ range) ranges copies → copies ≡ ranges
-copy_ranges ranges copies h = AllZip-map (λ range. range) ranges copies h ∙ map-id ranges

@@ -6,7 +6,7 @@ use Rattle.std.proofs.lemmas.List.{drop_all, length-drop}
 use Rattle.std.proofs.lemmas.Str.{length-le-encodes}
 use Rattle.textarea_text.proofs.Columns.{IsCharBoundary-column, offset_in}
 use Rattle.textarea_text.proofs.Befores.{next_is}
-use Rattle.textarea_document.specs.Prelude.{MatchOption, chars, IsUtf8, Symbol, Character, Break, joined, lines, Place, IsPlace, IsPlaceOf, IsSymbolBefore, OccursAt, index_of, line_end, Fits, inserts_of, symbols_of, EditKind, DocumentState, after_edit, IsSymbolAfter, break_removal, symbol_removed_before, symbol_removed_after}
+use Rattle.textarea_document.specs.Prelude.{MatchOption, chars, IsUtf8, Symbol, Character, Break, joined, lines, Place, IsPlace, IsPlaceOf, OccursAt, index_of, line_end, Fits, inserts_of, symbols_of, EditKind, DocumentState, after_edit, IsSymbolAfter, break_removal, symbol_removed_after}
 use Rattle.textarea_text.proofs.Befores.{break_occurs, character_occurs}
 use Rattle.textarea_history.specs.Edit.{splice_of}
 use Rattle.textarea_text.proofs.TextPlaces.{joined-lines, place_of-index}
@@ -53,10 +53,6 @@ break_removal_fits text row within =
 pub symbol_removed_after_is : (document : DocumentState) (to : Place) (symbol : Symbol) (typed : Bool) (now : ℕ) → IsPlace document.text document.cursor → IsSymbolAfter document.text document.cursor to symbol → after_edit document (record { place = document.cursor; symbols = symbol ∷ []; inserts = false }) typed now ≡ symbol_removed_after document typed now
 symbol_removed_after_is document to symbol typed now h after =
     rw (ne_eqb (index_of document.text document.cursor) (length document.text) after.index, after.symbol_is, place_of-index document.text document.cursor h) refl
-
-pub symbol_removed_before_is : (document : DocumentState) (start : Place) (symbol : Symbol) (typed : Bool) (now : ℕ) → IsSymbolBefore document.text document.cursor start symbol → after_edit document (record { place = start; symbols = symbol ∷ []; inserts = false }) typed now ≡ symbol_removed_before document typed now
-symbol_removed_before_is document start symbol typed now before =
-    rw (ne_eqb (index_of document.text document.cursor) 0 before.index, before.symbol_is, before.start_is) refl
 
 -- the splice of an edit that removes
 pub removal_of_kind : (kind : EditKind) (before after : Place) (symbols : List Symbol) → inserts_of kind ≡ false → symbols_of kind ≡ symbols → splice_of kind before after ≡ record { place = after; symbols = symbols; inserts = false }
