@@ -1,6 +1,6 @@
 -- Symbols inserted at the cursor.
-use Rattle.std.proofs.Common.{◌≡◌, ◌≢◌, ◌<◌, ℕ, Bool, true, false, List, [], ◌∷◌, arith, length, refl, sym, ◌==◌, not, get_or, String, eq-eqb}
-use Rattle.std.proofs.lemmas.Bool.{eqb-true}
+use Rattle.std.proofs.Common.{◌≡◌, ◌≢◌, Bool, true, false, List, [], ◌∷◌, length, refl, sym, ◌==◌, not, get_or, String}
+use Rattle.std.proofs.lemmas.Bool.{eqb-false, eqb-true}
 use Rattle.textarea_text.proofs.EmptyTexts.{empty_text}
 use Rattle.textarea_document.specs.Prelude.{string_len, Symbol, text_of, has_symbols}
 
@@ -16,11 +16,4 @@ filled_none (symbol ∷ symbols) e = cc
 pub filled_one : {Z : Type 0} (items : List (String Z)) (s : String Z) (empty : Bool) → length items ≡ 1 → s ≡ get_or items 0 s → empty ≡ (string_len s == 0) → not empty ≡ has_symbols (text_of items)
 filled_one items s true one read e = filled_none (text_of items) ((empty_text items s one read).0 (eqb-true (string_len s) 0 (sym e)))
 filled_one items s false one read e =
-    filled_some (text_of items) (λ none. absurd (zero_test (string_len s) (sym e) ((empty_text items s one read).1 none)))
-  where
-    zero_test : (n : ℕ) → (n == 0) ≡ false → n ≢ 0
-    zero_test n e same = cc (e, eq-eqb n 0 same)
-
-pub filled_length : (symbols : List Symbol) → has_symbols symbols ≡ true → 0 < length symbols
-filled_length [] e = absurd cc
-filled_length (symbol ∷ symbols) e = omega arith
+    filled_some (text_of items) (λ none. absurd (eqb-false (string_len s) 0 (sym e) ((empty_text items s one read).1 none)))

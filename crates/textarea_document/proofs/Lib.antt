@@ -1,4 +1,3 @@
-pub mod Area
 pub mod SymbolAfters
 pub mod Inserts
 pub mod UndoLaw
@@ -8,7 +7,6 @@ pub mod Ranges
 pub mod Sounds
 pub mod StepLaw
 pub mod DocumentWraps
-pub mod Moves
 pub mod RangesOverSplices
 pub mod Steps
 pub mod RowLemmas

@@ -1,11 +1,9 @@
 -- Ranges of a text, and the condition that an edit satisfies for them.
 use Rattle.std.proofs.Common.{◌≡◌, ℕ, ◌+◌, ◌<◌, ◌≤◌, ◌==◌, inl, inr, Bool, true, false, cond, List, [], ◌∷◌, length, drop, take, get_or, Option, Some, None, All, Contains, MatchOption, refl, sym, ap, subst, ◌∙◌, arith}
-use Rattle.std.proofs.lemmas.Bool.{cases_lt}
-use Rattle.std.proofs.lemmas.Bool.Decides.{nat_tests}
-use Rattle.std.proofs.lemmas.List.{drop_more, map-id}
+use Rattle.std.proofs.lemmas.Bool.{cases_lt, ne_eqb}
+use Rattle.std.proofs.lemmas.List.{drop_more}
 use Rattle.std.proofs.lemmas.List.Elements.{All-contains}
-use Rattle.std.proofs.lemmas.Slice.Zip.{AllZip-map}
-use Rattle.textarea_document.specs.Prelude.{IfSome, AllZip, Symbol, Character, Break, lines, Place, IsPlace, IsSymbolBefore, IsUpTo, OccursAt, end, index_of, is_same_place, Fits, AtomicRange, AtomicDeleteDirection, SplitsNoRange, anchor_out, unless_empty, IsRangeAtPlace, IsInside, TakesWhole, range_at_place, moved_out, range_start, range_end, AreApart, AreInOrder, AreValid, IsRangeOfLine}
+use Rattle.textarea_document.specs.Prelude.{size_limit, IfSome, Symbol, Character, Break, lines, Place, IsPlace, IsUpTo, OccursAt, end, index_of, is_same_place, Fits, AtomicRange, AtomicDeleteDirection, SplitsNoRange, anchor_out, unless_empty, IsMovable, IsRangeAtPlace, IsInside, TakesWhole, range_at_place, moved_out, range_start, range_end, AreApart, AreInOrder, AreValid, IsRangeOfLine}
 use Rattle.textarea_text.proofs.Befores.{character_occurs}
 use Rattle.textarea_text.proofs.TextPlaces.{index_within, joined-lines}
 use Rattle.textarea_text.proofs.BetweenLemmas.{up_to_from_index as up_to_in_lines}
@@ -64,30 +62,12 @@ range_some text ranges place direction (Some range) valid h =
 pub range_is_stored : (text : List Symbol) (ranges : List AtomicRange) (place : Place) (direction : AtomicDeleteDirection) → AreValid (lines text) ranges → IfSome (range_at_place ranges place direction) (IsStoredRange text)
 range_is_stored text ranges place direction valid = range_some text ranges place direction (range_at_place ranges place direction) valid (MatchOption-at_place ranges place direction)
 
-pub stored_start : (text : List Symbol) (found : Option AtomicRange) → IfSome found (IsStoredRange text) → IfSome found (λ range. IsPlace text (range_start range))
-stored_start text None h = tt
-stored_start text (Some range) h = h.start_is
-
-pub stored_end : (text : List Symbol) (found : Option AtomicRange) → IfSome found (IsStoredRange text) → IfSome found (λ range. IsPlace text (range_end range))
-stored_end text None h = tt
-stored_end text (Some range) h = h.end_is
-
-pub stored_ordered : (text : List Symbol) (found : Option AtomicRange) → IfSome found (IsStoredRange text) → IfSome found (λ range. index_of text (range_start range) < index_of text (range_end range))
-stored_ordered text None h = tt
-stored_ordered text (Some range) h = h.ordered
-
-not_equal : (m n : ℕ) → m < n → (m == n) ≡ false
-not_equal m n less = grind (arith, nat_tests)
-
 -- with a range at the position, backward, the position isn't the text's start
 pub range_starts_before : (text : List Symbol) (ranges : List AtomicRange) (place : Place) (found : Option AtomicRange) → range_at_place ranges place DeleteBackward ≡ found → IfSome found (λ _. (index_of text place == 0) ≡ false)
 range_starts_before text ranges place None e = tt
 range_starts_before text ranges place (Some range) e =
     let h : Contains ranges range × IsRangeAtPlace place DeleteBackward range = subst (λ o. MatchOption o (All (λ range. ¬ IsRangeAtPlace place DeleteBackward range) ranges) (λ range. Contains ranges range × IsRangeAtPlace place DeleteBackward range)) e (MatchOption-at_place ranges place DeleteBackward) in
-    positive (index_of text place) (omega (arith, h.1.1))
-  where
-    positive : (n : ℕ) → 0 < n → (n == 0) ≡ false
-    positive n some = grind (arith, nat_tests)
+    ne_eqb (index_of text place) 0 (λ none. omega (arith, h.1.1))
 
 -- with one forward, it isn't the text's end
 pub range_ends_after : (text : List Symbol) (ranges : List AtomicRange) (place : Place) (found : Option AtomicRange) → AreValid (lines text) ranges → range_at_place ranges place DeleteForward ≡ found → IfSome found (λ _. (index_of text place == length text) ≡ false)
@@ -96,8 +76,7 @@ range_ends_after text ranges place (Some range) valid e =
     let h : Contains ranges range × IsRangeAtPlace place DeleteForward range = subst (λ o. MatchOption o (All (λ range. ¬ IsRangeAtPlace place DeleteForward range) ranges) (λ range. Contains ranges range × IsRangeAtPlace place DeleteForward range)) e (MatchOption-at_place ranges place DeleteForward) in
     let stored : IsStoredRange text range = subst (λ o. IfSome o (IsStoredRange text)) e (range_is_stored text ranges place DeleteForward valid) in
     let row : index_of text place ≡ index_of text (range.row, place.1) = ap (λ n. index_of text (n, place.1)) (sym h.1.0) in
-    let before : index_of text place < length text = omega (arith, index_within text (range_end range) stored.end_is, h.1.2, row) in
-    not_equal (index_of text place) (length text) before
+    ne_eqb (index_of text place) (length text) (λ at_end. omega (arith, index_within text (range_end range) stored.end_is, h.1.2, row))
 
 -- ---- ends of a removal that are strictly inside no range
 
@@ -143,9 +122,6 @@ before_by text ranges place from (Character c) valid none h occurs ends =
 before_by text ranges place from Break valid none h occurs ends =
     whole_from_ends ranges from place (outside_end (lines text) ranges from valid (break_at_end text from h occurs)) (outside_start ranges place (ap (λ (p : Place). p.1) ends))
 
-pub whole_before : (text : List Symbol) (ranges : List AtomicRange) (place from : Place) (symbol : Symbol) → AreValid (lines text) ranges → range_at_place ranges place DeleteBackward ≡ None → IsSymbolBefore text place from symbol → TakesWhole ranges from place
-whole_before text ranges place from symbol valid none before = before_by text ranges place from symbol valid none before.is_place before.occurs before.ends
-
 -- and so does the removal of the symbol after it
 pub whole_after : (ranges : List AtomicRange) (place to : Place) (symbol : Symbol) → range_at_place ranges place DeleteForward ≡ None → to ≡ end place (symbol ∷ []) → TakesWhole ranges place to
 whole_after ranges place to (Character c) none ends =
@@ -178,5 +154,10 @@ pub whole_break : (text : List Symbol) (ranges : List AtomicRange) (place : Plac
 whole_break text ranges place valid fits =
     whole_from_ends ranges place (place.0 + 1, 0) (outside_end (lines text) ranges place valid (break_at_end text place fits.is_place fits.allowed)) (outside_start ranges (place.0 + 1, 0) refl)
 
-pub copy_ranges : (ranges copies : List AtomicRange) → AllZip (λ range copy. copy ≡ range) ranges copies → copies ≡ ranges
-copy_ranges ranges copies h = AllZip-map (λ range. range) ranges copies h ∙ map-id ranges
+-- ranges of a text whose positions are small can be moved
+pub movable : (text : List Symbol) (ranges : List AtomicRange) → ((place : Place) → IsPlace text place → (place.0 < size_limit) × (place.1 ≤ size_limit)) → AreValid (lines text) ranges → All IsMovable ranges
+movable text ranges small valid k d within =
+    let range = get_or ranges k d in
+    let segment = valid.components k d within in
+    let after = small (range_end range) (segment.0, segment.2) in
+    record { ordered = omega (arith, segment.1); row = omega (arith, after.0); column = after.1 }

@@ -69,13 +69,6 @@ sound_layout text settings count cursor maximum text_layout stored log layout_is
 pub start_is_place : (text : List Symbol) → IsPlace text (0, 0)
 start_is_place text = IsPlace-end [] text
 
--- a document with equal parts
-pub same_document : (text_layout other : TextAndLayout) (cursor : Place) (anchor : Option Place) (ranges copies : List AtomicRange) (log copy : Log) → other ≡ text_layout → copies ≡ ranges → copy ≡ log → document_of other cursor anchor copies copy ≡ document_of text_layout cursor anchor ranges log
-same_document text_layout other cursor anchor ranges copies log copy layout_is ranges_are log_is =
-    ap (λ (l : TextAndLayout). document_of l cursor anchor copies copy) layout_is
-    ∙ ap (λ (r : List AtomicRange). document_of text_layout cursor anchor r copy) ranges_are
-    ∙ ap (λ (l : Log). document_of text_layout cursor anchor ranges l) log_is
-
 -- ---- other settings
 
 -- other settings leave the text

@@ -1,16 +1,15 @@
 -- The symbol directly after a position.
-use Rattle.std.proofs.Common.{◌≡◌, ◌≢◌, ℕ, Bool, false, cond, ◌==◌, ◌+◌, ◌≤◌, ◌<◌, List, [], ◌∷◌, ◌++◌, length, take, drop, get_or, sym, ap, refl, ◌∙◌, arith, String, subst, Option, Some, None, ◌^◌, encode_utf8, encode_utf8_all}
+use Rattle.std.proofs.Common.{◌≡◌, ◌≢◌, ℕ, Bool, false, cond, ◌+◌, ◌≤◌, ◌<◌, List, [], ◌∷◌, ◌++◌, length, take, drop, get_or, sym, ap, refl, ◌∙◌, arith, subst, Option, Some, None, encode_utf8, encode_utf8_all}
 use Rattle.std.specs.Str.{IsCharBoundary}
+use Rattle.std.proofs.lemmas.Bool.{ne_eqb}
 use Rattle.std.proofs.lemmas.List.{drop_all, length-drop}
 use Rattle.std.proofs.lemmas.Str.{length-le-encodes}
 use Rattle.textarea_text.proofs.Columns.{IsCharBoundary-column, offset_in}
 use Rattle.textarea_text.proofs.Befores.{next_is}
-use Rattle.textarea_document.proofs.Area.{column_bound}
-use Rattle.textarea_document.specs.Prelude.{MatchOption, chars, IsUtf8, Symbol, Character, Break, joined, lines, lines_of, Place, IsPlace, IsPlaceOf, IsSymbolBefore, OccursAt, index_of, line_end, Fits, inserts_of, symbols_of, EditKind, DocumentState, after_edit, IsSymbolAfter, break_removal, symbol_removed_before, symbol_removed_after}
+use Rattle.textarea_document.specs.Prelude.{MatchOption, chars, IsUtf8, Symbol, Character, Break, joined, lines, Place, IsPlace, IsPlaceOf, OccursAt, index_of, line_end, Fits, inserts_of, symbols_of, EditKind, DocumentState, after_edit, IsSymbolAfter, break_removal, symbol_removed_after}
 use Rattle.textarea_text.proofs.Befores.{break_occurs, character_occurs}
 use Rattle.textarea_history.specs.Edit.{splice_of}
 use Rattle.textarea_text.proofs.TextPlaces.{joined-lines, place_of-index}
-use Rattle.std.proofs.lemmas.Bool.Decides.{nat_tests}
 
 -- an index with a symbol is not the text's end
 not_end : (text : List Symbol) (index : ℕ) (symbol : Symbol) → take 1 (drop index text) ≡ symbol ∷ [] → index ≢ length text
@@ -37,10 +36,6 @@ pub symbol_after_is : (Same : Type 0) (cs was rest : List ℕ) (column : ℕ) (f
 symbol_after_is Same cs was rest column None within e h = omega (arith, h.0, ap length e, length-le-encodes (drop column cs), length-drop column cs)
 symbol_after_is Same cs was rest column (Some c) within e h = next_is Same cs was rest column c (Some c) e h refl
 
--- one can be added to a column of a string without overflow
-pub column_in_string : {Z : Type 0} (items : List (String Z)) (place : Place) → IsPlaceOf (lines_of items) place → place.1 + 1 < 2 ^ 64
-column_in_string items place h = omega (arith, h.1, column_bound items place.0)
-
 -- ---- the break before a line
 
 -- the removal of the break at the end of a line fits the text, if another line follows
@@ -55,16 +50,9 @@ break_removal_fits text row within =
 
 -- ---- the removal of the symbol after the cursor, and of the one before it
 
-not_equal : (m n : ℕ) → m ≢ n → (m == n) ≡ false
-not_equal m n apart = grind (arith, nat_tests)
-
 pub symbol_removed_after_is : (document : DocumentState) (to : Place) (symbol : Symbol) (typed : Bool) (now : ℕ) → IsPlace document.text document.cursor → IsSymbolAfter document.text document.cursor to symbol → after_edit document (record { place = document.cursor; symbols = symbol ∷ []; inserts = false }) typed now ≡ symbol_removed_after document typed now
 symbol_removed_after_is document to symbol typed now h after =
-    rw (not_equal (index_of document.text document.cursor) (length document.text) after.index, after.symbol_is, place_of-index document.text document.cursor h) refl
-
-pub symbol_removed_before_is : (document : DocumentState) (start : Place) (symbol : Symbol) (typed : Bool) (now : ℕ) → IsSymbolBefore document.text document.cursor start symbol → after_edit document (record { place = start; symbols = symbol ∷ []; inserts = false }) typed now ≡ symbol_removed_before document typed now
-symbol_removed_before_is document start symbol typed now before =
-    rw (not_equal (index_of document.text document.cursor) 0 before.index, before.symbol_is, before.start_is) refl
+    rw (ne_eqb (index_of document.text document.cursor) (length document.text) after.index, after.symbol_is, place_of-index document.text document.cursor h) refl
 
 -- the splice of an edit that removes
 pub removal_of_kind : (kind : EditKind) (before after : Place) (symbols : List Symbol) → inserts_of kind ≡ false → symbols_of kind ≡ symbols → splice_of kind before after ≡ record { place = after; symbols = symbols; inserts = false }

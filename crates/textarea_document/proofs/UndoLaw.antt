@@ -26,13 +26,9 @@ redone_logged document = by (next document.log)
     by None = refl
     by (Some splice) = refl
 
-undone_times : (count : ℕ) (document : DocumentState) → logged (times count after_undo document) ≡ times count text_undone (logged document)
-undone_times zero document = refl
-undone_times (suc count) document = undone_logged (times count after_undo document) ∙ ap text_undone (undone_times count document)
-
-redone_times : (count : ℕ) (document : DocumentState) → logged (times count after_redo document) ≡ times count text_redone (logged document)
-redone_times zero document = refl
-redone_times (suc count) document = redone_logged (times count after_redo document) ∙ ap text_redone (redone_times count document)
+logged_times : (step : DocumentState → DocumentState) (text_step : Logged → Logged) → ((document : DocumentState) → logged (step document) ≡ text_step (logged document)) → (count : ℕ) (document : DocumentState) → logged (times count step document) ≡ times count text_step (logged document)
+logged_times step text_step one zero document = refl
+logged_times step text_step one (suc count) document = one (times count step document) ∙ ap text_step (logged_times step text_step one count document)
 
 -- the last of `count` redos leaves the cursor where the newest edit does
 cursor_again : (count : ℕ) (document : DocumentState) (found : Option Splice) → newest document.log ≡ found → IsSound document → count ≤ length document.log.done → 0 < count → IfSome found (λ splice. (times count after_redo (times count after_undo document)).cursor ≡ place_after splice)
@@ -40,15 +36,15 @@ cursor_again zero document found e h within some = absurd (omega arith)
 cursor_again (suc count) document None e h within some = tt
 cursor_again (suc count) document (Some splice) e h within some =
     let left = times (suc count) after_undo document in
-    let is = redone_times count left ∙ ap (times count text_redone) (undone_times (suc count) document) in
+    let is = logged_times after_redo text_redone redone_logged count left ∙ ap (times count text_redone) (logged_times after_undo text_undone undone_logged (suc count) document) in
     let ahead : next (times count after_redo left).log ≡ Some splice = ap (λ (l : Logged). next l.log) is ∙ next_again count (logged document) splice (logged_sound document h) e within in
     ap (λ (o : Option Splice). (after_redo_by o (times count after_redo left)).cursor) ahead
 
 pub gives_back : (count : ℕ) (document : DocumentState) → IsSound document → count ≤ length document.log.done → RestoresDocument document count
 gives_back count document h within =
     let supplied = text_gives_back count (logged document) (logged_sound document h) within in
-    let back = undone_times count document in
-    let again = redone_times count (times count after_undo document) ∙ ap (times count text_redone) back in
+    let back = logged_times after_undo text_undone undone_logged count document in
+    let again = logged_times after_redo text_redone redone_logged count (times count after_undo document) ∙ ap (times count text_redone) back in
     record {
       before = subst (λ (l : Logged). IsTextBefore l.text document.text (drop (length document.log.done - count) document.log.done)) (sym back) supplied.before;
       again = subst (λ (l : Logged). IsSame l (logged document)) (sym again) supplied.again;
@@ -90,7 +86,7 @@ pub gives_all_back : (document : DocumentState) (splice : Splice) (typed : Bool)
 gives_all_back document splice typed now h fits some =
     let log = document.log in
     let left = after_edit document splice typed now in
-    let remembers : (log.maximum == 0) ≡ false = positive log.maximum some in
+    let remembers : (log.maximum == 0) ≡ false = grind (arith, nat_tests) in
     let found = newest_after log splice typed now (joins log splice typed now) refl in
     let log_is : left.log ≡ with_done log (done_after log splice (joins log splice typed now)) (is_typed splice typed) now = cond-false (log.maximum == 0) log (with_done log (done_after log splice (joins log splice typed now)) (is_typed splice typed) now) remembers in
     let newest_is : newest left.log ≡ Some found.0 = ap newest log_is ∙ found.1 in
@@ -98,6 +94,3 @@ gives_all_back document splice typed now h fits some =
     let back = gives_back 1 left (sound_edited document splice typed now h fits) within in
     let cursor : (after_redo (after_undo left)).cursor ≡ place_after found.0 = subst (λ (o : Option Splice). IfSome o (λ s. (after_redo (after_undo left)).cursor ≡ place_after s)) newest_is (back.cursor (omega arith)) in
     record { same = back.again; cursor = cursor ∙ found.2 }
-  where
-    positive : (n : ℕ) → 0 < n → (n == 0) ≡ false
-    positive n some = grind (arith, nat_tests)

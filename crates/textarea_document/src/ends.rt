@@ -1,6 +1,6 @@
 //! The position before another one, and the ends of a word's removal.
-ghost use Rattle.std.specs.Prelude.{◌≡◌, ◌+◌, ◌<◌, ◌≤◌, length, IfSome, MatchOption};
-ghost use Rattle.textarea_document.specs.Prelude.{chars, lines_of, text_of, IsPlaceOf, index_of, previous_place, word_end_after, word_start_before};
+ghost use Rattle.std.specs.Prelude.{◌≡◌, ◌<◌, ◌≤◌, length, IfSome};
+ghost use Rattle.textarea_document.specs.Prelude.{chars, lines_of, text_of, IsPlaceOf, previous_place, word_end_after, word_start_before};
 
 use textarea_text::places::line_end;
 use textarea_text::rows::column_count;
@@ -11,9 +11,6 @@ pub(crate) fn previous_place(lines: &[String], place: (usize, usize)) -> Option<
     requires { IsPlaceOf (lines_of lines.now) place }
     ensures value { result ≡ previous_place (text_of lines.now) place }
     ensures place { IfSome result (λ previous. IsPlaceOf (lines_of lines.now) previous) }
-    ensures index { MatchOption result (index_of (text_of lines.now) place ≡ 0)
-        (λ previous.
-        index_of (text_of lines.now) previous + 1 ≡ index_of (text_of lines.now) place) }
 {
     let (row, column) = place;
     if 0 < column {

@@ -1,8 +1,7 @@
 -- A list is accepted exactly if it is valid; and the list of rejected ranges, range by range.
-use Rattle.std.proofs.Common.{◌≡◌, ◌≢◌, ◌↔◌, ℕ, ◌+◌, ◌<◌, ◌≤◌, List, [], ◌∷◌, ◌++◌, Option, Some, None, refl, sym, ap, ◌∙◌, inl, inr, arith, subst, zero-le, drop, get_or, length, String}
-use Rattle.std.proofs.lemmas.Grind.{common_steps}
+use Rattle.std.proofs.Common.{◌≡◌, ◌≢◌, ◌↔◌, ℕ, ◌≤◌, List, [], ◌∷◌, ◌++◌, Option, Some, None, refl, sym, ap, ◌∙◌, inl, inr, arith, subst, zero-le, length, String}
 use Rattle.std.proofs.lemmas.Bool.Decides.{nat_tests}
-use Rattle.std.proofs.lemmas.List.{append_assoc, drop_more, get_or_past, length-map}
+use Rattle.std.proofs.lemmas.List.{get_or_past, length-map}
 use Rattle.std.proofs.lemmas.List.Elements.{All-from_recursion, recursion_from_All}
 use Rattle.textarea_ranges.specs.Prelude.{Global, AllByRecursion, AtomicRange, RejectedAtomicRange, AtomicRangeRejectReason, line_of, characters_of, lines_of, AreInOrder, in_order, is_range_before, free_from, last_valid, reason, rejected_after, rejected_of, with_reason, AreAccepted, AreRejected, AreDisjoint, AreValid, IsRangeOfLine}
 use Rattle.textarea_ranges.proofs.Lists.{AllPairs-later, EachLater, each_both, each_weaker, later-AllPairs}
@@ -143,11 +142,3 @@ pub AreRejected-in_order : (rows : List (List ℕ)) (supplied stored : List Atom
 AreRejected-in_order rows supplied stored rejected order listed some =
     let all : rejected ≡ rejected_of rows (in_order supplied) = listed ∙ ap (rejected_of rows) order in
     record { listed = all; some = some; invalid = λ valid. some (all ∙ (accepted_if_valid rows supplied).1 valid) }
-
--- the rejected ranges up to a range and those of the rest are all, also with this range judged
-pub listed_on : (rows : List (List ℕ)) (ranges : List AtomicRange) (index : ℕ) (none : AtomicRange) (last after : Option AtomicRange) (items new all : List RejectedAtomicRange) → index < length ranges → items ++ rejected_after rows last (drop index ranges) ≡ all → new ≡ items ++ with_reason (get_or ranges index none) (reason rows last (get_or ranges index none)) → after ≡ last_valid last (get_or ranges index none) (reason rows last (get_or ranges index none)) → new ++ rejected_after rows after (drop (index + 1) ranges) ≡ all
-listed_on rows ranges index none last after items new all within old listed is =
-    let range = get_or ranges index none in
-    let why = reason rows last range in
-    let rest = drop (index + 1) ranges in
-    grind (arith, common_steps, append_assoc items (with_reason range why) (rejected_after rows (last_valid last range why) rest), drop_more ranges index none within)

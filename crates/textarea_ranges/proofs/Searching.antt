@@ -1,9 +1,9 @@
 -- Binary searches in ranges that are apart, and what the range that is found decides.
-use Rattle.std.proofs.Common.{◌≡◌, ◌≤◌, ◌<◌, ℕ, ◌+◌, ◌⊎◌, inl, inr, Bool, true, false, cond, not, List, [], ◌∷◌, length, take, drop, get_or, find, Option, Some, None, All, AllPairs, refl, sym, ap, subst, ◌∙◌, arith, zero-le}
+use Rattle.std.proofs.Common.{◌≡◌, ◌≤◌, ◌<◌, ℕ, ◌⊎◌, inl, inr, Bool, true, false, cond, not, List, [], ◌∷◌, length, take, get_or, find, Option, Some, None, All, AllPairs, refl, sym, ap, subst, ◌∙◌, arith, zero-le}
 use Rattle.textarea_ranges.specs.Prelude.{Place, IsUpTo, is_up_to, AtomicRange, AtomicDeleteDirection, AreApart, AreInOrder, AreValid, has_ended, is_inside, is_range_at_place, is_range_before, moved_by, passes_end, range_around, range_at_place, range_end, range_start, slice_get, AllByRecursion, IsPartitionedBy, IsPartitionPoint}
 use Rattle.std.proofs.lemmas.Bool.{cases_Bool, cases_lt, cond-true, cond-false}
 use Rattle.std.proofs.lemmas.Bool.Decides.{nat_tests}
-use Rattle.std.proofs.lemmas.List.{get_or-drop, get_or-take, length-drop, length-take-le}
+use Rattle.std.proofs.lemmas.List.{get_or-take, length-take-le}
 use Rattle.std.proofs.lemmas.List.Folds.{find_at}
 use Rattle.std.proofs.lemmas.List.Sums.{position_or_len_is}
 use Rattle.textarea_data.specs.declared.range.AtomicDeleteDirection.TheVariants.{Backward as DeleteBackward, Forward as DeleteForward}
@@ -65,11 +65,6 @@ pub front_passes : (P : AtomicRange → Type 0) (xs : List AtomicRange) (i : ℕ
 front_passes P xs i within h k d lt =
     let below : k < i = omega (arith, length-take-le i xs within) in
     subst P (sym (get_or-take i xs k d below)) (h k d zero-le below)
-
-pub back_passes : (P : AtomicRange → Type 0) (xs : List AtomicRange) (i : ℕ) → ((k : ℕ) (d : AtomicRange) → i ≤ k → k < length xs → P (get_or xs k d)) →
-    All P (drop i xs)
-back_passes P xs i h k d lt =
-    subst P (sym (get_or-drop i xs k d)) (h (i + k) d (omega arith) (omega (arith, length-drop i xs)))
 
 -- ---- the first range that has not ended decides the search
 
@@ -139,7 +134,3 @@ at_place_decided ranges place direction h =
 -- one that ends at or before its start
 pub stays_before : (start old new : Place) (range : AtomicRange) → has_ended start true range ≡ true → moved_by start old new range ≡ Some range
 stays_before start old new range e = cond-true (is_up_to (range_end range) start) (Some range) _ e
-
--- one below its row, if no row moves
-pub stays_below : (start old new : Place) (range : AtomicRange) → old.0 ≡ new.0 → has_ended (old.0 + 1, 0) true range ≡ false → moved_by start old new range ≡ Some range
-stays_below start old new range same e = grind (arith, nat_tests)

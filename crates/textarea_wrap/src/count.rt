@@ -32,7 +32,7 @@ impl WrapCount {
     pub(crate) fn tick(&mut self)
         ensures { self.new ≡ self.old + 1 }
     {
-        self.tally = self.tally.next();
+        self.tally = self.tally.plus(1);
     }
 }
 
@@ -44,7 +44,7 @@ impl Clone for WrapCount {
     /// Returns another counter at the same number. Allocates nothing.
     fn clone(&self) -> Result<WrapCount, AllocError> {
         Ok(WrapCount {
-            tally: self.tally.same(),
+            tally: self.tally.plus(0),
         })
     }
 }

@@ -1,6 +1,6 @@
 //! An unbounded number that only contracts see. It has no bytes, and its functions do nothing.
 //!
-//! The three functions are proved by hand; such a proof could set any number, so no other code
+//! The two functions are proved by hand; such a proof could set any number, so no other code
 //! makes a `GhostCount`.
 ghost use Rattle.std.specs.Prelude.{◌≡◌, ℕ, ◌+◌};
 ghost use Rattle.std.specs.Borrow.{ftrue};
@@ -28,18 +28,9 @@ impl GhostCount {
         }
     }
 
-    /// Returns a tally at the same number.
-    pub fn same(&self) -> GhostCount
-        ensures { result.number ≡ self.now.number }
-    {
-        GhostCount {
-            marker: PhantomData,
-        }
-    }
-
-    /// Returns a tally at the next number.
-    pub fn next(&self) -> GhostCount
-        ensures { result.number ≡ self.now.number + 1 }
+    /// Returns a tally at a number that is greater by the amount.
+    pub fn plus(&self, amount: usize) -> GhostCount
+        ensures { result.number ≡ self.now.number + amount }
     {
         GhostCount {
             marker: PhantomData,

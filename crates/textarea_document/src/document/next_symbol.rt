@@ -1,8 +1,9 @@
 //! The symbol after the cursor.
-ghost use Rattle.std.specs.Prelude.{◌≡◌, ◌≤◌, MatchOption, ◌∷◌, ◌+◌, drop, take, encode_utf8_all, length};
-ghost use Rattle.textarea_document.specs.Prelude.{chars, offset_at, lines_of, symbol_in, text_of, IsPlaceOf, index_of, cursor_index, IsSymbolAfter};
+ghost use Rattle.std.specs.Prelude.{◌≡◌, ◌≤◌, IfSome, MatchOption, ◌∷◌, ◌+◌, drop, take, encode_utf8_all, length, option_map};
+ghost use Rattle.textarea_document.specs.Prelude.{chars, offset_at, lines_of, symbol_in, text_of, IsPlace, IsPlaceOf, index_of, cursor_index, IsSymbolAfter, next_place};
 
 use crate::document::Document;
+use textarea_text::places::line_of;
 
 // The symbol after a position, and its end: a character, or `None` for the break between two lines.
 #[derive(Clone, Copy)]
@@ -15,9 +16,12 @@ impl Document {
     // Returns the symbol after the cursor; `None` at the text's end. Of a long line only the text
     // from the nearest known position on is read.
     pub(super) fn symbol_after_cursor(&self) -> Option<SymbolAfter>
-        ensures { MatchOption result (cursor_index self.now ≡ length self.now.text)
+        ensures symbol { MatchOption result (cursor_index self.now ≡ length self.now.text)
             (λ after. IsSymbolAfter self.now.text self.now.cursor after.end
             (symbol_in after.character)) }
+        ensures next { option_map (λ after. after.end) result
+            ≡ next_place self.now.text self.now.cursor }
+        ensures place { IfSome result (λ after. IsPlace self.now.text after.end) }
     {
         let cursor = self.cursor();
         let offset = self.text_layout.offset_of(cursor);
@@ -34,7 +38,7 @@ fn symbol_after(lines: &[String], place: (usize, usize), offset: usize) -> Optio
         IsSymbolAfter (text_of lines.now) place after.end (symbol_in after.character)) }
 {
     let (row, column) = place;
-    if let Some(c) = character_after(lines[row].as_str(), column, offset) {
+    if let Some(c) = character_after(line_of(lines, row), column, offset) {
         return Some(SymbolAfter {
             end: (row, column + 1),
             character: Some(c),

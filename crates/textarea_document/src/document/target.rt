@@ -1,6 +1,6 @@
 //! The targets of cursor moves.
 ghost use Rattle.std.specs.Prelude.{◌≡◌, IfSome};
-ghost use Rattle.textarea_document.specs.Prelude.{IsPlace, IsDocumentTarget, next_place};
+ghost use Rattle.textarea_document.specs.Prelude.{IsPlace, IsDocumentTarget};
 
 use crate::document::Document;
 use crate::ends::previous_place;
@@ -22,7 +22,7 @@ impl Document {
         let cursor = self.cursor();
         let (row, column) = cursor;
         match cursor_move {
-            CursorMove::Forward => self.after_cursor(),
+            CursorMove::Forward => Some(self.symbol_after_cursor()?.end),
             CursorMove::Back => previous_place(lines, cursor),
             CursorMove::Up => self.above(),
             CursorMove::Down => self.below(),
@@ -40,15 +40,5 @@ impl Document {
             }
             CursorMove::InViewport => None,
         }
-    }
-
-    // Returns the position after the symbol at the cursor; `None` at the text's end.
-    fn after_cursor(&self) -> Option<(usize, usize)>
-        ensures value { result ≡ next_place self.now.text self.now.cursor }
-        ensures place { IfSome result (IsPlace self.now.text) }
-    {
-        let _cursor = self.cursor(); // it is a position of the text, so the end is one too
-        let after = self.symbol_after_cursor()?;
-        Some(after.end)
     }
 }

@@ -2,7 +2,7 @@ use Rattle.std.proofs.Common.{◌≡◌, ◌≤◌, ◌∙◌, List, ap, arith, 
 use Rattle.textarea_document.specs.Prelude.{size_limit, Symbol, Place, IsPlace, TextAndLayout, applied, lines, place_after, place_before, moved_by, moved_ranges}
 use Rattle.textarea_text.proofs.TextPlaces.{takes_back}
 use Rattle.textarea_ranges.proofs.Searching.{AreApart-valid}
-use Rattle.textarea_document.proofs.Moves.{movable}
+use Rattle.textarea_document.proofs.Ranges.{movable}
 use Rattle.textarea_document.proofs.document.make_change.Goals as goal
 
 pub move_ranges-requires-clause-apart : goal.move_ranges-requires-clause-apart

@@ -1,11 +1,8 @@
-use Rattle.textarea_ranges.proofs.Moving.{covers_the_same, dropped, in_order_moved, valid_moved}
+use Rattle.textarea_ranges.proofs.Moving.{covers_the_same, in_order_moved, valid_moved}
 use Rattle.textarea_ranges.proofs.laws.ranges_follow_the_text.Goals as goal
 
 pub returns-clause-covers : goal.returns-clause-covers
 returns-clause-covers c = covers_the_same
-
-pub returns-clause-dropped : goal.returns-clause-dropped
-returns-clause-dropped c = dropped
 
 pub returns-clause-valid : goal.returns-clause-valid
 returns-clause-valid c = valid_moved

@@ -1,5 +1,4 @@
-use Rattle.std.proofs.Common.{◌≡◌, ◌<◌, ◌+◌, ℕ, List, Some, None, arith, get_or, length, set, refl, subst, sym, ◌∙◌}
-use Rattle.std.proofs.lemmas.List.Elements.{All-drop}
+use Rattle.std.proofs.Common.{◌≡◌, ◌<◌, ◌+◌, ℕ, List, Some, None, arith, get_or, length, set, subst, sym, ◌∙◌}
 use Rattle.textarea_ranges.specs.Prelude.{AtomicRange, IsMovable, moved_by}
 use Rattle.textarea_ranges.proofs.Closing.{Closing, closing_none, closing_some, first_of_rest}
 use Rattle.textarea_ranges.proofs.moved.close_up.Goals as goal
@@ -29,11 +28,6 @@ loop-index-preserved c =
           subst (λ (xs : List AtomicRange). Closing f IsMovable xs c.match-moved.retained (index + 1) c.args.first all) (sym w.ranges-is)
           (subst (λ (n : ℕ). Closing f IsMovable before n (index + 1) c.args.first all) (sym w.retained-is) next)
     ]
-
-pub loop-index-init : goal.loop-index-init
-loop-index-init c =
-    let all : List AtomicRange = c.args.ranges.now in
-    record { ordered = omega arith; len = refl; each = All-drop IsMovable c.args.first all c.requires.movable; rest = refl; closes = refl }
 
 pub moved-requires-clause-movable : goal.moved-requires-clause-movable
 moved-requires-clause-movable c = first_of_rest IsMovable c.loop-index.ranges c.loop-index.index _ (omega arith) c.loop-index.invariant.each

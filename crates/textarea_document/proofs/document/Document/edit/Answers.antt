@@ -1,12 +1,8 @@
-use Rattle.std.proofs.Common.{◌≡◌, ◌∙◌, None, ap, refl, sym, subst}
+use Rattle.std.proofs.Common.{◌≡◌, ◌∙◌, None, ap, sym, subst}
 use Rattle.textarea_document.specs.Prelude.{as_nanos, Fits, Log, DocumentState, document_of, after_edit, recorded, IsSound}
-use Rattle.textarea_document.proofs.Sounds.{changed_is, same_document, sound_edited}
+use Rattle.textarea_document.proofs.Sounds.{changed_is, sound_edited}
 use Rattle.textarea_document.proofs.document.Document.edit.Goals as goal
 use Rattle.textarea_document.proofs.document.Document.edit.Goals.{After-put}
-
-pub make_change-requires-clause-fits : goal.make_change-requires-clause-fits
-make_change-requires-clause-fits c =
-    subst (Fits c.self.inside.text_layout.text) (sym c.change.ensures) (subst (λ (s : DocumentState). Fits s.text c.args.edit.splice) (sym c.self.view_is) c.requires.fits)
 
 -- the resulting document is the one after the edit
 left : (c : After-put) → document_of c.make_change.new.text_layout c.in_ok-ahead.ahead None c.make_change.new.ranges.items c.put.new.self.log ≡ after_edit (document_of c.self.inside.text_layout c.self.inside.cursor c.self.inside.anchor c.self.inside.ranges.items c.self.inside.history.log) c.args.edit.splice c.args.typed (as_nanos c.args.now)
@@ -17,24 +13,9 @@ left c =
     changed_is inside.text_layout c.make_change.new.text_layout inside.cursor c.in_ok-ahead.ahead inside.anchor inside.ranges.items c.make_change.new.ranges.items inside.history.log c.put.new.self.log (recorded inside.history.log splice c.args.typed (as_nanos c.args.now)) _ splice c.change.ensures is.text_layout is.cursor is.ranges
     (c.put.ensures ∙ ap (λ (l : Log). recorded l splice c.args.typed (as_nanos c.args.now)) c.reserve.ensures.same)
 
-pub invariant_of-self : goal.invariant_of-self
-invariant_of-self c =
-    let inside = c.self.inside in
-    subst IsSound (sym (same_document inside.text_layout inside.text_layout inside.cursor inside.anchor inside.ranges.items inside.ranges.items inside.history.log c.reserve.new.self.log refl refl c.reserve.ensures.same)) c.self.invariant
-
-pub invariant_of-self-in_err-ahead : goal.invariant_of-self-in_err-ahead
-invariant_of-self-in_err-ahead c =
-    let inside = c.self.inside in
-    let stays = c.in_err-ahead.ensures in
-    subst IsSound (sym (same_document inside.text_layout c.make_change.new.text_layout inside.cursor inside.anchor inside.ranges.items c.make_change.new.ranges.items inside.history.log c.reserve.new.self.log stays.layout_stays stays.ranges_stay c.reserve.ensures.same)) c.self.invariant
-
 pub invariant_of-self-2 : goal.invariant_of-self-2
 invariant_of-self-2 c =
     let inside = c.self.inside in
     let document = document_of inside.text_layout inside.cursor inside.anchor inside.ranges.items inside.history.log in
     subst IsSound (sym (left (goal.at.invariant_of-self-2 c).After-put))
     (sound_edited document c.args.edit.splice c.args.typed (as_nanos c.args.now) c.self.invariant (subst (λ (s : DocumentState). Fits s.text c.args.edit.splice) (sym c.self.view_is) c.requires.fits))
-
-pub returns-clause-ok : goal.returns-clause-ok
-returns-clause-ok c =
-    left (goal.at.returns-clause-ok c).After-put ∙ ap (λ (s : DocumentState). after_edit s c.args.edit.splice c.args.typed (as_nanos c.args.now)) c.self.view_is

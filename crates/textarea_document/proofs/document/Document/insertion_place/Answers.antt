@@ -6,9 +6,6 @@ use Rattle.textarea_document.proofs.document.Document.insertion_place.Goals as g
 valid : (c : goal.After-move_out) → AreValid (lines c.self.inside.text_layout.text) c.as_slice.result.now
 valid c = subst (AreValid (lines c.self.inside.text_layout.text)) (sym c.as_slice.ensures.value) c.self.invariant.ranges
 
-pub returns-clause-small : goal.returns-clause-small
-returns-clause-small c = c.lines-lines.ensures.small c.move_out.result (c.move_out.ensures.place (lines c.self.inside.text_layout.text) (valid c) c.self.invariant.cursor)
-
 pub returns-clause-outside : goal.returns-clause-outside
 returns-clause-outside c =
     subst (λ (s : DocumentState). All (λ range. ¬ IsInside c.move_out.result range) s.ranges) c.self.view_is

@@ -1,8 +1,6 @@
-use Rattle.std.proofs.Common.{◌≡◌, ◌≢◌, ◌∙◌, ◌==◌, ◌-◌, ◌+◌, ◌<◌, ℕ, ap, cond, sym, arith, false, length, refl}
-use Rattle.std.proofs.lemmas.Bool.Decides.{nat_tests}
-use Rattle.textarea_document.specs.Prelude.{as_nanos, lines, Place, line_end, Splice, break_removal, after_edit, unanchored}
+use Rattle.std.proofs.Common.{◌≡◌, ◌∙◌, ◌-◌, ◌+◌, ◌<◌, ap, arith, length, refl}
+use Rattle.textarea_document.specs.Prelude.{lines, Place, break_removal}
 use Rattle.textarea_document.proofs.SymbolAfters.{break_removal_fits}
-use Rattle.textarea_document.proofs.Ranges.{whole_break}
 use Rattle.textarea_document.proofs.document.Document.remove_break.Goals as goal
 use Rattle.textarea_document.proofs.document.Document.remove_break.Goals.{After-between}
 
@@ -21,21 +19,3 @@ pub edit-requires-clause-fits : goal.edit-requires-clause-fits
 edit-requires-clause-fits c =
     let made = (goal.at.edit-requires-clause-fits c).After-between in
     rw (removes made) (break_removal_fits c.args.self.now.text (c.args.self.now.cursor.0 - 1) (within made))
-
-pub edit-requires-clause-splits_none : goal.edit-requires-clause-splits_none
-edit-requires-clause-splits_none c =
-    let document = c.args.self.now in
-    let row = document.cursor.0 - 1 in
-    let made = (goal.at.edit-requires-clause-splits_none c).After-between in
-    rw (removes made) (whole_break document.text document.ranges (line_end (lines document.text) row) c.lines.ensures.ranges (break_removal_fits document.text row (within made)))
-
-pub returns-clause-ok : goal.returns-clause-ok
-returns-clause-ok c =
-    let document = c.args.self.now in
-    let made = (goal.at.returns-clause-ok c).After-between in
-    c.in_ok-edit.ensures.ok
-    ∙ ap (λ (s : Splice). after_edit document s false (as_nanos c.args.now)) (removes made)
-    ∙ ap (λ b. cond b (unanchored document) (after_edit document (break_removal document.text (document.cursor.0 - 1)) false (as_nanos c.args.now))) (sym (not_first document.cursor.0 (λ first. c.if-row-eq0.false (row_is made ∙ first))))
-  where
-    not_first : (row : ℕ) → row ≢ 0 → (row == 0) ≡ false
-    not_first row apart = grind (arith, nat_tests)

@@ -13,7 +13,7 @@ pub edit-requires-clause-splits_none : goal.edit-requires-clause-splits_none
 edit-requires-clause-splits_none c =
     let document = c.args.self.now in
     let found = c.in-Some.after in
-    let ends = c.in-Some.ensures.ends in
+    let ends = c.in-Some.ensures.symbol.ends in
     rw (removes (goal.at.edit-requires-clause-splits_none c).After-between) (subst (TakesWhole document.ranges document.cursor) ends (whole_after document.ranges document.cursor found.end (symbol_in found.character) c.requires.none_at_place ends))
 
 pub returns-clause-ok : goal.returns-clause-ok
@@ -22,4 +22,4 @@ returns-clause-ok c =
     let found = c.in-Some.after in
     c.in_ok-edit.ensures.ok
     ∙ ap (λ (s : Splice). after_edit document s c.args.typed (as_nanos c.args.now)) (removes (goal.at.returns-clause-ok c).After-between)
-    ∙ symbol_removed_after_is document found.end (symbol_in found.character) c.args.typed (as_nanos c.args.now) (subst (IsPlace document.text) c.cursor-cursor.ensures.value c.cursor-cursor.ensures.place) c.in-Some.ensures
+    ∙ symbol_removed_after_is document found.end (symbol_in found.character) c.args.typed (as_nanos c.args.now) (subst (IsPlace document.text) c.cursor-cursor.ensures.value c.cursor-cursor.ensures.place) c.in-Some.ensures.symbol

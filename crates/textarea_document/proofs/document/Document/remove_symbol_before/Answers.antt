@@ -1,7 +1,7 @@
-use Rattle.std.proofs.Common.{◌≡◌, ◌∙◌, ◌∷◌, [], ap, false, subst}
-use Rattle.textarea_document.specs.Prelude.{as_nanos, symbol_in, IsSymbolBefore, Splice, TakesWhole, after_edit}
-use Rattle.textarea_document.proofs.SymbolAfters.{removal_of_kind, symbol_removed_before_is}
-use Rattle.textarea_document.proofs.Ranges.{whole_before}
+use Rattle.std.proofs.Common.{◌≡◌, ◌∙◌, ◌∷◌, [], false, subst}
+use Rattle.textarea_document.specs.Prelude.{symbol_in, IsSymbolBefore, TakesWhole}
+use Rattle.textarea_document.proofs.SymbolAfters.{removal_of_kind}
+use Rattle.textarea_document.proofs.Ranges.{before_by}
 use Rattle.textarea_document.proofs.document.Document.remove_symbol_before.Goals as goal
 use Rattle.textarea_document.proofs.document.Document.remove_symbol_before.Goals.{After-between}
 
@@ -20,13 +20,4 @@ edit-requires-clause-splits_none c =
     let before = c.in-Some.before in
     let made = (goal.at.edit-requires-clause-splits_none c).After-between in
     let known = occurs made in
-    rw (removes made) (subst (TakesWhole document.ranges before.start) known.ends (whole_before document.text document.ranges document.cursor before.start (symbol_in before.character) c.lines.ensures.ranges c.requires.none_at_place known))
-
-pub returns-clause-ok : goal.returns-clause-ok
-returns-clause-ok c =
-    let document = c.args.self.now in
-    let before = c.in-Some.before in
-    let made = (goal.at.returns-clause-ok c).After-between in
-    c.in_ok-edit.ensures.ok
-    ∙ ap (λ (s : Splice). after_edit document s c.args.typed (as_nanos c.args.now)) (removes made)
-    ∙ symbol_removed_before_is document before.start (symbol_in before.character) c.args.typed (as_nanos c.args.now) (occurs made)
+    rw (removes made) (subst (TakesWhole document.ranges before.start) known.ends (before_by document.text document.ranges document.cursor before.start (symbol_in before.character) c.lines.ensures.ranges c.requires.none_at_place known.is_place known.occurs known.ends))

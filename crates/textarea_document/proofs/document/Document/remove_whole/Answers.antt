@@ -23,6 +23,3 @@ edit-requires-clause-fits c = rw (removes (goal.at.edit-requires-clause-fits c).
 pub edit-requires-clause-splits_none : goal.edit-requires-clause-splits_none
 edit-requires-clause-splits_none c =
     rw (removes (goal.at.edit-requires-clause-splits_none c).After-edit_of) (subst (TakesWhole c.args.self.now.ranges c.args.from) (between_ends c.args.self.now.text c.args.from c.args.to c.requires.from c.requires.to (omega (arith, c.requires.ordered))) c.requires.whole)
-
-pub returns-clause-ok : goal.returns-clause-ok
-returns-clause-ok c = rw (removes (goal.at.returns-clause-ok c).After-edit_of) at c.edit.ensures.ok

@@ -1,6 +1,5 @@
-use Rattle.std.proofs.Common.{◌∙◌, List, Option, ap, sym, subst}
-use Rattle.textarea_document.specs.Prelude.{IfSome, lines, IsPlace, Place, AtomicRange, moved_out, AreValid, anchor_out, with_ranges, unless_empty, DocumentState, document_of}
-use Rattle.textarea_data.specs.declared.range.AtomicCursorBias.TheVariants.{Forward}
+use Rattle.std.proofs.Common.{sym, subst}
+use Rattle.textarea_document.specs.Prelude.{IfSome, lines, IsPlace, AreValid, unless_empty, DocumentState}
 use Rattle.textarea_document.proofs.Ranges.{apart_slice, anchor_place}
 use Rattle.textarea_document.proofs.document.Document.store_ranges.Goals as goal
 
@@ -22,18 +21,6 @@ invariant_of-self c =
       redo = old.redo;
       bounded = old.bounded;
     }
-
-pub returns : goal.returns
-returns c =
-    let inside = c.self.inside in
-    let supplied = c.args.ranges.items in
-    let at = c.move_out-cursor.result in
-    ap (λ (o : Option Place). document_of inside.text_layout at o supplied inside.history.log)
-    (c.unless_empty-self-inside.ensures
-    ∙ ap (λ (o : Option Place). unless_empty o at) (c.anchor_out-anchor.ensures ∙ ap (λ (r : List AtomicRange). anchor_out r inside.anchor) c.as_slice-2.ensures.value))
-    ∙ ap (λ (p : Place). document_of inside.text_layout p (unless_empty (anchor_out supplied inside.anchor) p) supplied inside.history.log)
-    (c.move_out-cursor.ensures.value ∙ ap (λ (r : List AtomicRange). moved_out r inside.cursor Forward) c.as_slice.ensures.value)
-    ∙ ap (λ (s : DocumentState). with_ranges s supplied) c.self.view_is
 
 pub move_out-cursor-requires : goal.move_out-cursor-requires
 move_out-cursor-requires c = apart_slice (lines c.args.self.now.text) _ _ c.requires.valid c.requires.in_order c.as_slice.ensures.value

@@ -7,6 +7,3 @@ pub returns-in-Ok-clause-judged : goal.returns-in-Ok-clause-judged
 returns-in-Ok-clause-judged c =
     let stored = rw c.in-Ok.is at c.in_ok-stored.ensures in
     valid_from_in_order (lines c.args.self.now.text) c.args.ranges.items (subst (AreValid (lines c.args.self.now.text)) stored.order (rw c.lines.ensures.lines at stored.valid))
-
-pub returns-in-Err-clause-judged : goal.returns-in-Err-clause-judged
-returns-in-Err-clause-judged c = rw (c.in-Err.is, c.lines.ensures.lines) at c.in_ok-stored.ensures

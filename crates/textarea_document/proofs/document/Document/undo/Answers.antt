@@ -21,6 +21,3 @@ left c =
 pub invariant_of-self-2 : goal.invariant_of-self-2
 invariant_of-self-2 c =
     subst IsSound (sym (left (goal.at.invariant_of-self-2 c).After-step_back)) (sound_undone _ c.in-Some.edit.now.splice c.self.invariant c.in-Some.ensures.edit)
-
-pub returns-clause-ok : goal.returns-clause-ok
-returns-clause-ok c = rw (← c.self.view_is, c.in-Some.ensures.edit) (left (goal.at.returns-clause-ok c).After-step_back)
