@@ -105,8 +105,8 @@ impl RowBlocks {
         self.lines_before(self.blocks.len())
     }
 
-    // Returns the number of visual rows of all lines.
-    pub(crate) fn row_count(&self) -> usize
+    /// Returns the number of visual rows of all lines.
+    pub fn row_count(&self) -> usize
         ensures { result ≡ row_total (all_rows self.now.blocks) }
     {
         self.rows_before(self.blocks.len())

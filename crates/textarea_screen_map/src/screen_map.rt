@@ -10,6 +10,7 @@ use std::alloc::{AllocError, Global};
 use std::marker::Model;
 use textarea_blocks::blocks::RowBlocks;
 use textarea_blocks::sums::{count_rows, size_of_rows};
+use textarea_text::rows::size_within_limit;
 use textarea_util::limit::within_limit;
 use textarea_wrap::wrap::{Rows, WrapCount};
 
@@ -121,18 +122,6 @@ fn block_of(rows: Vec<Rows>) -> Result<RowBlocks, AllocError>
     Ok(block)
 }
 
-// Returns the number of rows and the size of their lines. Out of memory if one is above 2^48.
-fn sums_within_limit(blocks: &RowBlocks) -> Result<(usize, usize), AllocError>
-    ensures rows { IfOk result (λ sums. sums.0 ≡ row_total (all_rows blocks.now.blocks)) }
-    ensures size { IfOk result (λ sums. sums.1 ≡ size_total (all_rows blocks.now.blocks)) }
-    ensures limit { OnOk result (IsWithinLimit (all_rows blocks.now.blocks)) }
-{
-    let (total, size) = blocks.sums_of(0, blocks.line_count());
-    within_limit(size)?;
-    within_limit(total)?;
-    Ok((total, size))
-}
-
 // Replaces the rows of the `count` lines from `row` on. There must be room. Allocates nothing.
 fn put_rows(blocks: &mut RowBlocks, row: usize, count: usize, rows: NewRows)
     requires within { row + count ≤ length (all_rows blocks.old.blocks) }
@@ -166,9 +155,10 @@ impl ScreenMap {
         ensures never_less { counter.old ≤ counter.new }
         ensures limit { OnOk result (size_of lines.now ≤ size_limit) }
     {
+        let size = size_within_limit(lines)?;
         let mut blocks = RowBlocks::new(alloc);
         push_lines(alloc, &mut blocks, lines, wrapping, counter)?;
-        let (total, size) = sums_within_limit(&blocks)?;
+        let total = blocks.row_count();
         Ok(ScreenMap {
             blocks,
             total,

@@ -1,4 +1,4 @@
-use Rattle.std.proofs.Common.{List, [], arith, subst, sym}
+use Rattle.std.proofs.Common.{List, [], arith, refl, subst, sym}
 use Rattle.textarea_text.specs.Text.{lines_of}
 use Rattle.textarea_wrap.specs.RowsView.{RowsView}
 use Rattle.textarea_blocks.specs.Blocks.{all_rows}
@@ -13,12 +13,18 @@ right c =
     c.in_ok-push_lines.ensures.rows [] none
 
 pub invariant_of-result : goal.invariant_of-result
-invariant_of-result c = record { all = c.in_ok-total.ensures.rows; size_is = c.in_ok-total.ensures.size; limit = c.in_ok-total.ensures.limit }
+invariant_of-result c =
+    let known = right (goal.at.invariant_of-result c).In_ok-push_lines in
+    let sums = size_of_items c.args.wrapping c.args.lines.now (all_rows c.push_lines.new.blocks.blocks) known in
+    let few = c.in_ok-size.ensures.limit.0 refl in
+    record {
+      all = c.row_count.ensures;
+      size_is = omega (arith, c.in_ok-size.ensures.size, sums.0);
+      limit = record { size = omega (arith, few, sums.0); few = omega (arith, few, sums.1) };
+    }
 
 pub returns-clause-rows : goal.returns-clause-rows
 returns-clause-rows c = right (goal.at.returns-clause-rows c).In_ok-push_lines
 
 pub returns-clause-limit : goal.returns-clause-limit
-returns-clause-limit c =
-    let known = right (goal.at.returns-clause-limit c).In_ok-push_lines in
-    omega (arith, c.in_ok-total.ensures.limit.size, (size_of_items c.args.wrapping c.args.lines.now (all_rows c.push_lines.new.blocks.blocks) known).0)
+returns-clause-limit c = c.in_ok-size.ensures.limit.0 refl
