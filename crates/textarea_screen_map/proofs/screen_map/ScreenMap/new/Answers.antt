@@ -18,7 +18,7 @@ invariant_of-result c =
     let sums = size_of_items c.args.wrapping c.args.lines.now (all_rows c.push_lines.new.blocks.blocks) known in
     let few = c.in_ok-size.ensures.limit.0 refl in
     record {
-      all = c.row_count.ensures;
+      all = c.row_count-total.ensures;
       size_is = omega (arith, c.in_ok-size.ensures.size, sums.0);
       limit = record { size = omega (arith, few, sums.0); few = omega (arith, few, sums.1) };
     }
