@@ -13,7 +13,8 @@
 # - Forward and Back in a line that isn't wrapped, by characters and by words.
 # - A key and then a frame of 80 by 24, and only a frame. A key is in turns a character and
 #   Backspace.
-# - Forward and Back over the ranges of a line, and a call that sets them all.
+# - Forward and Back over the ranges of a line, and a call that sets them all; the same where each
+#   line has one range.
 # - All lines set, where each has ten bytes; and a paste of such lines into an empty text. Both
 #   include dropping the text that was there before.
 # - In a table of its own, frames of 24 full rows, for each of their cells.
@@ -108,23 +109,33 @@ ranged_line() {
     echo
 }
 
-ranges() {
-    awk -v ranges="$1" 'BEGIN {
+# the same with a line for each range
+ranged_lines() {
+    printf 'set_lines %s 0 ' $(( $1 / 2 ))
+    text "$1" '[a] \n'
+    echo
+}
+
+# the command that sets the ranges of a line, or of lines, where the text is
+ranges_of() {
+    awk -v ranges="$2" -v text="$1" 'BEGIN {
         printf "ranges"
-        for (i = 0; i < ranges; i++) printf " 0 %d %d", 4 * i, 4 * i + 3
+        for (i = 0; i < ranges; i++)
+            if (text == "ranged_line") printf " 0 %d %d", 4 * i, 4 * i + 3
+            else printf " %d 0 3", i
         print ""
     }'
 }
 
 moves_over_ranges() {
-    ranged_line "$1"
-    ranges "$1"
-    again "$2" <<< "$there_and_back"
+    "$1" "$2"
+    ranges_of "$1" "$2"
+    again "$3" <<< "$there_and_back"
 }
 
 set_ranges() {
-    ranged_line "$1"
-    ranges "$1" | again "$2"
+    "$1" "$2"
+    ranges_of "$1" "$2" | again "$3"
     echo 'set_lines 0 0'
 }
 
@@ -205,8 +216,10 @@ size_row "only a frame, not wrapped, at the line's end, by its length" microseco
 size_row "the same in its middle" microseconds 1000 10000000 in_line 'word ' size/2 "$frame" "$frame"
 size_row "the same at the end, of characters of two bytes" microseconds 1000 10000000 in_line 'éàüöß' size "$frame" "$frame"
 size_row "the same in the middle, of characters of two bytes" microseconds 1000 10000000 in_line 'éàüöß' size/2 "$frame" "$frame"
-size_row "Forward or Back over a range, by the line's ranges" microseconds 2000 1000000 moves_over_ranges
-size_row "ranges of a line are set, by their number" "nanoseconds a range" size 1000000 set_ranges
+size_row "Forward or Back over a range, by the line's ranges" microseconds 2000 1000000 moves_over_ranges ranged_line
+size_row "the same, by lines of one range" microseconds 2000 1000000 moves_over_ranges ranged_lines
+size_row "ranges of a line are set, by their number" "nanoseconds a range" size 1000000 set_ranges ranged_line
+size_row "the same in lines of one range" "nanoseconds a range" size 1000000 set_ranges ranged_lines
 size_row "lines of ten bytes are set, by bytes" "nanoseconds a byte" size 10000000 loads
 size_row "lines of ten bytes are pasted, by bytes" "nanoseconds a byte" size 10000000 pastes
 printf '\n| a frame of 24 rows of | nanoseconds a cell |\n|---|---:|\n'
