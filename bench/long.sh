@@ -216,7 +216,7 @@ size_row "only a frame, not wrapped, at the line's end, by its length" microseco
 size_row "the same in its middle" microseconds 1000 10000000 in_line 'word ' size/2 "$frame" "$frame"
 size_row "the same at the end, of characters of two bytes" microseconds 1000 10000000 in_line 'éàüöß' size "$frame" "$frame"
 size_row "the same in the middle, of characters of two bytes" microseconds 1000 10000000 in_line 'éàüöß' size/2 "$frame" "$frame"
-size_row "Forward or Back over a range, by the line's ranges" microseconds 2000 1000000 moves_over_ranges ranged_line
+size_row "Forward or Back over a range, by the line's ranges" microseconds 2000 100000 moves_over_ranges ranged_line
 size_row "the same, by lines of one range" microseconds 2000 100000 moves_over_ranges ranged_lines
 size_row "ranges of a line are set, by their number" "nanoseconds a range" size 1000000 set_ranges ranged_line
 size_row "the same in lines of one range" "nanoseconds a range" size 100000 set_ranges ranged_lines
