@@ -10,4 +10,3 @@ pub mod DocumentWraps
 pub mod RangesOverSplices
 pub mod Steps
 pub mod RowLemmas
-pub mod Cases

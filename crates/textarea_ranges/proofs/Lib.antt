@@ -1,4 +1,3 @@
-pub mod Cases
 pub mod Closing
 pub mod Finds
 pub mod LookupLemmas

@@ -17,3 +17,5 @@ mod streams;
 mod texts;
 #[cfg(test)]
 mod trial;
+#[cfg(test)]
+mod wrapped_lines;

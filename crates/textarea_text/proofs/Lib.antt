@@ -17,6 +17,5 @@ pub mod FragmentLemmas
 pub mod BetweenLemmas
 pub mod PlaceLemmas
 pub mod TabLemmas
-pub mod Cases
 pub mod NearestLemmas
 mod WordLemmas

@@ -1,1 +1,3 @@
 mod RowLists
+mod RangeCases
+mod FragmentCases

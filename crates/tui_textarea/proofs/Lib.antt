@@ -14,19 +14,16 @@ pub mod Copying
 mod Filled
 pub mod FragmentTexts
 pub mod Searches
-mod Cases
 mod OneTarget
-mod Frames
+pub mod Frames
 mod OneAct
 mod Removing
 mod WrappedLines
 mod Stepping
 mod RangesOverActions
-mod WorkedCounts
 mod Lifted
 mod Unselected
 mod CursorLine
-mod CallWorked
 pub mod CallWraps
 pub mod RangesOverCalls
 pub mod Runs

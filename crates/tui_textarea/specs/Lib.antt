@@ -20,7 +20,6 @@ pub mod Measure
 pub mod TextAreaLaw
 pub mod Frames
 pub mod Splices
-pub mod Worked
 pub mod RangesOverActions
 pub mod Calls
 pub mod CallWraps

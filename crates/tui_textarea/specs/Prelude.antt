@@ -69,4 +69,3 @@ pub use Rattle.tui_textarea.specs.Search.{after_search, found_match, next_match,
 pub use Rattle.tui_textarea.specs.Selection.{IsInsertOutOfMemory, all_selected, selection_cancelled, selection_copied, selection_cut, selection_started, unselected}
 pub use Rattle.tui_textarea.specs.State.{State, default_settings, new_state, text_of_each, with_document, with_other_lines}
 pub use Rattle.tui_textarea.specs.TextAreaLaw.{HasRowsFromScratch, PastesCopy}
-pub use Rattle.tui_textarea.specs.Worked.{HoldsForHundred, HoldsForNine, with_a, with_redone, with_undone, with_x_y_z, wrapped_so_far}

@@ -6,7 +6,6 @@ pub mod laws;
 pub mod outcomes;
 pub mod textarea;
 pub mod util;
-pub mod worked;
 
 pub use textarea::TextArea;
 pub use textarea_data::cursor::{CursorMove, CursorRenderMode, DataCursor};

@@ -19,7 +19,7 @@ use Rattle.tui_textarea.specs.Frames.{HasLayoutFor}
 use Rattle.tui_textarea.specs.Moves.{IsMoved, after_move_by, pushed}
 use Rattle.tui_textarea.specs.Search.{after_search}
 use Rattle.tui_textarea.specs.State.{State}
-use Rattle.tui_textarea.specs.Worked.{HoldsForHundred, HoldsForNine, IsAtEndOf, hundred_lines, nine_lines}
+use Rattle.textarea_tests.specs.WrappedLines.{HoldsForHundred, HoldsForNine, IsAtEndOf, hundred_lines, nine_lines}
 use Rattle.tui_textarea.proofs.Frames.{drawn_document}
 
 -- the state after a drawing into an area of this width

@@ -1,8 +1,8 @@
 use Rattle.std.proofs.Common.{is_some}
 use Rattle.textarea_data.specs.declared.cursor.CursorMove.TheVariants.{Down}
 use Rattle.tui_textarea.specs.Search.{next_match, after_search}
-use Rattle.tui_textarea.proofs.WorkedCounts.{still_wrapped, width_searched}
-use Rattle.tui_textarea.proofs.worked.frames_wrap_nothing.Goals as goal
+use Rattle.textarea_tests.proofs.WrappedLines.{still_wrapped, width_searched}
+use Rattle.textarea_tests.proofs.wrapped_lines.frames_wrap_nothing.Goals as goal
 
 pub returns : goal.returns
 returns c = λ old drawn down scrolled again area scrolling at_cursor h k l m.

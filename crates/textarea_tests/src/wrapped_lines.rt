@@ -1,9 +1,10 @@
 //! Worked cases of the number of wrapped lines, each the contract of a function that does nothing.
 ghost use Rattle.std.specs.Prelude.{◌≡◌, ◌+◌, Bool, Some};
-ghost use Rattle.tui_textarea.specs.Prelude.{Down, Scrolling, WrapsNothing, text_and_layout, map_width, Rect, IsRendered, newline_inserted, IsMoved, IsScrolled, next_match, after_search, State, HoldsForHundred, HoldsForNine, wrapped_so_far, with_redone, with_undone, with_a, with_x_y_z};
+ghost use Rattle.textarea_tests.specs.WrappedLines.{HoldsForHundred, HoldsForNine, wrapped_so_far, with_redone, with_undone, with_a, with_x_y_z};
+ghost use Rattle.tui_textarea.specs.Prelude.{Down, Scrolling, WrapsNothing, text_and_layout, map_width, Rect, IsRendered, newline_inserted, IsMoved, IsScrolled, next_match, after_search, State};
 ghost use Rattle.textarea_wrap.specs.declared.wrap.WrapMode.TheVariants as mode;
 
-use crate::laws::{drawn_at_its_width, moves_wrap_nothing};
+use tui_textarea::laws::{drawn_at_its_width, moves_wrap_nothing};
 
 /// A hundred lines `abcdefgh`, wrapped by grapheme clusters, are drawn into an area of 6 columns.
 /// Then a typed `a` wraps one line; `x`, `y` and `z`, three lines inserted at once, wrap three

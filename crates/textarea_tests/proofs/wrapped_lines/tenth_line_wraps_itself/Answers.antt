@@ -1,8 +1,8 @@
 use Rattle.std.proofs.Common.{refl}
 use Rattle.std.specs.Fmt.{digits}
 use Rattle.textarea_wrap.specs.declared.wrap.WrapMode.TheVariants as mode
-use Rattle.tui_textarea.proofs.WorkedCounts.{nine_holds}
-use Rattle.tui_textarea.proofs.worked.tenth_line_wraps_itself.Goals as goal
+use Rattle.textarea_tests.proofs.WrappedLines.{nine_holds}
+use Rattle.textarea_tests.proofs.wrapped_lines.tenth_line_wraps_itself.Goals as goal
 
 pub returns-clause-narrow : goal.returns-clause-narrow
 unfolding digits

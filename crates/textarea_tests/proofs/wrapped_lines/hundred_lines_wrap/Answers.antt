@@ -1,6 +1,6 @@
 use Rattle.std.proofs.Common.{refl}
-use Rattle.tui_textarea.proofs.WorkedCounts.{hundred_holds}
-use Rattle.tui_textarea.proofs.worked.hundred_lines_wrap.Goals as goal
+use Rattle.textarea_tests.proofs.WrappedLines.{hundred_holds}
+use Rattle.textarea_tests.proofs.wrapped_lines.hundred_lines_wrap.Goals as goal
 
 pub returns-clause-typed : goal.returns-clause-typed
 returns-clause-typed c = hundred_holds _ (λ drawing. refl)

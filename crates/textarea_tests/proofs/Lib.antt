@@ -1,0 +1,4 @@
+mod WrappedLines
+mod CallCases
+mod EditCases
+mod MoveCases
