@@ -33,8 +33,7 @@ impl<'b> TextArea<'b> {
             (λ area. (strings : List (String Global)) × Drains I.next_gives lines strings
             × (area ≡ new_state (text_of strings))) }
     {
-        let all = collect_lines(alloc, lines)?;
-        TextArea::new(all)
+        TextArea::new(lines.collect(alloc)?)
     }
 
     /// Returns a text area with copies of the iterator's lines and the cursor at the start. Without
@@ -49,26 +48,8 @@ impl<'b> TextArea<'b> {
             (λ area. (texts : List (Bor (List ℕ))) × Drains I.next_gives lines texts
             × (area ≡ new_state (text_of_each texts))) }
     {
-        let all = copy_lines(alloc, lines)?;
-        TextArea::new(all)
+        TextArea::new(copy_lines(alloc, lines)?)
     }
-}
-
-fn collect_lines<I: Iterator<Item = String> + Drop>(
-    alloc: Global,
-    lines: I,
-) -> Result<Vec<String>, AllocError>
-    requires can { I.can_next lines }
-    requires ends { IsFinite (I.remaining lines) }
-    ensures { IfOk result
-        (λ all. (strings : List (String Global)) × Drains I.next_gives lines strings
-        × (all.items ≡ strings)) }
-{
-    let mut all = Vec::new(alloc);
-    for line in lines {
-        all.push(line)?;
-    }
-    Ok(all)
 }
 
 fn copy_lines<'a, I: Iterator<Item = &'a str> + Drop>(
