@@ -33,7 +33,7 @@ impl<'b> TextArea<'b> {
             (λ area. (strings : List (String Global)) × Drains I.next_gives lines strings
             × (area ≡ new_state (text_of strings))) }
     {
-        TextArea::new(lines.collect(alloc)?)
+        TextArea::new(collect_lines(alloc, lines)?)
     }
 
     /// Returns a text area with copies of the iterator's lines and the cursor at the start. Without
@@ -50,6 +50,19 @@ impl<'b> TextArea<'b> {
     {
         TextArea::new(copy_lines(alloc, lines)?)
     }
+}
+
+fn collect_lines<I: Iterator<Item = String> + Drop>(
+    alloc: Global,
+    lines: I,
+) -> Result<Vec<String>, AllocError>
+    requires can { I.can_next lines }
+    requires ends { IsFinite (I.remaining lines) }
+    ensures { IfOk result
+        (λ all. (strings : List (String Global)) × Drains I.next_gives lines strings
+        × (all.items ≡ strings)) }
+{
+    lines.collect(alloc)
 }
 
 fn copy_lines<'a, I: Iterator<Item = &'a str> + Drop>(
