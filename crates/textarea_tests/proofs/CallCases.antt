@@ -1,4 +1,4 @@
--- Worked runs on an empty text, computed.
+-- Worked runs of calls on an empty text, computed.
 use Rattle.std.proofs.Common.{◌≡◌, List, [], ◌∷◌, Option, None, Some, is_some, true, false, refl}
 use Rattle.textarea_text.specs.Text.{Character, Break}
 use Rattle.textarea_text.specs.Place.{Place}
