@@ -3,9 +3,9 @@
 //! and one display column in moves of the cursor.
 //!
 //! Only other crates of this repository call these. No facade exports them.
-ghost use Rattle.std.specs.Prelude.{◌≡◌, ◌+◌, ◌*◌, ◌^◌, ◌<◌, ◌≤◌, ◌↔◌, length, take, chars, IsTrue};
+ghost use Rattle.std.specs.Prelude.{◌≡◌, ◌+◌, ◌*◌, ◌^◌, ◌<◌, ◌≤◌, ◌↔◌, length, chars, IsTrue};
 ghost use Rattle.std.specs.List.{AllByRecursion};
-ghost use Rattle.textarea_wrap.specs.Columns.{IsVisible, plain_width, column_after, end_column, display_column_after, display_end_column};
+ghost use Rattle.textarea_wrap.specs.Columns.{IsVisible, IsVisibleCount, plain_width, column_after, end_column, display_column_after, display_end_column};
 
 use unicode_width::UnicodeWidthChar;
 
@@ -36,21 +36,42 @@ pub fn column_after(c: char, column: usize, tab_len: u8) -> usize
     }
 }
 
+/// The number of bytes that a processor can compare at once.
+const STRETCH: usize = 32;
+
 /// Returns the number of visible ASCII characters that a text begins with, at most `most`. Each is
 /// one byte and takes one column.
 pub fn visible_count(text: &str, most: usize) -> usize
-    ensures within { result ≤ length text.now }
-    ensures most { result ≤ most }
-    ensures visible { AllByRecursion IsVisible (take result text.now) }
+    ensures { IsVisibleCount text.now most result }
 {
     let bytes = text.as_bytes();
     let end = bytes.len().min(most);
-    for at in 0..end {
-        if bytes[at] < 32 || 127 <= bytes[at] {
-            return at;
-        }
+    let mut count = 0;
+    'stretches: while STRETCH <= end - count && are_visible(&bytes[count..count + STRETCH]) {
+        count += STRETCH;
     }
-    end
+    'bytes: while count < end && is_visible(bytes[count]) {
+        count += 1;
+    }
+    count
+}
+
+// Reads all bytes, also behind one that isn't visible, since that is faster in a short stretch.
+fn are_visible(bytes: &[u8]) -> bool
+    ensures { IsTrue result ↔ AllByRecursion IsVisible bytes.now }
+{
+    let mut all = true;
+    for byte in bytes {
+        all = all & is_visible(*byte);
+    }
+    all
+}
+
+/// Returns whether a byte is a visible ASCII character, the space among them.
+pub fn is_visible(byte: u8) -> bool
+    ensures { IsTrue result ↔ IsVisible byte }
+{
+    32 <= byte && byte < 127
 }
 
 /// Returns the column after a text that begins at `column`.
