@@ -1,6 +1,5 @@
 -- Properties of each element of a list, and of two lists together.
-use Rattle.std.proofs.Common.{ℕ, zero, suc, ◌+◌, ◌<◌, ◌↔◌, List, [], ◌∷◌, ◌++◌, length, take, get_or, sym, subst, arith}
-use Rattle.std.proofs.lemmas.List.{take_more}
+use Rattle.std.proofs.Common.{ℕ, zero, suc, ◌<◌, List, [], ◌∷◌, ◌++◌, length, get_or, arith}
 use Rattle.std.specs.List.{AllByRecursion}
 
 pub all_append : {X : Type 0} (P : X → Type 0) (xs ys : List X) → AllByRecursion P xs → AllByRecursion P ys → AllByRecursion P (xs ++ ys)
@@ -17,10 +16,3 @@ pub all_at : {X : Type 0} (P : X → Type 0) (items : List X) (i : ℕ) (d : X) 
 all_at P [] i d h within = absurd (omega arith)
 all_at P (item ∷ items) zero d h within = h.0
 all_at P (item ∷ items) (suc i) d h within = all_at P items i d h.1 (omega arith)
-
--- and one of one element more
-pub all_more : {X : Type 0} (P : X → Type 0) (xs : List X) (i : ℕ) (d : X) → i < length xs → AllByRecursion P (take (i + 1) xs) ↔ (AllByRecursion P (take i xs) × P (get_or xs i d))
-all_more P xs i d below = (
-  λ h. let both = all_split P (take i xs) (get_or xs i d ∷ []) (subst (AllByRecursion P) (take_more xs i d below) h) in (both.0, both.1.0),
-  λ h. subst (AllByRecursion P) (sym (take_more xs i d below)) (all_append P (take i xs) (get_or xs i d ∷ []) h.0 (h.1, tt)),
-)
