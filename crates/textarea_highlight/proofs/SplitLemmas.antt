@@ -7,7 +7,7 @@ use Rattle.std.proofs.lemmas.Bool.Decides.{nat_tests}
 use Rattle.std.proofs.lemmas.Grind.{common_steps}
 use Rattle.std.proofs.lemmas.List.{append-nil, append_assoc, take-append-drop, length-take-le, get_or-take, get_or-drop, get_or_default, map_more, drop-take, take-take, length-drop}
 use Rattle.std.proofs.lemmas.List.Elements.{filter-append, All-head, All-tail}
-use Rattle.std.proofs.lemmas.Str.{chars-append, IsUtf8-take, chars-nil}
+use Rattle.std.proofs.lemmas.Str.{chars-append, IsUtf8-take}
 use Rattle.textarea_screen.specs.declared.screen.style.Style.{Style}
 use Rattle.textarea_screen.specs.Text.{SpanView}
 use Rattle.textarea_highlight.specs.declared.highlight.borders.Mark.{Mark}
@@ -15,20 +15,14 @@ use Rattle.textarea_highlight.specs.declared.highlight.brackets.OpenStyles.{Open
 use Rattle.textarea_highlight.specs.declared.highlight.display.Display.{Display}
 use Rattle.textarea_highlight.specs.declared.highlight.borders.Border.{Border}
 use Rattle.textarea_highlight.specs.OpenStyles.{ArePassed, base_of}
-use Rattle.textarea_wrap.specs.Columns.{column_after, end_column}
+use Rattle.textarea_wrap.specs.Columns.{end_column}
+use Rattle.textarea_wrap.proofs.ColumnLemmas.{end_column-append}
 use Rattle.textarea_highlight.specs.Borders.{ArePlacedWithin}
 use Rattle.textarea_highlight.specs.Columns.{IsColumnKnown, column_of}
 use Rattle.textarea_highlight.specs.Display.{display_bytes, IsDisplayedAsItIs}
 use Rattle.textarea_highlight.specs.Texts.{text_bytes_of, IsUncopied}
 use Rattle.textarea_highlight.specs.Brackets.{IsStyleAfter}
 use Rattle.textarea_highlight.specs.Split.{IsAscending, marks_upto, segment_of, ShowsSegment, IsSplit, ShowsNext, AddsSegment}
-
--- ---- the column after a segment
-
-end_column-append : (tab_len column : ℕ) (xs ys : List ℕ) →
-    end_column tab_len column (xs ++ ys) ≡ end_column tab_len (end_column tab_len column xs) ys
-end_column-append tab_len column [] ys = refl
-end_column-append tab_len column (x ∷ xs) ys = end_column-append tab_len (column_after tab_len column x) xs ys
 
 -- ---- the borders up to an offset
 
@@ -95,9 +89,6 @@ IsEdge row borders to = (to ≡ length row) ⊎ Any (λ border. border.offset �
 
 pub edge_at : (row : List ℕ) (borders : List Border) (n : ℕ) (d : Border) → n < length borders → IsEdge row borders (get_or borders n d).offset
 edge_at row borders n d within = grind (arith, common_steps)
-
-pub segment_empty : (row : List ℕ) (from to : ℕ) → to ≤ from → segment_of row from to ≡ []
-segment_empty row from to h = grind (arith, common_steps, chars-nil)
 
 pub take_split : (row : List ℕ) (start to : ℕ) → start ≤ to → take to row ≡ take start row ++ slice_range row start to
 take_split row start to h =

@@ -3,8 +3,9 @@ use Rattle.std.specs.Str.{chars}
 use Rattle.std.proofs.lemmas.Iterator.{YieldsList-from_chars}
 use Rattle.std.proofs.lemmas.Iterator.Consumers.{YieldsList-turn, YieldsList-end}
 use Rattle.std.proofs.lemmas.List.{length_push, drop_all, append-nil}
+use Rattle.textarea_wrap.proofs.MarkLemmas.{characters_few}
 use Rattle.textarea_highlight.specs.Display.{with_spaces}
-use Rattle.textarea_highlight.proofs.DisplayLemmas.{length_chars, expanded_more}
+use Rattle.textarea_highlight.proofs.DisplayLemmas.{expanded_more}
 use Rattle.textarea_highlight.proofs.highlight.display.expand_tabs.Goals as goal
 
 pub loop-c-preserved : goal.loop-c-preserved
@@ -19,7 +20,7 @@ loop-c-preserved c =
 pub column_after-next-requires : goal.column_after-next-requires
 column_after-next-requires c =
     let t = YieldsList-turn (YieldsList-from_chars c.args.segment.now c.utf8.segment cc) c.loop-c.yielded _ c.loop-c.yielded_by _ _ c.in-Some.c c.in-Some.is c.next.ensures.steps in
-    omega (arith, c.loop-c.invariant.1, t.0, length_chars c.args.segment.now c.utf8.segment)
+    omega (arith, c.loop-c.invariant.1, t.0, characters_few c.args.segment.now c.utf8.segment)
 
 pub returns : goal.returns
 returns c =

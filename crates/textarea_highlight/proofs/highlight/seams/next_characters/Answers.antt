@@ -22,5 +22,5 @@ pub returns-clause-seam : goal.returns-clause-seam
 returns-clause-seam c = inr (
   seam_before_last c.args.row.now c.args.tab_len c.args.walk.at c.visible_before-count.result c.utf8.row c.requires.known.at c.visible_before-count.ensures.visible (omega (arith, c.if-count-lt2.false)) c.after_visible-2.result.offset c.after_visible-2.ensures.offset,
   omega (arith, c.after_visible-2.ensures.offset),
-  λ before. omega (arith, before, c.after_visible-2.ensures.column, c.visible_before-count.ensures.left, c.if-count-lt2.false),
+  λ before. omega (arith, before, c.after_visible-2.ensures.column, c.visible_before-count.ensures.count.at_most, c.if-count-lt2.false),
 )
