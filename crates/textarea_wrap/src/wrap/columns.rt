@@ -3,7 +3,7 @@
 //! and one display column in moves of the cursor.
 //!
 //! Only other crates of this repository call these. No facade exports them.
-ghost use Rattle.std.specs.Prelude.{◌≡◌, ◌+◌, ◌*◌, ◌^◌, ◌<◌, ◌≤◌, ◌↔◌, length, chars, IsTrue};
+ghost use Rattle.std.specs.Prelude.{◌≡◌, ◌+◌, ◌*◌, ◌^◌, ◌<◌, ◌≤◌, ◌↔◌, length, take, drop, chars, IsTrue};
 ghost use Rattle.std.specs.List.{AllByRecursion};
 ghost use Rattle.textarea_wrap.specs.Columns.{IsVisible, IsVisibleCount, plain_width, column_after, end_column, display_column_after, display_end_column};
 
@@ -41,17 +41,35 @@ const STRETCH: usize = 32;
 
 /// Returns the number of visible ASCII characters that a text begins with, at most `most`. Each is
 /// one byte and takes one column.
+#[inline]
 pub fn visible_count(text: &str, most: usize) -> usize
     ensures { IsVisibleCount text.now most result }
 {
     let bytes = text.as_bytes();
     let end = bytes.len().min(most);
     let mut count = 0;
-    'stretches: while STRETCH <= end - count && are_visible(&bytes[count..count + STRETCH]) {
-        count += STRETCH;
+    if STRETCH <= end {
+        count = visible_stretches(bytes, end);
     }
     'bytes: while count < end && is_visible(bytes[count]) {
         count += 1;
+    }
+    count
+}
+
+// Returns how many bytes before an end are in whole stretches of visible ASCII characters. It isn't
+// inlined, so that the count in a short text is.
+#[inline(never)]
+fn visible_stretches(bytes: &[u8], end: usize) -> usize
+    requires { end ≤ length bytes.now }
+    ensures within { result ≤ end }
+    ensures visible { AllByRecursion IsVisible (take result bytes.now) }
+    ensures stops { result + STRETCH ≤ end
+        → ¬ (AllByRecursion IsVisible (take STRETCH (drop result bytes.now))) }
+{
+    let mut count = 0;
+    'stretches: while STRETCH <= end - count && are_visible(&bytes[count..count + STRETCH]) {
+        count += STRETCH;
     }
     count
 }
@@ -75,6 +93,7 @@ pub fn is_visible(byte: u8) -> bool
 }
 
 /// Returns the column after a text that begins at `column`.
+#[inline]
 pub fn column_after_text(text: &str, column: usize, tab_len: u8) -> usize
     requires { column + 255 * length text.now < 2 ^ 63 }
     ensures value { result ≡ end_column tab_len column (chars text.now) }

@@ -1,6 +1,6 @@
 use Rattle.std.proofs.Common.{arith, refl}
 use Rattle.textarea_wrap.proofs.VisibleLemmas.{visible_further}
-use Rattle.textarea_wrap.proofs.wrap.columns.visible_count.Goals as goal
+use Rattle.textarea_wrap.proofs.wrap.columns.visible_stretches.Goals as goal
 
 pub stretches-preserved : goal.stretches-preserved
 stretches-preserved c = (
