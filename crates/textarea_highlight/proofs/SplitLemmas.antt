@@ -1,5 +1,5 @@
 -- A row that is split border by border.
-use Rattle.std.proofs.Common.{◌≡◌, ◌↔◌, ℕ, ◌+◌, ◌-◌, ◌<◌, ◌≤◌, max, Bool, true, false, nat_le, List, [], ◌∷◌, ◌++◌, map, take, drop, length, get_or, slice_range, Option, refl, sym, ap, ◌∙◌, subst, inl, inr, ⊎_elim, arith, IsUtf8, IsCharBoundary, ◌⊎◌}
+use Rattle.std.proofs.Common.{◌≡◌, ℕ, ◌+◌, ◌-◌, ◌<◌, ◌≤◌, max, Bool, true, false, nat_le, List, [], ◌∷◌, ◌++◌, map, take, drop, length, get_or, slice_range, Option, refl, sym, ap, ◌∙◌, subst, inl, inr, ⊎_elim, arith, IsUtf8, IsCharBoundary, ◌⊎◌}
 use Rattle.std.specs.List.{filter, All, Any}
 use Rattle.std.specs.Str.{chars}
 use Rattle.std.proofs.lemmas.Bool.{cases_lt}
@@ -18,10 +18,7 @@ use Rattle.textarea_highlight.specs.OpenStyles.{ArePassed, base_of}
 use Rattle.textarea_wrap.specs.Columns.{end_column}
 use Rattle.textarea_wrap.proofs.ColumnLemmas.{end_column-append}
 use Rattle.textarea_highlight.specs.Borders.{ArePlacedWithin}
-use Rattle.textarea_highlight.specs.Columns.{IsColumnKnown, column_of}
-use Rattle.textarea_highlight.specs.Display.{display_bytes, IsDisplayedAsItIs}
-use Rattle.textarea_highlight.specs.Texts.{text_bytes_of, IsUncopied}
-use Rattle.textarea_highlight.specs.Brackets.{IsStyleAfter}
+use Rattle.textarea_highlight.specs.Columns.{IsColumnKnown}
 use Rattle.textarea_highlight.specs.Split.{IsAscending, marks_upto, segment_of, ShowsSegment, IsSplit, ShowsNext, AddsSegment}
 
 -- ---- the borders up to an offset
@@ -123,15 +120,6 @@ segments_more row borders base tab_len mask before spans from start to span h se
   ap (λ ss. ss ++ span ∷ []) h.2 ∙ append_assoc before h.0 (span ∷ []),
 )
 
--- one more span shows a segment
-pub segment_added : (row : List ℕ) (tab_len : ℕ) (mask : Option ℕ) (styles : OpenStyles) (from to : ℕ) (span : SpanView) (old new : List SpanView) → from < to →
-    text_bytes_of span.content ≡ display_bytes mask tab_len (column_of row tab_len from) (slice_range row from to) →
-    (IsUncopied span.content ↔ IsDisplayedAsItIs mask tab_len (column_of row tab_len from) (slice_range row from to)) →
-    ((marks : List Mark) → ArePassed styles marks → IsStyleAfter marks (base_of styles) span.style) → new ≡ old ++ span ∷ [] → AddsSegment row tab_len mask styles from to old new
-segment_added row tab_len mask styles from to span old new below text uncopied style added =
-    let next : ShowsNext row tab_len mask styles from to span = record { style = style; text = text; borrowed = uncopied } in
-    inr (below, (span, next, added))
-
 -- the column of an offset is also known at a later one
 known_later : {row : List ℕ} {display : Display} {offset : ℕ} (later : ℕ) → IsColumnKnown row display offset → offset ≤ later → IsColumnKnown row display later
 known_later later known order = record { order = omega (arith, known.order, order); boundary = known.boundary; column = known.column; near = known.near }
@@ -184,10 +172,6 @@ pass_more row borders base tab_len mask before from n start d display styles sty
   after = subst (ArePassed styles') (sym (map_more (λ (border : Border). border.mark) borders n d within)) (passes (map (λ border. border.mark) (take n borders)) h.after);
   split = h.split;
 }
-
-pub split_at_start : (row : List ℕ) (borders : List Border) (base : Style) (tab_len : ℕ) (mask : Option ℕ) (before : List SpanView) (from : ℕ) →
-    HasSegments row borders base tab_len mask before from from before
-split_at_start row borders base tab_len mask before from = ([], refl, sym (append-nil before))
 
 -- ---- the next border
 

@@ -1,5 +1,5 @@
 use Rattle.std.specs.Iterator.{Yields, YieldsThen}
-use Rattle.std.proofs.Common.{◌≡◌, ℕ, List, Option, Some, refl, subst, ◌++◌, ap, sym, ◌∙◌}
+use Rattle.std.proofs.Common.{◌≡◌, ℕ, List, Option, Some, subst, ◌++◌, ap, sym, ◌∙◌}
 use Rattle.std.proofs.lemmas.Bool.{false≢true}
 use Rattle.textarea_highlight.specs.Borders.{highlight_borders, search_rank}
 use Rattle.textarea_highlight.proofs.BorderLemmas.{match_borders-push}
@@ -35,6 +35,3 @@ returns-in_err-push_highlight-clause-nothing g c = λ none.
     absurd (false≢true (c.in_err-push_highlight.ensures.nothing
     (none c.loop-found.yielded c.in-Some.found _
     (step_gives g.I.Iterator.next_gives c.args.matches _ c.loop-found.found-iterator c.next.new.self c.loop-found.yielded c.in-Some.found c.into_iter-found-iterator.ensures.into_iter_gives c.loop-found.yielded_by c.in-Some.ensures.steps))).0)
-
-pub returns-clause-nothing : goal.returns-clause-nothing
-returns-clause-nothing g c = λ none. (refl, c.loop-found.invariant.nothing none)

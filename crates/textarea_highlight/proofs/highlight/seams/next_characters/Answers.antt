@@ -2,11 +2,6 @@ use Rattle.std.proofs.Common.{arith, inr}
 use Rattle.textarea_highlight.proofs.SeamLemmas.{ends_visible, seam_before_last}
 use Rattle.textarea_highlight.proofs.highlight.seams.next_characters.Goals as goal
 
-pub after_visible-requires-2-clause-visible : goal.after_visible-requires-2-clause-visible
-after_visible-requires-2-clause-visible c =
-    let all = c.visible_before-count.ensures.visible in
-    record { within = omega (arith, all.within); visible = λ k below. all.visible k (omega (arith, below)) }
-
 pub returns-clause-known : goal.returns-clause-known
 returns-clause-known c = record {
   at = c.after_visible.ensures.known;
