@@ -4,7 +4,7 @@ ghost use Rattle.std.specs.Char.{len_utf8};
 ghost use Rattle.textarea_wrap.specs.Columns.{IsVisibleCount};
 ghost use Rattle.textarea_highlight.specs.Columns.{column_of};
 ghost use Rattle.textarea_highlight.specs.Marks.{IsRowMark};
-ghost use Rattle.textarea_highlight.specs.Plain.{ends_conjunct, is_plain, is_single};
+ghost use Rattle.textarea_highlight.specs.Plain.{is_plain};
 ghost use Rattle.textarea_highlight.specs.Seams.{AreVisible, BeginsPlain, BeginsWith, EndsPlain, IsBetweenSeams, IsColumnAt, IsSeam, IsWalk};
 
 use super::highlighter::RowPart;
@@ -247,23 +247,8 @@ fn visible_before(row: &str, at: RowOffset, column: usize) -> usize
 fn is_plain(c: char) -> bool
     ensures { result ≡ is_plain c }
 {
-    is_single(GraphemeClusterBreak::for_char(c)) && ends_conjunct(IndicConjunctBreak::for_char(c))
-}
-
-fn is_single(value: GraphemeClusterBreak) -> bool
-    ensures { result ≡ is_single value }
-{
-    matches!(
-        value,
-        GraphemeClusterBreak::Other | GraphemeClusterBreak::Lv | GraphemeClusterBreak::Lvt
-    )
-}
-
-fn ends_conjunct(value: IndicConjunctBreak) -> bool
-    ensures { result ≡ ends_conjunct value }
-{
-    matches!(
-        value,
-        IndicConjunctBreak::None | IndicConjunctBreak::Consonant
-    )
+    use GraphemeClusterBreak::{Lv, Lvt, Other};
+    use IndicConjunctBreak::{Consonant, None};
+    matches!(GraphemeClusterBreak::for_char(c), Other | Lv | Lvt)
+        && matches!(IndicConjunctBreak::for_char(c), None | Consonant)
 }
