@@ -88,16 +88,10 @@ none_yet : (style : Style) (marks : List Mark) (k : ℕ) (other : Style) → ¬ 
 none_yet style marks zero other closed h = λ opens. closed opens.1
 none_yet style marks (suc k) other closed h = h k other
 
-no_mark : (k : ℕ) (other : Style) → slice_get {X = Mark} [] k ≡ Some (Start other) → ⊥
-no_mark k other e = cc
-
 -- ---- an end in front of marks
 
-ended : (other : Style) → Some End ≡ Some (Start other) → ⊥
-ended other e = cc
-
 after_end_none : (marks : List Mark) → OpensNone marks → OpensNone (End ∷ marks)
-after_end_none marks h zero other opens = ended other opens.0
+after_end_none marks h zero other opens = let never = opens.0 in cc
 after_end_none marks h (suc k) other opens = h k other opens
 
 after_end_later : (marks : List Mark) (i k : ℕ) (other : Style) → suc i < k → ((j : ℕ) (t : Style) → i < j → ¬ (OpensAt marks j t)) → ¬ (OpensAt (End ∷ marks) k other)
@@ -166,7 +160,7 @@ step style marks None false same h = λ k other. none_yet style marks k other (�
 
 last_open : (marks : List Mark) → MatchOption (last (left_open marks)) (OpensNone marks) (OpensLast marks)
 unfolding last left_open
-last_open [] = λ k other opens. no_mark k other opens.0
+last_open [] = λ k other opens. let never = opens.0 in cc
 last_open (Start style ∷ marks) =
     grind (arith, common_steps, last-append (cond (closed_by marks == 0) (style ∷ []) []) (left_open marks), closed_by marks == 0, left_open marks, step style marks (last (left_open marks)) (closed_by marks == 0) (stays_of_closed marks, closed_of_stays marks) (last_open marks), last (left_open marks), stays_of_closed marks, closed_of_stays marks, last_open marks)
 last_open (End ∷ marks) = after_end marks (last (left_open marks)) (last_open marks)

@@ -10,24 +10,21 @@ use Rattle.std.specs.declared.str.CharIndices.{CharIndices}
 use Rattle.std.proofs.lemmas.List.{length-append}
 use Rattle.std.proofs.lemmas.Iterator.Consumers.{nth_from_yields_List}
 use Rattle.std.proofs.lemmas.Option.{same_Some}
-use Rattle.std.proofs.lemmas.Str.{encode_same, encodes-chars, length-encode, len_utf8_bounds}
+use Rattle.std.proofs.lemmas.Str.{encode_same, encodes-chars}
+use Rattle.textarea_wrap.proofs.ColumnLemmas.{shorter_after}
 
 abbrev pub char_starts : ℕ → List ℕ → List (ℕ × ℕ)
 char_starts at [] = []
 char_starts at (c ∷ cs) = (at, c) ∷ char_starts (at + length (encode_utf8 c)) cs
 
--- a text that begins with a character is not empty
-not_empty : (c : ℕ) (bs rest : List ℕ) → bs ≡ encode_utf8 c ++ rest → 0 < length bs
-not_empty c bs rest e = omega (arith, ap length e, length-append (encode_utf8 c) rest, length-encode c, len_utf8_bounds c)
-
-pair_same : (p : ℕ × ℕ) (a b : ℕ) → p.0 ≡ a → p.1 ≡ b → p ≡ (a, b)
+pub pair_same : (p : ℕ × ℕ) (a b : ℕ) → p.0 ≡ a → p.1 ≡ b → p ≡ (a, b)
 pair_same p a b e f = ap (λ (n : ℕ). (n, p.1)) e ∙ ap (λ (n : ℕ). (a, n)) f
 
 pub indices_give : (at : ℕ) (cs : List ℕ) (s : CharIndices) → encode_utf8_all cs ≡ char_indices_rest s → char_indices_offset s ≡ at →
     AlwaysYields char_indices_steps (λ p. p) s (char_starts at cs)
-indices_give at [] s e o = λ x j p. absurd (omega (arith, ap length e, not_empty x.1 (char_indices_rest s) (char_indices_rest j) p.1))
+indices_give at [] s e o = λ x j p. absurd (omega (arith, ap length e, shorter_after x.1 (char_indices_rest j) (char_indices_rest s) p.1))
 indices_give at (c ∷ cs) s e o = (
-  λ j p. absurd (omega (arith, p.0, not_empty c (char_indices_rest s) (encode_utf8_all cs) (sym e))),
+  λ j p. absurd (omega (arith, p.0, shorter_after c (encode_utf8_all cs) (char_indices_rest s) (sym e))),
   λ x j p. let k = encode_same c x.1 (encode_utf8_all cs) (char_indices_rest j) (e ∙ p.1) in (
     pair_same x at c (p.0 ∙ o) (sym k.0),
     indices_give (at + length (encode_utf8 c)) cs j k.1 (p.2 ∙ ap (λ n. n + length (encode_utf8 x.1)) o ∙ ap (λ d. at + length (encode_utf8 d)) (sym k.0)),

@@ -1,19 +1,16 @@
 -- The text on the screen for a text, character by character.
 use Rattle.std.proofs.lemmas.Grind.{common_steps}
-use Rattle.std.proofs.Common.{◌≡◌, ◌≢◌, None, ℕ, zero, suc, ◌+◌, ◌-◌, ◌<◌, ◌≤◌, Bool, true, false, not, ◌==◌, cond, List, [], ◌∷◌, ◌++◌, take, drop, length, replicate, get_or, refl, sym, ap, ◌∙◌, arith, IsUtf8, encode_utf8_all}
+use Rattle.std.proofs.Common.{◌≡◌, ◌≢◌, None, ℕ, zero, suc, ◌+◌, ◌-◌, ◌<◌, Bool, true, false, not, ◌==◌, cond, List, [], ◌∷◌, ◌++◌, take, drop, length, replicate, get_or, refl, sym, ap, ◌∙◌, arith, IsUtf8, encode_utf8_all}
 use Rattle.std.specs.List.{list_any, filter}
 use Rattle.std.specs.Str.{chars}
 use Rattle.std.proofs.lemmas.Bool.Decides.{nat_tests}
 use Rattle.std.proofs.lemmas.List.{append_assoc, drop_more, take-append-drop}
 use Rattle.std.proofs.lemmas.List.Folds.{list_any-append}
-use Rattle.std.proofs.lemmas.Str.{encodes-chars, length-le-encodes, encodes-append}
+use Rattle.std.proofs.lemmas.Str.{encodes-chars, encodes-append}
 use Rattle.std.proofs.lemmas.Bool.{false≢true}
 use Rattle.textarea_wrap.specs.Columns.{next_stop, column_after}
 use Rattle.textarea_highlight.specs.Display.{is_tab, display_char, with_spaces, without_tabs, display_text}
 use Rattle.textarea_highlight.proofs.SpaceLemmas.{spaces_encoded}
-
-pub length_chars : (bs : List ℕ) → IsUtf8 bs → length (chars bs) ≤ length bs
-length_chars bs u = omega (arith, length-le-encodes (chars bs), ap length (encodes-chars bs u))
 
 -- ---- one more character
 
@@ -68,14 +65,17 @@ without_tabs-changed [] some = λ e. false≢true some
 without_tabs-changed (c ∷ cs) some = λ e.
     false≢true (sym (no_tab_left cs) ∙ ap (λ ys. list_any is_tab (drop 1 ys)) e ∙ some)
 
+pub stops : (tab_len : ℕ) → 0 < tab_len → (tab_len == 0) ≡ false
+stops tab_len h = grind (arith, nat_tests)
+
+pub with_stops : (tab_len column : ℕ) (cs : List ℕ) → 0 < tab_len → display_text None tab_len column cs ≡ with_spaces tab_len column cs
+with_stops tab_len column cs h = rw (stops tab_len h) refl
+
 -- ---- a segment without a mask, by its tab length and whether it has a tab that counts
 
 module _ (tab_len column : ℕ) (bs : List ℕ) (u : IsUtf8 bs) where
   at_zero : tab_len ≡ 0 → display_text None tab_len column (chars bs) ≡ without_tabs (chars bs)
   at_zero e = rw e refl
-
-  at_some : 0 < tab_len → display_text None tab_len column (chars bs) ≡ with_spaces tab_len column (chars bs)
-  at_some h = let no : (tab_len == 0) ≡ false = grind (arith, nat_tests) in rw no refl
 
   pub unchanged_at_zero : tab_len ≡ 0 → list_any is_tab (drop 1 (chars bs)) ≡ false → display_text None tab_len column (chars bs) ≡ chars bs
   unchanged_at_zero e none = at_zero e ∙ without_tabs-same (chars bs) none
@@ -84,11 +84,11 @@ module _ (tab_len column : ℕ) (bs : List ℕ) (u : IsUtf8 bs) where
   changed_at_zero e some = λ same. without_tabs-changed (chars bs) some (sym (at_zero e) ∙ same)
 
   pub unchanged_at_some : 0 < tab_len → list_any is_tab (chars bs) ≡ false → display_text None tab_len column (chars bs) ≡ chars bs
-  unchanged_at_some h none = at_some h ∙ with_spaces-same tab_len column (chars bs) none
+  unchanged_at_some h none = with_stops tab_len column (chars bs) h ∙ with_spaces-same tab_len column (chars bs) none
 
   pub changed_at_some : 0 < tab_len → list_any is_tab (chars bs) ≡ true → display_text None tab_len column (chars bs) ≢ chars bs
   changed_at_some h some = λ same.
-      false≢true (sym (no_tab_displayed tab_len column (chars bs)) ∙ ap (list_any is_tab) (sym (at_some h) ∙ same) ∙ some)
+      false≢true (sym (no_tab_displayed tab_len column (chars bs)) ∙ ap (list_any is_tab) (sym (with_stops tab_len column (chars bs) h) ∙ same) ∙ some)
 
   pub text_of_unchanged : display_text None tab_len column (chars bs) ≡ chars bs → bs ≡ encode_utf8_all (display_text None tab_len column (chars bs))
   text_of_unchanged e = sym (encodes-chars bs u) ∙ ap encode_utf8_all (sym e)

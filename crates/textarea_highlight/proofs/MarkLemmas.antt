@@ -60,6 +60,3 @@ module _ (row rest : List ℕ) (mark : RowMark) (utf8 : IsUtf8 row) (is : IsOffs
   -- there are as many characters in all
   pub characters_after : length (chars rest) + mark.characters ≡ length (chars row)
   characters_after = omega (arith, is.within, ap length rest_chars, length-drop mark.characters (chars row))
-
-pub pair_is : (a b c d : ℕ) → a ≡ c → b ≡ d → ◌≡◌ {A = ℕ × ℕ} (a, b) (c, d)
-pair_is a b c d first second = ap (λ (n : ℕ). (n, b)) first ∙ ap (λ (n : ℕ). (c, n)) second

@@ -9,9 +9,10 @@ use Rattle.std.proofs.lemmas.Str.{chars-append, encodes-chars, IsUtf8-between, I
 use Rattle.ucd_breaks.proofs.Computing.{ucd_breaks}
 use Rattle.ucd_derived.proofs.Computing.{ucd_derived}
 use Rattle.ucd_table.proofs.TrieCheck.{all_below, all_below-at}
+use Rattle.textarea_wrap.specs.Columns.{IsVisible}
 use Rattle.textarea_highlight.specs.Display.{display_char, is_tab}
 use Rattle.textarea_highlight.specs.Plain.{is_plain}
-use Rattle.textarea_highlight.specs.Seams.{BeginsPlain, EndsPlain, IsVisible}
+use Rattle.textarea_highlight.specs.Seams.{BeginsPlain, EndsPlain}
 use Rattle.textarea_highlight.specs.Split.{segment_of}
 use Rattle.textarea_highlight.proofs.SplitLemmas.{take_split}
 use Rattle.textarea_highlight.proofs.WholeLemmas.{chars_split}

@@ -12,7 +12,7 @@ use Rattle.textarea_screen.specs.Text.{LineView, SpanView}
 use Rattle.textarea_highlight.specs.declared.highlight.borders.Border.{Border}
 use Rattle.textarea_highlight.specs.declared.highlight.highlighter.RowPart.{RowPart}
 use Rattle.textarea_highlight.specs.Borders.{ArePlaced, IsBorderOrder, match_borders}
-use Rattle.textarea_highlight.specs.Split.{AddsSegments, IsSplit}
+use Rattle.textarea_highlight.specs.Split.{IsSplit}
 use Rattle.textarea_highlight.specs.Highlights.{Highlights, end_style, end_cell, with_matches}
 use Rattle.textarea_highlight.specs.Row.{AddsPart, IsPartOf, ShowsPart, ShowsRow, part_end, part_numbers, whole_row}
 use Rattle.textarea_highlight.proofs.WholeLemmas.{whole}
@@ -29,18 +29,8 @@ cleared_numbers h part later = let no : (part.from == 0) ≡ false = grind (arit
 pub all_numbers : (h : Highlights) (part : RowPart) → part.from ≤ 0 → h.numbers ≡ part_numbers h part
 all_numbers h part begins = sym (cond-true (part.from == 0) h.numbers [] (eq-eqb part.from 0 (omega arith)))
 
--- the segments of a part, and then the cell after it; `v` is the highlighter by its fields
-pub added_part : (v h : Highlights) → v ≡ h → (part : RowPart) (row : List ℕ) (borders : List Border) (old front new : List SpanView) (end : Option Style) → row ≡ take part.to v.row → borders ≡ v.borders →
-    AddsSegments row borders v.base v.tab_len v.mask part.from old front → end ≡ part_end h part → new ≡ front ++ end_cell end → AddsPart h part old new
-added_part v h same part row borders old front new end is_row are split ends added =
-    subst (λ (k : Highlights). AddsPart k part old new) same (record {
-      front = front;
-      split = subst (λ (r : List ℕ). AddsSegments r v.borders v.base v.tab_len v.mask part.from old front) is_row
-          (subst (λ (bs : List Border). AddsSegments row bs v.base v.tab_len v.mask part.from old front) are split);
-      spans = added ∙ ap (λ (e : Option Style). front ++ end_cell e) (ends ∙ ap (λ (k : Highlights). part_end k part) (sym same));
-    })
-
--- the same after the spans in front of the row, with its borders sorted
+-- the segments of a part after the spans in front of the row, with its borders sorted; `v` is the
+-- highlighter by its fields
 pub part_added : (v h : Highlights) (part : RowPart) (sorted : List Border) (numbers before all : List SpanView) (style : Style) → v ≡ h → IsBorderOrder v.borders sorted →
     part.to ≤ length v.row → before ≡ part_numbers v part →
     AddsPart (record v { numbers = numbers; borders = sorted }) part before all → style ≡ empty_style → ShowsPart h part (record { spans = all; style = style })

@@ -1,18 +1,17 @@
 -- A walk over a row: the columns of the offsets on the way, and the seams among them.
 use Rattle.std.proofs.Common.{◌≡◌, ℕ, zero, suc, ◌+◌, ◌-◌, ◌*◌, ◌<◌, ◌≤◌, Bool, true, ◌&&◌, List, [], ◌∷◌, ◌++◌, drop, take, length, get_or, slice_range, refl, sym, ap, subst, ◌∙◌, arith, IsUtf8, IsCharBoundary, encode_utf8}
 use Rattle.std.specs.Char.{len_utf8}
-use Rattle.std.specs.List.{All, list_all}
+use Rattle.std.specs.List.{list_all}
 use Rattle.std.specs.Str.{chars}
-use Rattle.std.proofs.lemmas.Bool.Decides.{nat_tests}
-use Rattle.std.proofs.lemmas.List.{append-nil, get_or-drop, get_or-take, length-drop, length-take, take_more}
-use Rattle.std.proofs.lemmas.List.Elements.{All-append, All-get_or, All-push}
-use Rattle.std.proofs.Math.Seq.{take-add, take-append_seam}
-use Rattle.std.proofs.lemmas.Str.{chars-nil, chars_past_char, IsCharBoundary-after_ascii, IsCharBoundary-past_char, IsCharBoundary-start, IsUtf8-between, IsUtf8-drop, len_utf8_bounds, length-encode}
-use Rattle.unicode_width.specs.Width.{char_width}
-use Rattle.textarea_wrap.specs.Columns.{column_after, end_column}
+use Rattle.std.proofs.lemmas.List.{append-nil, get_or-drop, get_or-take, length-drop, length-take, length-take-le}
+use Rattle.std.proofs.Math.Seq.{take-append_seam}
+use Rattle.std.proofs.lemmas.Str.{chars-nil, chars_past_char, IsCharBoundary-after_ascii, IsCharBoundary-past_char, IsUtf8-between, IsUtf8-drop, len_utf8_bounds, length-encode}
+use Rattle.textarea_wrap.specs.Columns.{IsVisible, IsVisibleCount, end_column}
+use Rattle.textarea_wrap.proofs.Alls.{all_at}
+use Rattle.textarea_wrap.proofs.VisibleLemmas.{visible-column}
 use Rattle.textarea_highlight.specs.Columns.{column_of}
 use Rattle.textarea_highlight.specs.Plain.{is_plain}
-use Rattle.textarea_highlight.specs.Seams.{AreVisible, BeginsPlain, BeginsWith, EndsPlain, IsColumnAt, IsSeam, IsVisible}
+use Rattle.textarea_highlight.specs.Seams.{AreVisible, BeginsPlain, BeginsWith, EndsPlain, IsColumnAt, IsSeam}
 use Rattle.textarea_highlight.specs.Split.{segment_of}
 use Rattle.textarea_highlight.specs.declared.highlight.seams.RowOffset.{RowOffset}
 use Rattle.textarea_highlight.proofs.PlainLemmas.{begins_plain, ends_plain, visible-plain}
@@ -46,10 +45,6 @@ module _ (row : List ℕ) (at end c : ℕ) (utf8 : IsUtf8 row) (boundary : IsCha
   pub size_of_first : 1 ≤ length (slice_range row at end)
   size_of_first = omega (arith, ap length bytes_of_first, length-encode c, len_utf8_bounds c)
 
-visible-column : (tab_len column c : ℕ) → IsVisible c → column_after tab_len column c ≡ column + 1
-unfolding char_width
-visible-column tab_len column c visible = let low = visible.0 in let high = visible.1 in grind (arith, nat_tests)
-
 -- a visible character of ASCII further
 pub known_next : (row : List ℕ) (tab_len : ℕ) (at : RowOffset) → IsUtf8 row → IsColumnAt row tab_len at → at.offset < length row → IsVisible (get_or row at.offset 0) →
     IsColumnAt row tab_len (record { offset = at.offset + 1; column = at.column + 1 })
@@ -62,14 +57,6 @@ known_next row tab_len at utf8 known inside visible =
           ∙ column_to tab_len row at.offset (at.offset + 1) utf8 (omega arith) known.boundary boundary;
       near = omega (arith, known.near);
     }
-
--- the row's start
-pub known_start : (row : List ℕ) (tab_len : ℕ) → IsUtf8 row → IsColumnAt row tab_len (record { offset = 0; column = 0 })
-known_start row tab_len utf8 = record {
-  boundary = IsCharBoundary-start row utf8;
-  column = sym (ap (end_column tab_len 0) chars-nil);
-  near = omega arith;
-}
 
 -- ---- plain characters on the way
 
@@ -92,31 +79,13 @@ visible_between row tab_len at next utf8 known further one inside visible =
 
 -- ---- visible characters of ASCII
 
-pub visible_more : (bytes : List ℕ) (count : ℕ) → count < length bytes → All IsVisible (take count bytes) → IsVisible (get_or bytes count 0) → All IsVisible (take (count + 1) bytes)
-visible_more bytes count below front is =
-    subst (All IsVisible) (sym (take_more bytes count 0 below)) (All-push IsVisible (take count bytes) (get_or bytes count 0) front is)
-
-pub visible_further : (bytes text : List ℕ) (count more : ℕ) → All IsVisible (take count bytes) → text ≡ slice_range bytes count (count + more) → All IsVisible text → All IsVisible (take (count + more) bytes)
-visible_further bytes text count more front is back =
-    let size : count + more - count ≡ more = omega arith in
-    subst (All IsVisible) (sym (take-add count more bytes))
-    (All-append IsVisible (take count bytes) (take more (drop count bytes)) front (subst (All IsVisible) (is ∙ ap (λ n. take n (drop count bytes)) size) back))
-
-pub run_visible : (row bytes : List ℕ) (from to count : ℕ) → bytes ≡ row → from ≤ length row → count ≤ length (slice_range bytes from to) → All IsVisible (take count (slice_range bytes from to)) → AreVisible row from count
-run_visible row bytes from to count is inside within visible =
-    let size = length-take (to - from) (drop from bytes) in
-    let rest = length-drop from bytes in
-    let same = ap length is in
-    record {
-      within = omega (arith, size, rest, same, inside, within);
-      visible = λ k below.
-          subst IsVisible
-          (get_or-take count (slice_range bytes from to) k 0 below
-          ∙ get_or-take (to - from) (drop from bytes) k 0 (omega (arith, size, within, below))
-          ∙ get_or-drop from bytes k 0
-          ∙ ap (λ (xs : List ℕ). get_or xs (from + k) 0) is)
-          (All-get_or IsVisible (take count (slice_range bytes from to)) k 0 (omega (arith, length-take count (slice_range bytes from to), within, below)) visible);
-    }
+pub run_visible : (row rest : List ℕ) (from most count : ℕ) → rest ≡ drop from row → from ≤ length row → IsVisibleCount rest most count → AreVisible row from count
+run_visible row rest from most count is inside counted = record {
+  within = omega (arith, ap length is, length-drop from row, inside, counted.within);
+  visible = λ k below.
+      subst IsVisible (get_or-take count rest k 0 below ∙ ap (λ (xs : List ℕ). get_or xs k 0) is ∙ get_or-drop from row k 0)
+      (all_at IsVisible (take count rest) k 0 counted.visible (omega (arith, length-take-le count rest counted.within, below)));
+}
 
 moved : (row : List ℕ) (tab_len : ℕ) (place : RowOffset) (offset column : ℕ) → offset ≡ place.offset → column ≡ place.column → IsColumnAt row tab_len place →
     IsColumnAt row tab_len (record { offset = offset; column = column })

@@ -8,21 +8,23 @@ use Rattle.std.proofs.lemmas.List.{drop-drop, drop-take, drop_more, length-take-
 use Rattle.std.proofs.lemmas.List.Elements.{All-cons, All-head, All-nil, All-tail}
 use Rattle.std.proofs.lemmas.List.Sums.{sum_by-append, sum_by-cons}
 use Rattle.std.proofs.lemmas.Str.{chars-append, chars-encodes, encodes-append, scalars-chars, IsCharBoundary-end, IsUtf8-between, chars-IsAscii}
-use Rattle.std.proofs.lemmas.Str.Ascii.{IsAscii-from_all}
 use Rattle.textarea_screen.specs.Text.{SpanView}
 use Rattle.textarea_screen.specs.declared.screen.style.Style.{Style}
-use Rattle.textarea_wrap.specs.Columns.{column_after, end_column, next_stop, plain_width}
+use Rattle.textarea_wrap.specs.Columns.{IsVisible, column_after, end_column, next_stop, plain_width}
+use Rattle.textarea_wrap.proofs.ColumnLemmas.{next_stop-after}
+use Rattle.textarea_wrap.proofs.VisibleLemmas.{visible-ascii}
 use Rattle.textarea_highlight.specs.Borders.{ArePlacedWithin}
 use Rattle.unicode_width.specs.Width.{char_width}
 use Rattle.textarea_highlight.specs.Brackets.{IsStyleAfter}
 use Rattle.textarea_highlight.specs.Columns.{column_of}
 use Rattle.textarea_highlight.specs.Display.{display_char, display_text, is_tab, with_spaces}
-use Rattle.textarea_highlight.specs.Seams.{EndsPlain, IsSeam, IsVisible}
+use Rattle.textarea_highlight.specs.Seams.{EndsPlain, IsSeam}
 use Rattle.textarea_highlight.specs.Seen.{AreInTwo, IsSpanSplit, IsText, span_columns, spans_columns}
 use Rattle.textarea_highlight.specs.Split.{display_segment, segment_of, IsSplit, ShowsSegment}
 use Rattle.textarea_highlight.specs.Texts.{text_bytes_of}
 use Rattle.textarea_highlight.specs.declared.highlight.borders.Border.{Border}
 use Rattle.textarea_highlight.specs.declared.highlight.borders.Mark.{Mark}
+use Rattle.textarea_highlight.proofs.DisplayLemmas.{with_stops}
 use Rattle.textarea_highlight.proofs.OneRowLemmas.{rises}
 use Rattle.textarea_highlight.proofs.PlainLemmas.{chars_upto, first_of, last_of, plain-shown, some_segment}
 use Rattle.textarea_highlight.proofs.SplitLemmas.{IsEdge, column_to}
@@ -80,7 +82,7 @@ display_segment-take row tab_len mask n from to order within =
 -- ---- characters next to a seam
 
 pub visible-chars : (c : ℕ) → IsVisible c → chars (c ∷ []) ≡ c ∷ []
-visible-chars c visible = chars-IsAscii (c ∷ []) (IsAscii-from_all (c ∷ []) (All-cons (λ b. b < 128) c [] (omega (arith, visible.1)) (All-nil (λ b. b < 128))))
+visible-chars c visible = chars-IsAscii (c ∷ []) (visible-ascii (c ∷ []) (visible, tt))
 
 -- the character before a seam ends the segment before it
 segment-last : (row : List ℕ) (from at : ℕ) → IsUtf8 row → IsCharBoundary row from → from < at → (seam : IsSeam row at) →
@@ -141,20 +143,14 @@ with_spaces-valid tab_len column (c ∷ cs) h =
         (others (grind (arith, nat_tests)))
     by false e others = grind (arith, nat_tests, others)
 
-stops : (tab_len column : ℕ) (cs : List ℕ) → 0 < tab_len → display_text None tab_len column cs ≡ with_spaces tab_len column cs
-stops tab_len column cs some = let no : (tab_len == 0) ≡ false = grind (arith, nat_tests) in rw no refl
-
 display-valid : (tab_len column : ℕ) (cs : List ℕ) → 0 < tab_len → all_scalars cs ≡ true → all_scalars (display_text None tab_len column cs) ≡ true
-display-valid tab_len column cs some h = ap all_scalars (stops tab_len column cs some) ∙ with_spaces-valid tab_len column cs h
+display-valid tab_len column cs some h = ap all_scalars (with_stops tab_len column cs some) ∙ with_spaces-valid tab_len column cs h
 
 -- spaces take one column each
 spaces-width : (n : ℕ) → sum_by plain_width (replicate n 32) ≡ n
 unfolding char_width
 spaces-width zero = refl
 spaces-width (suc n) = omega (arith, sum_by-cons plain_width 32 (replicate n 32), spaces-width n)
-
-next_stop-after : (tab_len column : ℕ) → column ≤ next_stop tab_len column
-next_stop-after tab_len column = grind (arith, nat_tests)
 
 char-width : (tab_len column c : ℕ) → sum_by plain_width (display_char tab_len column c) + column ≡ column_after tab_len column c
 char-width tab_len column c = by (c == 9) refl
@@ -175,7 +171,7 @@ with_spaces-width tab_len column (c ∷ cs) =
     )
 
 display-width : (tab_len column : ℕ) (cs : List ℕ) → 0 < tab_len → sum_by plain_width (display_text None tab_len column cs) + column ≡ end_column tab_len column cs
-display-width tab_len column cs some = ap (λ shown. sum_by plain_width shown + column) (stops tab_len column cs some) ∙ with_spaces-width tab_len column cs
+display-width tab_len column cs some = ap (λ shown. sum_by plain_width shown + column) (with_stops tab_len column cs some) ∙ with_spaces-width tab_len column cs
 
 -- ---- segments that are split
 
@@ -241,11 +237,11 @@ module _ (row : List ℕ) (borders : List Border) (base : Style) (tab_len : ℕ)
       let d = seam.right.first in
       let front = with_spaces tab_len column last.0 in
       let first_shown : display_segment row tab_len None from at ≡ front ++ c ∷ [] =
-      stops tab_len column one some ∙ ap (with_spaces tab_len column) last.1 ∙ with_spaces-append tab_len column last.0 (c ∷ [])
+      with_stops tab_len column one some ∙ ap (with_spaces tab_len column) last.1 ∙ with_spaces-append tab_len column last.0 (c ∷ [])
       ∙ ap (λ (cs : List ℕ). front ++ (cs ++ [])) (plain-shown tab_len (end_column tab_len column last.0) c seam.left.plain) in
       let back = with_spaces tab_len (column_after tab_len (column_of row tab_len at) d) next.0 in
       let second_shown : display_segment row tab_len None at to ≡ d ∷ back =
-      stops tab_len (column_of row tab_len at) two some ∙ ap (with_spaces tab_len (column_of row tab_len at)) next.1
+      with_stops tab_len (column_of row tab_len at) two some ∙ ap (with_spaces tab_len (column_of row tab_len at)) next.1
       ∙ ap (λ (cs : List ℕ). cs ++ back) (plain-shown tab_len (column_of row tab_len at) d seam.right.plain) in
       let all : display_segment row tab_len None from to ≡ display_segment row tab_len None from at ++ display_segment row tab_len None at to =
       ap (display_text None tab_len column) (segment-append row from at to utf8 at_from at_seam (omega arith) (omega arith))

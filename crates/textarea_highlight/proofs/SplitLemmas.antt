@@ -1,5 +1,5 @@
 -- A row that is split border by border.
-use Rattle.std.proofs.Common.{◌≡◌, ◌↔◌, ℕ, ◌+◌, ◌-◌, ◌<◌, ◌≤◌, max, Bool, true, false, nat_le, List, [], ◌∷◌, ◌++◌, map, take, drop, length, get_or, slice_range, Option, refl, sym, ap, ◌∙◌, subst, inl, inr, ⊎_elim, arith, IsUtf8, IsCharBoundary, ◌⊎◌}
+use Rattle.std.proofs.Common.{◌≡◌, ℕ, ◌+◌, ◌-◌, ◌<◌, ◌≤◌, max, Bool, true, false, nat_le, List, [], ◌∷◌, ◌++◌, map, take, drop, length, get_or, slice_range, Option, refl, sym, ap, ◌∙◌, subst, inl, inr, ⊎_elim, arith, IsUtf8, IsCharBoundary, ◌⊎◌}
 use Rattle.std.specs.List.{filter, All, Any}
 use Rattle.std.specs.Str.{chars}
 use Rattle.std.proofs.lemmas.Bool.{cases_lt}
@@ -7,7 +7,7 @@ use Rattle.std.proofs.lemmas.Bool.Decides.{nat_tests}
 use Rattle.std.proofs.lemmas.Grind.{common_steps}
 use Rattle.std.proofs.lemmas.List.{append-nil, append_assoc, take-append-drop, length-take-le, get_or-take, get_or-drop, get_or_default, map_more, drop-take, take-take, length-drop}
 use Rattle.std.proofs.lemmas.List.Elements.{filter-append, All-head, All-tail}
-use Rattle.std.proofs.lemmas.Str.{chars-append, IsUtf8-take, chars-nil}
+use Rattle.std.proofs.lemmas.Str.{chars-append, IsUtf8-take}
 use Rattle.textarea_screen.specs.declared.screen.style.Style.{Style}
 use Rattle.textarea_screen.specs.Text.{SpanView}
 use Rattle.textarea_highlight.specs.declared.highlight.borders.Mark.{Mark}
@@ -15,20 +15,11 @@ use Rattle.textarea_highlight.specs.declared.highlight.brackets.OpenStyles.{Open
 use Rattle.textarea_highlight.specs.declared.highlight.display.Display.{Display}
 use Rattle.textarea_highlight.specs.declared.highlight.borders.Border.{Border}
 use Rattle.textarea_highlight.specs.OpenStyles.{ArePassed, base_of}
-use Rattle.textarea_wrap.specs.Columns.{column_after, end_column}
+use Rattle.textarea_wrap.specs.Columns.{end_column}
+use Rattle.textarea_wrap.proofs.ColumnLemmas.{end_column-append}
 use Rattle.textarea_highlight.specs.Borders.{ArePlacedWithin}
-use Rattle.textarea_highlight.specs.Columns.{IsColumnKnown, column_of}
-use Rattle.textarea_highlight.specs.Display.{display_bytes, IsDisplayedAsItIs}
-use Rattle.textarea_highlight.specs.Texts.{text_bytes_of, IsUncopied}
-use Rattle.textarea_highlight.specs.Brackets.{IsStyleAfter}
+use Rattle.textarea_highlight.specs.Columns.{IsColumnKnown}
 use Rattle.textarea_highlight.specs.Split.{IsAscending, marks_upto, segment_of, ShowsSegment, IsSplit, ShowsNext, AddsSegment}
-
--- ---- the column after a segment
-
-end_column-append : (tab_len column : ℕ) (xs ys : List ℕ) →
-    end_column tab_len column (xs ++ ys) ≡ end_column tab_len (end_column tab_len column xs) ys
-end_column-append tab_len column [] ys = refl
-end_column-append tab_len column (x ∷ xs) ys = end_column-append tab_len (column_after tab_len column x) xs ys
 
 -- ---- the borders up to an offset
 
@@ -96,9 +87,6 @@ IsEdge row borders to = (to ≡ length row) ⊎ Any (λ border. border.offset �
 pub edge_at : (row : List ℕ) (borders : List Border) (n : ℕ) (d : Border) → n < length borders → IsEdge row borders (get_or borders n d).offset
 edge_at row borders n d within = grind (arith, common_steps)
 
-pub segment_empty : (row : List ℕ) (from to : ℕ) → to ≤ from → segment_of row from to ≡ []
-segment_empty row from to h = grind (arith, common_steps, chars-nil)
-
 pub take_split : (row : List ℕ) (start to : ℕ) → start ≤ to → take to row ≡ take start row ++ slice_range row start to
 take_split row start to h =
     grind (arith, common_steps, take-append-drop start (take to row), take-take start to row h, drop-take start (to - start) row)
@@ -131,15 +119,6 @@ segments_more row borders base tab_len mask before spans from start to span h se
   IsSplit-push row borders base tab_len mask h.0 span from start to h.1 segment,
   ap (λ ss. ss ++ span ∷ []) h.2 ∙ append_assoc before h.0 (span ∷ []),
 )
-
--- one more span shows a segment
-pub segment_added : (row : List ℕ) (tab_len : ℕ) (mask : Option ℕ) (styles : OpenStyles) (from to : ℕ) (span : SpanView) (old new : List SpanView) → from < to →
-    text_bytes_of span.content ≡ display_bytes mask tab_len (column_of row tab_len from) (slice_range row from to) →
-    (IsUncopied span.content ↔ IsDisplayedAsItIs mask tab_len (column_of row tab_len from) (slice_range row from to)) →
-    ((marks : List Mark) → ArePassed styles marks → IsStyleAfter marks (base_of styles) span.style) → new ≡ old ++ span ∷ [] → AddsSegment row tab_len mask styles from to old new
-segment_added row tab_len mask styles from to span old new below text uncopied style added =
-    let next : ShowsNext row tab_len mask styles from to span = record { style = style; text = text; borrowed = uncopied } in
-    inr (below, (span, next, added))
 
 -- the column of an offset is also known at a later one
 known_later : {row : List ℕ} {display : Display} {offset : ℕ} (later : ℕ) → IsColumnKnown row display offset → offset ≤ later → IsColumnKnown row display later
@@ -193,10 +172,6 @@ pass_more row borders base tab_len mask before from n start d display styles sty
   after = subst (ArePassed styles') (sym (map_more (λ (border : Border). border.mark) borders n d within)) (passes (map (λ border. border.mark) (take n borders)) h.after);
   split = h.split;
 }
-
-pub split_at_start : (row : List ℕ) (borders : List Border) (base : Style) (tab_len : ℕ) (mask : Option ℕ) (before : List SpanView) (from : ℕ) →
-    HasSegments row borders base tab_len mask before from from before
-split_at_start row borders base tab_len mask before from = ([], refl, sym (append-nil before))
 
 -- ---- the next border
 

@@ -1,10 +1,11 @@
 -- Tabs among the bytes of a text and among its characters.
-use Rattle.std.proofs.Common.{◌≡◌, ℕ, ◌<◌, ◌≤◌, Bool, true, false, ◌||◌, List, [], ◌∷◌, length, get_or, Option, None, Some, IsUtf8, encode_utf8_all, refl, sym, ap, ap₂, ◌∙◌, ⊎_elim, arith}
+use Rattle.std.proofs.Common.{◌≡◌, ℕ, ◌<◌, ◌≤◌, Bool, false, ◌||◌, List, [], ◌∷◌, length, get_or, Option, None, Some, IsUtf8, encode_utf8_all, refl, sym, ap, ap₂, ◌∙◌, ⊎_elim, arith}
 use Rattle.std.specs.Char.{encode_utf8}
 use Rattle.std.specs.List.{list_any}
 use Rattle.std.specs.Option.{is_some}
 use Rattle.std.specs.Str.{chars}
-use Rattle.std.proofs.lemmas.Bool.{cases_Bool, cases_lt, eqb-true}
+use Rattle.std.proofs.lemmas.Bool.{cases_lt, eqb-true, false_from_ne_true}
+use Rattle.std.proofs.Math.Bool.{or-false}
 use Rattle.std.proofs.lemmas.Bool.Decides.{nat_tests}
 use Rattle.std.proofs.lemmas.List.{append-nil, get_or_default}
 use Rattle.std.proofs.lemmas.List.Folds.{list_any-append, list_any_at, list_any_none}
@@ -14,17 +15,9 @@ use Rattle.textarea_highlight.specs.Display.{is_tab}
 
 -- a character of several bytes has no byte of ASCII
 no_tab_byte : (c k d : ℕ) → 128 ≤ c → k < length (encode_utf8 c) → is_byte 9 (get_or (encode_utf8 c) k d) ≡ false
-no_tab_byte c k d wide below =
-    ⊎_elim
-    (λ is.
-    let default = get_or_default (encode_utf8 c) k 0 d below in
-    let tab : get_or (encode_utf8 c) k 0 ≡ 9 = default ∙ eqb-true _ _ is in
-    absurd (omega (arith, wide, tab, inside_one c [] (encode_utf8 c) k (sym (append-nil (encode_utf8 c))) below (omega (arith, tab)))))
-    (λ other. other) (cases_Bool (is_byte 9 (get_or (encode_utf8 c) k d)))
-
-or-false : (b : Bool) → (b || false) ≡ b
-or-false true = refl
-or-false false = refl
+no_tab_byte c k d wide below = false_from_ne_true (is_byte 9 (get_or (encode_utf8 c) k d)) (λ is.
+    let tab : get_or (encode_utf8 c) k 0 ≡ 9 = get_or_default (encode_utf8 c) k 0 d below ∙ eqb-true _ _ is in
+    omega (arith, wide, tab, inside_one c [] (encode_utf8 c) k (sym (append-nil (encode_utf8 c))) below (omega (arith, tab))))
 
 not_tab : (c : ℕ) → 128 ≤ c → is_tab c ≡ false
 not_tab c wide = grind (arith, nat_tests)
@@ -42,14 +35,10 @@ tab_bytes (c ∷ cs) =
 tab_in_bytes : (text : List ℕ) → IsUtf8 text → list_any (is_byte 9) text ≡ list_any is_tab (chars text)
 tab_in_bytes text utf8 = ap (list_any (is_byte 9)) (sym (encodes-chars text utf8)) ∙ tab_bytes (chars text)
 
-not_byte : (b : Bool) → (b ≡ true → ⊥) → b ≡ false
-not_byte true never = absurd (never refl)
-not_byte false never = refl
-
 first_byte : (text : List ℕ) (found : Option ℕ) → IsFirstByte (is_byte 9) text found → is_some found ≡ list_any (is_byte 9) text
 first_byte text None nowhere =
     sym (list_any_none (is_byte 9) text
-    (λ k d below. ap (is_byte 9) (get_or_default text k d 0 below) ∙ not_byte (is_byte 9 (get_or text k 0)) (nowhere k (omega arith) below)))
+    (λ k d below. ap (is_byte 9) (get_or_default text k d 0 below) ∙ false_from_ne_true (is_byte 9 (get_or text k 0)) (nowhere k (omega arith) below)))
 first_byte text (Some at) found = sym (list_any_at (is_byte 9) text at 0 found.0.high found.1)
 
 -- the search for the byte of a tab finds whether the text has the character

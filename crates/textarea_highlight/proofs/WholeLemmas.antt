@@ -1,7 +1,6 @@
 -- With tab stops, the segments of a row together show the row as a whole.
-use Rattle.std.proofs.Common.{◌≡◌, ℕ, ◌<◌, ◌≤◌, false, ◌==◌, List, [], ◌∷◌, ◌++◌, take, drop, length, slice_range, Option, None, Some, refl, ap, ◌∙◌, arith, All, IsUtf8, IsCharBoundary, encode_utf8_all}
+use Rattle.std.proofs.Common.{◌≡◌, ℕ, ◌<◌, ◌≤◌, List, [], ◌∷◌, ◌++◌, take, drop, length, slice_range, Option, None, Some, refl, ap, ◌∙◌, arith, All, IsUtf8, IsCharBoundary, encode_utf8_all}
 use Rattle.std.specs.Str.{chars}
-use Rattle.std.proofs.lemmas.Bool.Decides.{nat_tests}
 use Rattle.std.proofs.lemmas.Grind.{common_steps}
 use Rattle.std.proofs.lemmas.List.{append_assoc, map-append, drop_all}
 use Rattle.std.proofs.lemmas.List.Folds.{drop_split}
@@ -12,15 +11,13 @@ use Rattle.textarea_wrap.specs.Columns.{column_after, end_column}
 use Rattle.textarea_highlight.specs.declared.highlight.borders.Border.{Border}
 use Rattle.textarea_highlight.specs.Display.{with_spaces, display_text}
 use Rattle.textarea_highlight.specs.Split.{segment_of, IsSplit, text_of_spans}
+use Rattle.textarea_highlight.proofs.DisplayLemmas.{stops}
 use Rattle.textarea_highlight.proofs.SplitLemmas.{IsEdge, column_to}
 
 pub with_spaces-append : (tab_len column : ℕ) (xs ys : List ℕ) →
     with_spaces tab_len column (xs ++ ys) ≡ with_spaces tab_len column xs ++ with_spaces tab_len (end_column tab_len column xs) ys
 with_spaces-append tab_len column [] ys = refl
 with_spaces-append tab_len column (x ∷ xs) ys = rw (with_spaces-append tab_len (column_after tab_len column x) xs ys) (simp append_assoc)
-
-stops : (tab_len : ℕ) → 0 < tab_len → (tab_len == 0) ≡ false
-stops tab_len h = grind (arith, nat_tests)
 
 pub display_text-append : (mask : Option ℕ) (tab_len column : ℕ) (xs ys : List ℕ) → 0 < tab_len →
     display_text mask tab_len column (xs ++ ys) ≡ display_text mask tab_len column xs ++ display_text mask tab_len (end_column tab_len column xs) ys

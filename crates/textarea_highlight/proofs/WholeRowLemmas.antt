@@ -86,11 +86,8 @@ some_style marks base =
 abbrev IsContent : Option ℕ → List ℕ → List ℕ → ContentView → Type 0
 IsContent mask cs displayed content = (text_bytes_of content ≡ encode_utf8_all displayed) × (IsUncopied content ↔ ((mask ≡ None) × (displayed ≡ cs)))
 
-masked : (mask : ℕ) → Some mask ≡ None → ⊥
-masked mask e = cc
-
 pub some_content : (mask : Option ℕ) (cs displayed : List ℕ) → (content : ContentView) × IsContent mask cs displayed content
-some_content (Some mask) cs displayed = (OwnedBytes (encode_utf8_all displayed), (refl, ((λ never. absurd never), (λ both. masked mask both.0))))
+some_content (Some mask) cs displayed = (OwnedBytes (encode_utf8_all displayed), (refl, ((λ never. absurd never), (λ both. let never = both.0 in cc))))
 some_content None cs displayed =
     elim (cases_Bool (bytes_eq displayed cs)) [
       | inl same ↦ (BorrowedBytes (encode_utf8_all displayed), (refl, ((λ _. (refl, (bytes_eq-Decides displayed cs).0 same)), (λ _. tt))))

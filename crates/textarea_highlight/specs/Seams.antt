@@ -1,16 +1,13 @@
 -- Offsets at which a row can be split so that its cells stay the same.
 use Rattle.std.specs.Prelude.{◌≡◌, ℕ, ◌+◌, ◌*◌, ◌<◌, ◌≤◌, true, List, [], ◌∷◌, ◌++◌, length, get_or, take, drop, chars, encode_utf8, IsCharBoundary, IsTrue}
+use Rattle.textarea_wrap.specs.Columns.{IsVisible}
 use Rattle.textarea_highlight.specs.Columns.{column_of}
 use Rattle.textarea_highlight.specs.Plain.{is_plain}
 use Rattle.textarea_highlight.specs.declared.highlight.highlighter.RowPart.{RowPart}
 use Rattle.textarea_highlight.specs.declared.highlight.seams.RowOffset.{RowOffset}
 use Rattle.textarea_highlight.specs.declared.highlight.seams.Walk.{Walk}
 
--- a character of ASCII that is shown in one column
-abbrev pub IsVisible : ℕ → Type 0
-IsVisible c = (32 ≤ c) × (c < 127)
-
--- this many such characters follow an offset
+-- this many visible characters of ASCII follow an offset
 pub record AreVisible (row : List ℕ) (from count : ℕ) : Type 0 where
   pub within : from + count ≤ length row
   pub visible : (k : ℕ) → k < count → IsVisible (get_or row (from + k) 0)

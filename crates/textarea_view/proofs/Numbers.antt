@@ -13,10 +13,9 @@ use Rattle.std.proofs.lemmas.Str.{chars-IsAscii, IsUtf8-from_ascii}
 use Rattle.std.proofs.lemmas.Str.Ascii.{IsAscii-from_all}
 use Rattle.unicode_width.specs.Width.{char_width}
 use Rattle.textarea_screen.specs.declared.screen.style.Style.{Style}
-use Rattle.textarea_wrap.specs.Columns.{plain_width}
+use Rattle.textarea_wrap.specs.Columns.{IsVisible, plain_width}
 use Rattle.textarea_highlight.specs.Highlights.{Highlights, Range, with_base, with_cursor_line, with_highlight, with_number, with_placeholder, with_segment}
 use Rattle.textarea_highlight.specs.Numbers.{number_span, number_text, placeholder_span, spaces}
-use Rattle.textarea_highlight.specs.Seams.{IsVisible}
 use Rattle.textarea_highlight.specs.Borders.{search_rank}
 use Rattle.textarea_highlight.specs.Seen.{IsText, span_columns, spans_columns}
 use Rattle.textarea_highlight.specs.Texts.{text_bytes_of}

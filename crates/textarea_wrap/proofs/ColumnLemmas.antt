@@ -27,7 +27,7 @@ stop-le t x y some h = grind (arith, common_steps, le-div, div-add-mod x t, div-
 next_stop-le : (t x y : ℕ) → x ≤ y → next_stop t x ≤ next_stop t y
 next_stop-le t x y h = grind (arith, nat_tests, stop-le t x y)
 
-next_stop-after : (t x : ℕ) → x ≤ next_stop t x
+pub next_stop-after : (t x : ℕ) → x ≤ next_stop t x
 next_stop-after t x = grind (arith, nat_tests)
 
 column_after-le : (t x y c : ℕ) → x ≤ y → column_after t x c ≤ column_after t y c

@@ -17,7 +17,8 @@ chars-word_segments (x ∷ xs) p = ap (λ t. chars x ++ t) (chars-word_segments 
 pub stretch_width-whole : (t : ℕ) (text : List ℕ) (word_segments : Stretch) → AreSegments word_segments → concat word_segments ≡ text → stretch_width t word_segments ≡ end_column t 0 (chars text)
 stretch_width-whole t text word_segments p joined = ap (end_column t 0) (chars-word_segments word_segments p ∙ ap chars joined)
 
-last_segment : (segment : List ℕ) (stretch : Stretch) → (front : Stretch) × (last : List ℕ) × (segment ∷ stretch ≡ front ++ last ∷ [])
+-- the last one of some segments
+pub last_segment : (segment : List ℕ) (stretch : Stretch) → (front : Stretch) × (last : List ℕ) × (segment ∷ stretch ≡ front ++ last ∷ [])
 last_segment segment [] = ([], segment, refl)
 last_segment segment (next ∷ stretch) = let rest = last_segment next stretch in (segment ∷ rest.0, rest.1, ap (λ t. segment ∷ t) rest.2)
 

@@ -1,11 +1,12 @@
 -- What remains of a row that fits, without its front.
 use Rattle.textarea_wrap.proofs.Prelude.{common_steps, cases_lt}
-use Rattle.std.proofs.Common.{◌≡◌, ℕ, ◌<◌, ◌⊎◌, inl, inr, List, [], ◌∷◌, ◌++◌, length, refl, sym, ap, subst, ⊎_elim, length-append, arith}
+use Rattle.std.proofs.Common.{◌≡◌, ℕ, ◌<◌, ◌⊎◌, inl, inr, List, [], ◌∷◌, ◌++◌, length, refl, sym, subst, ⊎_elim, length-append, arith}
 use Rattle.textarea_wrap.specs.Prelude.{stretch_width, Stretch, IsBlankCluster, IsFittingRow, IsFittingStretch, line_units}
 use Rattle.textarea_wrap.proofs.Alls.{all_split}
 use Rattle.textarea_wrap.proofs.BlankLemmas.{AreBlanksClusters-line_units}
 use Rattle.textarea_wrap.proofs.ColumnLemmas.{stretch_width-back}
 use Rattle.textarea_wrap.proofs.FewestWordLemmas.{BlankIsCluster, AreBlanksClusters, later_fits, wide_ends}
+use Rattle.textarea_wrap.proofs.OneRowLemmas.{last_segment}
 
 pub clusters_fit : (t w : ℕ) (front back : Stretch) → 0 < length back → IsFittingRow t w (front ++ back) → IsFittingRow t w back
 clusters_fit t w front back some fit = grind (arith, common_steps, stretch_width-back t front back, length-append front back)
@@ -29,16 +30,10 @@ left : (t w : ℕ) (front segment later : Stretch) (last : List ℕ) → AreBlan
 left t w front [] later last blanks fit = one_left t w front later last blanks fit
 left t w front (unit ∷ segment) later last blanks fit = inl (several_left t w front (unit ∷ segment) later last (omega arith) fit)
 
--- the last one of some units
-last_of : (units : Stretch) → 0 < length units → (segment : Stretch) × (last : List ℕ) × (units ≡ segment ++ last ∷ [])
-last_of [] some = absurd (omega arith)
-last_of (unit ∷ []) some = ([], unit, refl)
-last_of (unit ∷ next ∷ units) some =
-    let rest = last_of (next ∷ units) (omega arith) in (unit ∷ rest.0, rest.1, ap (λ (t : Stretch). unit ∷ t) rest.2)
-
 rest_left : (t w : ℕ) (front back later : Stretch) → 0 < length back → AreBlanksClusters back → IsFittingStretch t w (front ++ back) later → IsFittingStretch t w back later ⊎ IsBlankCluster back
-rest_left t w front back later some blanks fit =
-    let end = last_of back some in
+rest_left t w front [] later some blanks fit = absurd (omega arith)
+rest_left t w front (unit ∷ back) later some blanks fit =
+    let end = last_segment unit back in
     subst (λ (b : Stretch). IsFittingStretch t w b later ⊎ IsBlankCluster b) (sym end.2)
     (left t w front end.0 later end.1 (subst AreBlanksClusters end.2 blanks) (subst (λ (b : Stretch). IsFittingStretch t w (front ++ b) later) end.2 fit))
 

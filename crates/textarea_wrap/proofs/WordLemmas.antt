@@ -165,18 +165,6 @@ module _ (tab_len width : ℕ) (units : Stretch) (before : List (ℕ × ℕ)) wh
           ap (λ t. rows ++ t) range ∙ ranges-push before rows w.blocks block row_start w.rows_are w.begins,
         )
 
-    -- no unit remains, and no row is open
-    pub IsWordWalk-end_closed : row_end ≤ row_start
-        → (blocks : List UnitBlock) × (flat_map units_of blocks ≡ units) × AreBlocks tab_len width blocks []
-        × (rows ≡ before ++ ranges_from 0 (flat_map rows_of blocks))
-    IsWordWalk-end_closed none =
-        let empty = ap (λ t. t ++ []) (w.closed none) in (
-          w.blocks,
-          sym (append-nil _) ∙ ap (λ t. flat_map units_of w.blocks ++ t) (sym empty) ∙ w.joined,
-          subst (AreBlocks tab_len width w.blocks) empty w.wrapped,
-          w.rows_are,
-        )
-
 -- ---- units in a slice
 
 abbrev unit_bytes : List (Bor (List ℕ)) → Stretch

@@ -1,6 +1,6 @@
 -- The columns that characters take. Columns count from 0 at the start of a visual row.
-use Rattle.std.specs.Prelude.{ℕ, ◌+◌, ◌-◌, ◌%◌, ◌<◌, ◌≤◌, ◌==◌, max, false, List, [], ◌∷◌, unwrap_or, chars, if◌then◌else◌}
-use Rattle.std.specs.List.{flat_map}
+use Rattle.std.specs.Prelude.{ℕ, ◌+◌, ◌-◌, ◌%◌, ◌<◌, ◌≤◌, ◌==◌, max, false, List, [], ◌∷◌, get_or, length, take, unwrap_or, chars, if◌then◌else◌}
+use Rattle.std.specs.List.{AllByRecursion, flat_map}
 use Rattle.unicode_width.specs.Width.{char_width}
 
 -- the columns of a character other than a tab, 0 where `unicode_width` gives none
@@ -10,6 +10,13 @@ plain_width c = unwrap_or (char_width false c) 0
 -- a character of visible ASCII, the space among them
 abbrev pub IsVisible : ℕ → Type 0
 IsVisible c = (32 ≤ c) × (c < 127)
+
+-- the text begins with this many such characters, of at most `most` that are looked for
+pub record IsVisibleCount (text : List ℕ) (most count : ℕ) : Type 0 where
+  pub within : count ≤ length text
+  pub at_most : count ≤ most
+  pub visible : AllByRecursion IsVisible (take count text)
+  pub end : count < length text → count < most → ¬ IsVisible (get_or text count 0)
 
 -- the next multiple of the tab length above the column; with tab length 0 the column itself
 abbrev pub next_stop : ℕ → ℕ → ℕ

@@ -7,7 +7,7 @@ pub use Rattle.std.specs.Str.{IsCharBoundary, IsUtf8}
 unfoldable pub use Rattle.std.specs.Str.{chars}
 pub use Rattle.std.specs.Str.Iter.{chars_rest}
 pub use Rattle.textarea_util.specs.Limit.{size_limit}
-pub use Rattle.textarea_wrap.specs.Columns.{IsVisible, column_after, end_column, next_stop, plain_width, stretch_width}
+pub use Rattle.textarea_wrap.specs.Columns.{IsVisible, IsVisibleCount, column_after, end_column, next_stop, plain_width, stretch_width}
 pub use Rattle.textarea_wrap.specs.Fitting.{AreFittingClusters, HasFittingClusters, IsFittingCluster, full_width}
 pub use Rattle.textarea_wrap.specs.Marks.{mark_at, range_count}
 unfoldable pub use Rattle.textarea_wrap.specs.Marks.{marks_of}

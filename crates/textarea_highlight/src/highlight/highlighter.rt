@@ -204,15 +204,8 @@ impl<'a> LineHighlighter<'a> {
     {
         match bytes_of_character(self.row, self.mark, cursor_column) {
             Some((start, end)) => {
-                if let CursorCellRender::Draw(cursor_style) = self.cursor_cell {
-                    push_highlight(
-                        &mut self.borders,
-                        self.row,
-                        start,
-                        end,
-                        cursor_style,
-                        CURSOR_RANK,
-                    )?;
+                if let CursorCellRender::Draw(cell) = self.cursor_cell {
+                    push_highlight(&mut self.borders, self.row, start, end, cell, CURSOR_RANK)?;
                 }
             }
             None => self.cursor_at_end = true,
@@ -285,9 +278,7 @@ impl<'a> LineHighlighter<'a> {
             self.select_style,
             SELECTION_RANK,
         )?;
-        if select_at_end {
-            self.break_is_selected = true;
-        }
+        self.break_is_selected |= select_at_end;
         Ok(())
     }
 
@@ -320,9 +311,7 @@ impl<'a> LineHighlighter<'a> {
             self.row.len()
         };
         push_highlight(&mut self.borders, self.row, start, end, style, priority)?;
-        if current_row < end_row {
-            self.break_is_selected = true;
-        }
+        self.break_is_selected |= current_row < end_row;
         Ok(())
     }
 
@@ -350,8 +339,7 @@ impl<'a> LineHighlighter<'a> {
         ensures too_long { size_limit ≤ length self.old.row → IsErr result }
         ensures nothing { ShowsNothing self.old → IsOk result }
     {
-        let row = self.row;
-        let whole = whole_row(row);
+        let whole = whole_row(self.row);
         self.show_part_in(line, whole)
     }
 

@@ -1,15 +1,15 @@
 //! Offsets at which a row can be split so that its cells stay the same.
 ghost use Rattle.std.specs.Prelude.{◌≡◌, ◌⊎◌, ◌+◌, ◌-◌, ◌*◌, ◌^◌, ◌<◌, ◌≤◌, ◌↔◌, length, take, drop, IsCharBoundary, IsTrue, IsUtf8};
 ghost use Rattle.std.specs.Char.{len_utf8};
-ghost use Rattle.std.specs.List.{All};
+ghost use Rattle.textarea_wrap.specs.Columns.{IsVisibleCount};
 ghost use Rattle.textarea_highlight.specs.Columns.{column_of};
 ghost use Rattle.textarea_highlight.specs.Marks.{IsRowMark};
-ghost use Rattle.textarea_highlight.specs.Plain.{ends_conjunct, is_plain, is_single};
-ghost use Rattle.textarea_highlight.specs.Seams.{AreVisible, BeginsPlain, BeginsWith, EndsPlain, IsBetweenSeams, IsColumnAt, IsSeam, IsVisible, IsWalk};
+ghost use Rattle.textarea_highlight.specs.Plain.{is_plain};
+ghost use Rattle.textarea_highlight.specs.Seams.{AreVisible, BeginsPlain, BeginsWith, EndsPlain, IsBetweenSeams, IsColumnAt, IsSeam, IsWalk};
 
 use super::highlighter::RowPart;
 use super::marks::{ROW_START, RowMark};
-use textarea_wrap::wrap::columns::column_after;
+use textarea_wrap::wrap::columns::{column_after, is_visible, visible_count};
 use ucd_breaks::GraphemeClusterBreak;
 use ucd_derived::IndicConjunctBreak;
 
@@ -236,72 +236,19 @@ fn first_character(text: &str) -> char
 
 // Returns how many visible characters of ASCII follow an offset before a column.
 fn visible_before(row: &str, at: RowOffset, column: usize) -> usize
-    requires { at.offset ≤ length row.now }
+    requires { IsCharBoundary row.now at.offset }
+    ensures count { IsVisibleCount (drop at.offset row.now) (column - at.column) result }
     ensures visible { AreVisible row.now at.offset result }
-    ensures left { result ≤ column - at.column }
 {
-    let from = at.offset;
-    let columns = column.saturating_sub(at.column);
-    visible_count(&row.as_bytes()[from..from + columns.min(row.len() - from)])
-}
-
-// Returns with how many visible characters of ASCII the bytes begin.
-fn visible_count(bytes: &[u8]) -> usize
-    ensures within { result ≤ length bytes.now }
-    ensures visible { All IsVisible (take result bytes.now) }
-{
-    let mut count = 0;
-    'stretches: while STRETCH <= bytes.len() - count
-        && are_visible(&bytes[count..count + STRETCH])
-    {
-        count += STRETCH;
-    }
-    'bytes: while count < bytes.len() && is_visible(bytes[count]) {
-        count += 1;
-    }
-    count
-}
-
-// The number of bytes that a processor can compare at once.
-const STRETCH: usize = 32;
-
-fn are_visible(bytes: &[u8]) -> bool
-    ensures { IsTrue result → All IsVisible bytes.now }
-{
-    let mut all = true;
-    for byte in bytes {
-        all = all & is_visible(*byte);
-    }
-    all
-}
-
-fn is_visible(byte: u8) -> bool
-    ensures { IsTrue result ↔ IsVisible byte }
-{
-    32 <= byte && byte < 127
+    visible_count(&row[at.offset..], column.saturating_sub(at.column))
 }
 
 // Returns whether a character is plain: between two such ones a grapheme cluster ends.
 fn is_plain(c: char) -> bool
     ensures { result ≡ is_plain c }
 {
-    is_single(GraphemeClusterBreak::for_char(c)) && ends_conjunct(IndicConjunctBreak::for_char(c))
-}
-
-fn is_single(value: GraphemeClusterBreak) -> bool
-    ensures { result ≡ is_single value }
-{
-    matches!(
-        value,
-        GraphemeClusterBreak::Other | GraphemeClusterBreak::Lv | GraphemeClusterBreak::Lvt
-    )
-}
-
-fn ends_conjunct(value: IndicConjunctBreak) -> bool
-    ensures { result ≡ ends_conjunct value }
-{
-    matches!(
-        value,
-        IndicConjunctBreak::None | IndicConjunctBreak::Consonant
-    )
+    use GraphemeClusterBreak::{Lv, Lvt, Other};
+    use IndicConjunctBreak::{Consonant, None};
+    matches!(GraphemeClusterBreak::for_char(c), Other | Lv | Lvt)
+        && matches!(IndicConjunctBreak::for_char(c), None | Consonant)
 }

@@ -3,9 +3,9 @@
 //! and one display column in moves of the cursor.
 //!
 //! Only other crates of this repository call these. No facade exports them.
-ghost use Rattle.std.specs.Prelude.{◌≡◌, ◌+◌, ◌*◌, ◌^◌, ◌<◌, ◌≤◌, ◌↔◌, length, take, chars, IsTrue};
+ghost use Rattle.std.specs.Prelude.{◌≡◌, ◌+◌, ◌*◌, ◌^◌, ◌<◌, ◌≤◌, ◌↔◌, length, take, drop, chars, IsTrue};
 ghost use Rattle.std.specs.List.{AllByRecursion};
-ghost use Rattle.textarea_wrap.specs.Columns.{IsVisible, plain_width, column_after, end_column, display_column_after, display_end_column};
+ghost use Rattle.textarea_wrap.specs.Columns.{IsVisible, IsVisibleCount, plain_width, column_after, end_column, display_column_after, display_end_column};
 
 use unicode_width::UnicodeWidthChar;
 
@@ -36,24 +36,64 @@ pub fn column_after(c: char, column: usize, tab_len: u8) -> usize
     }
 }
 
+/// The number of bytes that a processor can compare at once.
+const STRETCH: usize = 32;
+
 /// Returns the number of visible ASCII characters that a text begins with, at most `most`. Each is
 /// one byte and takes one column.
+#[inline]
 pub fn visible_count(text: &str, most: usize) -> usize
-    ensures within { result ≤ length text.now }
-    ensures most { result ≤ most }
-    ensures visible { AllByRecursion IsVisible (take result text.now) }
+    ensures { IsVisibleCount text.now most result }
 {
     let bytes = text.as_bytes();
     let end = bytes.len().min(most);
-    for at in 0..end {
-        if bytes[at] < 32 || 127 <= bytes[at] {
-            return at;
-        }
+    let mut count = 0;
+    if STRETCH <= end {
+        count = visible_stretches(bytes, end);
     }
-    end
+    'bytes: while count < end && is_visible(bytes[count]) {
+        count += 1;
+    }
+    count
+}
+
+// Returns how many bytes before an end are in whole stretches of visible ASCII characters. It isn't
+// inlined, so that the count in a short text is.
+#[inline(never)]
+fn visible_stretches(bytes: &[u8], end: usize) -> usize
+    requires { end ≤ length bytes.now }
+    ensures within { result ≤ end }
+    ensures visible { AllByRecursion IsVisible (take result bytes.now) }
+    ensures stops { result + STRETCH ≤ end
+        → ¬ (AllByRecursion IsVisible (take STRETCH (drop result bytes.now))) }
+{
+    let mut count = 0;
+    'stretches: while STRETCH <= end - count && are_visible(&bytes[count..count + STRETCH]) {
+        count += STRETCH;
+    }
+    count
+}
+
+// Reads all bytes, also behind one that isn't visible, since that is faster in a short stretch.
+fn are_visible(bytes: &[u8]) -> bool
+    ensures { IsTrue result ↔ AllByRecursion IsVisible bytes.now }
+{
+    let mut all = true;
+    for byte in bytes {
+        all = all & is_visible(*byte);
+    }
+    all
+}
+
+/// Returns whether a byte is a visible ASCII character, the space among them.
+pub fn is_visible(byte: u8) -> bool
+    ensures { IsTrue result ↔ IsVisible byte }
+{
+    32 <= byte && byte < 127
 }
 
 /// Returns the column after a text that begins at `column`.
+#[inline]
 pub fn column_after_text(text: &str, column: usize, tab_len: u8) -> usize
     requires { column + 255 * length text.now < 2 ^ 63 }
     ensures value { result ≡ end_column tab_len column (chars text.now) }

@@ -1,5 +1,6 @@
 use Rattle.std.specs.Iterator.{Yields, YieldsThen}
-use Rattle.std.proofs.Common.{◌≡◌, ℕ, List, Option, Some, true, false, refl, subst, ◌++◌, ap, sym, ◌∙◌}
+use Rattle.std.proofs.Common.{◌≡◌, ℕ, List, Option, Some, subst, ◌++◌, ap, sym, ◌∙◌}
+use Rattle.std.proofs.lemmas.Bool.{false≢true}
 use Rattle.textarea_highlight.specs.Borders.{highlight_borders, search_rank}
 use Rattle.textarea_highlight.proofs.BorderLemmas.{match_borders-push}
 use Rattle.textarea_highlight.proofs.highlight.borders.borders_of_matches.Goals as goal
@@ -9,9 +10,6 @@ step_gives : {S : Type 0} (steps : S → Option (ℕ × ℕ) → S → Type 0) (
     first ≡ matches → Yields steps first before here → steps here (Some found) rest → YieldsThen steps matches before (Some found) rest
 step_gives {S} steps matches first here rest before found same yielded step =
     (here, subst (λ (s : S). Yields steps s before here) same yielded, step)
-
-false_is_no_true : false ≡ true → ⊥
-false_is_no_true e = cc
 
 pub loop-found-preserved : goal.loop-found-preserved
 loop-found-preserved g c =
@@ -34,9 +32,6 @@ loop-found-preserved g c =
 
 pub returns-in_err-push_highlight-clause-nothing : goal.returns-in_err-push_highlight-clause-nothing
 returns-in_err-push_highlight-clause-nothing g c = λ none.
-    absurd (false_is_no_true (c.in_err-push_highlight.ensures.nothing
+    absurd (false≢true (c.in_err-push_highlight.ensures.nothing
     (none c.loop-found.yielded c.in-Some.found _
     (step_gives g.I.Iterator.next_gives c.args.matches _ c.loop-found.found-iterator c.next.new.self c.loop-found.yielded c.in-Some.found c.into_iter-found-iterator.ensures.into_iter_gives c.loop-found.yielded_by c.in-Some.ensures.steps))).0)
-
-pub returns-clause-nothing : goal.returns-clause-nothing
-returns-clause-nothing g c = λ none. (refl, c.loop-found.invariant.nothing none)

@@ -4,7 +4,7 @@ use Rattle.std.proofs.lemmas.Iterator.{YieldsList-from_chars}
 use Rattle.std.proofs.lemmas.Iterator.Consumers.{YieldsList-turn, YieldsList-end}
 use Rattle.std.proofs.lemmas.List.{length_push, drop_all, append-nil}
 use Rattle.textarea_highlight.specs.Display.{with_spaces}
-use Rattle.textarea_highlight.proofs.DisplayLemmas.{length_chars, expanded_more}
+use Rattle.textarea_highlight.proofs.DisplayLemmas.{expanded_more}
 use Rattle.textarea_highlight.proofs.highlight.display.expand_tabs.Goals as goal
 
 pub loop-c-preserved : goal.loop-c-preserved
@@ -15,11 +15,6 @@ loop-c-preserved c =
           (expanded_more c.args.tab_len c.loop-c.at (chars c.args.segment.now) (length c.loop-c.yielded) c.in-Some.c t _ _ c.in_ok-push_display.ensures ∙ c.loop-c.invariant.0),
       omega (arith, c.loop-c.invariant.1, c.column_after-next.ensures.near, n),
     )
-
-pub column_after-next-requires : goal.column_after-next-requires
-column_after-next-requires c =
-    let t = YieldsList-turn (YieldsList-from_chars c.args.segment.now c.utf8.segment cc) c.loop-c.yielded _ c.loop-c.yielded_by _ _ c.in-Some.c c.in-Some.is c.next.ensures.steps in
-    omega (arith, c.loop-c.invariant.1, t.0, length_chars c.args.segment.now c.utf8.segment)
 
 pub returns : goal.returns
 returns c =

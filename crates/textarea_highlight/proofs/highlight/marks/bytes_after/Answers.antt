@@ -1,7 +1,7 @@
 use Rattle.std.proofs.Common.{◌≡◌, ◌+◌, ◌≤◌, length, chars, ap, arith, ℕ}
 use Rattle.textarea_highlight.specs.Highlights.{byte_of}
-use Rattle.textarea_highlight.proofs.CharacterLemmas.{nth_some, nth_none, nth_bytes, none_always}
-use Rattle.textarea_highlight.proofs.MarkLemmas.{byte_after, characters_after, mark_boundary, pair_is, rest_utf8}
+use Rattle.textarea_highlight.proofs.CharacterLemmas.{nth_some, nth_none, nth_bytes, none_always, pair_same}
+use Rattle.textarea_highlight.proofs.MarkLemmas.{byte_after, characters_after, mark_boundary, rest_utf8}
 use Rattle.textarea_highlight.proofs.highlight.marks.bytes_after.Goals as goal
 
 pub range_from-requires : goal.range_from-requires
@@ -24,7 +24,7 @@ returns-clause-found c =
     let utf8 = rest_utf8 row rest c.args.mark c.utf8.row c.requires c.range_from.ensures.value in
     let bytes = nth_bytes rest c.char_indices.result c.nth.new.self c.nth.result c.args.count utf8 c.char_indices.ensures.rest c.char_indices.ensures.offset c.nth.ensures.ran (c.in_ok-start.start, c.in_ok-start.c) c.len_utf8.result c.in_ok-start.was c.len_utf8.ensures.len in
     let more : c.args.mark.characters + (c.args.count + 1) ≡ c.args.mark.characters + c.args.count + 1 = omega arith in
-    pair_is _ _ _ _
+    pair_same _ _ _
     (omega (arith, ap (λ (p : ℕ × ℕ). p.0) bytes, at c.args.count))
     (omega (arith, ap (λ (p : ℕ × ℕ). p.1) bytes, at (c.args.count + 1), ap (byte_of row) more))
 

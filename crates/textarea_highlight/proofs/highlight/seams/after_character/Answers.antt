@@ -1,8 +1,9 @@
 use Rattle.std.proofs.Common.{Bool, true, ◌&&◌, ap, arith, ◌∙◌, List, ℕ, get_or, subst, sym}
 use Rattle.std.specs.List.{list_all}
 use Rattle.std.proofs.lemmas.Str.{len_utf8_bounds}
+use Rattle.textarea_wrap.specs.Columns.{IsVisible}
 use Rattle.textarea_highlight.specs.Plain.{is_plain}
-use Rattle.textarea_highlight.specs.Seams.{BeginsWith, IsVisible}
+use Rattle.textarea_highlight.specs.Seams.{BeginsWith}
 use Rattle.textarea_highlight.proofs.SeamLemmas.{plain_between, segment_of_first, visible_between}
 use Rattle.textarea_highlight.proofs.highlight.seams.after_character.Goals as goal
 

@@ -3,9 +3,6 @@ use Rattle.textarea_wrap.specs.Columns.{end_column}
 use Rattle.textarea_highlight.proofs.SeamLemmas.{end_of_first, known_after, segment_of_first, size_of_first}
 use Rattle.textarea_highlight.proofs.highlight.seams.after_other.Goals as goal
 
-pub column_after-requires : goal.column_after-requires
-column_after-requires c = omega (arith, c.requires.known.near, c.requires.known.boundary.0, c.requires.room)
-
 pub returns-clause-known : goal.returns-clause-known
 returns-clause-known c =
     let row = c.args.row.now in

@@ -2,11 +2,6 @@ use Rattle.std.proofs.Common.{arith, inr}
 use Rattle.textarea_highlight.proofs.SeamLemmas.{ends_visible, seam_before_last}
 use Rattle.textarea_highlight.proofs.highlight.seams.next_characters.Goals as goal
 
-pub after_visible-requires-2-clause-visible : goal.after_visible-requires-2-clause-visible
-after_visible-requires-2-clause-visible c =
-    let all = c.visible_before-count.ensures.visible in
-    record { within = omega (arith, all.within); visible = λ k below. all.visible k (omega (arith, below)) }
-
 pub returns-clause-known : goal.returns-clause-known
 returns-clause-known c = record {
   at = c.after_visible.ensures.known;
@@ -22,5 +17,5 @@ pub returns-clause-seam : goal.returns-clause-seam
 returns-clause-seam c = inr (
   seam_before_last c.args.row.now c.args.tab_len c.args.walk.at c.visible_before-count.result c.utf8.row c.requires.known.at c.visible_before-count.ensures.visible (omega (arith, c.if-count-lt2.false)) c.after_visible-2.result.offset c.after_visible-2.ensures.offset,
   omega (arith, c.after_visible-2.ensures.offset),
-  λ before. omega (arith, before, c.after_visible-2.ensures.column, c.visible_before-count.ensures.left, c.if-count-lt2.false),
+  λ before. omega (arith, before, c.after_visible-2.ensures.column, c.visible_before-count.ensures.count.at_most, c.if-count-lt2.false),
 )

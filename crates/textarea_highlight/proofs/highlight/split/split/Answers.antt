@@ -1,22 +1,9 @@
 use Rattle.std.proofs.Common.{ℕ, ◌<◌, ◌≤◌, length, get_or, inl, refl, arith}
 use Rattle.std.proofs.lemmas.Str.{IsCharBoundary-end}
 use Rattle.textarea_highlight.specs.declared.highlight.borders.Border.{Border}
-use Rattle.textarea_highlight.proofs.SplitLemmas.{next_segment, pass_more, past_end, split_at_start, split_more}
+use Rattle.textarea_highlight.proofs.SplitLemmas.{next_segment, pass_more, past_end, split_more}
 use Rattle.textarea_highlight.proofs.highlight.split.split.Goals as goal
 use Rattle.textarea_highlight.proofs.highlight.split.split.Goals.{else-loop-border-test, then-loop-border-test+then-row-border}
-
-pub loop-border-init : goal.loop-border-init
-loop-border-init c = record {
-  within = omega arith;
-  passed = λ k d lt. absurd (omega arith);
-  boundary = c.requires.from;
-  tab = refl;
-  masked = refl;
-  known = c.requires.known;
-  base_is = c.restart.ensures.base;
-  after = c.restart.ensures.none;
-  split = split_at_start _ _ _ _ _ _ _;
-}
 
 pub loop-border-preserved : goal.loop-border-preserved
 loop-border-preserved c =

@@ -48,7 +48,7 @@ loop-index-init c = record {
 }
 
 pub overflow_add-column : goal.overflow_add-column
-overflow_add-column c = omega (arith, (marked (goal.at.overflow_add-column c).After-character_count-column).few, c.type_inv.line)
+overflow_add-column c = omega (arith, (marked (goal.at.overflow_add-column c).After-character_count-column).few)
 
 pub loop-index-preserved : goal.loop-index-preserved
 loop-index-preserved c =

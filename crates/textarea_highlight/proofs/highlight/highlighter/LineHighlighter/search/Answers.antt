@@ -1,6 +1,7 @@
-use Rattle.std.proofs.Common.{◌≡◌, ◌++◌, true, false, List, length, Result, Ok, Err, cond, ap, arith, subst, sym, ◌∙◌}
+use Rattle.std.proofs.Common.{◌≡◌, ◌++◌, List, length, Result, Ok, Err, cond, ap, arith, subst, sym, ◌∙◌}
 use Rattle.std.specs.Result.{OnOk, is_ok}
 use Rattle.std.proofs.lemmas.Result.{on_ok_weaker}
+use Rattle.std.proofs.lemmas.Bool.{false≢true}
 use Rattle.textarea_highlight.specs.Borders.{MarkNothing}
 use Rattle.textarea_highlight.specs.Highlights.{Highlights}
 use Rattle.textarea_highlight.specs.declared.highlight.borders.Border.{Border}
@@ -19,13 +20,10 @@ returns-clause-ok g c =
     (λ items. (found.0, found.1, matches_added _ c.args.self.now c.self.view_is found.0 c.args.style _ _ items (c.deref.ensures.value ∙ found.2)))
     (grown c.extend_from_slice.result c.extend_from_slice.new.self.items _ c.deref.result.now c.extend_from_slice.ensures.items)
 
-false_is_no_true : false ≡ true → ⊥
-false_is_no_true e = cc
-
 pub returns-in_err-borders-clause-nothing : goal.returns-in_err-borders-clause-nothing
 returns-in_err-borders-clause-nothing g c = λ none.
     let here = subst (λ (h : Highlights). MarkNothing g.I.Iterator.next_gives c.args.matches h.row) (sym c.self.view_is) none in
-    absurd (false_is_no_true (c.in_err-borders.ensures.nothing here).0)
+    absurd (false≢true (c.in_err-borders.ensures.nothing here).0)
 
 pub returns-clause-nothing : goal.returns-clause-nothing
 returns-clause-nothing g c = λ none.
