@@ -3,11 +3,11 @@ use Rattle.std.proofs.lemmas.Grind.{common_steps}
 use Rattle.std.proofs.Common.{◌≡◌, ℕ, ◌+◌, ◌-◌, ◌<◌, ◌≤◌, min, Bool, true, false, cond, eqb, ◌&&◌, List, refl, ap, ap₂, ◌∙◌, arith}
 use Rattle.std.proofs.lemmas.Bool.Decides.{nat_tests}
 use Rattle.textarea_screen.specs.Block.{has_border, left_side, right_side}
-use Rattle.textarea_screen.specs.Buffer.{Change, Changes}
+use Rattle.textarea_screen.specs.Buffer.{Change, Changes, is_between}
 use Rattle.textarea_screen.specs.Cell.{CellView, with_symbol}
 use Rattle.textarea_screen.specs.Inset.{inset_of}
 use Rattle.textarea_screen.specs.Rect.{contains}
-use Rattle.textarea_screen.proofs.BufferLemmas.{is_before_column, is_before_row}
+use Rattle.textarea_screen.proofs.BufferLemmas.{is_before_row}
 use Rattle.textarea_screen.proofs.ChangeLemmas.{Changes-none, Changes-then}
 use Rattle.textarea_screen.specs.declared.screen.block.Borders.{Borders}
 use Rattle.textarea_screen.specs.declared.screen.buffer.Buffer.{Buffer}
@@ -95,9 +95,9 @@ Changes-border area segment done drawn' test text' style before change is_drawn 
 pub is_before_row-outside : (area : Rect) (row x y : ℕ) → row ≤ area.y + area.height → contains area x y ≡ false → is_before_row area row x y ≡ false
 is_before_row-outside area row x y above outside = grind (arith, nat_tests)
 
-pub is_before_column-outside : (area : Rect) (row column x y : ℕ) → area.y ≤ row → row < area.y + area.height → column ≤ area.x + area.width → contains area x y ≡ false →
-    is_before_column area.x row column x y ≡ false
-is_before_column-outside area row column x y first last left outside = grind (arith, nat_tests)
+pub is_between-outside : (area : Rect) (row column x y : ℕ) → area.y ≤ row → row < area.y + area.height → column ≤ area.x + area.width → contains area x y ≡ false →
+    is_between row area.x column x y ≡ false
+is_between-outside area row column x y first last left outside = grind (arith, nat_tests)
 
 -- a cell outside of one area is not common to it and another
 pub common-outside : (area other common : Rect) → ((x y : ℕ) → contains common x y ≡ (contains area x y && contains other x y)) → (x y : ℕ) → contains area x y ≡ false →

@@ -5,6 +5,7 @@ use Rattle.std.proofs.lemmas.Bool.Decides.{nat_tests}
 use Rattle.std.proofs.lemmas.List.Sums.{sum_by-cons}
 use Rattle.textarea_screen.specs.Buffer.{area_of, Changes, KeepsOutside}
 use Rattle.textarea_screen.specs.Cell.{CellView}
+use Rattle.textarea_screen.proofs.BufferLemmas.{contains_right}
 use Rattle.textarea_screen.proofs.ChangeLemmas.{Changes-inside, Changes-none, Changes-then, KeepsOutside-from_changes, KeepsOutside-then, KeepsOutside-same}
 use Rattle.textarea_screen.specs.declared.screen.buffer.Buffer.{Buffer}
 use Rattle.textarea_paint.specs.Cells.{Placed, placed_at, place_from, is_in_cells, row_change, IsPenAt}
@@ -14,7 +15,7 @@ use Rattle.textarea_paint.specs.Row.{front_within, is_narrow, fitting, clusters_
 use Rattle.textarea_paint.specs.declared.paint.cells.Pen.{Pen}
 use Rattle.textarea_paint.specs.declared.paint.cells.RowCells.{RowCells}
 use Rattle.textarea_paint.proofs.FrontLemmas.{front-fits, front-full}
-use Rattle.textarea_paint.proofs.CellLemmas.{contains_right, row_change-cons, row_change-nil, row_change-past, row_change-outside}
+use Rattle.textarea_paint.proofs.CellLemmas.{row_change-cons, row_change-nil, row_change-past, row_change-outside}
 
 -- ---- a row that is partly drawn
 
