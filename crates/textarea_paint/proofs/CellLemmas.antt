@@ -39,6 +39,11 @@ pub cond-then : (inside : Bool) (f g both : CellView → CellView) (cell : CellV
 cond-then true f g both cell same = same
 cond-then false f g both cell same = refl
 
+-- a change that leaves the other cells as they are
+pub cond-within : (inside : Bool) (f : CellView → CellView) (cell : CellView) → (inside ≡ false → f cell ≡ cell) → f cell ≡ cond inside (f cell) cell
+cond-within true f cell out = refl
+cond-within false f cell out = out refl
+
 -- a row is its first cluster and then the others
 pub row_change-cons : (cells : RowCells) (left start : ℕ) (cluster : Cluster) (clusters : List Cluster) (x y : ℕ) (cell : CellView) →
     row_change cells left (place_from (start + columns_of cluster.text) clusters) x y (row_change cells left (placed_at start cluster ∷ []) x y cell)
