@@ -13,11 +13,6 @@ use Rattle.textarea_paint.specs.declared.paint.cells.RowCells.{RowCells}
 
 -- ---- tests
 
-pub record IsBetween (row from to x y : ℕ) : Type 0 where
-  pub at : y ≡ row
-  pub after : from ≤ x
-  pub before : x < to
-
 covers_bounds : (column : ℕ) (placed : Placed) → covers column placed ≡ true → (placed.start ≤ column) × (column < placed.start + columns_of placed.text)
 covers_bounds column placed h = (grind (arith, nat_tests), grind (arith, nat_tests))
 

@@ -33,9 +33,6 @@ clusters_left-run old new run split style base spans =
     rw (split, style, base, spans)
     (append_assoc run (map (in_style old.style) (rest_clusters new.rest)) (flat_map (span_clusters old.base) (map span_view (iter_rest old.spans))))
 
-pub length-plain_clusters : (style : Style) (text : List ℕ) → length (plain_clusters style text) ≡ length text
-length-plain_clusters style text = length-map (singles text) (in_style style) ∙ length-map text (λ byte. byte ∷ [])
-
 -- the clusters of a span are all taken, and the next span begins
 pub clusters_left-span : (old new : LineClusters) (span : Span) → rest_clusters old.rest ≡ [] → iter_rest old.spans ≡ span ∷ iter_rest new.spans → new.base ≡ old.base →
     new.style ≡ patched old.base span.style → rest_clusters new.rest ≡ graphemes true (text_bytes span.content) → clusters_left old ≡ clusters_left new

@@ -21,10 +21,6 @@ use Rattle.textarea_paint.proofs.CellLemmas.{IsDrawnAt, find-before}
 use Rattle.textarea_paint.proofs.ColumnLemmas.{columns_of-plain}
 use Rattle.textarea_paint.proofs.PartLemmas.{covers-ended, find-ended}
 
-pub IsAscii-printable : (text : List ℕ) → All IsPrintable text → IsAscii text
-IsAscii-printable text printable =
-    IsAscii-from_all text (All-weaker IsPrintable (λ (byte : ℕ). byte < 128) (λ byte is. omega (arith, is.1)) text printable)
-
 -- ---- their columns
 
 pub clusters_width-plain : (style : Style) (text : List ℕ) → All IsPrintable text → clusters_width (plain_clusters style text) ≡ length text

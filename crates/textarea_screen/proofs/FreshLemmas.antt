@@ -17,11 +17,6 @@ use Rattle.textarea_screen.proofs.BufferLemmas.{cell_at-fresh, place_in-below}
 abbrev pub AreFresh : List Cell → Type 0
 AreFresh cells = All (λ cell. cell_view cell ≡ fresh_cell) cells
 
--- one more cell at the front is fresh
-pub fresh_more : (cells : List Cell) (index : ℕ) (cell : Cell) → index < length cells → AreFresh (take index cells) → cell_view cell ≡ fresh_cell → AreFresh (take (index + 1) (set cells index cell))
-fresh_more cells index cell within before fresh =
-    rw (take_more_set cells index cell within) (All-push (λ (c : Cell). cell_view c ≡ fresh_cell) (take index cells) cell before fresh)
-
 one_for_all : (view : CellView) (cells : List Cell) (index : ℕ) → index < length cells → option_map (λ (v : CellView). view) (option_map cell_view (slice_get cells index)) ≡ Some view
 one_for_all view [] index within = absurd (omega arith)
 one_for_all view (cell ∷ cells) zero within = refl
