@@ -3,9 +3,9 @@
 use Rattle.std.proofs.Common.{◌≡◌, ◌⊎◌, ℕ, ◌+◌, ◌-◌, ◌<◌, ◌≤◌, Bool, true, false, cond, not, ◌&&◌, ◌||◌, ◌==◌, nat_lt, List, [], ◌∷◌, ◌++◌, length, map, sum_by, take, drop, Option, None, Some, IfSome, refl, sym, ap, ap₂, subst, ◌∙◌, arith, inl, inr}
 use Rattle.std.proofs.lemmas.Bool.{cond-true, cond-false, eqb-true, false≢true}
 use Rattle.std.proofs.lemmas.Bool.Decides.{nat_tests}
-use Rattle.std.proofs.lemmas.List.{append-nil, append_assoc, length-append, nil_from_length}
+use Rattle.std.proofs.lemmas.List.{append-nil, append_assoc, length-append}
 use Rattle.std.proofs.lemmas.List.Sums.{sum_by-cons}
-use Rattle.std.proofs.lemmas.Str.{IsUtf8-past_char, chars-nil, chars_past_char, scalars-chars}
+use Rattle.std.proofs.lemmas.Str.{IsUtf8-past_char, chars_past_char, scalars-chars}
 use Rattle.std.proofs.Math.Seq.{drop-append_seam, take-append_seam}
 use Rattle.std.specs.Char.{is_control}
 use Rattle.std.specs.Prelude.{encode_utf8, encode_utf8_all}
@@ -291,11 +291,3 @@ module _ {text first after : List ℕ} {columns : ℕ} (h : IsFirst text first a
       IfSome r (λ x. counted x ≡ columns) → IfSome r (λ x. counted x ≡ columns_of (front x))
   split-columns None front counted is_front is_counted = tt
   split-columns (Some x) front counted is_front is_counted = is_counted ∙ sym h.width ∙ ap columns_of (sym (is_front ∙ taken))
-
--- ---- the first character of a text
-
-pub begins-some : (text rest : List ℕ) (c : ℕ) → IsUtf8 text → text ≡ encode_utf8 c ++ rest → begins_apart (chars text) ≡ (is_simple c || is_flag_half c)
-begins-some text rest c utf8 is = ap begins_apart (chars_past_char text rest c utf8 is)
-
-pub begins-none : (text : List ℕ) → length text ≡ 0 → begins_apart (chars text) ≡ true
-begins-none text none = ap (λ t. begins_apart (chars t)) (nil_from_length text none) ∙ ap begins_apart chars-nil

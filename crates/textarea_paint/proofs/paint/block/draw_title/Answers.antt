@@ -4,12 +4,11 @@ use Rattle.std.specs.Option.{option_map}
 use Rattle.std.proofs.lemmas.Result.{on_ok_weaker, on_err_weaker}
 use Rattle.textarea_screen.specs.Block.{block_view}
 use Rattle.textarea_screen.specs.Rect.{contains}
-use Rattle.textarea_screen.specs.Style.{empty_style}
 use Rattle.textarea_screen.specs.Text.{line_view}
 use Rattle.textarea_screen.proofs.ChangeLemmas.{Changes-as, KeepsOutside-wider}
 use Rattle.textarea_paint.specs.Block.{in_area, title_row, title_change, title_cells}
 use Rattle.textarea_paint.specs.Cells.{is_in_cells, place_from, row_change}
-use Rattle.textarea_paint.specs.Clusters.{AreInline, row_clusters}
+use Rattle.textarea_paint.specs.Clusters.{row_clusters}
 use Rattle.textarea_paint.specs.LineClusters.{clusters_left}
 use Rattle.textarea_paint.specs.declared.paint.cells.RowCells.{RowCells}
 use Rattle.textarea_paint.proofs.BlockLemmas.{title_cells-are, title_cells-within, title_in_area}
@@ -33,11 +32,6 @@ returns-in-Some-clause-ok c =
     ∙ ap (λ clusters. in_area area (row_change (title_cells borders area) 0 (place_from 0 clusters)) x y cell) (c.new-clusters.ensures ∙ ap (λ s. row_clusters s line) c.new.ensures)
     ∙ ap (λ t. in_area area (title_row t (title_cells borders area)) x y cell) (sym (ap (option_map line_view) c.in-Some.is))))
     c.draw_clusters.ensures.ok
-
-pub returns-in-Some-clause-inline : goal.returns-in-Some-clause-inline
-returns-in-Some-clause-inline c = λ short.
-    let of_title : AreInline (row_clusters empty_style (line_view c.in-Some.title)) = rw c.in-Some.is at short in
-    c.draw_clusters.ensures.inline (rw (c.new-clusters.ensures, c.new.ensures) of_title)
 
 pub returns-in-Some-clause-err : goal.returns-in-Some-clause-err
 returns-in-Some-clause-err c =

@@ -59,3 +59,6 @@ returns-in_default-clause-err c =
 pub returns-in_default-clause-unseen : goal.returns-in_default-clause-unseen
 returns-in_default-clause-unseen c none =
     absurd (not_none c.args.rows c.area.result c.intersection-visible.result c.args.y c.intersection-visible.ensures (sym c.contains.ensures ∙ c.if-not-contains.false) c.args.buffer.now c.area.ensures none)
+
+pub returns-in-Left-clause-inline : goal.returns-in-Left-clause-inline
+returns-in-Left-clause-inline c short = c.draw_clusters.ensures.inline (rw c.new-clusters.ensures short)
