@@ -55,8 +55,8 @@ impl Buffer {
         }
     }
 
-    /// Returns the cells of the buffer's area: those of its first row from left to right, then those
-    /// of the next row, and so on.
+    /// Returns the cells of the buffer's area: those of its first row from left to right, then
+    /// those of the next row, and so on.
     pub fn cells(&self) -> &[Cell]
         ensures count { length result.now
             ≡ (area_of self.now).height * (area_of self.now).width }
@@ -107,10 +107,11 @@ impl Buffer {
         }
     }
 
-    /// Puts a text into the cells of row `y` from column `x` up to column `end`: itself into the first
-    /// one, and the empty text into the others. If it isn't whole, each cell gets a blank instead.
-    /// Applies a style to these cells. Leaves out those that the buffer doesn't have. If it runs out
-    /// of memory, which needs a text of more than `INLINE_BYTES` bytes, the buffer is unchanged.
+    /// Puts a text into the cells of row `y` from column `x` up to column `end`: itself into the
+    /// first one, and the empty text into the others. If it isn't whole, each cell gets a blank
+    /// instead. Applies a style to these cells. Leaves out those that the buffer doesn't have. If it
+    /// runs out of memory, which needs a text of more than `INLINE_BYTES` bytes, the buffer is
+    /// unchanged.
     pub fn put_wide(
         &mut self,
         x: u16,
