@@ -3,11 +3,11 @@ use Rattle.std.proofs.lemmas.Grind.{common_steps}
 use Rattle.std.proofs.Common.{◌≡◌, ℕ, ◌+◌, ◌-◌, ◌<◌, ◌≤◌, min, Bool, true, false, cond, eqb, ◌&&◌, List, refl, ap, ap₂, ◌∙◌, arith}
 use Rattle.std.proofs.lemmas.Bool.Decides.{nat_tests}
 use Rattle.textarea_screen.specs.Block.{has_border, left_side, right_side}
-use Rattle.textarea_screen.specs.Buffer.{Change, Changes}
+use Rattle.textarea_screen.specs.Buffer.{Change, Changes, is_between}
 use Rattle.textarea_screen.specs.Cell.{CellView, with_symbol}
 use Rattle.textarea_screen.specs.Inset.{inset_of}
 use Rattle.textarea_screen.specs.Rect.{contains}
-use Rattle.textarea_screen.proofs.BufferLemmas.{is_before_column, is_before_row}
+use Rattle.textarea_screen.proofs.BufferLemmas.{is_before_row}
 use Rattle.textarea_screen.proofs.ChangeLemmas.{Changes-none, Changes-then}
 use Rattle.textarea_screen.specs.declared.screen.block.Borders.{Borders}
 use Rattle.textarea_screen.specs.declared.screen.buffer.Buffer.{Buffer}
@@ -16,7 +16,7 @@ use Rattle.textarea_screen.specs.declared.screen.style.Style.{Style}
 use Rattle.textarea_paint.specs.Block.{in_area, drawn_where, title_cells}
 use Rattle.textarea_paint.specs.Cells.{Placed, is_in_cells, row_change}
 use Rattle.textarea_paint.specs.declared.paint.cells.RowCells.{RowCells}
-use Rattle.textarea_paint.proofs.CellLemmas.{cond-then, row_change-outside}
+use Rattle.textarea_paint.proofs.CellLemmas.{cond-then, cond-within, row_change-outside}
 
 -- ---- one change of an area after another
 
@@ -36,35 +36,21 @@ among_first first count some = (omega arith, omega arith)
 pub among_last : (first count : ℕ) → 0 < count → IsAmong first count (first + count - 1)
 among_last first count some = (omega arith, omega arith)
 
-one_column : (area segment : Rect) (at : ℕ) → segment.x ≡ at → segment.width ≡ 1 → segment.y ≡ area.y → segment.height ≡ area.height → area.x ≤ at → at < area.x + area.width → (x y : ℕ) →
-    contains segment x y ≡ (contains area x y && eqb x at)
-one_column area segment at is_x is_width is_y is_height left right x y = grind (arith, nat_tests)
-
 -- one column, limited by the end of the screen
 pub contains-column : (area segment : Rect) (at : ℕ) → segment.x ≡ at → segment.width ≡ min 1 (65535 - at) → segment.y ≡ area.y → segment.height ≡ min area.height (65535 - area.y) →
     IsAmong area.x area.width at → (x y : ℕ) → contains segment x y ≡ (contains area x y && eqb x at)
-contains-column area segment at is_x is_width is_y is_height among =
-    one_column area segment at is_x (omega (arith, area.right, among.1)) is_y (omega (arith, area.bottom)) among.0 among.1
-
-one_row : (area segment : Rect) (at : ℕ) → segment.x ≡ area.x → segment.width ≡ area.width → segment.y ≡ at → segment.height ≡ 1 → area.y ≤ at → at < area.y + area.height → (x y : ℕ) →
-    contains segment x y ≡ (contains area x y && eqb y at)
-one_row area segment at is_x is_width is_y is_height top bottom x y = grind (arith, nat_tests)
+contains-column area segment at is_x is_width is_y is_height among x y = grind (arith, nat_tests, area.right, area.bottom, among.0, among.1)
 
 -- one row
 pub contains-row : (area segment : Rect) (at : ℕ) → segment.x ≡ area.x → segment.width ≡ min area.width (65535 - area.x) → segment.y ≡ at → segment.height ≡ min 1 (65535 - at) →
     IsAmong area.y area.height at → (x y : ℕ) → contains segment x y ≡ (contains area x y && eqb y at)
-contains-row area segment at is_x is_width is_y is_height among =
-    one_row area segment at is_x (omega (arith, area.right)) is_y (omega (arith, area.bottom, among.1)) among.0 among.1
-
-one_cell : (area segment : Rect) (at_x at_y : ℕ) → segment.x ≡ at_x → segment.width ≡ 1 → segment.y ≡ at_y → segment.height ≡ 1 → area.x ≤ at_x → at_x < area.x + area.width →
-    area.y ≤ at_y → at_y < area.y + area.height → (x y : ℕ) → contains segment x y ≡ (contains area x y && (eqb x at_x && eqb y at_y))
-one_cell area segment at_x at_y is_x is_width is_y is_height left right top bottom x y = grind (arith, nat_tests)
+contains-row area segment at is_x is_width is_y is_height among x y = grind (arith, nat_tests, area.right, area.bottom, among.0, among.1)
 
 -- one cell
 pub contains-cell : (area segment : Rect) (at_x at_y : ℕ) → segment.x ≡ at_x → segment.width ≡ min 1 (65535 - at_x) → segment.y ≡ at_y → segment.height ≡ min 1 (65535 - at_y) →
     IsAmong area.x area.width at_x → IsAmong area.y area.height at_y → (x y : ℕ) → contains segment x y ≡ (contains area x y && (eqb x at_x && eqb y at_y))
-contains-cell area segment at_x at_y is_x is_width is_y is_height column row =
-    one_cell area segment at_x at_y is_x (omega (arith, area.right, column.1)) is_y (omega (arith, area.bottom, row.1)) column.0 column.1 row.0 row.1
+contains-cell area segment at_x at_y is_x is_width is_y is_height column row x y =
+    grind (arith, nat_tests, area.right, area.bottom, column.0, column.1, row.0, row.1)
 
 -- ---- a border or a corner
 
@@ -95,9 +81,9 @@ Changes-border area segment done drawn' test text' style before change is_drawn 
 pub is_before_row-outside : (area : Rect) (row x y : ℕ) → row ≤ area.y + area.height → contains area x y ≡ false → is_before_row area row x y ≡ false
 is_before_row-outside area row x y above outside = grind (arith, nat_tests)
 
-pub is_before_column-outside : (area : Rect) (row column x y : ℕ) → area.y ≤ row → row < area.y + area.height → column ≤ area.x + area.width → contains area x y ≡ false →
-    is_before_column area.x row column x y ≡ false
-is_before_column-outside area row column x y first last left outside = grind (arith, nat_tests)
+pub is_between-outside : (area : Rect) (row column x y : ℕ) → area.y ≤ row → row < area.y + area.height → column ≤ area.x + area.width → contains area x y ≡ false →
+    is_between row area.x column x y ≡ false
+is_between-outside area row column x y first last left outside = grind (arith, nat_tests)
 
 -- a cell outside of one area is not common to it and another
 pub common-outside : (area other common : Rect) → ((x y : ℕ) → contains common x y ≡ (contains area x y && contains other x y)) → (x y : ℕ) → contains area x y ≡ false →
@@ -114,10 +100,6 @@ title_cells-are borders area x width is_x is_width = rw (is_x, is_width) refl
 pub title_cells-within : (borders : Borders) (area : Rect) (x y : ℕ) → 0 < area.height → contains area x y ≡ false → is_in_cells (title_cells borders area) x y ≡ false
 title_cells-within borders area x y rows outside = grind (arith, nat_tests)
 
-in_area-same : (inside : Bool) (f : CellView → CellView) (cell : CellView) → (inside ≡ false → f cell ≡ cell) → f cell ≡ cond inside (f cell) cell
-in_area-same true f cell out = refl
-in_area-same false f cell out = out refl
-
 pub title_in_area : (borders : Borders) (area : Rect) (cells : RowCells) (row : List Placed) → cells ≡ title_cells borders area → 0 < area.height → (x y : ℕ) (cell : CellView) →
     row_change cells 0 row x y cell ≡ in_area area (row_change (title_cells borders area) 0 row) x y cell
-title_in_area borders area cells row are rows x y cell = grind (arith, common_steps, in_area-same, row_change-outside, title_cells-within)
+title_in_area borders area cells row are rows x y cell = grind (arith, common_steps, cond-within, row_change-outside, title_cells-within)

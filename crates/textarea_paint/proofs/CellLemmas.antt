@@ -3,26 +3,15 @@ use Rattle.std.proofs.Common.{◌≡◌, ℕ, ◌+◌, ◌-◌, ◌<◌, ◌≤�
 use Rattle.std.specs.List.{find}
 use Rattle.std.proofs.lemmas.Bool.Decides.{nat_tests}
 use Rattle.std.proofs.lemmas.Bool.{cond-true, cond-false}
-use Rattle.textarea_screen.specs.Buffer.{is_between, wide_change}
+use Rattle.textarea_screen.specs.Buffer.{is_between, wide_change, wide_symbol}
 use Rattle.textarea_screen.specs.Cell.{CellView, with_symbol}
-use Rattle.textarea_screen.specs.Rect.{contains}
-use Rattle.textarea_screen.specs.declared.screen.rect.Rect.{Rect}
-use Rattle.textarea_paint.specs.Cells.{Placed, placed_at, place_from, covers, is_in_cells, is_whole, symbol_of, symbol_in_column, covered_cell, row_change, IsPenAt}
+use Rattle.textarea_paint.specs.Cells.{Placed, placed_at, place_from, covers, is_in_cells, is_whole, symbol_in_column, covered_cell, row_change, IsPenAt}
 use Rattle.textarea_paint.specs.Clusters.{Cluster}
 use Rattle.textarea_paint.specs.Columns.{columns_of}
 use Rattle.textarea_paint.specs.declared.paint.cells.Pen.{Pen}
 use Rattle.textarea_paint.specs.declared.paint.cells.RowCells.{RowCells}
 
 -- ---- tests
-
-pub record IsBetween (row from to x y : ℕ) : Type 0 where
-  pub at : y ≡ row
-  pub after : from ≤ x
-  pub before : x < to
-
--- a cell of an area is left of its right edge
-pub contains_right : (area : Rect) (x y : ℕ) → contains area x y ≡ true → x < area.x + area.width
-contains_right area x y inside = grind (arith, nat_tests)
 
 covers_bounds : (column : ℕ) (placed : Placed) → covers column placed ≡ true → (placed.start ≤ column) × (column < placed.start + columns_of placed.text)
 covers_bounds column placed h = (grind (arith, nat_tests), grind (arith, nat_tests))
@@ -44,6 +33,11 @@ pub cond-then : (inside : Bool) (f g both : CellView → CellView) (cell : CellV
     cond inside (g (cond inside (f cell) cell)) (cond inside (f cell) cell) ≡ cond inside (both cell) cell
 cond-then true f g both cell same = same
 cond-then false f g both cell same = refl
+
+-- a change that leaves the other cells as they are
+pub cond-within : (inside : Bool) (f : CellView → CellView) (cell : CellView) → (inside ≡ false → f cell ≡ cell) → f cell ≡ cond inside (f cell) cell
+cond-within true f cell out = refl
+cond-within false f cell out = out refl
 
 -- a row is its first cluster and then the others
 pub row_change-cons : (cells : RowCells) (left start : ℕ) (cluster : Cluster) (clusters : List Cluster) (x y : ℕ) (cell : CellView) →
@@ -116,13 +110,13 @@ cond-one cells left column placed test false here symbol cell is same = cond-fal
 -- the result is the row of only this cluster
 pub row_change-one : (cells : RowCells) (pen : Pen) (left column hidden displayed : ℕ) (cluster : Cluster) → IsPenAt cells left column pen →
     IsDrawnAt cells pen (columns_of cluster.text) hidden displayed → (x y : ℕ) (cell : CellView) →
-    wide_change pen.x cells.y (pen.x + displayed) (symbol_of (eqb displayed (columns_of cluster.text)) true cluster.text) (symbol_of (eqb displayed (columns_of cluster.text)) false cluster.text) cluster.style x y cell
+    wide_change pen.x cells.y (pen.x + displayed) cluster.text (eqb displayed (columns_of cluster.text)) cluster.style x y cell
     ≡ row_change cells left (placed_at column cluster ∷ []) x y cell
 unfolding row_change
 row_change-one cells pen left column hidden displayed cluster at drawn x y cell =
     cond-one cells left (left + (x - cells.x)) (placed_at column cluster) (is_between cells.y pen.x (pen.x + displayed) x y) (is_in_cells cells x y)
     (covers (left + (x - cells.x)) (placed_at column cluster))
-    (cond (eqb x pen.x) (symbol_of (eqb displayed (columns_of cluster.text)) true cluster.text) (symbol_of (eqb displayed (columns_of cluster.text)) false cluster.text)) cell
+    (wide_symbol (eqb displayed (columns_of cluster.text)) (eqb x pen.x) cluster.text) cell
     (drawn_test cells pen left column hidden displayed cluster at drawn x y)
     (λ h.
     let whole = drawn_whole cells pen left column hidden displayed cluster at drawn x y h in

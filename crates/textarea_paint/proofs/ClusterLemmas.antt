@@ -1,7 +1,7 @@
 -- The grapheme clusters that are left after texts and spans are taken.
-use Rattle.std.proofs.Common.{◌≡◌, ℕ, true, List, [], ◌∷◌, ◌++◌, ◌≤◌, length, map, refl, ap, ◌∙◌}
+use Rattle.std.proofs.Common.{◌≡◌, true, List, [], ◌∷◌, ◌++◌, ◌≤◌, length, map, refl, ap}
 use Rattle.std.specs.List.{All, flat_map}
-use Rattle.std.proofs.lemmas.List.{append_assoc, length-map}
+use Rattle.std.proofs.lemmas.List.{append_assoc}
 use Rattle.std.proofs.lemmas.List.Elements.{All-cons, All-head, All-nil, All-tail}
 use Rattle.std.specs.Slice.Iter.{iter_rest}
 use Rattle.unicode_segmentation.specs.Grapheme.{graphemes}
@@ -12,10 +12,9 @@ use Rattle.textarea_screen.specs.declared.screen.style.Style.{Style}
 use Rattle.textarea_screen.specs.declared.screen.text.Span.{Span}
 use Rattle.textarea_screen.specs.declared.screen.text.SpanText.{SpanText}
 use Rattle.textarea_screen.specs.declared.screen.text.SpanText.TheVariants.{Borrowed, Owned}
-use Rattle.textarea_paint.specs.Clusters.{AreInline, Cluster, content_bytes, in_style, plain_clusters, span_clusters}
+use Rattle.textarea_paint.specs.Clusters.{AreInline, Cluster, content_bytes, in_style, span_clusters}
 use Rattle.textarea_paint.specs.DrawnText.{spans_clusters}
 use Rattle.textarea_paint.specs.LineClusters.{clusters_left, rest_clusters}
-use Rattle.textarea_paint.specs.Plain.{singles}
 use Rattle.textarea_paint.specs.declared.paint.clusters.LineClusters.{LineClusters}
 
 content_bytes-displayed : (content : SpanText) → content_bytes (content_view content) ≡ text_bytes content
@@ -32,9 +31,6 @@ unfolding clusters_left
 clusters_left-run old new run split style base spans =
     rw (split, style, base, spans)
     (append_assoc run (map (in_style old.style) (rest_clusters new.rest)) (flat_map (span_clusters old.base) (map span_view (iter_rest old.spans))))
-
-pub length-plain_clusters : (style : Style) (text : List ℕ) → length (plain_clusters style text) ≡ length text
-length-plain_clusters style text = length-map (singles text) (in_style style) ∙ length-map text (λ byte. byte ∷ [])
 
 -- the clusters of a span are all taken, and the next span begins
 pub clusters_left-span : (old new : LineClusters) (span : Span) → rest_clusters old.rest ≡ [] → iter_rest old.spans ≡ span ∷ iter_rest new.spans → new.base ≡ old.base →

@@ -7,6 +7,7 @@ mod FrontLemmas
 pub mod PartLemmas
 pub mod PlainLemmas
 mod PlainRowLemmas
+mod PrintableLemmas
 mod RowLemmas
 pub mod SeamLemmas
 mod SimpleLemmas

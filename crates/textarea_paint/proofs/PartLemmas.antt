@@ -68,10 +68,10 @@ row_change-moved cells left by start clusters x y cell =
 
 -- ---- clusters left of the cells
 
-covers-ended : (column start : ℕ) (cluster : Cluster) → start + columns_of cluster.text ≤ column → covers column (placed_at start cluster) ≡ false
+pub covers-ended : (column start : ℕ) (cluster : Cluster) → start + columns_of cluster.text ≤ column → covers column (placed_at start cluster) ≡ false
 covers-ended column start cluster ended = grind (arith, nat_tests)
 
-find-ended : (column start : ℕ) (clusters : List Cluster) → start + clusters_width clusters ≤ column → find (covers column) (place_from start clusters) ≡ None
+pub find-ended : (column start : ℕ) (clusters : List Cluster) → start + clusters_width clusters ≤ column → find (covers column) (place_from start clusters) ≡ None
 find-ended column start [] ended = refl
 find-ended column start (cluster ∷ clusters) ended =
     let width = sum_by-cons (λ (c : Cluster). columns_of c.text) cluster clusters in

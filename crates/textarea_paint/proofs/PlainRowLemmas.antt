@@ -1,12 +1,11 @@
 -- Characters of printable ASCII in the cells of a row, one in each cell.
-use Rattle.std.proofs.Common.{◌≡◌, ℕ, zero, suc, ◌+◌, ◌-◌, ◌<◌, ◌≤◌, Bool, true, false, cond, List, [], ◌∷◌, length, take, drop, get_or, Option, None, Some, IsAscii, refl, sym, ap, ◌∙◌, ⊎_elim, arith}
+use Rattle.std.proofs.Common.{◌≡◌, ℕ, zero, suc, ◌+◌, ◌-◌, ◌<◌, ◌≤◌, Bool, true, false, cond, List, [], ◌∷◌, length, take, drop, get_or, Option, None, Some, refl, sym, ap, ◌∙◌, ⊎_elim, arith}
 use Rattle.std.specs.List.{All, find}
 use Rattle.std.proofs.lemmas.Bool.{cases_lt, cond-true, cond-false}
 use Rattle.std.proofs.lemmas.Bool.Decides.{nat_tests}
 use Rattle.std.proofs.lemmas.List.{get_or-drop, get_or-take, length-drop, length-take}
-use Rattle.std.proofs.lemmas.List.Elements.{All-get_or, All-head, All-tail, All-weaker}
+use Rattle.std.proofs.lemmas.List.Elements.{All-get_or, All-head, All-tail}
 use Rattle.std.proofs.lemmas.List.Sums.{sum_by-cons}
-use Rattle.std.proofs.lemmas.Str.Ascii.{IsAscii-from_all}
 use Rattle.textarea_screen.specs.Buffer.{ascii_change, is_between}
 use Rattle.textarea_screen.specs.Cell.{CellView, with_symbol}
 use Rattle.textarea_screen.specs.declared.screen.style.Style.{Style}
@@ -19,10 +18,7 @@ use Rattle.textarea_paint.specs.declared.paint.cells.Pen.{Pen}
 use Rattle.textarea_paint.specs.declared.paint.cells.RowCells.{RowCells}
 use Rattle.textarea_paint.proofs.CellLemmas.{IsDrawnAt, find-before}
 use Rattle.textarea_paint.proofs.ColumnLemmas.{columns_of-plain}
-
-pub IsAscii-printable : (text : List ℕ) → All IsPrintable text → IsAscii text
-IsAscii-printable text printable =
-    IsAscii-from_all text (All-weaker IsPrintable (λ (byte : ℕ). byte < 128) (λ byte is. omega (arith, is.1)) text printable)
+use Rattle.textarea_paint.proofs.PartLemmas.{covers-ended, find-ended}
 
 -- ---- their columns
 
@@ -39,9 +35,6 @@ clusters_width-plain style (byte ∷ text) printable =
 covers-first : (column start : ℕ) (cluster : Cluster) → columns_of cluster.text ≡ 1 → column ≡ start → covers column (placed_at start cluster) ≡ true
 covers-first column start cluster one is = grind (arith, nat_tests)
 
-covers-later : (column start : ℕ) (cluster : Cluster) → columns_of cluster.text ≡ 1 → start < column → covers column (placed_at start cluster) ≡ false
-covers-later column start cluster one later = grind (arith, nat_tests)
-
 -- each character takes the column of its index
 find-plain : (style : Style) (text : List ℕ) (start k column : ℕ) → All IsPrintable text → column ≡ start + k → k < length text →
     find (covers column) (place_from start (plain_clusters style text)) ≡ Some (placed_at column (in_style style (get_or text k 0 ∷ [])))
@@ -52,17 +45,8 @@ find-plain style (byte ∷ text) start zero column printable is below =
     ∙ ap (λ n. Some (placed_at n (in_style style (byte ∷ [])))) (sym here)
 find-plain style (byte ∷ text) start (suc k) column printable is below =
     let one = columns_of-plain byte (All-head IsPrintable byte text printable) in
-    cond-false _ _ _ (covers-later column start (in_style style (byte ∷ [])) one (omega arith))
+    cond-false _ _ _ (covers-ended column start (in_style style (byte ∷ [])) (omega (arith, one)))
     ∙ find-plain style text (start + columns_of (byte ∷ [])) k column (All-tail IsPrintable byte text printable) (omega (arith, one)) (omega arith)
-
--- no character takes a column after them
-find-past : (style : Style) (text : List ℕ) (start column : ℕ) → All IsPrintable text → start + length text ≤ column →
-    find (covers column) (place_from start (plain_clusters style text)) ≡ None
-find-past style [] start column printable past = refl
-find-past style (byte ∷ text) start column printable past =
-    let one = columns_of-plain byte (All-head IsPrintable byte text printable) in
-    cond-false _ _ _ (covers-later column start (in_style style (byte ∷ [])) one (omega arith))
-    ∙ find-past style text (start + columns_of (byte ∷ [])) column (All-tail IsPrintable byte text printable) (omega (arith, one))
 
 -- ---- their cells
 
@@ -124,4 +108,4 @@ row_change-plain cells pen left column hidden displayed style text part at drawn
     whole_symbol cells left x y (in_style style (byte ∷ [])) one (plain_inside cells pen left column count hidden displayed at drawn x y (sym test ∙ h)))
     (λ h inside.
     ⊎_elim (λ before. find-before shown column (plain_clusters style text) before)
-    (λ later. find-past style text column shown printable (plain_past cells pen left column count hidden displayed at drawn x y (sym test ∙ h) inside later)) (cases_lt shown column))
+    (λ later. find-ended shown column (plain_clusters style text) (omega (arith, clusters_width-plain style text printable, plain_past cells pen left column count hidden displayed at drawn x y (sym test ∙ h) inside later))) (cases_lt shown column))

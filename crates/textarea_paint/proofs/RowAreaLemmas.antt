@@ -1,6 +1,6 @@
 -- The effect of drawing a row of cells, for an area.
 use Rattle.std.proofs.lemmas.Grind.{common_steps}
-use Rattle.std.proofs.Common.{◌≡◌, ◌≢◌, ◌≤◌, ℕ, Bool, true, false, cond, ◌&&◌, List, refl, sym, ap, ap₂, ◌∙◌, arith}
+use Rattle.std.proofs.Common.{◌≡◌, ◌≢◌, ◌≤◌, ℕ, true, false, ◌&&◌, List, refl, sym, ap, ap₂, ◌∙◌, arith}
 use Rattle.std.proofs.lemmas.Bool.{cond-false}
 use Rattle.std.proofs.lemmas.Bool.Decides.{nat_tests}
 use Rattle.textarea_screen.specs.Buffer.{area_of, Changes, HasNone, KeepsOutside}
@@ -16,7 +16,7 @@ use Rattle.textarea_paint.specs.Cells.{Placed, is_in_cells, place_from, row_chan
 use Rattle.textarea_paint.specs.Clusters.{Cluster, row_clusters}
 use Rattle.textarea_paint.specs.Row.{cells_of_row, first_visible_column, fitting, placed_row, line_offset, row_cell}
 use Rattle.textarea_paint.specs.declared.paint.row.RowArea.{RowArea}
-use Rattle.textarea_paint.proofs.CellLemmas.{row_change-outside}
+use Rattle.textarea_paint.proofs.CellLemmas.{cond-within, row_change-outside}
 
 -- rows that an area shares with another, the first of them being `visible`, and rows that it
 -- doesn't
@@ -29,10 +29,6 @@ unseen_row area other visible row meets none x y inside = let h = meets x y in g
 pub row_cell-outside : (rows : RowArea) (row : ℕ) (line : LineView) (x y : ℕ) (cell : CellView) → is_in_row rows.area row x y ≡ false → row_cell rows row line x y cell ≡ cell
 unfolding row_cell
 row_cell-outside rows row line x y cell outside = cond-false (is_in_row rows.area row x y) _ _ outside
-
-cond-within : (inside other : Bool) (f : CellView → CellView) (cell : CellView) → other ≡ inside → (other ≡ false → f cell ≡ cell) → f cell ≡ cond inside (f cell) cell
-cond-within true other f cell same out = refl
-cond-within false other f cell same out = out same
 
 -- ---- a row in the middle or at the right
 
@@ -68,9 +64,9 @@ module _ (rows : RowArea) (other visible : Rect) (row : ℕ) (meets : Meets rows
       Changes-as (row_cell rows row line) drawn
       (λ x y cell.
       ap₂ (λ l p. row_change (cells_of_row rows.area row) l p x y cell) (sym at_left) (sym at_placed)
-      ∙ cond-within (is_in_row rows.area row x y) (is_in_cells (cells_of_row rows.area row) x y)
+      ∙ cond-within (is_in_row rows.area row x y)
       (row_change (cells_of_row rows.area row) (first_visible_column rows.alignment rows.left) (placed_row rows.alignment rows.area.width (row_clusters rows.style line)) x y) cell
-      (in_row x y) (λ outside. row_change-outside (cells_of_row rows.area row) _ _ x y cell outside))
+      (λ outside. row_change-outside (cells_of_row rows.area row) _ _ x y cell (in_row x y ∙ outside)))
 
   pub unchanged_outside : {old new : Buffer} → KeepsOutside (is_in_cells (cells_of_row rows.area row)) old new → KeepsOutside (is_in_row rows.area row) old new
   unchanged_outside unchanged = KeepsOutside-wider (is_in_row rows.area row) unchanged (λ x y outside. in_row x y ∙ outside)

@@ -1,10 +1,11 @@
 -- A row that is drawn cluster by cluster, and the grapheme clusters that fit it.
 use Rattle.std.proofs.lemmas.Grind.{common_steps}
-use Rattle.std.proofs.Common.{◌≡◌, ℕ, ◌+◌, ◌-◌, ◌<◌, ◌≤◌, min, List, [], ◌∷◌, ◌++◌, filter, refl, sym, ap, ap₂, ◌∙◌, arith}
+use Rattle.std.proofs.Common.{◌≡◌, ℕ, ◌+◌, ◌-◌, ◌<◌, ◌≤◌, min, List, [], ◌∷◌, ◌++◌, filter, refl, sym, ap, ap₂, subst, ◌∙◌, arith}
 use Rattle.std.proofs.lemmas.Bool.Decides.{nat_tests}
 use Rattle.std.proofs.lemmas.List.Sums.{sum_by-cons}
 use Rattle.textarea_screen.specs.Buffer.{area_of, Changes, KeepsOutside}
 use Rattle.textarea_screen.specs.Cell.{CellView}
+use Rattle.textarea_screen.proofs.BufferLemmas.{contains_right}
 use Rattle.textarea_screen.proofs.ChangeLemmas.{Changes-inside, Changes-none, Changes-then, KeepsOutside-from_changes, KeepsOutside-then, KeepsOutside-same}
 use Rattle.textarea_screen.specs.declared.screen.buffer.Buffer.{Buffer}
 use Rattle.textarea_paint.specs.Cells.{Placed, placed_at, place_from, is_in_cells, row_change, IsPenAt}
@@ -14,7 +15,7 @@ use Rattle.textarea_paint.specs.Row.{front_within, is_narrow, fitting, clusters_
 use Rattle.textarea_paint.specs.declared.paint.cells.Pen.{Pen}
 use Rattle.textarea_paint.specs.declared.paint.cells.RowCells.{RowCells}
 use Rattle.textarea_paint.proofs.FrontLemmas.{front-fits, front-full}
-use Rattle.textarea_paint.proofs.CellLemmas.{contains_right, row_change-cons, row_change-nil, row_change-past, row_change-outside}
+use Rattle.textarea_paint.proofs.CellLemmas.{row_change-cons, row_change-nil, row_change-past, row_change-outside}
 
 -- ---- a row that is partly drawn
 
@@ -32,19 +33,6 @@ drawing_start cells left start row buffer pen ahead at all = record {
   at = at;
   rest = λ new drawn. rw (← all) drawn;
   unchanged = KeepsOutside-same (is_in_cells cells) refl;
-}
-
-pub drawing_next : {cells : RowCells} {left : ℕ} {row : List Placed} {old now next : Buffer} {pen moved : Pen} {ahead after : List Cluster} (cluster : Cluster) →
-    (d : IsDrawing cells left row old now pen ahead) → ahead ≡ cluster ∷ after → IsPenAt cells left (d.column + columns_of cluster.text) moved →
-    Changes now next (row_change cells left (placed_at d.column cluster ∷ [])) → IsDrawing cells left row old next moved after
-drawing_next {cells} {left} {row} {old} {now} {next} {pen} {moved} {ahead} {after} cluster d fitting_clusters at drawn = record {
-  column = d.column + columns_of cluster.text;
-  at = at;
-  rest = λ new others.
-      d.rest new (rw fitting_clusters (Changes-then (row_change cells left (place_from d.column (cluster ∷ after))) drawn others
-      (λ x y cell. row_change-cons cells left d.column cluster after x y cell)));
-  unchanged = KeepsOutside-then d.unchanged (KeepsOutside-from_changes (is_in_cells cells) drawn
-      (λ x y cell outside. row_change-outside cells left (placed_at d.column cluster ∷ []) x y cell outside));
 }
 
 -- a row is its first clusters and then the others
@@ -75,6 +63,14 @@ drawing_run {cells} {left} {row} {old} {now} {next} {pen} {moved} {ahead} {after
   unchanged = KeepsOutside-then d.unchanged (KeepsOutside-from_changes (is_in_cells cells) drawn
       (λ x y cell outside. row_change-outside cells left (place_from d.column run) x y cell outside));
 }
+
+-- one cluster is drawn
+pub drawing_next : {cells : RowCells} {left : ℕ} {row : List Placed} {old now next : Buffer} {pen moved : Pen} {ahead after : List Cluster} (cluster : Cluster) →
+    (d : IsDrawing cells left row old now pen ahead) → ahead ≡ cluster ∷ after → IsPenAt cells left (d.column + columns_of cluster.text) moved →
+    Changes now next (row_change cells left (placed_at d.column cluster ∷ [])) → IsDrawing cells left row old next moved after
+drawing_next {cells} {left} {moved = moved} cluster d fitting_clusters at drawn =
+    let width : d.column + columns_of cluster.text ≡ d.column + clusters_width (cluster ∷ []) = omega (arith, sum_by-cons (λ (c : Cluster). columns_of c.text) cluster []) in
+    drawing_run (cluster ∷ []) d fitting_clusters (subst (λ n. IsPenAt cells left n moved) width at) drawn
 
 -- a cluster is left out, and the clusters still to be drawn are the same
 pub drawing_same : {cells : RowCells} {left : ℕ} {row : List Placed} {old now : Buffer} {pen : Pen} {ahead : List Cluster} (after : List Cluster) →

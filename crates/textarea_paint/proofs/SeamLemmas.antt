@@ -8,7 +8,7 @@ use Rattle.std.specs.Prelude.{encode_utf8_all}
 use Rattle.std.specs.Str.{chars, IsUtf8}
 use Rattle.unicode_segmentation.specs.Grapheme.{graphemes, is_grapheme_break}
 use Rattle.unicode_segmentation.specs.Segments.{prepend, cut, segments}
-use Rattle.textarea_paint.proofs.PlainLemmas.{IsPlain, breaks_between, cut-first}
+use Rattle.textarea_paint.proofs.PlainLemmas.{IsPlain, breaks_between, cut-anew, plain-anew}
 
 -- ---- pieces
 
@@ -49,7 +49,7 @@ module _ (c d : ℕ) (left : IsPlain c) (right : IsPlain d) (ys : List ℕ) wher
   unfolding cut
   cut-seam [] before =
       cond-true _ _ _ (breaks_between c d left right before (ys ++ []))
-      ∙ ap (λ (pieces : List (List ℕ)). (c ∷ []) ∷ pieces) (cut-first d right (c ∷ before) ys)
+      ∙ ap (λ (pieces : List (List ℕ)). (c ∷ []) ∷ pieces) (cut-anew d (c ∷ before) (plain-anew d right (c ∷ before)) ys)
       ∙ sym (ap (λ (pieces : List (List ℕ)). pieces ++ cut (is_grapheme_break true) [] (d ∷ ys) []) (one_piece (is_grapheme_break true (c ∷ before) []) (c ∷ [])))
   cut-seam (x ∷ xs) before =
       let some = cut-some (x ∷ before) xs c in

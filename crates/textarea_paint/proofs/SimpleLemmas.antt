@@ -1,16 +1,16 @@
 -- A simple character, and a flag, is a grapheme cluster by itself before another one, and the text
 -- after it is split as if it were a text of its own.
-use Rattle.std.proofs.lemmas.Grind.{common_steps}
 use Rattle.std.proofs.Common.{◌≡◌, ◌⊎◌, ℕ, ◌+◌, ◌-◌, ◌<◌, ◌≤◌, Bool, true, false, cond, not, ◌&&◌, ◌||◌, ◌==◌, nat_lt, List, [], ◌∷◌, ◌++◌, length, map, sum_by, take, drop, Option, None, Some, IfSome, refl, sym, ap, ap₂, subst, ◌∙◌, arith, inl, inr}
 use Rattle.std.proofs.lemmas.Bool.{cond-true, cond-false, eqb-true, false≢true}
 use Rattle.std.proofs.lemmas.Bool.Decides.{nat_tests}
-use Rattle.std.proofs.lemmas.List.{append-nil, append_assoc, length-append, nil_from_length}
+use Rattle.std.proofs.lemmas.List.{append-nil, append_assoc, length-append}
 use Rattle.std.proofs.lemmas.List.Sums.{sum_by-cons}
-use Rattle.std.proofs.lemmas.Str.{IsUtf8-past_char, chars-nil, chars_past_char, scalars-chars}
+use Rattle.std.proofs.lemmas.Str.{IsUtf8-past_char, chars_past_char, scalars-chars}
 use Rattle.std.proofs.Math.Seq.{drop-append_seam, take-append_seam}
 use Rattle.std.specs.Char.{is_control}
 use Rattle.std.specs.Prelude.{encode_utf8, encode_utf8_all}
 use Rattle.std.specs.Str.{all_scalars, chars, IsUtf8}
+use Rattle.textarea_paint.proofs.PlainLemmas.{BeginsAnew, cut-anew}
 use Rattle.textarea_paint.proofs.WidthLemmas.{columns_of-encoded, other-visible, regional-visible}
 use Rattle.textarea_paint.specs.Columns.{char_columns, columns_of}
 use Rattle.textarea_paint.specs.Simple.{begins_apart, early_ranges, is_flag_half, is_simple, late_ranges}
@@ -27,8 +27,7 @@ use Rattle.ucd_table.proofs.Computing.{tables}
 use Rattle.ucd_table.proofs.Facts.{Stepped-everywhere}
 use Rattle.ucd_table.proofs.Stepped.{Stepped, of_ranges, zip_stepped}
 use Rattle.ucd_table.proofs.TrieCheck.{all_below, all_below-at}
-use Rattle.unicode_segmentation.specs.Emoji.{is_extended_pictographic}
-use Rattle.unicode_segmentation.specs.Grapheme.{graphemes, is_grapheme_break, ends_in_linker, ends_in_pictograph, ends_in_half_flag, is_extend, is_regional, is_zwj}
+use Rattle.unicode_segmentation.specs.Grapheme.{graphemes, is_grapheme_break, ends_in_linker, ends_in_half_flag, is_extend, is_regional, is_zwj}
 use Rattle.unicode_segmentation.specs.Segments.{prepend, cut, segments}
 use Rattle.unicode_segmentation.proofs.Computing.{unicode_segmentation}
 use Rattle.unicode_width.proofs.Computing.{unicode_width}
@@ -86,6 +85,14 @@ simple-apart c is = apart-from c (by (nat_lt c 0x3000) is)
 
 -- ---- halves of flags
 
+-- what is tested of all halves holds of each
+each_half : (test : ℕ → Bool) → all_below (λ k. test (0x1F1E6 + k)) 26 ≡ true → (c : ℕ) → is_flag_half c ≡ true → test c ≡ true
+each_half test all c is =
+    let from : 0x1F1E6 ≤ c = grind (arith, nat_tests) in
+    let below : c - 0x1F1E6 < 26 = grind (arith, nat_tests) in
+    let at : 0x1F1E6 + (c - 0x1F1E6) ≡ c = omega arith in
+    subst (λ x. test x ≡ true) at (all_below-at (λ k. test (0x1F1E6 + k)) 26 (c - 0x1F1E6) all below)
+
 is_half : ℕ → Bool
 is_half c = (grapheme_cluster_break_number (grapheme_cluster_break c) == 8) && (indic_conjunct_break_number (indic_conjunct_break c) == 3)
 
@@ -105,24 +112,20 @@ half-from c is = record {
 }
 
 pub flag-half : (c : ℕ) → is_flag_half c ≡ true → IsHalf c
-flag-half c is =
-    let from : 0x1F1E6 ≤ c = grind (arith, nat_tests) in
-    let below : c - 0x1F1E6 < 26 = grind (arith, nat_tests) in
-    let at : 0x1F1E6 + (c - 0x1F1E6) ≡ c = omega arith in
-    half-from c (subst (λ x. is_half x ≡ true) at (all_below-at (λ k. is_half (0x1F1E6 + k)) 26 (c - 0x1F1E6) all_halves below))
+flag-half c is = half-from c (each_half is_half all_halves c is)
 
 -- ---- a character at which a text can begin anew
 
-pub record BeginsAnew (d : ℕ) : Type 0 where
-  pub value : (grapheme_cluster_break d ≡ Other) ⊎ (grapheme_cluster_break d ≡ RegionalIndicator)
-  pub no_conjunct : indic_conjunct_break d ≡ conjunct.None
-  pub no_extend : is_extend (grapheme_cluster_break d) ≡ false
-  pub no_joiner : is_zwj (grapheme_cluster_break d) ≡ false
+record BeginsCluster (d : ℕ) : Type 0 where
+  value : (grapheme_cluster_break d ≡ Other) ⊎ (grapheme_cluster_break d ≡ RegionalIndicator)
+  no_conjunct : indic_conjunct_break d ≡ conjunct.None
+  no_extend : is_extend (grapheme_cluster_break d) ≡ false
+  no_joiner : is_zwj (grapheme_cluster_break d) ≡ false
 
-anew : (d : ℕ) → (is_simple d || is_flag_half d) ≡ true → BeginsAnew d
-anew d is = by (is_simple d) refl is
+begins : (d : ℕ) → (is_simple d || is_flag_half d) ≡ true → BeginsCluster d
+begins d is = by (is_simple d) refl is
   where
-    by : (simple : Bool) → is_simple d ≡ simple → (simple || is_flag_half d) ≡ true → BeginsAnew d
+    by : (simple : Bool) → is_simple d ≡ simple → (simple || is_flag_half d) ≡ true → BeginsCluster d
     by true e is =
         let apart = simple-apart d e in
         record { value = inl apart.other; no_conjunct = apart.no_conjunct; no_extend = ap is_extend apart.other; no_joiner = ap is_zwj apart.other }
@@ -130,39 +133,14 @@ anew d is = by (is_simple d) refl is
         let half = flag-half d is in
         record { value = inr half.regional; no_conjunct = half.no_conjunct; no_extend = ap is_extend half.regional; no_joiner = ap is_zwj half.regional }
 
-module _ (d : ℕ) (begins : BeginsAnew d) (more : List ℕ) (whole : ends_in_half_flag more ≡ false) where
-  linker-anew : (xs : List ℕ) → ends_in_linker (map indic_conjunct_break (xs ++ d ∷ more)) ≡ ends_in_linker (map indic_conjunct_break (xs ++ d ∷ []))
-  unfolding ends_in_linker
-  linker-anew [] = rw begins.no_conjunct refl
-  linker-anew (x ∷ xs) = grind (arith, common_steps, linker-anew xs)
-
-  pictograph-anew : (xs : List ℕ) → ends_in_pictograph (xs ++ d ∷ more) ≡ ends_in_pictograph (xs ++ d ∷ [])
-  unfolding ends_in_pictograph
-  pictograph-anew [] = rw begins.no_extend refl
-  pictograph-anew (x ∷ xs) = ap (λ e. is_extended_pictographic x || (is_extend (grapheme_cluster_break x) && e)) (pictograph-anew xs)
-
-  flag-anew : (xs : List ℕ) → ends_in_half_flag (xs ++ d ∷ more) ≡ ends_in_half_flag (xs ++ d ∷ [])
-  unfolding ends_in_half_flag
-  flag-anew [] = ap (λ e. is_regional (grapheme_cluster_break d) && not e) whole
-  flag-anew (x ∷ xs) = ap (λ e. is_regional (grapheme_cluster_break x) && not e) (flag-anew xs)
-
-  break-anew : (xs after : List ℕ) → is_grapheme_break true (xs ++ d ∷ more) after ≡ is_grapheme_break true (xs ++ d ∷ []) after
-  unfolding is_grapheme_break
-  break-anew [] [] = refl
-  break-anew (x ∷ xs) [] = refl
-  break-anew [] (next ∷ after) = grind (arith, common_steps, begins.no_joiner, linker-anew [], flag-anew [])
-  break-anew (x ∷ xs) (next ∷ after) = grind (arith, common_steps, linker-anew (x ∷ xs), pictograph-anew xs, flag-anew (x ∷ xs))
-
-  later-anew : (xs cs : List ℕ) → cut (is_grapheme_break true) (xs ++ d ∷ more) cs [] ≡ cut (is_grapheme_break true) (xs ++ d ∷ []) cs []
-  unfolding cut
-  later-anew xs [] = refl
-  later-anew xs (e ∷ cs) =
-      ap₂ (λ (b : Bool) (rest : List (List ℕ)). cond b ((e ∷ []) ∷ rest) (prepend (e ∷ []) rest)) (break-anew (e ∷ xs) (cs ++ [])) (later-anew (e ∷ xs) cs)
-
-  cut-anew : (cs : List ℕ) → cut (is_grapheme_break true) more (d ∷ cs) [] ≡ cut (is_grapheme_break true) [] (d ∷ cs) []
-  unfolding cut
-  cut-anew cs =
-      ap₂ (λ (b : Bool) (rest : List (List ℕ)). cond b ((d ∷ []) ∷ rest) (prepend (d ∷ []) rest)) (break-anew [] (cs ++ [])) (later-anew [] cs)
+anew : (d : ℕ) → BeginsCluster d → (before : List ℕ) → ends_in_half_flag before ≡ false → BeginsAnew d before
+unfolding ends_in_linker ends_in_half_flag
+anew d begins before whole = record {
+  linker = rw begins.no_conjunct refl;
+  flag = ap (λ e. is_regional (grapheme_cluster_break d) && not e) whole;
+  no_extend = begins.no_extend;
+  no_joiner = begins.no_joiner;
+}
 
 -- ---- the first cluster of a text
 
@@ -185,9 +163,9 @@ module _ (c : ℕ) (apart : IsApart c) where
   unfolding cut
   cut-simple [] is = last-simple
   cut-simple (d ∷ cs) is =
-      let begins = anew d is in
-      cond-true _ _ _ (break-simple (grapheme_cluster_break d) d (cs ++ []) refl begins.value)
-      ∙ ap (λ (pieces : List (List ℕ)). (c ∷ []) ∷ pieces) (cut-anew d begins (c ∷ []) whole-simple cs)
+      let next = begins d is in
+      cond-true _ _ _ (break-simple (grapheme_cluster_break d) d (cs ++ []) refl next.value)
+      ∙ ap (λ (pieces : List (List ℕ)). (c ∷ []) ∷ pieces) (cut-anew d (c ∷ []) (anew d next (c ∷ []) whole-simple) cs)
 
 module _ (b c : ℕ) (first : IsHalf b) (second : IsHalf c) where
   joins-flag : (after : List ℕ) → is_grapheme_break true (b ∷ []) (c ∷ after) ≡ false
@@ -211,16 +189,16 @@ module _ (b c : ℕ) (first : IsHalf b) (second : IsHalf c) where
   unfolding cut
   cut-second [] is = last-flag
   cut-second (d ∷ cs) is =
-      let begins = anew d is in
-      cond-true _ _ _ (break-flag (grapheme_cluster_break d) d (cs ++ []) refl begins.value)
-      ∙ ap (λ (pieces : List (List ℕ)). (c ∷ []) ∷ pieces) (cut-anew d begins (c ∷ b ∷ []) whole-flag cs)
+      let next = begins d is in
+      cond-true _ _ _ (break-flag (grapheme_cluster_break d) d (cs ++ []) refl next.value)
+      ∙ ap (λ (pieces : List (List ℕ)). (c ∷ []) ∷ pieces) (cut-anew d (c ∷ b ∷ []) (anew d next (c ∷ b ∷ []) whole-flag) cs)
 
   -- a flag
   cut-flag : (cs : List ℕ) → begins_apart cs ≡ true → cut (is_grapheme_break true) [] (b ∷ c ∷ cs) [] ≡ (b ∷ c ∷ []) ∷ cut (is_grapheme_break true) [] cs []
   unfolding cut
   cut-flag cs is = cond-false _ _ _ (joins-flag (cs ++ [])) ∙ ap (prepend (b ∷ [])) (cut-second cs is)
 
-graphemes-simple : (text after : List ℕ) (c : ℕ) → IsUtf8 text → text ≡ encode_utf8 c ++ after → is_simple c ≡ true → begins_apart (chars after) ≡ true →
+pub graphemes-simple : (text after : List ℕ) (c : ℕ) → IsUtf8 text → text ≡ encode_utf8 c ++ after → is_simple c ≡ true → begins_apart (chars after) ≡ true →
     graphemes true text ≡ encode_utf8 c ∷ graphemes true after
 unfolding segments
 graphemes-simple text after c utf8 is simple apart =
@@ -257,11 +235,7 @@ unfolding tables unicode_width
 all_one = refl
 
 half-column : (c : ℕ) → is_flag_half c ≡ true → char_columns c ≡ 1
-half-column c is =
-    let from : 0x1F1E6 ≤ c = grind (arith, nat_tests) in
-    let below : c - 0x1F1E6 < 26 = grind (arith, nat_tests) in
-    let at : 0x1F1E6 + (c - 0x1F1E6) ≡ c = omega arith in
-    eqb-true _ _ (subst (λ x. (char_columns x == 1) ≡ true) at (all_below-at (λ k. char_columns (0x1F1E6 + k) == 1) 26 (c - 0x1F1E6) all_one below))
+half-column c is = eqb-true _ _ (each_half (λ x. char_columns x == 1) all_one c is)
 
 columns-flag : (text rest after : List ℕ) (b c : ℕ) → IsUtf8 text → text ≡ encode_utf8 b ++ rest → rest ≡ encode_utf8 c ++ after →
     is_flag_half b ≡ true → is_flag_half c ≡ true → columns_of (encode_utf8 b ++ encode_utf8 c) ≡ 2
@@ -317,41 +291,3 @@ module _ {text first after : List ℕ} {columns : ℕ} (h : IsFirst text first a
       IfSome r (λ x. counted x ≡ columns) → IfSome r (λ x. counted x ≡ columns_of (front x))
   split-columns None front counted is_front is_counted = tt
   split-columns (Some x) front counted is_front is_counted = is_counted ∙ sym h.width ∙ ap columns_of (sym (is_front ∙ taken))
-
--- ---- the first character of a text
-
-pub begins-some : (text rest : List ℕ) (c : ℕ) → IsUtf8 text → text ≡ encode_utf8 c ++ rest → begins_apart (chars text) ≡ (is_simple c || is_flag_half c)
-begins-some text rest c utf8 is = ap begins_apart (chars_past_char text rest c utf8 is)
-
-pub begins-none : (text : List ℕ) → length text ≡ 0 → begins_apart (chars text) ≡ true
-begins-none text none = ap (λ t. begins_apart (chars t)) (nil_from_length text none) ∙ ap begins_apart chars-nil
-
--- ---- tests one after the other
-
-or_end : (a : Bool) → a ≡ (a || false)
-or_end true = refl
-or_end false = refl
-
-or_two : (a b : Bool) → (a || b) ≡ (a || (b || false))
-or_two true b = refl
-or_two false b = or_end b
-
-or_three : (a b c : Bool) → ((a || b) || c) ≡ (a || (b || (c || false)))
-or_three true b c = refl
-or_three false b c = or_two b c
-
-or_four : (a b c d : Bool) → (((a || b) || c) || d) ≡ (a || (b || (c || (d || false))))
-or_four true b c d = refl
-or_four false b c d = or_three b c d
-
-or_five : (a b c d e : Bool) → ((((a || b) || c) || d) || e) ≡ (a || (b || (c || (d || (e || false)))))
-or_five true b c d e = refl
-or_five false b c d e = or_four b c d e
-
-pub or_six : (a b c d e f : Bool) → (((((a || b) || c) || d) || e) || f) ≡ (a || (b || (c || (d || (e || (f || false))))))
-or_six true b c d e f = refl
-or_six false b c d e f = or_five b c d e f
-
-pub or_seven : (a b c d e f g : Bool) → ((((((a || b) || c) || d) || e) || f) || g) ≡ (a || (b || (c || (d || (e || (f || (g || false)))))))
-or_seven true b c d e f g = refl
-or_seven false b c d e f g = or_six b c d e f g

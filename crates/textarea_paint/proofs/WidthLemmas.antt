@@ -8,6 +8,7 @@ use Rattle.std.specs.Str.{chars, IsUtf8, all_scalars}
 use Rattle.std.proofs.lemmas.Bool.{and_parts, cond-true, false≢true}
 use Rattle.std.proofs.lemmas.Bool.Decides.{nat_tests}
 use Rattle.std.proofs.lemmas.List.Sums.{sum_by-cons}
+use Rattle.std.proofs.Math.Bool.{or-false}
 use Rattle.std.proofs.lemmas.Str.{chars-encodes, scalars-chars}
 use Rattle.ucd_breaks.specs.GraphemeClusterBreak.{grapheme_cluster_break}
 use Rattle.ucd_breaks.specs.declared.GraphemeClusterBreak.{GraphemeClusterBreak}
@@ -126,10 +127,6 @@ width-same false n none = refl
 
 first_width : (c : ℕ) (cluster : List ℕ) → IsFirst c cluster → cluster_width cluster ≡ sum_by char_columns cluster
 first_width c cluster h = width-same (list_any is_control cluster) (sum_by char_columns cluster) (λ is. h.none (sym h.same ∙ is))
-
-or-false : (b : Bool) → (b || false) ≡ b
-or-false true = refl
-or-false false = refl
 
 first_alone : (c : ℕ) → IsFirst c (c ∷ [])
 first_alone c = record { same = or-false (is_control c); none = λ is. omega (arith, no_column c is) }

@@ -1,7 +1,7 @@
 -- Grapheme clusters in a row, and the cells that show the row from one of its columns on.
 use Rattle.std.specs.Prelude.{◌≡◌, ℕ, ◌≤◌, ◌+◌, ◌-◌, min, Bool, ◌&&◌, ◌==◌, nat_lt, nat_le, List, [], ◌∷◌, Option, None, Some, if◌then◌else◌}
 use Rattle.std.specs.List.{find}
-use Rattle.textarea_screen.specs.Buffer.{Change, is_between}
+use Rattle.textarea_screen.specs.Buffer.{Change, is_between, wide_symbol}
 use Rattle.textarea_screen.specs.Cell.{CellView, with_symbol}
 use Rattle.textarea_screen.specs.declared.screen.style.Style.{Style}
 use Rattle.textarea_paint.specs.Clusters.{Cluster}
@@ -43,13 +43,9 @@ IsColumnWithin cells x = (cells.x ≤ x) × (x ≤ cells.x + cells.width)
 abbrev pub is_whole : RowCells → ℕ → Placed → Bool
 is_whole cells left placed = nat_le left placed.start && nat_le (placed.start + columns_of placed.text) (left + cells.width)
 
--- the text that a cluster puts into a column that it takes: its own text in its first column and
--- the empty text in the others, or a blank in each if an edge cuts the cluster
-abbrev pub symbol_of : Bool → Bool → List ℕ → List ℕ
-symbol_of whole first text = if whole then (if first then text else []) else 32 ∷ []
-
+-- the text that a cluster puts into a column that it takes; it is whole if no edge cuts it
 abbrev pub symbol_in_column : RowCells → ℕ → Placed → ℕ → List ℕ
-symbol_in_column cells left placed column = symbol_of (is_whole cells left placed) (column == placed.start) placed.text
+symbol_in_column cells left placed column = wide_symbol (is_whole cells left placed) (column == placed.start) placed.text
 
 -- a cell that shows this column, after the cluster that takes the column is drawn, if there is one
 abbrev pub covered_cell : RowCells → ℕ → ℕ → Option Placed → CellView → CellView

@@ -23,13 +23,9 @@ spans_clusters style spans = flat_map (span_clusters style) spans
 abbrev pub raw_span : List ℕ → SpanView
 raw_span text = record { content = BorrowedBytes text; style = empty_style }
 
--- the cells after spans are drawn into these cells
-abbrev pub spans_change : RowCells → Style → List SpanView → Change
-spans_change cells style spans = row_change cells 0 (place_from 0 (spans_clusters style spans))
-
 -- the cells after a text in one style is drawn into these cells
 abbrev pub text_change : RowCells → Style → List ℕ → Change
-text_change cells style text = spans_change cells style (raw_span text ∷ [])
+text_change cells style text = row_change cells 0 (place_from 0 (spans_clusters style (raw_span text ∷ [])))
 
 -- the cells after a line is drawn into these cells
 abbrev pub line_change : RowCells → LineView → Change

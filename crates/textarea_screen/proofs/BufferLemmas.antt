@@ -1,22 +1,23 @@
 -- The indices of a rectangle's cells in the list of all of them, and the effect of a write.
 use Rattle.std.proofs.lemmas.Grind.{common_steps}
 use Rattle.std.proofs.Common.{◌≡◌, ◌≢◌, ℕ, zero, suc, ◌+◌, ◌-◌, ◌*◌, ◌/◌, ◌%◌, ◌<◌, ◌≤◌, min, max, Bool, true, false, cond, eqb, leb, ltb, ◌&&◌, ◌||◌, List, [], ◌∷◌, length, get_or, set, take, slice_range, Option, None, Some, refl, sym, ap, ap₂, ◌∙◌, arith}
+use Rattle.std.specs.Vec.{vec_len}
 use Rattle.std.specs.List.{slice_get, All}
 use Rattle.std.specs.Option.{option_map}
-use Rattle.std.proofs.lemmas.Bool.{cases_Bool, cond-true}
+use Rattle.std.proofs.lemmas.Bool.{cases_Bool, cond-true, cond-false}
 use Rattle.std.proofs.lemmas.Bool.Decides.{nat_tests}
 use Rattle.std.proofs.lemmas.Iterator.Adapters.{option_map_id}
 use Rattle.std.proofs.lemmas.List.{drop_more}
 use Rattle.std.proofs.lemmas.List.Elements.{All-tail}
 use Rattle.std.proofs.lemmas.Nat.{mul-add-lt, div-mul-add, mod-mul-add}
 use Rattle.std.proofs.lemmas.Option.{slice_get-get_or}
-use Rattle.textarea_screen.specs.Buffer.{place_in, cell_at, Changes, is_between}
-use Rattle.textarea_screen.specs.Cell.{CellView, cell_view, fresh_cell, with_symbol}
+use Rattle.textarea_screen.specs.Buffer.{area_of, place_in, cell_at, Change, Changes, is_between}
+use Rattle.textarea_screen.specs.Cell.{CellView, cell_view, fresh_cell}
 use Rattle.textarea_screen.specs.Rect.{contains, is_in_row}
 use Rattle.textarea_screen.specs.declared.screen.buffer.Buffer.{Buffer}
 use Rattle.textarea_screen.specs.declared.screen.cell.Cell.{Cell}
 use Rattle.textarea_screen.specs.declared.screen.rect.Rect.{Rect}
-use Rattle.textarea_screen.specs.declared.screen.style.Style.{Style}
+use Rattle.textarea_screen.proofs.ChangeLemmas.{Changes-none, Changes-then, Changes-inside}
 
 -- ---- indices in the list of all cells
 
@@ -40,6 +41,10 @@ place_in-right area first column y inside right = let start : area.x ≤ first =
 
 pub contains-right : (area : Rect) (first column y : ℕ) → contains area first y ≡ true → first ≤ column → column < area.x + area.width → contains area column y ≡ true
 contains-right area first column y inside right left = grind (arith, nat_tests)
+
+-- a cell of the rectangle is left of its right edge
+pub contains_right : (area : Rect) (x y : ℕ) → contains area x y ≡ true → x < area.x + area.width
+contains_right area x y inside = grind (arith, nat_tests)
 
 -- ---- one cell is written
 
@@ -110,30 +115,69 @@ unfolding cell_at
 cell_at-listed buffer cells x y inside is =
     ap (λ all. option_map cell_view (slice_get all (place_in buffer.area x y))) is ∙ sym (cond-true (contains buffer.area x y) _ _ inside)
 
--- ---- texts are written into cells that follow each other
+-- ---- cells that follow each other are changed, each by a function of its column
 
 -- one character of a text
 pub slice_one : (text : List ℕ) (at : ℕ) → at < length text → slice_range text at (at + 1) ≡ get_or text at 0 ∷ []
 slice_one text at below = let one : (at + 1) - at ≡ 1 = omega arith in ap₂ (λ (n : ℕ) (rest : List ℕ). take n rest) one (drop_more text at 0 below)
 
--- the texts of the cells up to a column, and then that of the cell of that column
-pub symbols_more : (row first at : ℕ) (symbol : ℕ → List ℕ) (style : Style) (u v : ℕ) (cell : CellView) → first ≤ at →
-    cond (eqb u at && eqb v row) (with_symbol (symbol at) style (cond (is_between row first at u v) (with_symbol (symbol u) style cell) cell)) (cond (is_between row first at u v) (with_symbol (symbol u) style cell) cell)
-    ≡ cond (is_between row first (at + 1) u v) (with_symbol (symbol u) style cell) cell
-symbols_more row first at symbol style u v cell begun = grind (arith, nat_tests)
+-- the cells from column `from` up to column `to` of a row, each changed by a function of its column
+abbrev pub change_between : (row from to : ℕ) (f : ℕ → CellView → CellView) → Change
+change_between row from to f x y cell = cond (is_between row from to x y) (f x cell) cell
 
-pub between_none : (row at u v : ℕ) → is_between row at at u v ≡ false
-between_none row at u v = grind (arith, nat_tests)
+pub change_between-none : (row at : ℕ) (f : ℕ → CellView → CellView) (x y : ℕ) (cell : CellView) → change_between row at at f x y cell ≡ cell
+change_between-none row at f x y cell = grind (arith, nat_tests)
 
--- the text begins in no cell that the area has, or in a row that it does not have
-pub ascii_outside : (area : Rect) (row x end first u v : ℕ) → first ≡ max x area.x → contains area first row ≡ false → contains area u v ≡ true →
-    is_between row x end u v ≡ false
-ascii_outside area row x end first u v is_first outside inside = grind (arith, nat_tests)
+-- the cells up to a column, and then the cell of that column
+one_more : (row from at : ℕ) (f : ℕ → CellView → CellView) (x y : ℕ) (cell : CellView) → from ≤ at →
+    cond (eqb x at && eqb y row) (f at (change_between row from at f x y cell)) (change_between row from at f x y cell) ≡ change_between row from (at + 1) f x y cell
+one_more row from at f x y cell begun = grind (arith, nat_tests)
+
+-- the index of a cell to the right of one that the buffer has
+pub place-right : (old buffer : Buffer) (row first at place : ℕ) → area_of buffer ≡ area_of old → contains (area_of old) first row ≡ true → first ≤ at →
+    at < (area_of old).x + (area_of old).width → place ≡ place_in (area_of old) first row + (at - first) → place < vec_len buffer.cells
+place-right old buffer row first at place same inside begun before is =
+    let area = area_of old in
+    omega (arith, is, place_in-right area first at row inside begun, place_in-below area at row (contains-right area first at row inside begun before), buffer.full, ap (λ (a : Rect). a.height * a.width) same)
+
+-- one more cell is changed
+pub Changes-next : (old buffer new : Buffer) (row first at place : ℕ) (f : ℕ → CellView → CellView) (d cell : Cell) → Changes old buffer (change_between row first at f) →
+    contains (area_of old) first row ≡ true → first ≤ at → at < (area_of old).x + (area_of old).width → place ≡ place_in (area_of old) first row + (at - first) →
+    new.area ≡ buffer.area → new.cells.items ≡ set buffer.cells.items place cell → cell_view cell ≡ f at (cell_view (get_or buffer.cells.items place d)) →
+    Changes old new (change_between row first (at + 1) f)
+Changes-next old buffer new row first at place f d cell changed inside begun before is area items written =
+    let whole = area_of old in
+    let right = place_in-right whole first at row inside begun in
+    let here = contains-right whole first at row inside begun before in
+    let same : buffer.area ≡ whole = changed.area in
+    Changes-then (change_between row first (at + 1) f) changed
+    (Changes-set buffer new at row place (f at) d cell (ap (λ (a : Rect). contains a at row) same ∙ here) (is ∙ right ∙ ap (λ (a : Rect). place_in a at row) (sym same))
+    (omega (arith, buffer.full, buffer.cells.ok.0)) area items written)
+    (λ x y c. one_more row first at f x y c begun)
 
 -- those cells between two columns that an area has
-pub between_clipped : (area : Rect) (row from to first last at x y : ℕ) → first ≡ max from area.x → last ≡ min to (area.x + area.width) → first ≤ at → last ≤ at → at ≤ max first last →
+between_clipped : (area : Rect) (row from to first last at x y : ℕ) → first ≡ max from area.x → last ≡ min to (area.x + area.width) → first ≤ at → last ≤ at → at ≤ max first last →
     contains area x y ≡ true → is_between row first at x y ≡ is_between row from to x y
 between_clipped area row from to first last at x y is_first is_last begun ended exact inside = grind (arith, nat_tests)
+
+pub Changes-clipped : (old new : Buffer) (row from to first last at : ℕ) (f : ℕ → CellView → CellView) → Changes old new (change_between row first at f) →
+    first ≡ max from (area_of old).x → last ≡ min to ((area_of old).x + (area_of old).width) → first ≤ at → last ≤ at → at ≤ max first last →
+    Changes old new (change_between row from to f)
+Changes-clipped old new row from to first last at f changed is_first is_last begun ended exact =
+    Changes-inside (change_between row from to f) changed
+    (λ x y cell inside. ap (λ b. cond b (f x cell) cell) (between_clipped (area_of old) row from to first last at x y is_first is_last begun ended exact inside))
+
+between_apart : (area : Rect) (row from to first last x y : ℕ) → first ≡ max from area.x → last ≡ min to (area.x + area.width) → (first < last → contains area first row ≡ false) →
+    contains area x y ≡ true → is_between row from to x y ≡ false
+between_apart area row from to first last x y is_first is_last apart inside = grind (arith, nat_tests, apart)
+
+-- the buffer has none of the cells
+pub Changes-apart : (buffer : Buffer) (row from to first last : ℕ) (f : ℕ → CellView → CellView) →
+    first ≡ max from (area_of buffer).x → last ≡ min to ((area_of buffer).x + (area_of buffer).width) → (first < last → contains (area_of buffer) first row ≡ false) →
+    Changes buffer buffer (change_between row from to f)
+Changes-apart buffer row from to first last f is_first is_last apart =
+    Changes-inside (change_between row from to f) (Changes-none buffer (λ x y cell. cell) (λ x y cell. refl))
+    (λ x y cell inside. sym (cond-false _ _ _ (between_apart (area_of buffer) row from to first last x y is_first is_last apart inside)))
 
 -- ---- fresh cells
 
@@ -150,35 +194,25 @@ cell_at-fresh buffer x y room fresh = grind (arith, common_steps, slice_get-fres
 
 -- ---- the cells of a rectangle, one after another
 
--- the cells of a row before this column, and the rows of a rectangle before this row
-abbrev pub is_before_column : ℕ → ℕ → ℕ → ℕ → ℕ → Bool
-is_before_column left row column x y = eqb y row && (leb left x && ltb x column)
-
+-- the rows of a rectangle before this row
 abbrev pub is_before_row : Rect → ℕ → ℕ → ℕ → Bool
 is_before_row area row x y = leb area.x x && ltb x (area.x + area.width) && leb area.y y && ltb y row
 
-pub is_before_column-first : (left row x y : ℕ) → is_before_column left row left x y ≡ false
-is_before_column-first left row x y = grind (arith, nat_tests)
+pub is_between-none : (row at x y : ℕ) → is_between row at at x y ≡ false
+is_between-none row at x y = grind (arith, nat_tests)
 
-pub is_before_column-apart : (left row column x y : ℕ) → (eqb x column && eqb y row) ≡ true → is_before_column left row column x y ≡ false
-is_before_column-apart left row column x y here = grind (arith, nat_tests)
+pub is_between-apart : (row from at x y : ℕ) → (eqb x at && eqb y row) ≡ true → is_between row from at x y ≡ false
+is_between-apart row from at x y here = grind (arith, nat_tests)
 
-pub is_before_column-next : (left row column x y : ℕ) → left ≤ column →
-    (is_before_column left row column x y || (eqb x column && eqb y row)) ≡ is_before_column left row (column + 1) x y
-is_before_column-next left row column x y h = grind (arith, nat_tests)
+pub is_between-next : (row from at x y : ℕ) → from ≤ at → (is_between row from at x y || (eqb x at && eqb y row)) ≡ is_between row from (at + 1) x y
+is_between-next row from at x y begun = grind (arith, nat_tests)
 
-pub is_in_row-narrow : (area : Rect) (row x y : ℕ) → area.width ≤ 0 → is_in_row area row x y ≡ false
-is_in_row-narrow area row x y narrow = grind (arith, nat_tests)
-
-pub first_in_row : (area : Rect) (row : ℕ) → 0 < area.width → area.y ≤ row → row < area.y + area.height → contains area area.x row ≡ true
-first_in_row area row some top bottom = grind (arith, nat_tests)
+pub is_between-row : (area : Rect) (row x y : ℕ) → area.y ≤ row → row < area.y + area.height →
+    is_between row area.x (area.x + area.width) x y ≡ is_in_row area row x y
+is_between-row area row x y first last = grind (arith, nat_tests)
 
 pub in_row : (area : Rect) (row x : ℕ) → area.y ≤ row → row < area.y + area.height → area.x ≤ x → x < area.x + area.width → contains area x row ≡ true
 in_row area row x top bottom left right = grind (arith, nat_tests)
-
-pub is_before_column-end : (area : Rect) (row x y : ℕ) → area.y ≤ row → row < area.y + area.height →
-    is_before_column area.x row (area.x + area.width) x y ≡ is_in_row area row x y
-is_before_column-end area row x y first last = grind (arith, nat_tests)
 
 pub is_before_row-first : (area : Rect) (x y : ℕ) → is_before_row area area.y x y ≡ false
 is_before_row-first area x y = grind (arith, nat_tests)

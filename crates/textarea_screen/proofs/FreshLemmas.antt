@@ -1,11 +1,9 @@
 -- A buffer whose cells are made fresh.
 use Rattle.std.proofs.lemmas.Grind.{common_steps}
-use Rattle.std.proofs.Common.{◌≡◌, ℕ, zero, suc, ◌+◌, ◌*◌, ◌<◌, ◌≤◌, cond, List, [], ◌∷◌, length, set, take, None, Some, refl, sym, ap, ◌∙◌, arith}
+use Rattle.std.proofs.Common.{◌≡◌, ℕ, zero, suc, ◌*◌, ◌<◌, ◌≤◌, cond, List, [], ◌∷◌, length, None, Some, refl, sym, ap, ◌∙◌, arith}
 use Rattle.std.specs.List.{slice_get, All}
 use Rattle.std.specs.Option.{option_map}
 use Rattle.std.proofs.lemmas.Bool.{cases_Bool}
-use Rattle.std.proofs.lemmas.List.{take_more_set}
-use Rattle.std.proofs.lemmas.List.Elements.{All-push}
 use Rattle.textarea_screen.specs.Buffer.{cell_at, Changes}
 use Rattle.textarea_screen.specs.Cell.{CellView, cell_view, fresh_cell}
 use Rattle.textarea_screen.specs.Rect.{contains}
@@ -16,11 +14,6 @@ use Rattle.textarea_screen.proofs.BufferLemmas.{cell_at-fresh, place_in-below}
 -- the cells are fresh
 abbrev pub AreFresh : List Cell → Type 0
 AreFresh cells = All (λ cell. cell_view cell ≡ fresh_cell) cells
-
--- one more cell at the front is fresh
-pub fresh_more : (cells : List Cell) (index : ℕ) (cell : Cell) → index < length cells → AreFresh (take index cells) → cell_view cell ≡ fresh_cell → AreFresh (take (index + 1) (set cells index cell))
-fresh_more cells index cell within before fresh =
-    rw (take_more_set cells index cell within) (All-push (λ (c : Cell). cell_view c ≡ fresh_cell) (take index cells) cell before fresh)
 
 one_for_all : (view : CellView) (cells : List Cell) (index : ℕ) → index < length cells → option_map (λ (v : CellView). view) (option_map cell_view (slice_get cells index)) ≡ Some view
 one_for_all view [] index within = absurd (omega arith)

@@ -1,4 +1,3 @@
 pub mod BufferLemmas
 pub mod ChangeLemmas
-pub mod Copies
 pub mod FreshLemmas

@@ -34,10 +34,15 @@ abbrev pub ascii_change : ℕ → ℕ → List ℕ → Style → Change
 ascii_change from row text style x y cell =
     if is_between row from (from + length text) x y then with_symbol (slice_index text (x - from) ∷ []) style cell else cell
 
--- a text in a row's cell in column `from`, and another in those after it up to column `to`
-abbrev pub wide_change : ℕ → ℕ → ℕ → List ℕ → List ℕ → Style → Change
-wide_change from row to first others style x y cell =
-    if is_between row from to x y then with_symbol (if x == from then first else others) style cell else cell
+-- the text that a wide text puts into a cell: itself into its first one and the empty text into the
+-- others, or a blank into each if it is not whole
+abbrev pub wide_symbol : Bool → Bool → List ℕ → List ℕ
+wide_symbol whole first text = if whole then (if first then text else []) else 32 ∷ []
+
+-- a wide text in a style, written into a row's cells from column `from` up to column `to`
+abbrev pub wide_change : ℕ → ℕ → ℕ → List ℕ → Bool → Style → Change
+wide_change from row to text whole style x y cell =
+    if is_between row from to x y then with_symbol (wide_symbol whole (x == from) text) style cell else cell
 
 -- the buffer has the same area, and each of its cells is changed by the change
 pub record Changes (old new : Buffer) (change : Change) : Type 0 where

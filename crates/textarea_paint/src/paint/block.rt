@@ -3,7 +3,8 @@ ghost use Rattle.std.specs.Prelude.{◌≡◌, ◌+◌, ◌<◌, ◌≤◌, ◌&
 ghost use Rattle.textarea_paint.specs.Prelude.{block_view, Changes, KeepsOutside, with_symbol, inset_of, contains, is_in_row, empty_style, INLINE_BYTES, in_area, in_turn, side_changes, corner_changes, title_change, block_cell, row_clusters, AreInline};
 
 use super::cells::RowCells;
-use super::row::draw_left;
+use super::clusters::LineClusters;
+use super::row::draw_clusters;
 use std::alloc::AllocError;
 use textarea_screen::screen::{Block, Borders, Buffer, Rect, Style};
 
@@ -103,7 +104,8 @@ fn draw_title(buffer: &mut Buffer, area: Rect, block: &Block) -> Result<(), Allo
                 y: area.y,
                 width: area.width.saturating_sub(left).saturating_sub(right),
             };
-            draw_left(buffer, cells, 0, title, Style::new())
+            let clusters = LineClusters::new(title, Style::new());
+            draw_clusters(buffer, cells, 0, clusters)
         }
         None => Ok(()),
     }

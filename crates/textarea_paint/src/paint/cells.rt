@@ -1,6 +1,6 @@
 //! Grapheme clusters in the cells of a row, from left to right.
-ghost use Rattle.std.specs.Prelude.{◌≡◌, ◌+◌, ◌≤◌, ℕ, false, max, length, [], ◌∷◌, All, IfOk, IsOk, IsTrue, OnOk, OnErr};
-ghost use Rattle.textarea_paint.specs.Prelude.{AreInline, Changes, KeepsOutside, INLINE_BYTES, IsPenAt, IsColumnWithin, IsPrintable, row_change, is_in_cells, place_from, placed_at, symbol_of, clusters_width, columns_of, plain_clusters, run_clusters, styled_cluster};
+ghost use Rattle.std.specs.Prelude.{◌≡◌, ◌+◌, ◌≤◌, ℕ, false, length, [], ◌∷◌, All, IfOk, IsOk, IsTrue, OnOk, OnErr};
+ghost use Rattle.textarea_paint.specs.Prelude.{AreInline, Changes, KeepsOutside, INLINE_BYTES, IsPenAt, IsColumnWithin, IsPrintable, row_change, is_in_cells, place_from, placed_at, clusters_width, columns_of, plain_clusters, run_clusters, styled_cluster};
 
 use super::clusters::{ClusterRun, StyledCluster};
 use std::alloc::AllocError;
@@ -102,27 +102,10 @@ pub(crate) fn draw_cluster(
     let room = usize::from(cells.x + cells.width - pen.x);
     let displayed = (columns - hidden).min(room);
     let end = pen.x + displayed as u16;
-    let first = symbol_of(displayed == columns, true, cluster.text);
-    let others = symbol_of(displayed == columns, false, cluster.text);
-    buffer.put_wide(pen.x, cells.y, end, first, others, cluster.style)?;
+    let is_whole = displayed == columns;
+    buffer.put_wide(pen.x, cells.y, end, cluster.text, is_whole, cluster.style)?;
     Ok(Pen {
         hidden: pen.hidden - hidden,
         x: end,
     })
-}
-
-/// Returns the text that a cluster puts into a cell: its own text in its first cell and the empty
-/// text in the others, or a blank in each if an edge cuts the cluster.
-fn symbol_of<'a>(is_whole: bool, is_first: bool, text: &'a str) -> &'a str
-    ensures value { result.now ≡ symbol_of is_whole is_first text.now }
-    ensures len { length result.now ≤ max (length text.now) 1 }
-    ensures short { is_first ≡ false → length result.now ≤ 1 }
-{
-    if !is_whole {
-        " "
-    } else if is_first {
-        text
-    } else {
-        ""
-    }
 }

@@ -38,8 +38,8 @@ pub(super) fn columns_of_char(c: char) -> usize
     }
 }
 
-/// Returns whether the character is an ideograph or a face. Each of them takes two columns, and they
-/// are found without a table.
+/// Returns whether the character is an ideograph or a face. Each of them takes two columns, and
+/// they are found without a table.
 fn is_wide(c: char) -> bool
     ensures { result ≡ is_wide c }
 {

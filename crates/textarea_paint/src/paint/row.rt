@@ -1,6 +1,7 @@
 //! A line drawn in one row of cells.
 ghost use Rattle.std.specs.Prelude.{◌≡◌, ◌+◌, ◌≤◌, min, IsOk, OnOk, OnErr};
 ghost use Rattle.textarea_paint.specs.Prelude.{area_of, Changes, HasNone, KeepsOutside, is_in_row, line_view, is_in_cells, place_from, row_change, row_clusters, AreInline, fitting, clusters_width, line_offset, row_cell};
+ghost use Rattle.textarea_paint.specs.LineClusters.{clusters_left};
 
 use super::cells::{Pen, RowCells, draw_cluster, draw_run};
 use super::clusters::LineClusters;
@@ -41,7 +42,10 @@ pub fn draw_row(buffer: &mut Buffer, rows: RowArea, y: u16, line: &Line) -> Resu
         width: area.width,
     };
     match rows.alignment {
-        Alignment::Left => draw_left(buffer, cells, rows.left, line, rows.style),
+        Alignment::Left => {
+            let clusters = LineClusters::new(line, rows.style);
+            draw_clusters(buffer, cells, rows.left, clusters)
+        }
         _ => {
             let start = row_start(rows, line);
             draw_fitting(buffer, cells, start, line, rows.style)
@@ -63,18 +67,17 @@ pub fn row_start(rows: RowArea, line: &Line) -> u16
     }
 }
 
-/// Draws a line from its column `left` on, which is in the first of the cells.
-pub(super) fn draw_left(
+/// Draws the clusters of a line from its column `left` on, which is in the first of the cells.
+pub(super) fn draw_clusters(
     buffer: &mut Buffer,
     cells: RowCells,
     left: usize,
-    line: &Line,
-    style: Style,
+    mut clusters: LineClusters,
 ) -> Result<(), AllocError>
     requires edge { cells.x + cells.width ≤ 65535 }
     ensures ok { OnOk result (Changes buffer.old buffer.new
-        (row_change cells left (place_from 0 (row_clusters style (line_view line.now))))) }
-    ensures inline { AreInline (row_clusters style (line_view line.now)) → IsOk result }
+        (row_change cells left (place_from 0 (clusters_left clusters.entry)))) }
+    ensures inline { AreInline (clusters_left clusters.entry) → IsOk result }
     ensures err { OnErr result (KeepsOutside (is_in_cells cells) buffer.old buffer.new) }
 {
     let end = visible_end(buffer, cells);
@@ -82,7 +85,6 @@ pub(super) fn draw_left(
         hidden: left,
         x: cells.x,
     };
-    let mut clusters = LineClusters::new(line, style);
     while pen.x < end {
         let columns = pen.hidden.saturating_add(usize::from(end - pen.x));
         let Some(run) = clusters.next_run(columns) else {

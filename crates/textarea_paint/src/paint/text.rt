@@ -1,13 +1,11 @@
 //! Texts and lines that are drawn from a cell of a buffer on.
 ghost use Rattle.std.specs.Prelude.{◌≡◌, ◌+◌, ◌≤◌, map, OnOk, OnErr};
 ghost use Rattle.textarea_paint.specs.Prelude.{area_of, Changes, KeepsOutside, line_view, is_in_cells};
-ghost use Rattle.textarea_paint.specs.DrawnText.{cells_from, line_change, spans_change, text_change};
-ghost use Rattle.textarea_screen.specs.Text.{span_view};
+ghost use Rattle.textarea_paint.specs.DrawnText.{cells_from, line_change, text_change};
 
-use super::cells::{Pen, RowCells, draw_cluster};
+use super::cells::RowCells;
 use super::clusters::LineClusters;
-use super::columns::cluster_columns;
-use super::row::{draw_left, visible_end};
+use super::row::draw_clusters;
 use std::alloc::AllocError;
 use textarea_screen::screen::{Buffer, Line, Span, Style};
 
@@ -39,7 +37,8 @@ impl DrawText for Buffer {
     {
         let cells = cells_from(self, x, y, u16::MAX);
         let spans = [Span::raw(text)];
-        draw_spans(self, cells, &spans, style)
+        let clusters = LineClusters::of_spans(&spans, style);
+        draw_clusters(self, cells, 0, clusters)
     }
 
     fn set_line(
@@ -55,7 +54,8 @@ impl DrawText for Buffer {
             (is_in_cells (cells_from (area_of self.old) x y max_width)) self.old self.new) }
     {
         let cells = cells_from(self, x, y, max_width);
-        draw_left(self, cells, 0, line, Style::new())
+        let clusters = LineClusters::new(line, Style::new());
+        draw_clusters(self, cells, 0, clusters)
     }
 }
 
@@ -69,31 +69,4 @@ fn cells_from(buffer: &Buffer, x: u16, y: u16, most: u16) -> RowCells
         y,
         width: most.min(buffer.area().right().saturating_sub(x)),
     }
-}
-
-// Draws spans into cells, from their first column on.
-fn draw_spans(
-    buffer: &mut Buffer,
-    cells: RowCells,
-    spans: &[Span],
-    style: Style,
-) -> Result<(), AllocError>
-    requires edge { cells.x + cells.width ≤ 65535 }
-    ensures ok { OnOk result (Changes buffer.old buffer.new
-        (spans_change cells style (map span_view spans.now))) }
-    ensures err { OnErr result (KeepsOutside (is_in_cells cells) buffer.old buffer.new) }
-{
-    let end = visible_end(buffer, cells);
-    let mut pen = Pen {
-        hidden: 0,
-        x: cells.x,
-    };
-    for cluster in LineClusters::of_spans(spans, style) {
-        if end <= pen.x {
-            break;
-        }
-        let columns = cluster_columns(cluster.text);
-        pen = draw_cluster(buffer, cells, pen, cluster, columns)?;
-    }
-    Ok(())
 }

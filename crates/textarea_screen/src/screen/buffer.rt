@@ -55,8 +55,8 @@ impl Buffer {
         }
     }
 
-    /// Returns the cells of the buffer's area: those of its first row from left to right, then those
-    /// of the next row, and so on.
+    /// Returns the cells of the buffer's area: those of its first row from left to right, then
+    /// those of the next row, and so on.
     pub fn cells(&self) -> &[Cell]
         ensures count { length result.now
             ≡ (area_of self.now).height * (area_of self.now).width }
@@ -107,23 +107,23 @@ impl Buffer {
         }
     }
 
-    /// Puts a text into the cell at column `x` of row `y`, another one of at most `INLINE_BYTES`
-    /// bytes into each of the next cells up to column `end`, and applies a style to these cells.
-    /// Leaves out those that the buffer doesn't have. If it runs out of memory, which needs a first
-    /// text of more than `INLINE_BYTES` bytes, the buffer is unchanged.
+    /// Puts a text into the cells of row `y` from column `x` up to column `end`: itself into the
+    /// first one, and the empty text into the others. If it isn't whole, each cell gets a blank
+    /// instead. Applies a style to these cells. Leaves out those that the buffer doesn't have. If it
+    /// runs out of memory, which needs a text of more than `INLINE_BYTES` bytes, the buffer is
+    /// unchanged.
     pub fn put_wide(
         &mut self,
         x: u16,
         y: u16,
         end: u16,
-        first: &str,
-        others: &str,
+        text: &str,
+        is_whole: bool,
         style: Style,
     ) -> Result<(), AllocError>
-        requires { length others.now ≤ INLINE_BYTES }
         ensures ok { OnOk result
-            (Changes self.old self.new (wide_change x y end first.now others.now style)) }
-        ensures inline { length first.now ≤ INLINE_BYTES → IsOk result }
+            (Changes self.old self.new (wide_change x y end text.now is_whole style)) }
+        ensures inline { length text.now ≤ INLINE_BYTES → IsOk result }
         ensures err { OnErr result (self.new ≡ self.old) }
     {
         let area = self.area;
@@ -132,17 +132,17 @@ impl Buffer {
         if start < end && area.contains(Position { x: start, y }) {
             let place = self.place(start, y);
             let mut next = start;
-            if x == start {
+            if is_whole && x == start {
                 let alloc = *self.cells.allocator();
                 let cell = &mut self.cells[place];
-                cell.set_symbol(alloc, first)?;
+                cell.set_symbol(alloc, text)?;
                 cell.set_style(style);
                 next = start + 1;
             }
             for column in next..end {
                 let right = usize::from(column - start);
                 let cell = &mut self.cells[place + right];
-                cell.fill(others, style);
+                cell.fill(is_whole, style);
             }
         }
         Ok(())

@@ -1,4 +1,4 @@
-ghost use Rattle.std.specs.Prelude.{◌≡◌, ◌≤◌, [], length, IsOk, OnOk, OnErr};
+ghost use Rattle.std.specs.Prelude.{◌≡◌, ◌≤◌, [], ◌∷◌, length, IsOk, OnOk, OnErr, if◌then◌else◌};
 
 use super::color::Color;
 use super::modifier::Modifier;
@@ -127,15 +127,15 @@ impl Cell {
         self.set_style(style);
     }
 
-    /// Does what `put_inline` does, faster if the text is empty.
-    pub(super) fn fill(&mut self, text: &str, style: Style)
-        requires { length text.now ≤ INLINE_BYTES }
-        ensures { cell_view self.new ≡ with_symbol text.now style (cell_view self.old) }
+    /// Replaces the text by the empty one, or else by a blank, and applies a style.
+    pub(super) fn fill(&mut self, is_empty: bool, style: Style)
+        ensures { cell_view self.new
+            ≡ with_symbol (if is_empty then [] else 32 ∷ []) style (cell_view self.old) }
     {
-        if text.is_empty() {
+        if is_empty {
             self.text.clear();
         } else {
-            self.text.replace_inline(text);
+            self.text.replace_inline(" ");
         }
         self.set_style(style);
     }

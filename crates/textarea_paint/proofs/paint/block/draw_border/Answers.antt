@@ -1,16 +1,10 @@
-use Rattle.std.proofs.lemmas.Grind.{common_steps}
 use Rattle.std.proofs.Math.Bool.{and-true}
 use Rattle.std.proofs.Common.{◌≡◌, ◌+◌, cond, ◌&&◌, ap, ◌∙◌, arith}
-use Rattle.std.proofs.lemmas.Bool.{cond-false}
 use Rattle.textarea_screen.specs.Cell.{with_symbol}
 use Rattle.textarea_screen.specs.Rect.{contains, is_in_row}
-use Rattle.textarea_screen.proofs.ChangeLemmas.{Changes-inside, Changes-more, Changes-none, KeepsOutside-from_changes, KeepsOutside-then, KeepsOutside-wider}
-use Rattle.textarea_screen.proofs.BufferLemmas.{is_before_row, is_before_row-first, is_before_row-apart, is_before_row-next}
-use Rattle.textarea_paint.proofs.BlockLemmas.{common-outside, is_before_row-outside}
+use Rattle.textarea_screen.proofs.ChangeLemmas.{Changes-inside, Changes-more}
+use Rattle.textarea_screen.proofs.BufferLemmas.{is_before_row, is_before_row-apart, is_before_row-next}
 use Rattle.textarea_paint.proofs.paint.block.draw_border.Goals as goal
-
-pub loop-y-init : goal.loop-y-init
-loop-y-init c = grind (arith, common_steps, Changes-none, is_before_row-first)
 
 pub loop-y-preserved : goal.loop-y-preserved
 loop-y-preserved c =
@@ -18,10 +12,6 @@ loop-y-preserved c =
     let row = c.loop-y.y in
     Changes-more (with_symbol c.args.text.now c.args.style) (is_before_row area row) (is_in_row area row) (is_before_row area (row + 1)) c.loop-y.invariant c.in_ok-draw_border_row.ensures.ok
     (is_before_row-apart area row) (λ x y. is_before_row-next area row x y c.loop-y.auto.y c.loop-y-test.true)
-
-pub returns-in_err-draw_border_row-clause-err : goal.returns-in_err-draw_border_row-clause-err
-returns-in_err-draw_border_row-clause-err c =
-    grind (arith, common_steps, common-outside, KeepsOutside-from_changes, cond-false, is_before_row, is_before_row-outside, KeepsOutside-then, KeepsOutside-wider)
 
 pub returns-after-loop-y-clause-ok : goal.returns-after-loop-y-clause-ok
 returns-after-loop-y-clause-ok c =

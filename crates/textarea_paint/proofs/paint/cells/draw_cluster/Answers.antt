@@ -1,7 +1,7 @@
-use Rattle.std.proofs.Common.{◌+◌, eqb, true, false, [], ◌∷◌, List, ℕ, ap, ap₂, ◌∙◌, arith}
+use Rattle.std.proofs.Common.{◌+◌, eqb, [], ◌∷◌, ap, ◌∙◌, arith}
 use Rattle.textarea_screen.specs.Buffer.{wide_change}
 use Rattle.textarea_screen.proofs.ChangeLemmas.{Changes-as}
-use Rattle.textarea_paint.specs.Cells.{placed_at, row_change, symbol_of}
+use Rattle.textarea_paint.specs.Cells.{placed_at, row_change}
 use Rattle.textarea_paint.specs.Clusters.{Cluster}
 use Rattle.textarea_paint.specs.LineClusters.{styled_cluster}
 use Rattle.textarea_paint.proofs.CellLemmas.{row_change-one}
@@ -17,7 +17,6 @@ returns-clause-drawn c = λ left column at.
     let end = pen.x + displayed in
     Changes-as (λ x y cell. row_change cells left (placed_at column cluster ∷ []) x y cell) c.in_ok-put_wide.ensures.ok
     (λ x y cell.
-    ap₂ (λ (first : List ℕ) (others : List ℕ). wide_change pen.x cells.y end first others cluster.style x y cell) c.symbol_of-first.ensures.value c.symbol_of-others.ensures.value
-    ∙ ap (λ k. wide_change pen.x cells.y end (symbol_of (eqb displayed k) true cluster.text) (symbol_of (eqb displayed k) false cluster.text) cluster.style x y cell) c.requires.columns
+    ap (λ k. wide_change pen.x cells.y end cluster.text (eqb displayed k) cluster.style x y cell) c.requires.columns
     ∙ row_change-one cells pen left column hidden displayed cluster at
     (record { left_of = omega arith; inside = omega arith }) x y cell)

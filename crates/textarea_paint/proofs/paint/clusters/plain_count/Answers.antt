@@ -1,6 +1,6 @@
 use Rattle.std.proofs.Common.{◌≡◌, ◌<◌, true, get_or, length, sym, subst, ◌∙◌, arith}
 use Rattle.textarea_paint.specs.Plain.{is_printable, plain_count}
-use Rattle.textarea_paint.proofs.PlainLemmas.{count_before, count_all}
+use Rattle.textarea_paint.proofs.PrintableLemmas.{count_before, count_all}
 use Rattle.textarea_paint.proofs.paint.clusters.plain_count.Goals as goal
 use Rattle.textarea_paint.proofs.paint.clusters.plain_count.Goals.{else-end-bytes-via-then-end-bytes+else-not-is_printable-2, else-end-bytes-via-else-end-bytes}
 

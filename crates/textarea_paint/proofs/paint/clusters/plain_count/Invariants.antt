@@ -1,4 +1,4 @@
-use Rattle.textarea_paint.proofs.PlainLemmas.{ArePrintable}
+use Rattle.textarea_paint.proofs.PrintableLemmas.{ArePrintable}
 use Rattle.textarea_paint.proofs.paint.clusters.plain_count.Given as goal
 
 abbrev pub invariant-loop-at : goal.invariant-loop-at

@@ -1,6 +1,6 @@
 use Rattle.std.proofs.Common.{◌≤◌, ap, ◌∙◌, arith}
 use Rattle.textarea_paint.specs.Plain.{plain_count}
-use Rattle.textarea_paint.proofs.PlainLemmas.{split-clusters, split-printable, split-length, plain_count-bounds}
+use Rattle.textarea_paint.proofs.PrintableLemmas.{split-clusters, split-printable, split-length, plain_count-bounds}
 use Rattle.textarea_paint.proofs.paint.clusters.split_plain.Goals as goal
 
 pub returns-else-count-eq0-clause-clusters : goal.returns-else-count-eq0-clause-clusters

@@ -6,6 +6,7 @@ use Rattle.textarea_screen.specs.Text.{line_view}
 use Rattle.textarea_screen.proofs.ChangeLemmas.{Changes-inside, Changes-none}
 use Rattle.textarea_paint.specs.Cells.{place_from}
 use Rattle.textarea_paint.specs.Clusters.{row_clusters}
+use Rattle.textarea_paint.specs.LineClusters.{clusters_left}
 use Rattle.textarea_paint.specs.Row.{first_visible_column, placed_row, fitting, row_cell}
 use Rattle.textarea_paint.proofs.RowAreaLemmas.{first_visible-fitting, placed_row-fitting, row_start-within, unseen_row, row_cell-outside, row_of_texts, unchanged_outside, not_none}
 use Rattle.textarea_paint.proofs.paint.row.draw_row.Goals as goal
@@ -23,15 +24,15 @@ pub returns-in-Left-clause-ok : goal.returns-in-Left-clause-ok
 returns-in-Left-clause-ok c =
     let rows = c.args.rows in
     let line = line_view c.args.line.now in
-    on_ok_weaker c.draw_left.result
+    on_ok_weaker c.draw_clusters.result
     (row_of_texts c.args.rows c.area.result c.intersection-visible.result c.args.y c.intersection-visible.ensures (sym c.contains.ensures ∙ c.if-not-contains.false) line
-    rows.left (place_from 0 (row_clusters rows.style line)) (ap (λ a. first_visible_column a rows.left) c.in-Left.is)
-    (ap (λ a. placed_row a rows.area.width (row_clusters rows.style line)) c.in-Left.is))
-    c.draw_left.ensures.ok
+    rows.left (place_from 0 (clusters_left c.new-clusters.result)) (ap (λ a. first_visible_column a rows.left) c.in-Left.is)
+    (ap (λ a. placed_row a rows.area.width (row_clusters rows.style line)) c.in-Left.is ∙ ap (place_from 0) (sym c.new-clusters.ensures)))
+    c.draw_clusters.ensures.ok
 
 pub returns-in-Left-clause-err : goal.returns-in-Left-clause-err
 returns-in-Left-clause-err c =
-    grind (arith, common_steps, on_err_weaker c.draw_left.result (unchanged_outside c.args.rows c.area.result c.intersection-visible.result c.args.y c.intersection-visible.ensures (sym c.contains.ensures ∙ c.if-not-contains.false)) c.draw_left.ensures.err, unchanged_outside c.args.rows c.area.result c.intersection-visible.result c.args.y c.intersection-visible.ensures (sym c.contains.ensures ∙ c.if-not-contains.false))
+    grind (arith, common_steps, on_err_weaker c.draw_clusters.result (unchanged_outside c.args.rows c.area.result c.intersection-visible.result c.args.y c.intersection-visible.ensures (sym c.contains.ensures ∙ c.if-not-contains.false)) c.draw_clusters.ensures.err, unchanged_outside c.args.rows c.area.result c.intersection-visible.result c.args.y c.intersection-visible.ensures (sym c.contains.ensures ∙ c.if-not-contains.false))
 
 pub returns-in-Left-clause-unseen : goal.returns-in-Left-clause-unseen
 returns-in-Left-clause-unseen c none =
@@ -58,3 +59,6 @@ returns-in_default-clause-err c =
 pub returns-in_default-clause-unseen : goal.returns-in_default-clause-unseen
 returns-in_default-clause-unseen c none =
     absurd (not_none c.args.rows c.area.result c.intersection-visible.result c.args.y c.intersection-visible.ensures (sym c.contains.ensures ∙ c.if-not-contains.false) c.args.buffer.now c.area.ensures none)
+
+pub returns-in-Left-clause-inline : goal.returns-in-Left-clause-inline
+returns-in-Left-clause-inline c short = c.draw_clusters.ensures.inline (rw c.new-clusters.ensures short)

@@ -1,15 +1,10 @@
-use Rattle.std.proofs.lemmas.Grind.{common_steps}
-use Rattle.std.proofs.Common.{◌-◌, sym, ap, subst, ◌∙◌, arith}
+use Rattle.std.proofs.Common.{◌-◌, sym, subst, arith}
 use Rattle.textarea_screen.specs.Text.{line_view}
 use Rattle.textarea_paint.specs.Clusters.{row_clusters}
 use Rattle.textarea_paint.specs.LineClusters.{clusters_left, styled_cluster}
-use Rattle.textarea_paint.proofs.RowLemmas.{IsMeasuring, measuring_start, measuring_wide, measuring_fits, measuring_full, measuring_end}
+use Rattle.textarea_paint.proofs.RowLemmas.{IsMeasuring, measuring_fits, measuring_full, measuring_end}
 use Rattle.textarea_paint.proofs.paint.row.fitting_columns.Goals.{in-None, in-Some+then-columns-from+then-columns-from-2}
 use Rattle.textarea_paint.proofs.paint.row.fitting_columns.Goals as goal
-
-pub loop-cluster-init : goal.loop-cluster-init
-loop-cluster-init c =
-    grind (arith, common_steps, measuring_start c.args.width (row_clusters c.args.style (line_view c.args.line.now)) _ (ap clusters_left c.into_iter-cluster-iterator.ensures.into_iter_gives ∙ c.new-cluster-items.ensures))
 
 pub loop-cluster-preserved-then-columns-from : goal.loop-cluster-preserved-then-columns-from
 loop-cluster-preserved-then-columns-from c =
@@ -18,10 +13,6 @@ loop-cluster-preserved-then-columns-from c =
     let after = clusters_left c.next.new.self in
     subst (λ n. IsMeasuring c.args.width row (c.loop-cluster.room - n) after) (sym columns.ensures)
     (measuring_fits (styled_cluster c.in-Some.cluster) after c.loop-cluster.invariant c.in-Some.ensures.steps (omega (arith, columns.ensures)) (omega (arith, columns.ensures)))
-
-pub loop-cluster-preserved : goal.loop-cluster-preserved
-loop-cluster-preserved c =
-    measuring_wide (styled_cluster c.in-Some.cluster) (clusters_left c.next.new.self) c.loop-cluster.invariant c.in-Some.ensures.steps (omega (arith, c.cluster_columns-columns.ensures))
 
 pub returns-clause-value : goal.returns-clause-value
 returns-clause-value c = elim c.match-next.branch [

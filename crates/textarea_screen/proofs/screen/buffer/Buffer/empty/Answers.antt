@@ -1,4 +1,4 @@
-use Rattle.std.proofs.Common.{◌≡◌, arith, refl}
+use Rattle.std.proofs.Common.{◌≡◌, arith}
 use Rattle.std.proofs.lemmas.List.Elements.{All-push}
 use Rattle.textarea_screen.specs.Cell.{cell_view, fresh_cell}
 use Rattle.textarea_screen.specs.declared.screen.cell.Cell.{Cell}
@@ -14,6 +14,3 @@ loop-preserved c = (
 pub returns-clause-cells : goal.returns-clause-cells
 returns-clause-cells c =
     λ x y. cell_at-fresh _ x y (omega (arith, c.loop.invariant.0, c.loop.cells.ok.0)) c.loop.invariant.1
-
-pub returns-clause-area : goal.returns-clause-area
-returns-clause-area c = refl

@@ -1,17 +1,8 @@
 use Rattle.std.proofs.Common.{arith}
-use Rattle.textarea_screen.specs.Text.{line_view}
-use Rattle.textarea_paint.specs.Clusters.{row_clusters}
 use Rattle.textarea_paint.specs.LineClusters.{clusters_left, run_clusters}
 use Rattle.textarea_paint.proofs.ClusterLemmas.{AreInline-after, AreInline-front}
-use Rattle.textarea_paint.proofs.RowLemmas.{drawing_start, drawing_run, drawing_end, drawing_past}
-use Rattle.textarea_paint.proofs.paint.row.draw_left.Goals as goal
-
-pub loop-pen-init : goal.loop-pen-init
-loop-pen-init c = record {
-  drawing = drawing_start c.args.cells c.args.left 0 (row_clusters c.args.style (line_view c.args.line.now)) c.args.buffer.now _ _
-      (record { hidden = omega arith; x = omega arith }) c.new-clusters.ensures;
-  short = λ short. rw c.new-clusters.ensures short;
-}
+use Rattle.textarea_paint.proofs.RowLemmas.{drawing_run, drawing_end, drawing_past}
+use Rattle.textarea_paint.proofs.paint.row.draw_clusters.Goals as goal
 
 pub loop-pen-preserved : goal.loop-pen-preserved
 loop-pen-preserved c =

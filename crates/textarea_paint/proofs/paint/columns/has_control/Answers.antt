@@ -1,9 +1,0 @@
-use Rattle.std.proofs.Common.{refl}
-use Rattle.std.specs.Char.{is_control}
-use Rattle.std.proofs.lemmas.Iterator.{YieldsList-from_chars}
-use Rattle.std.proofs.lemmas.Iterator.Search.{any_from_yields_List}
-use Rattle.textarea_paint.proofs.paint.columns.has_control.Goals as goal
-
-pub returns : goal.returns
-returns c =
-    any_from_yields_List is_control _ _ _ c.any.ensures.ran (YieldsList-from_chars c.args.text.now c.utf8.text c.chars.ensures.rest) (λ x b q k. (refl, cc))
