@@ -126,11 +126,14 @@ joined : {X : Type 0} (o : Option X) (x : X) (last : Option X) → option_or (op
 joined None x last = refl
 joined (Some y) x last = refl
 
+pub last_of_more : {X : Type 0} (test : X → Bool) (x : X) (rest : List X) → find test (reverse (x ∷ rest)) ≡ option_or (find test (reverse rest)) (cond (test x) (Some x) None)
+last_of_more test x rest = ap (find test) (reverse-append (x ∷ []) rest) ∙ find-append test (reverse rest) (x ∷ [])
+
 pub last_of_some : {X : Type 0} (test : X → Bool) (x : X) (rest : List X) (last : Option X) → test x ≡ true →
     option_or (find test (reverse (x ∷ rest))) last ≡ option_or (find test (reverse rest)) (Some x)
 last_of_some test x rest last passes =
     ap (λ o. option_or o last)
-    (ap (find test) (reverse-append (x ∷ []) rest) ∙ find-append test (reverse rest) (x ∷ []) ∙ ap (λ b. option_or (find test (reverse rest)) (cond b (Some x) None)) passes)
+    (last_of_more test x rest ∙ ap (λ b. option_or (find test (reverse rest)) (cond b (Some x) None)) passes)
     ∙ joined (find test (reverse rest)) x last
 
 -- one more match that passes

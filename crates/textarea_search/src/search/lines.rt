@@ -6,7 +6,7 @@ ghost use Rattle.textarea_search.specs.Starts.{along, bytes_at, is_ahead_in_line
 
 use crate::line_finder::LineFinder;
 use crate::search::direction::Direction;
-use crate::search::listed::{column_ahead_with, end_column_with};
+use crate::search::listed::{column_ahead, end_column_with};
 use regex::Matcher;
 
 /// Returns the first position in these lines at which a match starts.
@@ -72,14 +72,7 @@ pub(crate) fn found_start(
     ensures within { IfSome result (IsPlaceIn lines.now) }
 {
     let (row, column) = cursor;
-    if let Some(start) = column_ahead_with(
-        matcher,
-        needle,
-        &lines[row],
-        direction,
-        column,
-        match_cursor,
-    ) {
+    if let Some(start) = column_ahead(matcher, &lines[row], direction, column, match_cursor) {
         return Some((row, start));
     }
     start_beyond(matcher, needle, direction, lines, row)

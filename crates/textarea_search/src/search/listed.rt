@@ -1,12 +1,12 @@
 //! The matches that `regex` lists for a line, one after another. A matcher serves for many lines.
-ghost use Rattle.std.specs.Prelude.{◌≡◌, ◌↔◌, ◌+◌, ◌≤◌, ◌<◌, [], ◌∷◌, All, length, take, find, reverse, slice_get, option_map, encode_utf8_all, IsCharBoundary, IsUtf8, IfOk, IfSome, MatchOption, OnOk, IsTrue, true};
+ghost use Rattle.std.specs.Prelude.{◌≡◌, ◌↔◌, ◌+◌, ◌≤◌, ◌<◌, [], ◌∷◌, All, List, ℕ, length, take, find, reverse, slice_get, option_map, encode_utf8_all, IsCharBoundary, IsUtf8, IfOk, IfSome, MatchOption, OnOk, IsTrue, true};
 ghost use Rattle.std.specs.List.Sorted.{IsNonDecreasingBy};
 ghost use Rattle.std.specs.Str.{chars};
-ghost use Rattle.regex.specs.Patterns.{Re};
+ghost use Rattle.regex_hir.specs.Re.{literal};
 ghost use Rattle.regex.specs.Strings.{matcher_pattern, match_span, match_haystack};
 ghost use Rattle.textarea_search.specs.Columns.{column_of_byte};
-ghost use Rattle.textarea_search.specs.Spans.{IsNeedleOf, StartsOnce, spans_after, columns_in};
-ghost use Rattle.textarea_search.specs.Starts.{along, is_ahead_in_line, is_past};
+ghost use Rattle.textarea_search.specs.Spans.{IsNeedleOf, ListsMatchesOf, StartsOnce, spans_after, columns_in};
+ghost use Rattle.textarea_search.specs.Starts.{IsFirstAhead, along, is_ahead_in_line, is_past};
 
 use crate::line_finder::LineFinder;
 use crate::search::direction::Direction;
@@ -234,35 +234,35 @@ pub(crate) fn column_ahead(
     start_column(line, nearest(matcher, line, direction, byte, at_column))
 }
 
-/// Does the same, but a forward search for a text that can't overlap itself begins at the column.
-pub(crate) fn column_ahead_with(
-    matcher: &mut Matcher<'_>,
+/// Does the same for a text that can't overlap itself: each place that has it is a match's start,
+/// so the search goes from the column on. Returns `None` for another needle.
+pub(crate) fn text_ahead(
     needle: &Option<LineFinder<'_>>,
     line: &str,
     direction: Direction,
     column: usize,
     at_column: bool,
-) -> Option<usize>
-    requires { IfSome needle.now (λ finder. IsNeedleOf finder (matcher_pattern matcher.old)) }
-    ensures found { result ≡ find (is_ahead_in_line direction column at_column)
-        (along direction (columns_in (matcher_pattern matcher.old) line.now)) }
-    ensures within { IfSome result (λ start. start ≤ length (chars line.now)) }
-    ensures same { matcher_pattern matcher.new ≡ matcher_pattern matcher.old }
+) -> Option<Option<usize>>
+    ensures { (pattern : List ℕ) →
+        IfSome needle.now (λ text. ListsMatchesOf pattern (literal text)) →
+        IfSome result (IsFirstAhead pattern line.now direction column at_column) }
 {
-    match (needle, direction) {
-        (Some(finder), Direction::Forward) if finder.starts_once() => {
-            text_ahead(finder, line, column, at_column)
-        }
-        _ => column_ahead(matcher, line, direction, column, at_column),
+    match needle {
+        Some(finder) if finder.starts_once() => Some(match direction {
+            Direction::Forward => text_after(finder, line, column, at_column),
+            Direction::Back => text_before(finder, line, column, at_column),
+        }),
+        _ => None,
     }
 }
 
 /// Returns the first column after the given one or, with `at_column`, at it, at which the line has
-/// a text that can't overlap itself. A match of the text starts there.
-fn text_ahead(finder: &LineFinder<'_>, line: &str, column: usize, at_column: bool) -> Option<usize>
-    requires { StartsOnce finder.now }
-    ensures found { (tree : Re) → IsNeedleOf finder.now tree →
-        result ≡ find (is_past column at_column) (columns_in tree line.now) }
+/// a text that can't overlap itself.
+fn text_after(finder: &LineFinder<'_>, line: &str, column: usize, at_column: bool) -> Option<usize>
+    requires once { StartsOnce finder.now }
+    requires utf8 { IsUtf8 finder.now }
+    ensures found { result
+        ≡ find (is_past column at_column) (columns_in (literal finder.now) line.now) }
     ensures within { IfSome result (λ start. start ≤ length (chars line.now)) }
 {
     let byte = byte_of(line, column);
@@ -272,6 +272,19 @@ fn text_ahead(finder: &LineFinder<'_>, line: &str, column: usize, at_column: boo
     let from = if at_column { byte } else { byte + 1 };
     let start = finder.find_from(line, from)?;
     Some(column_from(line, (byte, column), start))
+}
+
+/// Returns the last column before the given one or, with `at_column`, at it, at which the line has
+/// a text that can't overlap itself.
+fn text_before(finder: &LineFinder<'_>, line: &str, column: usize, at_column: bool) -> Option<usize>
+    requires once { StartsOnce finder.now }
+    requires utf8 { IsUtf8 finder.now }
+    ensures found { result ≡ find (λ start. is_past start at_column column)
+        (reverse (columns_in (literal finder.now) line.now)) }
+    ensures within { IfSome result (λ start. start ≤ length (chars line.now)) }
+{
+    let start = finder.find_before(line, byte_of(line, column), at_column)?;
+    Some(column_of_byte(line, start))
 }
 
 /// Does the same as `end_column`, but passes over a line that lacks a text that each match has.

@@ -20,7 +20,7 @@ returns-in-Some c = λ column at is.
 
 pub start_beyond-requires-clause-needle : goal.start_beyond-requires-clause-needle
 start_beyond-requires-clause-needle c =
-    needle_for c.args.pattern.now (matcher_pattern c.in_ok-matcher.matcher) c.finder-finder.result c.in_ok-matcher.ensures.lists c.finder-finder.ensures
+    needle_for c.args.pattern.now (matcher_pattern c.in_ok-matcher.matcher) c.args.needle.now c.in_ok-matcher.ensures.lists c.requires.needle
 
 pub returns : goal.returns
 returns c = λ column at is.
