@@ -145,14 +145,3 @@ module _ (line : List ℕ) (spans : List (ℕ × ℕ)) (lie : All (LiesFrom line
       (All-weaker (LiesFrom line 0) (λ s. p s ≡ q s) (λ s lies. same_ahead direction s.0 byte (column_of_span line s) column at (in_order line column byte text occurs s.0 lies.1)) spans lie)))
       ∙ sym (find-map (is_ahead_in_line direction column at) (column_of_span line) (along direction spans))
       ∙ ap (find (is_ahead_in_line direction column at)) (map_along (column_of_span line) direction spans)
-
-  -- a mark that is before all of them
-  pub find_end : (mark : ℕ) → ((s : ℕ × ℕ) → LiesFrom line 0 s → is_ahead_in_line direction mark true s.0 ≡ true) →
-      option_map (column_of_span line) (find (λ s. is_ahead_in_line direction mark true s.0) (along direction spans))
-      ≡ slice_get (along direction (map (column_of_span line) spans)) 0
-  find_end mark all =
-      let test : ℕ × ℕ → Bool = λ s. is_ahead_in_line direction mark true s.0 in
-      ap (option_map (column_of_span line)) (find-first test (along direction spans) (All-along (λ s. test s ≡ true) direction spans
-      (All-weaker (LiesFrom line 0) (λ s. test s ≡ true) all spans lie)))
-      ∙ sym (slice_get-map (column_of_span line) (along direction spans) 0)
-      ∙ ap (λ cs. slice_get cs 0) (map_along (column_of_span line) direction spans)

@@ -68,7 +68,11 @@ impl<'n> LineFinder<'n> {
         ensures boundary { IfSome result (IsCharBoundary line.now) }
     {
         let needle = self.finder.needle();
-        let reach = if at_byte { needle.len() } else { needle.len() - 1 };
+        let reach = if at_byte {
+            needle.len()
+        } else {
+            needle.len() - 1
+        };
         let end = byte.saturating_add(reach).min(line.len());
         rfind(&line.as_bytes()[..end], needle)
     }

@@ -109,76 +109,6 @@ pub(crate) fn is_past(mark: usize, at_mark: bool, place: usize) -> bool
     place > mark || (at_mark && place == mark)
 }
 
-/// Returns the first listed match that starts after the byte offset or, with `at_byte`, at it.
-fn first_ahead<'h>(
-    matcher: &mut Matcher<'_>,
-    line: &'h str,
-    byte: usize,
-    at_byte: bool,
-) -> Option<Match<'h>>
-    ensures found { option_map match_span result ≡ find (λ s. is_past byte at_byte s.0)
-        (spans_after (matcher_pattern matcher.old) line.now 0) }
-    ensures within { IfSome result (λ m. match_haystack m ≡ line.now) }
-    ensures same { matcher_pattern matcher.new ≡ matcher_pattern matcher.old }
-{
-    let mut after = 0;
-    loop {
-        let found = next_listed(matcher, line, after)?;
-        if is_past(byte, at_byte, found.start()) {
-            return Some(found);
-        }
-        after = found.end() + 1;
-    }
-}
-
-/// Returns the last listed match that starts before the byte offset or, with `at_byte`, at it. It
-/// searches for none after the offset.
-fn last_before<'h>(
-    matcher: &mut Matcher<'_>,
-    line: &'h str,
-    byte: usize,
-    at_byte: bool,
-) -> Option<Match<'h>>
-    ensures found { option_map match_span result ≡ find (λ s. is_past s.0 at_byte byte)
-        (reverse (spans_after (matcher_pattern matcher.old) line.now 0)) }
-    ensures within { IfSome result (λ m. match_haystack m ≡ line.now) }
-    ensures same { matcher_pattern matcher.new ≡ matcher_pattern matcher.old }
-{
-    let mut last = None;
-    let mut after = 0;
-    loop {
-        let Some(found) = next_listed(matcher, line, after) else {
-            return last;
-        };
-        if is_past(found.start(), at_byte, byte) {
-            last = Some(found);
-            after = found.end() + 1;
-        } else {
-            return last;
-        }
-    }
-}
-
-/// Returns the first listed match from `byte` in the search's direction or, with `at_byte`, at it.
-fn nearest<'h>(
-    matcher: &mut Matcher<'_>,
-    line: &'h str,
-    direction: Direction,
-    byte: usize,
-    at_byte: bool,
-) -> Option<Match<'h>>
-    ensures found { option_map match_span result
-        ≡ find (λ s. is_ahead_in_line direction byte at_byte s.0)
-        (along direction (spans_after (matcher_pattern matcher.old) line.now 0)) }
-    ensures within { IfSome result (λ m. match_haystack m ≡ line.now) }
-    ensures same { matcher_pattern matcher.new ≡ matcher_pattern matcher.old }
-{
-    match direction {
-        Direction::Forward => first_ahead(matcher, line, byte, at_byte),
-        Direction::Back => last_before(matcher, line, byte, at_byte),
-    }
-}
-
 /// Returns the byte offset at which the column's character begins, or the line's length for the
 /// column at its end. For a column past that, the result is greater than the length.
 fn byte_of(line: &str, column: usize) -> usize
@@ -205,37 +135,9 @@ fn column_of_byte(line: &str, byte: usize) -> usize
     column_count(&line[..byte])
 }
 
-/// Returns the column at which a match of a line starts.
-fn start_column(line: &str, found: Option<Match<'_>>) -> Option<usize>
-    requires { IfSome found (λ m. match_haystack m ≡ line.now) }
-    ensures column { result
-        ≡ option_map (λ s. column_of_byte line.now s.0) (option_map match_span found.entry) }
-    ensures within { IfSome result (λ start. start ≤ length (chars line.now)) }
-{
-    let found = found?;
-    Some(column_of_byte(line, found.start()))
-}
-
 /// Returns the first column in the search's direction from the given one or, with `at_column`, at
-/// it, at which a listed match starts.
-pub(crate) fn column_ahead(
-    matcher: &mut Matcher<'_>,
-    line: &str,
-    direction: Direction,
-    column: usize,
-    at_column: bool,
-) -> Option<usize>
-    ensures found { result ≡ find (is_ahead_in_line direction column at_column)
-        (along direction (columns_in (matcher_pattern matcher.old) line.now)) }
-    ensures within { IfSome result (λ start. start ≤ length (chars line.now)) }
-    ensures same { matcher_pattern matcher.new ≡ matcher_pattern matcher.old }
-{
-    let byte = byte_of(line, column);
-    start_column(line, nearest(matcher, line, direction, byte, at_column))
-}
-
-/// Does the same for a text that can't overlap itself: each place that has it is a match's start,
-/// so the search goes from the column on. Returns `None` for another needle.
+/// it, at which a match of a text starts that can't overlap itself: where the line has the text, so
+/// the search begins at the column. Returns `None` for another needle.
 pub(crate) fn text_ahead(
     needle: &Option<LineFinder<'_>>,
     line: &str,
@@ -285,38 +187,4 @@ fn text_before(finder: &LineFinder<'_>, line: &str, column: usize, at_column: bo
 {
     let start = finder.find_before(line, byte_of(line, column), at_column)?;
     Some(column_of_byte(line, start))
-}
-
-/// Does the same as `end_column`, but passes over a line that lacks a text that each match has.
-pub(crate) fn end_column_with(
-    matcher: &mut Matcher<'_>,
-    needle: &Option<LineFinder<'_>>,
-    line: &str,
-    direction: Direction,
-) -> Option<usize>
-    requires { IfSome needle.now (λ finder. IsNeedleOf finder (matcher_pattern matcher.old)) }
-    ensures found { result
-        ≡ slice_get (along direction (columns_in (matcher_pattern matcher.old) line.now)) 0 }
-    ensures within { IfSome result (λ start. start ≤ length (chars line.now)) }
-    ensures same { matcher_pattern matcher.new ≡ matcher_pattern matcher.old }
-{
-    if let Some(finder) = needle {
-        let Some(_) = finder.find(line.as_bytes()) else {
-            return None;
-        };
-    }
-    end_column(matcher, line, direction)
-}
-
-/// Returns the first column of a line, in the search's direction, at which a listed match starts.
-fn end_column(matcher: &mut Matcher<'_>, line: &str, direction: Direction) -> Option<usize>
-    ensures found { result
-        ≡ slice_get (along direction (columns_in (matcher_pattern matcher.old) line.now)) 0 }
-    ensures within { IfSome result (λ start. start ≤ length (chars line.now)) }
-    ensures same { matcher_pattern matcher.new ≡ matcher_pattern matcher.old }
-{
-    match direction {
-        Direction::Forward => start_column(line, first_ahead(matcher, line, 0, true)),
-        Direction::Back => start_column(line, last_before(matcher, line, line.len(), true)),
-    }
 }

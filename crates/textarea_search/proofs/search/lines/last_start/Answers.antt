@@ -9,8 +9,8 @@ use Rattle.textarea_search.proofs.StartLemmas.{last_start_here, last_start_next}
 use Rattle.textarea_search.proofs.PlaceLemmas.{place_here}
 use Rattle.textarea_search.proofs.search.lines.last_start.Goals as goal
 
-pub end_column_with-requires : goal.end_column_with-requires
-end_column_with-requires c = subst (λ tree. IfSome c.args.needle.now (λ finder. IsNeedleOf finder tree)) (sym c.loop-i.invariant.0) c.requires.needle
+pub end_column-requires : goal.end_column-requires
+end_column-requires c = subst (λ tree. IfSome c.args.needle.now (λ finder. IsNeedleOf finder tree)) (sym c.loop-i.invariant.0) c.requires.needle
 
 pub loop-i-preserved : goal.loop-i-preserved
 loop-i-preserved c = grind (arith, common_steps, last_start_next)

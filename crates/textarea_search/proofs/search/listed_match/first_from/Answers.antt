@@ -19,16 +19,16 @@ loop-found-init c = (
 pub match_after-requires : goal.match_after-requires
 match_after-requires c = c.loop-found.invariant.1
 
-pub returns-in_err-found : goal.returns-in_err-found
-returns-in_err-found c =
+pub returns-in_err-found-clause-found : goal.returns-in_err-found-clause-found
+returns-in_err-found-clause-found c =
     let inv = c.loop-found.invariant in
     let line = c.args.line.now in
     let nothing : c.from_residual.result ≡ None = search rules in
     let none = subst (λ t. spans_after t line (after_of c.loop-found.last) ≡ []) inv.0 c.in_err-found.ensures.found in
     nothing ∙ sym (sym inv.2 ∙ ap (λ ss. find (is_past c.args.column c.args.at_column) (map (column_of_span line) ss)) none)
 
-pub returns-then-is_past : goal.returns-then-is_past
-returns-then-is_past c =
+pub returns-then-is_past-clause-found : goal.returns-then-is_past-clause-found
+returns-then-is_past-clause-found c =
     let inv = c.loop-found.invariant in
     sym (sym inv.2 ∙ first_passes _ _ c.args.line.now (after_of c.loop-found.last) c.in_ok-found.found inv.0 c.in_ok-found.ensures.place c.in_ok-found.ensures.found c.args.column c.args.at_column
     (sym c.is_past.ensures ∙ c.if-is_past.true))

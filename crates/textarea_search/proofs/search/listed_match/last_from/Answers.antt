@@ -21,8 +21,8 @@ loop-found-init c = (
 pub match_after-requires : goal.match_after-requires
 match_after-requires c = c.loop-found.invariant.1
 
-pub returns-in_default : goal.returns-in_default
-returns-in_default c =
+pub returns-in_default-clause-found : goal.returns-in_default-clause-found
+returns-in_default-clause-found c =
     let inv = c.loop-found.invariant in
     let line = c.args.line.now in
     let test : ℕ → Bool = λ start. is_past start c.args.at_column c.args.column in
@@ -30,8 +30,8 @@ returns-in_default c =
     let none = subst (λ t. spans_after t line (after_of c.loop-found.last) ≡ []) inv.0 c.in_default.ensures.found in
     c.start_of.ensures ∙ sym (sym inv.2 ∙ ap (λ ss. option_or (find test (reverse (map (column_of_span line) ss))) known) none)
 
-pub returns-else-is_past : goal.returns-else-is_past
-returns-else-is_past c =
+pub returns-else-is_past-clause-found : goal.returns-else-is_past-clause-found
+returns-else-is_past-clause-found c =
     let inv = c.loop-found.invariant in
     c.start_of-else-is_past.ensures
     ∙ sym (sym inv.2 ∙ last_fails _ _ c.args.line.now (after_of c.loop-found.last) c.in-Some.found inv.0 c.in-Some.ensures.place c.in-Some.ensures.found c.args.column c.args.at_column c.utf8.line
