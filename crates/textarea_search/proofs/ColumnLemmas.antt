@@ -1,15 +1,14 @@
 -- Byte offsets of a line and their columns.
 use Rattle.std.proofs.lemmas.Grind.{common_steps}
-use Rattle.std.proofs.Common.{◌≡◌, ℕ, zero, suc, ◌+◌, ◌-◌, ◌<◌, ◌≤◌, Bool, true, List, [], ◌∷◌, ◌++◌, map, length, take, drop, option_map, refl, sym, ap, subst, ◌∙◌, inl, inr, ⊎_elim, arith, IsUtf8, IsCharBoundary, encode_utf8_all, encode_utf8}
+use Rattle.std.proofs.Common.{◌≡◌, ℕ, zero, suc, ◌+◌, ◌-◌, ◌<◌, ◌≤◌, Bool, List, [], ◌∷◌, ◌++◌, map, length, take, drop, option_map, refl, sym, ap, subst, ◌∙◌, inl, inr, ⊎_elim, arith, IsUtf8, IsCharBoundary, encode_utf8_all, encode_utf8}
 use Rattle.std.specs.Prelude.{All}
-use Rattle.std.specs.List.{find, slice_get}
+use Rattle.std.specs.List.{find}
 use Rattle.std.specs.Str.{chars}
 use Rattle.std.proofs.Math.Seq.{take-add}
 use Rattle.std.proofs.lemmas.Bool.{cases_lt}
 use Rattle.std.proofs.lemmas.Bool.Decides.{nat_tests}
 use Rattle.std.proofs.lemmas.List.{take-append-drop, take_at, length-append, length-drop, length-take-le}
 use Rattle.std.proofs.lemmas.List.Elements.{All-weaker}
-use Rattle.std.proofs.lemmas.Option.{slice_get-map}
 use Rattle.std.proofs.lemmas.Str.{chars-append, encodes-chars, IsUtf8-take, length-encode, length-le-encodes, len_utf8_bounds}
 use Rattle.textarea_text.proofs.Columns.{IsCharBoundary-column, chars-take, length-offset, length_split}
 use Rattle.textarea_search.specs.Columns.{column_of_byte}
@@ -17,7 +16,7 @@ use Rattle.textarea_search.specs.Starts.{along, is_ahead_in_line}
 use Rattle.textarea_search.specs.declared.search.direction.Direction.{Direction}
 use Rattle.textarea_search.specs.declared.search.direction.Direction.TheVariants.{Forward, Back}
 use Rattle.textarea_search.proofs.ListedLemmas.{LiesFrom}
-use Rattle.textarea_search.proofs.StartLemmas.{find-map, find-same, find-first, map_reverse, All-reverse}
+use Rattle.textarea_search.proofs.StartLemmas.{find-map, find-same, map_reverse, All-reverse}
 
 -- the byte offset at which a column of these characters begins
 abbrev pub byte_at : List ℕ → ℕ → ℕ

@@ -23,7 +23,6 @@ use Rattle.regex.proofs.SearchLemmas.{next_same, next_later, next_within, leftmo
 use Rattle.regex.proofs.Utf8Lemmas.{IsCharBoundary-of_test}
 use Rattle.textarea_search.specs.Spans.{spans_after}
 use Rattle.textarea_search.specs.Starts.{is_past}
-use Rattle.textarea_search.proofs.StartLemmas.{find-none, All-reverse}
 
 none_of_map : {A B : Type 0} (f : A → B) (o : Option A) → option_map f o ≡ None → o ≡ None
 none_of_map f None e = refl

@@ -1,4 +1,4 @@
-use Rattle.std.proofs.Common.{◌≡◌, ◌+◌, ◌∙◌, arith, ap, cond, length, refl, subst, sym, IsUtf8, take}
+use Rattle.std.proofs.Common.{◌≡◌, ◌+◌, ◌∙◌, arith, ap, length, refl, subst, IsUtf8, take}
 use Rattle.memchr.specs.Find.{FindsLastNeedle}
 use Rattle.textarea_search.specs.Starts.{last_of}
 use Rattle.textarea_search.proofs.OccurrenceLemmas.{boundary_of_last, found_in_part}
