@@ -8,7 +8,7 @@ use Rattle.std.specs.Str.{chars}
 use Rattle.std.proofs.Math.Logic.{∥∥₁_elim}
 use Rattle.std.proofs.lemmas.Bool.Decides.{nat_tests}
 use Rattle.std.proofs.lemmas.List.{drop_more, map-append, reverse-append, take-append-drop}
-use Rattle.std.proofs.lemmas.List.Elements.{All-nil, All-cons, All-contains, All-map, All-weaker}
+use Rattle.std.proofs.lemmas.List.Elements.{All-head, All-nil, All-cons, All-contains, All-map, All-weaker}
 use Rattle.std.proofs.lemmas.List.Folds.{find-append}
 use Rattle.std.proofs.lemmas.Option.{IfSome_then}
 use Rattle.regex_hir.specs.Re.{Re}
@@ -18,7 +18,7 @@ use Rattle.regex.specs.Patterns.{span}
 use Rattle.regex.specs.Search.{next_match}
 use Rattle.regex.proofs.SearchLemmas.{matches_after_none, matches_after_some}
 use Rattle.textarea_search.specs.Columns.{column_of_byte}
-use Rattle.textarea_search.specs.ListedMatches.{IsMatchIn, IsOneOf, after_of}
+use Rattle.textarea_search.specs.ListedMatches.{IsMatchIn, IsOneOf, after_of, column_of}
 use Rattle.textarea_search.specs.Matches.{match_spans}
 use Rattle.textarea_search.specs.Spans.{ListsMatchesOf, columns_after, columns_in, spans_after}
 use Rattle.textarea_search.specs.Starts.{is_past}
@@ -167,6 +167,13 @@ pub columns_within : (tree : Re) (line : List ℕ) → IsUtf8 line → All (λ c
 columns_within tree line text =
     All-map (λ c. c ≤ length (chars line)) (column_of_span line) (spans_after tree line 0)
     (All-weaker (LiesFrom line 0) (λ s. column_of_span line s ≤ length (chars line)) (λ s lies. (column_at_boundary line s.0 text lies.1).0) (spans_after tree line 0) (spans_lie tree line 0))
+
+-- the next match isn't before the last one
+pub next_not_before : (tree : Re) (line : List ℕ) → IsUtf8 line → (last : Option ListedMatch) (column : ℕ) (rest : List ℕ) → IfSome last (IsMatchIn line) →
+    columns_after tree line (after_of last) ≡ column ∷ rest → column_of last ≤ column
+next_not_before tree line text None column rest place e = omega arith
+next_not_before tree line text (Some last) column rest place e =
+    All-head (λ c. last.column ≤ c) column rest (subst (All (λ c. last.column ≤ c)) e (columns_above tree line text last place))
 
 -- no match after one that isn't before the column is before it
 none_before : (column : ℕ) (at : Bool) (first : ℕ) (rest : List ℕ) → is_past first at column ≡ false → All (λ c. first ≤ c) rest →

@@ -9,7 +9,8 @@ ghost use Rattle.textarea_search.specs.Starts.{IsFirstAhead, along, is_ahead_in_
 
 use crate::search::cache_key::CacheKey;
 use crate::search::direction::Direction;
-use crate::search::listed::{is_past, list_columns};
+use crate::search::listed::is_past;
+use crate::search::listed_match::list_columns;
 use regex::Matcher;
 use std::alloc::{AllocError, Global};
 

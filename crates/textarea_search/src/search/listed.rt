@@ -1,20 +1,17 @@
 //! The matches that `regex` lists for a line, one after another. A matcher serves for many lines.
-ghost use Rattle.std.specs.Prelude.{◌≡◌, ◌↔◌, ◌+◌, ◌≤◌, ◌<◌, [], ◌∷◌, All, List, ℕ, length, take, find, reverse, slice_get, option_map, encode_utf8_all, IsCharBoundary, IsUtf8, IfOk, IfSome, MatchOption, OnOk, IsTrue, true};
-ghost use Rattle.std.specs.List.Sorted.{IsNonDecreasingBy};
+ghost use Rattle.std.specs.Prelude.{◌≡◌, ◌+◌, ◌≤◌, ◌<◌, [], ◌∷◌, List, ℕ, length, take, find, reverse, encode_utf8_all, IsCharBoundary, IsUtf8, IfSome, MatchOption, OnOk};
 ghost use Rattle.std.specs.Str.{chars};
 ghost use Rattle.regex_hir.specs.Re.{literal};
 ghost use Rattle.regex.specs.Strings.{matcher_pattern, match_span, match_haystack};
 ghost use Rattle.textarea_search.specs.Columns.{column_of_byte};
-ghost use Rattle.textarea_search.specs.Spans.{IsNeedleOf, ListsMatchesOf, StartsOnce, spans_after, columns_in};
-ghost use Rattle.textarea_search.specs.Starts.{IsFirstAhead, along, is_ahead_in_line, is_past};
+ghost use Rattle.textarea_search.specs.Spans.{ListsMatchesOf, StartsOnce, spans_after, columns_in};
+ghost use Rattle.textarea_search.specs.Starts.{IsFirstAhead, is_past};
 
 use crate::line_finder::LineFinder;
 use crate::search::direction::Direction;
 use regex::{Match, Matcher};
 use std::alloc::AllocError;
 use textarea_text::rows::{byte_offset, column_count};
-
-const MOST_COLUMNS: usize = 65_536;
 
 /// Returns the next listed match after one that ended at `after - 1`; for 0 the first of all.
 pub(crate) fn next_listed<'h>(
@@ -58,37 +55,6 @@ pub(crate) fn list_spans(
     Ok(())
 }
 
-/// Replaces the content of a vector by the columns at which the listed matches of a line start.
-/// Returns whether these are all; it stops after the first 65,536.
-pub(crate) fn list_columns(
-    matcher: &mut Matcher<'_>,
-    line: &str,
-    columns: &mut Vec<usize>,
-) -> Result<bool, AllocError>
-    ensures all { IfOk result (λ all. IsTrue all
-        ↔ length (columns_in (matcher_pattern matcher.old) line.now) ≤ 65536) }
-    ensures found { IfOk result (λ all. IsTrue all →
-        columns.new.items ≡ columns_in (matcher_pattern matcher.old) line.now) }
-    ensures within { OnOk result
-        (All (λ column. column ≤ length (chars line.now)) columns.new.items) }
-    ensures ascending { OnOk result (IsNonDecreasingBy (λ column. column) columns.new.items) }
-    ensures same { matcher_pattern matcher.new ≡ matcher_pattern matcher.old }
-{
-    columns.clear();
-    let mut after = 0;
-    let mut last = (0, 0);
-    while let Some(found) = next_listed(matcher, line, after) {
-        let start = found.start();
-        last = (start, column_from(line, last, start));
-        if columns.len() == MOST_COLUMNS {
-            return Ok(false);
-        }
-        columns.push(last.1)?;
-        after = found.end() + 1;
-    }
-    Ok(true)
-}
-
 /// Returns the column of a byte offset, given an offset at or before it with its column.
 pub(crate) fn column_from(line: &str, known: (usize, usize), byte: usize) -> usize
     requires boundary { IsCharBoundary line.now byte }
@@ -125,14 +91,6 @@ fn byte_of(line: &str, column: usize) -> usize
         return column;
     }
     byte_offset(line, column)
-}
-
-/// Returns the number of characters of a line before a byte offset.
-fn column_of_byte(line: &str, byte: usize) -> usize
-    requires { IsCharBoundary line.now byte }
-    ensures { result ≡ column_of_byte line.now byte }
-{
-    column_count(&line[..byte])
 }
 
 /// Returns the first column in the search's direction from the given one or, with `at_column`, at
@@ -186,5 +144,5 @@ fn text_before(finder: &LineFinder<'_>, line: &str, column: usize, at_column: bo
     ensures within { IfSome result (λ start. start ≤ length (chars line.now)) }
 {
     let start = finder.find_before(line, byte_of(line, column), at_column)?;
-    Some(column_of_byte(line, start))
+    Some(column_count(&line[..start]))
 }

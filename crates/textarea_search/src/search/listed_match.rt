@@ -1,5 +1,6 @@
 //! Listed matches with their columns: the next one, and the search from one of them.
-ghost use Rattle.std.specs.Prelude.{◌≡◌, ◌+◌, ◌<◌, ◌≤◌, [], ◌∷◌, find, reverse, option_map, length, slice_get, IfSome, MatchOption};
+ghost use Rattle.std.specs.Prelude.{◌≡◌, ◌↔◌, ◌+◌, ◌<◌, ◌≤◌, [], ◌∷◌, All, find, reverse, option_map, length, slice_get, IfOk, IfSome, IsTrue, MatchOption, OnOk};
+ghost use Rattle.std.specs.List.Sorted.{IsNonDecreasingBy};
 ghost use Rattle.std.specs.Str.{chars};
 ghost use Rattle.regex.specs.Strings.{matcher_pattern};
 ghost use Rattle.textarea_search.specs.ListedMatches.{IsMatchIn, IsOneOf, after_of};
@@ -10,6 +11,9 @@ use crate::line_finder::LineFinder;
 use crate::search::direction::Direction;
 use crate::search::listed::{column_from, is_past, next_listed};
 use regex::Matcher;
+use std::alloc::AllocError;
+
+const MOST_COLUMNS: usize = 65_536;
 
 /// A match of a line: the byte offsets of its start and its end (exclusive), and its start's column.
 #[derive(Clone, Copy)]
@@ -45,6 +49,34 @@ pub(crate) fn match_after(
         end: found.end(),
         column: column_from(line, known, start),
     })
+}
+
+/// Replaces the content of a vector by the columns at which the listed matches of a line start.
+/// Returns whether these are all; it stops after the first 65,536.
+pub(crate) fn list_columns(
+    matcher: &mut Matcher<'_>,
+    line: &str,
+    columns: &mut Vec<usize>,
+) -> Result<bool, AllocError>
+    ensures all { IfOk result (λ all. IsTrue all
+        ↔ length (columns_in (matcher_pattern matcher.old) line.now) ≤ 65536) }
+    ensures found { IfOk result (λ all. IsTrue all →
+        columns.new.items ≡ columns_in (matcher_pattern matcher.old) line.now) }
+    ensures within { OnOk result
+        (All (λ column. column ≤ length (chars line.now)) columns.new.items) }
+    ensures ascending { OnOk result (IsNonDecreasingBy (λ column. column) columns.new.items) }
+    ensures same { matcher_pattern matcher.new ≡ matcher_pattern matcher.old }
+{
+    columns.clear();
+    let mut last = None;
+    while let Some(found) = match_after(matcher, line, last) {
+        if columns.len() == MOST_COLUMNS {
+            return Ok(false);
+        }
+        columns.push(found.column)?;
+        last = Some(found);
+    }
+    Ok(true)
 }
 
 /// Returns the first column after the given one or, with `at_column`, at it, at which a listed

@@ -1,5 +1,6 @@
 use Rattle.std.proofs.lemmas.Grind.{common_steps}
-use Rattle.std.proofs.Common.{◌≡◌, ◌∙◌, None, Some, ap, arith, rules}
+use Rattle.std.proofs.Common.{◌≡◌, ◌∙◌, None, Some, ap, arith, length, rules, take}
+use Rattle.std.specs.Str.{chars}
 use Rattle.textarea_search.proofs.ColumnLemmas.{column_at_boundary}
 use Rattle.textarea_search.proofs.OccurrenceLemmas.{last_column}
 use Rattle.textarea_search.proofs.search.listed.text_before.Goals as goal
@@ -12,7 +13,8 @@ returns-in_err-start-clause-found c =
 
 pub returns-clause-found : goal.returns-clause-found
 returns-clause-found c =
-    ap Some c.column_of_byte.ensures
+    let before : c.range.result.now ≡ take c.in_ok-start.start c.args.line.now = grind arith in
+    ap Some (c.column_count.ensures ∙ ap (λ bs. length (chars bs)) before)
     ∙ last_column c.args.finder.now c.args.line.now c.requires.utf8 c.requires.once c.utf8.line c.args.column c.byte_of.result c.args.at_column
     (record { inside = c.byte_of.ensures.inside; past = c.byte_of.ensures.past }) (Some c.in_ok-start.start) c.in_ok-start.ensures.found
 
