@@ -1,6 +1,6 @@
 -- From a compiled pattern to its text.
 use Rattle.std.proofs.lemmas.Grind.{common_steps}
-use Rattle.std.proofs.Common.{◌≡◌, ℕ, zero, suc, ◌+◌, ◌<◌, ◌≤◌, Bool, true, false, cond, ◌∷◌, List, [], map, length, get_or, Option, None, Some, IfSome, IsSomeAnd, refl, sym, ap, ◌∙◌, subst, inl, inr, arith, zero-le, IsUtf8, string_bytes, Global}
+use Rattle.std.proofs.Common.{◌≡◌, ℕ, zero, suc, ◌+◌, ◌<◌, ◌≤◌, Bool, true, false, cond, ◌∷◌, List, [], map, length, get_or, Option, None, Some, IsSomeAnd, refl, sym, ap, ◌∙◌, subst, inl, inr, arith, zero-le, IsUtf8, string_bytes, Global}
 use Rattle.std.specs.Prelude.{All, String}
 use Rattle.std.specs.Coded.{coded_ℕ, coded_list, coded×, Coded-set}
 use Rattle.std.specs.Option.{option_map_or}
@@ -27,7 +27,7 @@ use Rattle.regex.proofs.ForCallers.{spans_alike}
 use Rattle.regex.proofs.SearchLemmas.{matches_after_text}
 use Rattle.textarea_search.specs.Columns.{column_of_byte}
 use Rattle.textarea_search.specs.Matches.{match_spans, match_columns}
-use Rattle.textarea_search.specs.Spans.{IsNeedleOf, ListsMatchesOf, columns_in, spans_after}
+use Rattle.textarea_search.specs.Spans.{ListsMatchesOf, columns_in, spans_after}
 use Rattle.textarea_search.specs.Starts.{along, bytes_at, starts_from}
 use Rattle.textarea_search.specs.declared.search.direction.Direction.{Direction}
 use Rattle.textarea_search.specs.declared.search.direction.Direction.TheVariants.{Forward, Back}
@@ -148,9 +148,3 @@ needle_of_plain pattern plain line text = sym (spans_as_text line pattern _ (byt
 pub no_columns : (tree : Re) (line : List ℕ) (direction : Direction) → spans_after tree line 0 ≡ [] → None ≡ slice_get (along direction (columns_in tree line)) 0
 no_columns tree line Forward e = rw e refl
 no_columns tree line Back e = rw e refl
-
--- a needle of the pattern is one of each of its trees
-pub needle_for : (pattern : List ℕ) (tree : Re) (needle : Option (List ℕ)) → ListsMatchesOf pattern tree →
-    IfSome needle (λ text. ListsMatchesOf pattern (literal text)) → IfSome needle (λ text. IsNeedleOf text tree)
-needle_for pattern tree None lists h = tt
-needle_for pattern tree (Some text) lists h = λ line utf8. lists line utf8 ∙ sym (h line utf8)

@@ -5,7 +5,7 @@ ghost use Rattle.regex_hir.specs.Re.{literal};
 ghost use Rattle.regex.specs.Strings.{matcher_pattern, match_span, match_haystack};
 ghost use Rattle.textarea_search.specs.Columns.{column_of_byte};
 ghost use Rattle.textarea_search.specs.Spans.{ListsMatchesOf, StartsOnce, spans_after, columns_in};
-ghost use Rattle.textarea_search.specs.Starts.{IsFirstAhead, is_past};
+ghost use Rattle.textarea_search.specs.Starts.{IsFirstAhead, along, is_ahead_in_line, is_past};
 
 use crate::line_finder::LineFinder;
 use crate::search::direction::Direction;
@@ -108,11 +108,31 @@ pub(crate) fn text_ahead(
         IfSome result (IsFirstAhead pattern line.now direction column at_column) }
 {
     match needle {
-        Some(finder) if finder.starts_once() => Some(match direction {
-            Direction::Forward => text_after(finder, line, column, at_column),
-            Direction::Back => text_before(finder, line, column, at_column),
-        }),
+        Some(finder) if finder.starts_once() => {
+            Some(nearest_text(finder, line, direction, column, at_column))
+        }
         _ => None,
+    }
+}
+
+/// Returns the first column in the search's direction from the given one or, with `at_column`, at
+/// it, at which the line has a text that can't overlap itself.
+pub(crate) fn nearest_text(
+    finder: &LineFinder<'_>,
+    line: &str,
+    direction: Direction,
+    column: usize,
+    at_column: bool,
+) -> Option<usize>
+    requires once { StartsOnce finder.now }
+    requires utf8 { IsUtf8 finder.now }
+    ensures found { result ≡ find (is_ahead_in_line direction column at_column)
+        (along direction (columns_in (literal finder.now) line.now)) }
+    ensures within { IfSome result (λ start. start ≤ length (chars line.now)) }
+{
+    match direction {
+        Direction::Forward => text_after(finder, line, column, at_column),
+        Direction::Back => text_before(finder, line, column, at_column),
     }
 }
 

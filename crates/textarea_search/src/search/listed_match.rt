@@ -9,7 +9,7 @@ ghost use Rattle.textarea_search.specs.Starts.{along, is_ahead_in_line, is_past}
 
 use crate::line_finder::LineFinder;
 use crate::search::direction::Direction;
-use crate::search::listed::{column_from, is_past, next_listed};
+use crate::search::listed::{column_from, is_past, nearest_text, next_listed};
 use regex::Matcher;
 use std::alloc::AllocError;
 
@@ -180,12 +180,15 @@ pub(crate) fn end_column(
     ensures within { IfSome result (λ start. start ≤ length (chars line.now)) }
     ensures same { matcher_pattern matcher.new ≡ matcher_pattern matcher.old }
 {
-    if let Some(finder) = needle {
-        finder.find(line.as_bytes())?;
-    }
     let end = match direction {
         Direction::Forward => 0,
         Direction::Back => usize::MAX,
     };
+    if let Some(finder) = needle {
+        finder.find(line.as_bytes())?;
+        if finder.starts_once() {
+            return nearest_text(finder, line, direction, end, true);
+        }
+    }
     column_ahead(matcher, line, None, direction, end, true)
 }

@@ -25,9 +25,6 @@ returns-in_err-start-clause-found c =
     (record { inside = c.byte_of-byte.ensures.inside; past = c.byte_of-byte.ensures.past }) None
     (subst (λ n. FindsNeedle c.args.line.now c.args.finder.now n None) from c.in_err-start.ensures.found)
 
-pub column_from-requires-clause-boundary : goal.column_from-requires-clause-boundary
-column_from-requires-clause-boundary c = c.in_ok-start.ensures.boundary c.requires.once.some
-
 pub column_from-requires-clause-known_boundary : goal.column_from-requires-clause-known_boundary
 column_from-requires-clause-known_boundary c =
     boundary_within c.args.line.now c.args.column c.byte_of-byte.result c.utf8.line (record { inside = c.byte_of-byte.ensures.inside; past = c.byte_of-byte.ensures.past }) (omega (arith, c.if-line-byte.false))
