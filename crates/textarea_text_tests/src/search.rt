@@ -3,6 +3,7 @@ use crate::cases::check_each;
 use crate::texts::{Place, strings};
 use regex::Regex;
 use std::alloc::{AllocError, Global};
+use std::process::Abort;
 use std::test::Fail;
 use textarea_search::search::{Direction, MatchCache, Matches, Search, SearchError};
 
@@ -278,7 +279,7 @@ fn is_stored(
     Ok(result == Some((0, *found)))
 }
 
-fn finds_each_stored(rt: &HostRuntime, pattern: &str) -> Result<(), Fail> {
+fn finds_each_stored(rt: &(impl Abort + AllocGlobal), pattern: &str) -> Result<(), Fail> {
     let search = search_for(rt.alloc(), pattern);
     let lines = repeated(rt.alloc(), "ab", 70_000)?;
     let mut cached = MatchCache::new(rt.alloc());
