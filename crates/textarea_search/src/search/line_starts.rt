@@ -104,9 +104,5 @@ fn last_before(columns: &[usize], mark: usize, at_mark: bool) -> Option<usize>
     ensures { result ≡ find (λ column. is_past column at_mark mark) (reverse columns.now) }
 {
     let index = columns.partition_point(|column| is_past(*column, at_mark, mark));
-    if index == 0 {
-        None
-    } else {
-        Some(columns[index - 1])
-    }
+    Some(columns[index.checked_sub(1)?])
 }

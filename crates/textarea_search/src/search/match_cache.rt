@@ -70,10 +70,9 @@ impl MatchCache {
         if self.lines.is_empty() {
             return None;
         }
-        match &self.lines[number % self.lines.len()] {
-            Some(cached) => cached.spans_of(pattern, line),
-            None => None,
-        }
+        self.lines[number % self.lines.len()]
+            .as_ref()?
+            .spans_of(pattern, line)
     }
 
     /// Stores the matches of a line under its number. They replace those of another line whose

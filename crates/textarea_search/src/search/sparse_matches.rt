@@ -114,13 +114,6 @@ fn last_before(matches: &[ListedMatch], column: usize) -> Option<ListedMatch>
     ensures { IfSome result (λ found. Contains matches.now found × (found.column < column)) }
 {
     let index = matches.partition_point(|found| found.column < column);
-    if index == 0 {
-        return None;
-    }
-    let found = matches[index - 1];
-    if found.column < column {
-        Some(found)
-    } else {
-        None
-    }
+    let found = matches[index.checked_sub(1)?];
+    (found.column < column).then_some(found)
 }

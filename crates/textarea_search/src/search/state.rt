@@ -61,10 +61,7 @@ impl Search {
     pub fn pattern(&self) -> Option<&str>
         ensures { option_copied result ≡ self.now }
     {
-        match &self.pattern {
-            Some(pattern) => Some(pattern.text()),
-            None => None,
-        }
+        Some(self.pattern.as_ref()?.text())
     }
 
     /// Returns the matches of a line as `regex` lists them: from the left, none overlapping the one
