@@ -1,15 +1,14 @@
 -- Byte offsets of a line and their columns.
 use Rattle.std.proofs.lemmas.Grind.{common_steps}
-use Rattle.std.proofs.Common.{◌≡◌, ℕ, zero, suc, ◌+◌, ◌-◌, ◌<◌, ◌≤◌, Bool, true, List, [], ◌∷◌, ◌++◌, map, length, take, drop, option_map, refl, sym, ap, subst, ◌∙◌, inl, inr, ⊎_elim, arith, IsUtf8, IsCharBoundary, encode_utf8_all, encode_utf8}
+use Rattle.std.proofs.Common.{◌≡◌, ℕ, zero, suc, ◌+◌, ◌-◌, ◌<◌, ◌≤◌, Bool, List, [], ◌∷◌, ◌++◌, map, length, take, drop, option_map, refl, sym, ap, subst, ◌∙◌, inl, inr, ⊎_elim, arith, IsUtf8, IsCharBoundary, encode_utf8_all, encode_utf8}
 use Rattle.std.specs.Prelude.{All}
-use Rattle.std.specs.List.{find, slice_get}
+use Rattle.std.specs.List.{find}
 use Rattle.std.specs.Str.{chars}
 use Rattle.std.proofs.Math.Seq.{take-add}
 use Rattle.std.proofs.lemmas.Bool.{cases_lt}
 use Rattle.std.proofs.lemmas.Bool.Decides.{nat_tests}
 use Rattle.std.proofs.lemmas.List.{take-append-drop, take_at, length-append, length-drop, length-take-le}
 use Rattle.std.proofs.lemmas.List.Elements.{All-weaker}
-use Rattle.std.proofs.lemmas.Option.{slice_get-map}
 use Rattle.std.proofs.lemmas.Str.{chars-append, encodes-chars, IsUtf8-take, length-encode, length-le-encodes, len_utf8_bounds}
 use Rattle.textarea_text.proofs.Columns.{IsCharBoundary-column, chars-take, length-offset, length_split}
 use Rattle.textarea_search.specs.Columns.{column_of_byte}
@@ -17,7 +16,7 @@ use Rattle.textarea_search.specs.Starts.{along, is_ahead_in_line}
 use Rattle.textarea_search.specs.declared.search.direction.Direction.{Direction}
 use Rattle.textarea_search.specs.declared.search.direction.Direction.TheVariants.{Forward, Back}
 use Rattle.textarea_search.proofs.ListedLemmas.{LiesFrom}
-use Rattle.textarea_search.proofs.StartLemmas.{find-map, find-same, find-first, map_reverse, All-reverse}
+use Rattle.textarea_search.proofs.StartLemmas.{find-map, find-same, map_reverse, All-reverse}
 
 -- the byte offset at which a column of these characters begins
 abbrev pub byte_at : List ℕ → ℕ → ℕ
@@ -145,14 +144,3 @@ module _ (line : List ℕ) (spans : List (ℕ × ℕ)) (lie : All (LiesFrom line
       (All-weaker (LiesFrom line 0) (λ s. p s ≡ q s) (λ s lies. same_ahead direction s.0 byte (column_of_span line s) column at (in_order line column byte text occurs s.0 lies.1)) spans lie)))
       ∙ sym (find-map (is_ahead_in_line direction column at) (column_of_span line) (along direction spans))
       ∙ ap (find (is_ahead_in_line direction column at)) (map_along (column_of_span line) direction spans)
-
-  -- a mark that is before all of them
-  pub find_end : (mark : ℕ) → ((s : ℕ × ℕ) → LiesFrom line 0 s → is_ahead_in_line direction mark true s.0 ≡ true) →
-      option_map (column_of_span line) (find (λ s. is_ahead_in_line direction mark true s.0) (along direction spans))
-      ≡ slice_get (along direction (map (column_of_span line) spans)) 0
-  find_end mark all =
-      let test : ℕ × ℕ → Bool = λ s. is_ahead_in_line direction mark true s.0 in
-      ap (option_map (column_of_span line)) (find-first test (along direction spans) (All-along (λ s. test s ≡ true) direction spans
-      (All-weaker (LiesFrom line 0) (λ s. test s ≡ true) all spans lie)))
-      ∙ sym (slice_get-map (column_of_span line) (along direction spans) 0)
-      ∙ ap (λ cs. slice_get cs 0) (map_along (column_of_span line) direction spans)

@@ -8,9 +8,8 @@ use Rattle.std.specs.Str.{chars}
 use Rattle.std.proofs.Math.Logic.{∥∥₁_elim}
 use Rattle.std.proofs.lemmas.Bool.Decides.{nat_tests}
 use Rattle.std.proofs.lemmas.List.{drop_more, map-append, reverse-append, take-append-drop}
-use Rattle.std.proofs.lemmas.List.Elements.{All-nil, All-cons, All-contains, All-map, All-weaker}
+use Rattle.std.proofs.lemmas.List.Elements.{All-head, All-nil, All-cons, All-map, All-weaker}
 use Rattle.std.proofs.lemmas.List.Folds.{find-append}
-use Rattle.std.proofs.lemmas.Option.{IfSome_then}
 use Rattle.regex_hir.specs.Re.{Re}
 use Rattle.regex_hir.specs.Find.{Match}
 use Rattle.regex_hir.proofs.OptionLemmas.{option_cases}
@@ -18,9 +17,8 @@ use Rattle.regex.specs.Patterns.{span}
 use Rattle.regex.specs.Search.{next_match}
 use Rattle.regex.proofs.SearchLemmas.{matches_after_none, matches_after_some}
 use Rattle.textarea_search.specs.Columns.{column_of_byte}
-use Rattle.textarea_search.specs.ListedMatches.{IsMatchIn, IsOneOf, after_of}
-use Rattle.textarea_search.specs.Matches.{match_spans}
-use Rattle.textarea_search.specs.Spans.{ListsMatchesOf, columns_after, columns_in, spans_after}
+use Rattle.textarea_search.specs.ListedMatches.{IsMatchIn, IsOneOf, after_of, column_of}
+use Rattle.textarea_search.specs.Spans.{columns_after, columns_in, spans_after}
 use Rattle.textarea_search.specs.Starts.{is_past}
 use Rattle.textarea_search.specs.declared.search.listed_match.ListedMatch.{ListedMatch}
 use Rattle.textarea_search.proofs.ColumnLemmas.{column_at_boundary, column_later, column_of_span}
@@ -168,6 +166,13 @@ columns_within tree line text =
     All-map (λ c. c ≤ length (chars line)) (column_of_span line) (spans_after tree line 0)
     (All-weaker (LiesFrom line 0) (λ s. column_of_span line s ≤ length (chars line)) (λ s lies. (column_at_boundary line s.0 text lies.1).0) (spans_after tree line 0) (spans_lie tree line 0))
 
+-- the next match isn't before the last one
+pub next_not_before : (tree : Re) (line : List ℕ) → IsUtf8 line → (last : Option ListedMatch) (column : ℕ) (rest : List ℕ) → IfSome last (IsMatchIn line) →
+    columns_after tree line (after_of last) ≡ column ∷ rest → column_of last ≤ column
+next_not_before tree line text None column rest place e = omega arith
+next_not_before tree line text (Some last) column rest place e =
+    All-head (λ c. last.column ≤ c) column rest (subst (All (λ c. last.column ≤ c)) e (columns_above tree line text last place))
+
 -- no match after one that isn't before the column is before it
 none_before : (column : ℕ) (at : Bool) (first : ℕ) (rest : List ℕ) → is_past first at column ≡ false → All (λ c. first ≤ c) rest →
     find (λ c. is_past c at column) (reverse (first ∷ rest)) ≡ None
@@ -187,12 +192,6 @@ module _ (used tree : Re) (line : List ℕ) (after : ℕ) (found : ListedMatch) 
   listed : columns_after tree line after ≡ found.column ∷ rest
   listed = columns_step used tree line after found same place left
 
-  pub first_passes : is_past column at found.column ≡ true → find (is_past column at) (columns_after tree line after) ≡ Some found.column
-  first_passes e = ap (find (is_past column at)) listed ∙ ap (λ b. cond b (Some found.column) (find (is_past column at) rest)) e
-
-  pub first_fails : is_past column at found.column ≡ false → find (is_past column at) (columns_after tree line after) ≡ find (is_past column at) rest
-  first_fails e = ap (find (is_past column at)) listed ∙ ap (λ b. cond b (Some found.column) (find (is_past column at) rest)) e
-
   pub last_passes : (known : Option ℕ) → is_past found.column at column ≡ true →
       option_or (find (λ c. is_past c at column) (reverse (columns_after tree line after))) known ≡ option_or (find (λ c. is_past c at column) (reverse rest)) (Some found.column)
   last_passes known e =
@@ -203,11 +202,3 @@ module _ (used tree : Re) (line : List ℕ) (after : ℕ) (found : ListedMatch) 
   last_fails text known e =
       ap (λ cs. option_or (find (λ c. is_past c at column) (reverse cs)) known) listed
       ∙ ap (λ o. option_or o known) (none_before column at found.column rest e (columns_above tree line text found place))
-
--- a match that is stored for a pattern is one of those that its tree lists
-pub one_of_tree : (pattern line : List ℕ) (key : List ℕ × List ℕ) (tree : Re) (matches : List ListedMatch) (before : Option ListedMatch) (column : ℕ) → key ≡ (pattern, line) → IsUtf8 line →
-    ListsMatchesOf pattern tree → All (IsOneOf (match_spans key.0 key.1) key.1) matches →
-    IfSome before (λ (found : ListedMatch). Contains matches found × (found.column < column)) → IfSome before (IsOneOf (spans_after tree line 0) line)
-one_of_tree pattern line key tree matches before column is text lists all h = IfSome_then before h
-    (λ found both. subst (λ spans. IsOneOf spans line found) (sym (lists line text))
-    (All-contains (IsOneOf (match_spans pattern line) line) matches found (subst (λ (k : List ℕ × List ℕ). All (IsOneOf (match_spans k.0 k.1) k.1) matches) is all) both.0))

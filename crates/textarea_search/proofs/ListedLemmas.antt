@@ -23,7 +23,6 @@ use Rattle.regex.proofs.SearchLemmas.{next_same, next_later, next_within, leftmo
 use Rattle.regex.proofs.Utf8Lemmas.{IsCharBoundary-of_test}
 use Rattle.textarea_search.specs.Spans.{spans_after}
 use Rattle.textarea_search.specs.Starts.{is_past}
-use Rattle.textarea_search.proofs.StartLemmas.{find-none, All-reverse}
 
 none_of_map : {A B : Type 0} (f : A → B) (o : Option A) → option_map f o ≡ None → o ≡ None
 none_of_map f None e = refl
@@ -118,35 +117,21 @@ module _ (tree : Re) (line : List ℕ) where
 
 -- ---- the last match that passes
 
-abbrev pub starts_before : ℕ → Bool → ℕ × ℕ → Bool
-starts_before byte at s = is_past s.0 at byte
-
 -- the last element that passes is in the rest, or it is the first
 joined : {X : Type 0} (o : Option X) (x : X) (last : Option X) → option_or (option_or o (Some x)) last ≡ option_or o (Some x)
 joined None x last = refl
 joined (Some y) x last = refl
 
+pub last_of_more : {X : Type 0} (test : X → Bool) (x : X) (rest : List X) → find test (reverse (x ∷ rest)) ≡ option_or (find test (reverse rest)) (cond (test x) (Some x) None)
+last_of_more test x rest = ap (find test) (reverse-append (x ∷ []) rest) ∙ find-append test (reverse rest) (x ∷ [])
+
 pub last_of_some : {X : Type 0} (test : X → Bool) (x : X) (rest : List X) (last : Option X) → test x ≡ true →
     option_or (find test (reverse (x ∷ rest))) last ≡ option_or (find test (reverse rest)) (Some x)
 last_of_some test x rest last passes =
     ap (λ o. option_or o last)
-    (ap (find test) (reverse-append (x ∷ []) rest) ∙ find-append test (reverse rest) (x ∷ []) ∙ ap (λ b. option_or (find test (reverse rest)) (cond b (Some x) None)) passes)
+    (last_of_more test x rest ∙ ap (λ b. option_or (find test (reverse rest)) (cond b (Some x) None)) passes)
     ∙ joined (find test (reverse rest)) x last
-
--- one more match that passes
-pub last_more : (byte : ℕ) (at : Bool) (s : ℕ × ℕ) (rest : List (ℕ × ℕ)) (last : Option (ℕ × ℕ)) → starts_before byte at s ≡ true →
-    option_or (find (starts_before byte at) (reverse (s ∷ rest))) last ≡ option_or (find (starts_before byte at) (reverse rest)) (Some s)
-last_more byte at s rest last passes = last_of_some (starts_before byte at) s rest last passes
 
 -- what isn't before a mark has nothing before the mark after it
 pub later_fails : (byte : ℕ) (at : Bool) (x y : ℕ) → is_past x at byte ≡ false → x ≤ y → is_past y at byte ≡ false
 later_fails byte at x y e h = grind (arith, nat_tests)
-
--- one match that doesn't pass, and so none after it does
-pub last_listed : (byte : ℕ) (at : Bool) (line : List ℕ) (s : ℕ × ℕ) (rest : List (ℕ × ℕ)) → starts_before byte at s ≡ false → s.0 ≤ s.1 →
-    All (LiesFrom line (s.1 + 1)) rest → find (starts_before byte at) (reverse (s ∷ rest)) ≡ None
-last_listed byte at line s rest fails ordered lie =
-    let test = starts_before byte at in
-    find-none test (reverse (s ∷ rest)) (All-reverse (λ p. test p ≡ false) (s ∷ rest)
-    (All-cons (λ p. test p ≡ false) s rest fails
-    (All-weaker (LiesFrom line (s.1 + 1)) (λ p. test p ≡ false) (λ p lies. later_fails byte at s.0 p.0 fails (omega (arith, lies.0))) rest lie)))

@@ -1,12 +1,12 @@
 -- From a compiled pattern to its text.
 use Rattle.std.proofs.lemmas.Grind.{common_steps}
-use Rattle.std.proofs.Common.{◌≡◌, ℕ, zero, suc, ◌+◌, ◌<◌, ◌≤◌, Bool, true, false, cond, ◌∷◌, List, [], map, length, get_or, Option, None, Some, IfSome, IsSomeAnd, option_map, refl, sym, ap, ◌∙◌, subst, inl, inr, arith, zero-le, IsUtf8, string_bytes, Global}
-use Rattle.std.specs.Prelude.{All, String, nat_le}
+use Rattle.std.proofs.Common.{◌≡◌, ℕ, zero, suc, ◌+◌, ◌<◌, ◌≤◌, Bool, true, false, cond, ◌∷◌, List, [], map, length, get_or, Option, None, Some, IsSomeAnd, refl, sym, ap, ◌∙◌, subst, inl, inr, arith, zero-le, IsUtf8, string_bytes, Global}
+use Rattle.std.specs.Prelude.{All, String}
 use Rattle.std.specs.Coded.{coded_ℕ, coded_list, coded×, Coded-set}
 use Rattle.std.specs.Option.{option_map_or}
 use Rattle.std.proofs.Math.Logic.{∥∥₁_elim}
 use Rattle.std.proofs.Math.Utf8.{encode, encodes, scalar, scalars}
-use Rattle.std.specs.List.{find, slice_get}
+use Rattle.std.specs.List.{slice_get}
 use Rattle.std.proofs.lemmas.Bool.{and_parts, cases_Bool, cond-false}
 use Rattle.std.proofs.lemmas.Bool.Decides.{nat_tests}
 use Rattle.std.proofs.lemmas.List.Elements.{All-nil, All-append}
@@ -27,11 +27,11 @@ use Rattle.regex.proofs.ForCallers.{spans_alike}
 use Rattle.regex.proofs.SearchLemmas.{matches_after_text}
 use Rattle.textarea_search.specs.Columns.{column_of_byte}
 use Rattle.textarea_search.specs.Matches.{match_spans, match_columns}
-use Rattle.textarea_search.specs.Spans.{IsNeedleOf, ListsMatchesOf, columns_in, spans_after}
+use Rattle.textarea_search.specs.Spans.{ListsMatchesOf, columns_in, spans_after}
 use Rattle.textarea_search.specs.Starts.{along, bytes_at, starts_from}
 use Rattle.textarea_search.specs.declared.search.direction.Direction.{Direction}
 use Rattle.textarea_search.specs.declared.search.direction.Direction.TheVariants.{Forward, Back}
-use Rattle.textarea_search.proofs.OccurrenceLemmas.{first_left, occurs}
+use Rattle.textarea_search.proofs.OccurrenceLemmas.{occurs}
 
 -- ---- the bytes of a text
 
@@ -130,7 +130,7 @@ module _ (line word : List ℕ) (missing : Nowhere (OccursAt line word) 0 (lengt
       ap (λ o. map span (matches_from (find_str (literal word) line) (length line + 1) o)) none_found
       ∙ ap (map span) (none_follow (find_str (literal word) line) (length line + 1))
 
-  none_listed-text : spans_after (literal word) line 0 ≡ []
+  pub none_listed-text : spans_after (literal word) line 0 ≡ []
   none_listed-text = ap (map span) (matches_after_text (literal word) line) ∙ none_listed
 
 spans_as_text : (line word : List ℕ) (o : Option (Nested Re × Names)) → AreBytes line →
@@ -140,25 +140,11 @@ spans_as_text line word None bytes h = absurd h
 spans_as_text line word (Some found) bytes h = spans_alike h.1 line (each_byte line bytes) true ∙ sym (ap (map span) (matches_after_text (literal word) line))
 
 -- the pattern is the needle
-pub needle_of_plain : (pattern : List ℕ) → IsUtf8 pattern → ReadsAsText pattern pattern → (tree : Re) → ListsMatchesOf pattern tree → IsNeedleOf pattern tree
+pub needle_of_plain : (pattern : List ℕ) → ReadsAsText pattern pattern → ListsMatchesOf pattern (literal pattern)
 unfolding match_spans ReadsAsText
-needle_of_plain pattern utf8 plain tree lists =
-    let same : (line : List ℕ) → IsUtf8 line → spans_after tree line 0 ≡ spans_after (literal pattern) line 0 =
-    λ line text. lists line text ∙ spans_as_text line pattern _ (bytes_of_text line text) (plain default_config refl refl) in
-    record {
-      lacks = λ line text missing. same line text ∙ none_listed-text line pattern missing;
-      first = λ once line text from start finds.
-          ap (λ ss. option_map (λ s. s.0) (find (λ s. nat_le from s.0) ss)) (same line text)
-          ∙ first_left line pattern utf8 once (length line + 1) 0 from start (omega arith) (λ k low high. absurd (omega arith)) finds;
-    }
+needle_of_plain pattern plain line text = sym (spans_as_text line pattern _ (bytes_of_text line text) (plain default_config refl refl))
 
 -- a line without listed matches has no start
 pub no_columns : (tree : Re) (line : List ℕ) (direction : Direction) → spans_after tree line 0 ≡ [] → None ≡ slice_get (along direction (columns_in tree line)) 0
 no_columns tree line Forward e = rw e refl
 no_columns tree line Back e = rw e refl
-
--- a needle of the pattern is one of each of its trees
-pub needle_for : (pattern : List ℕ) (tree : Re) (needle : Option (List ℕ)) → ListsMatchesOf pattern tree →
-    IfSome needle (λ text. (t : Re) → ListsMatchesOf pattern t → IsNeedleOf text t) → IfSome needle (λ text. IsNeedleOf text tree)
-needle_for pattern tree None lists h = tt
-needle_for pattern tree (Some text) lists h = h tree lists

@@ -18,10 +18,6 @@ pub place_here : (lines : List (String Global)) (row i column : ℕ) (line : Str
     column ≤ length (chars (string_bytes line)) → IsPlaceFrom row lines (row + i, column)
 place_here lines row i column line within is fits = grind (arith, common_steps, text_of_line lines i line within is)
 
-pub place_at : (lines : List (String Global)) (row column : ℕ) (line : String Global) → row < length lines → line ≡ get_or lines row line →
-    column ≤ length (chars (string_bytes line)) → IsPlaceIn lines (row, column)
-place_at lines row column line within is fits = (within, subst (λ cs. column ≤ length cs) (sym (text_of_line lines row line within is)) fits)
-
 -- the same by the bytes of the line
 texts_at : (lines : List (String Global)) (row : ℕ) → row < length lines → get_or (texts_of lines) row [] ≡ chars (bytes_at lines row)
 texts_at [] row within = absurd (omega arith)

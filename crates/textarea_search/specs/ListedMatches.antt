@@ -15,6 +15,11 @@ pub record IsOneOf (spans : List (ℕ × ℕ)) (line : List ℕ) (found : Listed
   pub place : IsMatchIn line found
   pub listed : ∥ Contains spans (found.start, found.end) ∥₁
 
+-- the column of this match, and 0 without one
+abbrev pub column_of : Option ListedMatch → ℕ
+column_of None = 0
+column_of (Some found) = found.column
+
 -- from where the matches after this one are listed, or all without one
 abbrev pub after_of : Option ListedMatch → ℕ
 after_of None = 0

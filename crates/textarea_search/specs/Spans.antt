@@ -1,6 +1,6 @@
 -- The matches of a line, listed by the syntax tree of a compiled pattern.
-use Rattle.std.specs.Prelude.{◌≡◌, ◌≢◌, ℕ, ◌+◌, ◌<◌, true, nat_le, [], IsUtf8, List, Option, find, length, map, option_map, slice_index}
-use Rattle.memchr.specs.Find.{FindsNeedle, Nowhere, OccursAt}
+use Rattle.std.specs.Prelude.{◌≡◌, ◌≢◌, ℕ, ◌<◌, true, IsUtf8, List, length, map, slice_index}
+use Rattle.regex_hir.specs.Re.{literal}
 use Rattle.regex.specs.Patterns.{Re, span}
 use Rattle.regex.specs.Search.{matches_after}
 use Rattle.textarea_search.specs.Columns.{column_of_byte}
@@ -27,9 +27,6 @@ pub record StartsOnce (text : List ℕ) : Type 0 where
   pub some : 0 < length text
   pub once : (k : ℕ) → 0 < k → k < length text → slice_index text k ≢ slice_index text 0
 
--- the tree has no match in a line that lacks the text; and if the text can't overlap itself, the
--- first match from an offset on starts where the line has the text for the first time from there on
-pub record IsNeedleOf (needle : List ℕ) (tree : Re) : Type 0 where
-  pub lacks : (line : List ℕ) → IsUtf8 line → Nowhere (OccursAt line needle) 0 (length line + 1) → spans_after tree line 0 ≡ []
-  pub first : StartsOnce needle → (line : List ℕ) → IsUtf8 line → (from : ℕ) (start : Option ℕ) → FindsNeedle line needle from start →
-      option_map (λ s. s.0) (find (λ s. nat_le from s.0) (spans_after tree line 0)) ≡ start
+-- the tree lists the matches of this text, in which each character stands for itself
+abbrev pub IsNeedleOf : List ℕ → Re → Type 0
+IsNeedleOf needle tree = (line : List ℕ) → IsUtf8 line → spans_after tree line 0 ≡ spans_after (literal needle) line 0

@@ -1,5 +1,5 @@
 -- The positions at which matches start in a text, and the one that a search finds.
-use Rattle.std.specs.Prelude.{◌≡◌, ℕ, ◌+◌, ◌-◌, ◌<◌, ◌≤◌, Bool, ◌==◌, ◌&&◌, ◌||◌, nat_lt, List, [], ◌∷◌, ◌++◌, map, length, find, reverse, slice_get, slice_index_or, Option, None, Some, String, string_bytes, IfOk, IfSome, IsNone, IsOk, Result}
+use Rattle.std.specs.Prelude.{◌≡◌, ℕ, ◌+◌, ◌-◌, ◌<◌, ◌≤◌, Bool, ◌==◌, ◌&&◌, ◌||◌, if◌then◌else◌, nat_lt, List, [], ◌∷◌, ◌++◌, map, length, find, reverse, slice_get, slice_index_or, Option, None, Some, String, string_bytes, IfOk, IfSome, IsNone, IsOk, Result}
 use Rattle.std.specs.declared.alloc.AllocError.{AllocError}
 use Rattle.std.specs.Option.{option_or}
 use Rattle.std.specs.Str.{chars}
@@ -46,6 +46,10 @@ is_ahead_in_line Back cursor at_cursor column = is_past column at_cursor cursor
 abbrev pub along : {A : Type 0} → Direction → List A → List A
 along Forward xs = xs
 along Back xs = reverse xs
+
+-- the end of the offsets that a search back from a byte may find
+abbrev pub last_of : ℕ → Bool → ℕ
+last_of byte at = if at then byte + 1 else byte
 
 -- the column is that of the first match of a pattern in the search's direction, if there is one
 pub record IsFirstAhead (pattern line : List ℕ) (direction : Direction) (cursor : ℕ) (at_cursor : Bool) (start : Option ℕ) : Type 0 where

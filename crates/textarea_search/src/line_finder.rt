@@ -1,11 +1,12 @@
 //! A search for one text in many lines.
-ghost use Rattle.std.specs.Prelude.{◌≡◌, ◌↔◌, ◌<◌, ◌≤◌, length, IfSome, IsCharBoundary, IsTrue};
-ghost use Rattle.memchr.specs.Find.{FindsNeedle};
+ghost use Rattle.std.specs.Prelude.{◌≡◌, ◌↔◌, ◌<◌, ◌≤◌, length, IfSome, IsCharBoundary, IsTrue, IsUtf8};
+ghost use Rattle.memchr.specs.Find.{FindsNeedle, IsLast, OccursAt};
 ghost use Rattle.textarea_search.specs.Spans.{StartsOnce};
+ghost use Rattle.textarea_search.specs.Starts.{last_of};
 
 use crate::byte_pair::BytePair;
 use memchr::memchr;
-use memchr::memmem::Finder;
+use memchr::memmem::{Finder, rfind};
 use std::marker::Model;
 
 /// Finds a text in many lines, most of which lack it. Contracts see the text.
@@ -60,10 +61,27 @@ impl<'n> LineFinder<'n> {
         Some(from + found)
     }
 
+    /// Returns the last index before `byte` or, with `at_byte`, at it at which a line has the text.
+    pub(crate) fn find_before(&self, line: &str, byte: usize, at_byte: bool) -> Option<usize>
+        requires { 0 < length self.now }
+        ensures found { IsLast (OccursAt line.now self.now) 0 (last_of byte at_byte) result }
+        ensures boundary { IfSome result (IsCharBoundary line.now) }
+    {
+        let needle = self.finder.needle();
+        let reach = if at_byte {
+            needle.len()
+        } else {
+            needle.len() - 1
+        };
+        let end = byte.saturating_add(reach).min(line.len());
+        rfind(&line.as_bytes()[..end], needle)
+    }
+
     /// Returns whether the text's first byte isn't in the rest of it, so that the text can't
     /// overlap itself.
     pub(crate) fn starts_once(&self) -> bool
-        ensures { IsTrue result ↔ StartsOnce self.now }
+        ensures once { IsTrue result ↔ StartsOnce self.now }
+        ensures utf8 { IsUtf8 self.now }
     {
         match self.finder.needle().split_first() {
             Some((first, rest)) => memchr(*first, rest).is_none(),

@@ -1,8 +1,9 @@
 ghost use Rattle.std.specs.Prelude.{◌≡◌, IfOk, IfErr, IfSome, alloc_error, true};
-ghost use Rattle.regex.specs.Patterns.{Re, ReadsAsText};
+ghost use Rattle.regex_hir.specs.Re.{literal};
+ghost use Rattle.regex.specs.Patterns.{ReadsAsText};
 ghost use Rattle.regex.specs.Strings.{matcher_pattern, regex_source};
 ghost use Rattle.textarea_search.specs.PatternErrors.{IsPatternFailure, IsErrorFor, IsOwnFailure, IsBuiltByDefault};
-ghost use Rattle.textarea_search.specs.Spans.{IsNeedleOf, ListsMatchesOf};
+ghost use Rattle.textarea_search.specs.Spans.{ListsMatchesOf};
 ghost use Rattle.textarea_search.specs.Starts.{IsTreeOf};
 
 use crate::error::SearchError;
@@ -99,8 +100,7 @@ impl Pattern {
 
     /// Returns a finder of a text that each match has: the pattern itself, if it has no syntax.
     pub(crate) fn finder(&self) -> Option<LineFinder<'_>>
-        ensures { IfSome result (λ needle. (tree : Re) → ListsMatchesOf self.now tree →
-            IsNeedleOf needle tree) }
+        ensures { IfSome result (λ needle. ListsMatchesOf self.now (literal needle)) }
     {
         if self.plain {
             Some(LineFinder::new(self.text()))

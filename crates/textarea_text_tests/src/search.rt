@@ -3,6 +3,7 @@ use crate::cases::check_each;
 use crate::texts::{Place, strings};
 use regex::Regex;
 use std::alloc::{AllocError, Global};
+use std::process::Abort;
 use std::test::Fail;
 use textarea_search::search::{Direction, MatchCache, Matches, Search, SearchError};
 
@@ -241,8 +242,8 @@ fn cached_line_after_line(rt: HostRuntime) -> Result<(), Fail> {
 /// A direction, a column, and the column of the next match.
 type Stored = (Direction, usize, usize);
 
-/// Searches for `a`, one after another with a cache, in a line of 140,000 bytes. From the second on
-/// the cache has some of its 70,000 matches.
+/// Searches one after another with a cache, in a line of 140,000 bytes. From the second search for a
+/// pattern with syntax on, the cache has some of the 70,000 matches.
 static STORED: [Stored; 8] = [
     (Direction::Forward, 0, 2),
     (Direction::Forward, 2, 4),
@@ -278,14 +279,19 @@ fn is_stored(
     Ok(result == Some((0, *found)))
 }
 
-#[test]
-fn searches_in_a_long_line(rt: HostRuntime) -> Result<(), Fail> {
-    let search = search_for(rt.alloc(), "a");
+fn finds_each_stored(rt: &(impl Abort + AllocGlobal), pattern: &str) -> Result<(), Fail> {
+    let search = search_for(rt.alloc(), pattern);
     let lines = repeated(rt.alloc(), "ab", 70_000)?;
     let mut cached = MatchCache::new(rt.alloc());
-    check_each(&rt, &STORED, |_, case| {
+    check_each(rt, &STORED, |_, case| {
         is_stored(&search, &mut cached, lines.as_slice(), case)
     })
+}
+
+#[test]
+fn searches_in_a_long_line(rt: HostRuntime) -> Result<(), Fail> {
+    finds_each_stored(&rt, "[a]")?;
+    finds_each_stored(&rt, "a")
 }
 
 /// A pattern, whether it is set, and the pattern that is searched for then.

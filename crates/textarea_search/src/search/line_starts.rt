@@ -9,7 +9,8 @@ ghost use Rattle.textarea_search.specs.Starts.{IsFirstAhead, along, is_ahead_in_
 
 use crate::search::cache_key::CacheKey;
 use crate::search::direction::Direction;
-use crate::search::listed::{is_past, list_columns};
+use crate::search::listed::is_past;
+use crate::search::listed_match::list_columns;
 use regex::Matcher;
 use std::alloc::{AllocError, Global};
 
@@ -103,9 +104,5 @@ fn last_before(columns: &[usize], mark: usize, at_mark: bool) -> Option<usize>
     ensures { result ≡ find (λ column. is_past column at_mark mark) (reverse columns.now) }
 {
     let index = columns.partition_point(|column| is_past(*column, at_mark, mark));
-    if index == 0 {
-        None
-    } else {
-        Some(columns[index - 1])
-    }
+    Some(columns[index.checked_sub(1)?])
 }

@@ -6,7 +6,7 @@ ghost use Rattle.textarea_search.specs.Starts.{along, bytes_at, is_ahead_in_line
 
 use crate::line_finder::LineFinder;
 use crate::search::direction::Direction;
-use crate::search::listed::{column_ahead_with, end_column_with};
+use crate::search::listed_match::{column_ahead, end_column};
 use regex::Matcher;
 
 /// Returns the first position in these lines at which a match starts.
@@ -24,7 +24,7 @@ fn first_start(
     ensures same { matcher_pattern matcher.new ≡ matcher_pattern matcher.old }
 {
     for (i, line) in lines.iter().enumerate() {
-        if let Some(column) = end_column_with(matcher, needle, line, Direction::Forward) {
+        if let Some(column) = end_column(matcher, needle, line, Direction::Forward) {
             return Some((first_row + i, column));
         }
     }
@@ -48,7 +48,7 @@ fn last_start(
     let mut i = lines.len();
     while i > 0 {
         i -= 1;
-        if let Some(column) = end_column_with(matcher, needle, &lines[i], Direction::Back) {
+        if let Some(column) = end_column(matcher, needle, &lines[i], Direction::Back) {
             return Some((first_row + i, column));
         }
     }
@@ -72,14 +72,7 @@ pub(crate) fn found_start(
     ensures within { IfSome result (IsPlaceIn lines.now) }
 {
     let (row, column) = cursor;
-    if let Some(start) = column_ahead_with(
-        matcher,
-        needle,
-        &lines[row],
-        direction,
-        column,
-        match_cursor,
-    ) {
+    if let Some(start) = column_ahead(matcher, &lines[row], None, direction, column, match_cursor) {
         return Some((row, start));
     }
     start_beyond(matcher, needle, direction, lines, row)

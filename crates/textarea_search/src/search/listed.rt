@@ -1,20 +1,17 @@
 //! The matches that `regex` lists for a line, one after another. A matcher serves for many lines.
-ghost use Rattle.std.specs.Prelude.{◌≡◌, ◌↔◌, ◌+◌, ◌≤◌, ◌<◌, [], ◌∷◌, All, length, take, find, reverse, slice_get, option_map, encode_utf8_all, IsCharBoundary, IsUtf8, IfOk, IfSome, MatchOption, OnOk, IsTrue, true};
-ghost use Rattle.std.specs.List.Sorted.{IsNonDecreasingBy};
+ghost use Rattle.std.specs.Prelude.{◌≡◌, ◌+◌, ◌≤◌, ◌<◌, [], ◌∷◌, List, ℕ, length, take, find, reverse, encode_utf8_all, IsCharBoundary, IsUtf8, IfSome, MatchOption, OnOk};
 ghost use Rattle.std.specs.Str.{chars};
-ghost use Rattle.regex.specs.Patterns.{Re};
+ghost use Rattle.regex_hir.specs.Re.{literal};
 ghost use Rattle.regex.specs.Strings.{matcher_pattern, match_span, match_haystack};
 ghost use Rattle.textarea_search.specs.Columns.{column_of_byte};
-ghost use Rattle.textarea_search.specs.Spans.{IsNeedleOf, StartsOnce, spans_after, columns_in};
-ghost use Rattle.textarea_search.specs.Starts.{along, is_ahead_in_line, is_past};
+ghost use Rattle.textarea_search.specs.Spans.{ListsMatchesOf, StartsOnce, spans_after, columns_in};
+ghost use Rattle.textarea_search.specs.Starts.{IsFirstAhead, along, is_ahead_in_line, is_past};
 
 use crate::line_finder::LineFinder;
 use crate::search::direction::Direction;
 use regex::{Match, Matcher};
 use std::alloc::AllocError;
 use textarea_text::rows::{byte_offset, column_count};
-
-const MOST_COLUMNS: usize = 65_536;
 
 /// Returns the next listed match after one that ended at `after - 1`; for 0 the first of all.
 pub(crate) fn next_listed<'h>(
@@ -58,37 +55,6 @@ pub(crate) fn list_spans(
     Ok(())
 }
 
-/// Replaces the content of a vector by the columns at which the listed matches of a line start.
-/// Returns whether these are all; it stops after the first 65,536.
-pub(crate) fn list_columns(
-    matcher: &mut Matcher<'_>,
-    line: &str,
-    columns: &mut Vec<usize>,
-) -> Result<bool, AllocError>
-    ensures all { IfOk result (λ all. IsTrue all
-        ↔ length (columns_in (matcher_pattern matcher.old) line.now) ≤ 65536) }
-    ensures found { IfOk result (λ all. IsTrue all →
-        columns.new.items ≡ columns_in (matcher_pattern matcher.old) line.now) }
-    ensures within { OnOk result
-        (All (λ column. column ≤ length (chars line.now)) columns.new.items) }
-    ensures ascending { OnOk result (IsNonDecreasingBy (λ column. column) columns.new.items) }
-    ensures same { matcher_pattern matcher.new ≡ matcher_pattern matcher.old }
-{
-    columns.clear();
-    let mut after = 0;
-    let mut last = (0, 0);
-    while let Some(found) = next_listed(matcher, line, after) {
-        let start = found.start();
-        last = (start, column_from(line, last, start));
-        if columns.len() == MOST_COLUMNS {
-            return Ok(false);
-        }
-        columns.push(last.1)?;
-        after = found.end() + 1;
-    }
-    Ok(true)
-}
-
 /// Returns the column of a byte offset, given an offset at or before it with its column.
 pub(crate) fn column_from(line: &str, known: (usize, usize), byte: usize) -> usize
     requires boundary { IsCharBoundary line.now byte }
@@ -109,76 +75,6 @@ pub(crate) fn is_past(mark: usize, at_mark: bool, place: usize) -> bool
     place > mark || (at_mark && place == mark)
 }
 
-/// Returns the first listed match that starts after the byte offset or, with `at_byte`, at it.
-fn first_ahead<'h>(
-    matcher: &mut Matcher<'_>,
-    line: &'h str,
-    byte: usize,
-    at_byte: bool,
-) -> Option<Match<'h>>
-    ensures found { option_map match_span result ≡ find (λ s. is_past byte at_byte s.0)
-        (spans_after (matcher_pattern matcher.old) line.now 0) }
-    ensures within { IfSome result (λ m. match_haystack m ≡ line.now) }
-    ensures same { matcher_pattern matcher.new ≡ matcher_pattern matcher.old }
-{
-    let mut after = 0;
-    loop {
-        let found = next_listed(matcher, line, after)?;
-        if is_past(byte, at_byte, found.start()) {
-            return Some(found);
-        }
-        after = found.end() + 1;
-    }
-}
-
-/// Returns the last listed match that starts before the byte offset or, with `at_byte`, at it. It
-/// searches for none after the offset.
-fn last_before<'h>(
-    matcher: &mut Matcher<'_>,
-    line: &'h str,
-    byte: usize,
-    at_byte: bool,
-) -> Option<Match<'h>>
-    ensures found { option_map match_span result ≡ find (λ s. is_past s.0 at_byte byte)
-        (reverse (spans_after (matcher_pattern matcher.old) line.now 0)) }
-    ensures within { IfSome result (λ m. match_haystack m ≡ line.now) }
-    ensures same { matcher_pattern matcher.new ≡ matcher_pattern matcher.old }
-{
-    let mut last = None;
-    let mut after = 0;
-    loop {
-        let Some(found) = next_listed(matcher, line, after) else {
-            return last;
-        };
-        if is_past(found.start(), at_byte, byte) {
-            last = Some(found);
-            after = found.end() + 1;
-        } else {
-            return last;
-        }
-    }
-}
-
-/// Returns the first listed match from `byte` in the search's direction or, with `at_byte`, at it.
-fn nearest<'h>(
-    matcher: &mut Matcher<'_>,
-    line: &'h str,
-    direction: Direction,
-    byte: usize,
-    at_byte: bool,
-) -> Option<Match<'h>>
-    ensures found { option_map match_span result
-        ≡ find (λ s. is_ahead_in_line direction byte at_byte s.0)
-        (along direction (spans_after (matcher_pattern matcher.old) line.now 0)) }
-    ensures within { IfSome result (λ m. match_haystack m ≡ line.now) }
-    ensures same { matcher_pattern matcher.new ≡ matcher_pattern matcher.old }
-{
-    match direction {
-        Direction::Forward => first_ahead(matcher, line, byte, at_byte),
-        Direction::Back => last_before(matcher, line, byte, at_byte),
-    }
-}
-
 /// Returns the byte offset at which the column's character begins, or the line's length for the
 /// column at its end. For a column past that, the result is greater than the length.
 fn byte_of(line: &str, column: usize) -> usize
@@ -197,72 +93,56 @@ fn byte_of(line: &str, column: usize) -> usize
     byte_offset(line, column)
 }
 
-/// Returns the number of characters of a line before a byte offset.
-fn column_of_byte(line: &str, byte: usize) -> usize
-    requires { IsCharBoundary line.now byte }
-    ensures { result ≡ column_of_byte line.now byte }
-{
-    column_count(&line[..byte])
-}
-
-/// Returns the column at which a match of a line starts.
-fn start_column(line: &str, found: Option<Match<'_>>) -> Option<usize>
-    requires { IfSome found (λ m. match_haystack m ≡ line.now) }
-    ensures column { result
-        ≡ option_map (λ s. column_of_byte line.now s.0) (option_map match_span found.entry) }
-    ensures within { IfSome result (λ start. start ≤ length (chars line.now)) }
-{
-    let found = found?;
-    Some(column_of_byte(line, found.start()))
-}
-
 /// Returns the first column in the search's direction from the given one or, with `at_column`, at
-/// it, at which a listed match starts.
-pub(crate) fn column_ahead(
-    matcher: &mut Matcher<'_>,
-    line: &str,
-    direction: Direction,
-    column: usize,
-    at_column: bool,
-) -> Option<usize>
-    ensures found { result ≡ find (is_ahead_in_line direction column at_column)
-        (along direction (columns_in (matcher_pattern matcher.old) line.now)) }
-    ensures within { IfSome result (λ start. start ≤ length (chars line.now)) }
-    ensures same { matcher_pattern matcher.new ≡ matcher_pattern matcher.old }
-{
-    let byte = byte_of(line, column);
-    start_column(line, nearest(matcher, line, direction, byte, at_column))
-}
-
-/// Does the same, but a forward search for a text that can't overlap itself begins at the column.
-pub(crate) fn column_ahead_with(
-    matcher: &mut Matcher<'_>,
+/// it, at which a match of a text starts that can't overlap itself: where the line has the text, so
+/// the search begins at the column. Returns `None` for another needle.
+pub(crate) fn text_ahead(
     needle: &Option<LineFinder<'_>>,
     line: &str,
     direction: Direction,
     column: usize,
     at_column: bool,
-) -> Option<usize>
-    requires { IfSome needle.now (λ finder. IsNeedleOf finder (matcher_pattern matcher.old)) }
-    ensures found { result ≡ find (is_ahead_in_line direction column at_column)
-        (along direction (columns_in (matcher_pattern matcher.old) line.now)) }
-    ensures within { IfSome result (λ start. start ≤ length (chars line.now)) }
-    ensures same { matcher_pattern matcher.new ≡ matcher_pattern matcher.old }
+) -> Option<Option<usize>>
+    ensures { (pattern : List ℕ) →
+        IfSome needle.now (λ text. ListsMatchesOf pattern (literal text)) →
+        IfSome result (IsFirstAhead pattern line.now direction column at_column) }
 {
-    match (needle, direction) {
-        (Some(finder), Direction::Forward) if finder.starts_once() => {
-            text_ahead(finder, line, column, at_column)
+    match needle {
+        Some(finder) if finder.starts_once() => {
+            Some(nearest_text(finder, line, direction, column, at_column))
         }
-        _ => column_ahead(matcher, line, direction, column, at_column),
+        _ => None,
+    }
+}
+
+/// Returns the first column in the search's direction from the given one or, with `at_column`, at
+/// it, at which the line has a text that can't overlap itself.
+pub(crate) fn nearest_text(
+    finder: &LineFinder<'_>,
+    line: &str,
+    direction: Direction,
+    column: usize,
+    at_column: bool,
+) -> Option<usize>
+    requires once { StartsOnce finder.now }
+    requires utf8 { IsUtf8 finder.now }
+    ensures found { result ≡ find (is_ahead_in_line direction column at_column)
+        (along direction (columns_in (literal finder.now) line.now)) }
+    ensures within { IfSome result (λ start. start ≤ length (chars line.now)) }
+{
+    match direction {
+        Direction::Forward => text_after(finder, line, column, at_column),
+        Direction::Back => text_before(finder, line, column, at_column),
     }
 }
 
 /// Returns the first column after the given one or, with `at_column`, at it, at which the line has
-/// a text that can't overlap itself. A match of the text starts there.
-fn text_ahead(finder: &LineFinder<'_>, line: &str, column: usize, at_column: bool) -> Option<usize>
-    requires { StartsOnce finder.now }
-    ensures found { (tree : Re) → IsNeedleOf finder.now tree →
-        result ≡ find (is_past column at_column) (columns_in tree line.now) }
+/// a text that can't overlap itself.
+fn text_after(finder: &LineFinder<'_>, line: &str, column: usize, at_column: bool) -> Option<usize>
+    requires once { StartsOnce finder.now }
+    requires utf8 { IsUtf8 finder.now }
+    ensures found { result
+        ≡ find (is_past column at_column) (columns_in (literal finder.now) line.now) }
     ensures within { IfSome result (λ start. start ≤ length (chars line.now)) }
 {
     let byte = byte_of(line, column);
@@ -274,36 +154,15 @@ fn text_ahead(finder: &LineFinder<'_>, line: &str, column: usize, at_column: boo
     Some(column_from(line, (byte, column), start))
 }
 
-/// Does the same as `end_column`, but passes over a line that lacks a text that each match has.
-pub(crate) fn end_column_with(
-    matcher: &mut Matcher<'_>,
-    needle: &Option<LineFinder<'_>>,
-    line: &str,
-    direction: Direction,
-) -> Option<usize>
-    requires { IfSome needle.now (λ finder. IsNeedleOf finder (matcher_pattern matcher.old)) }
-    ensures found { result
-        ≡ slice_get (along direction (columns_in (matcher_pattern matcher.old) line.now)) 0 }
+/// Returns the last column before the given one or, with `at_column`, at it, at which the line has
+/// a text that can't overlap itself.
+fn text_before(finder: &LineFinder<'_>, line: &str, column: usize, at_column: bool) -> Option<usize>
+    requires once { StartsOnce finder.now }
+    requires utf8 { IsUtf8 finder.now }
+    ensures found { result ≡ find (λ start. is_past start at_column column)
+        (reverse (columns_in (literal finder.now) line.now)) }
     ensures within { IfSome result (λ start. start ≤ length (chars line.now)) }
-    ensures same { matcher_pattern matcher.new ≡ matcher_pattern matcher.old }
 {
-    if let Some(finder) = needle {
-        let Some(_) = finder.find(line.as_bytes()) else {
-            return None;
-        };
-    }
-    end_column(matcher, line, direction)
-}
-
-/// Returns the first column of a line, in the search's direction, at which a listed match starts.
-fn end_column(matcher: &mut Matcher<'_>, line: &str, direction: Direction) -> Option<usize>
-    ensures found { result
-        ≡ slice_get (along direction (columns_in (matcher_pattern matcher.old) line.now)) 0 }
-    ensures within { IfSome result (λ start. start ≤ length (chars line.now)) }
-    ensures same { matcher_pattern matcher.new ≡ matcher_pattern matcher.old }
-{
-    match direction {
-        Direction::Forward => start_column(line, first_ahead(matcher, line, 0, true)),
-        Direction::Back => start_column(line, last_before(matcher, line, line.len(), true)),
-    }
+    let start = finder.find_before(line, byte_of(line, column), at_column)?;
+    Some(column_count(&line[..start]))
 }

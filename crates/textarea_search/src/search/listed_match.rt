@@ -1,14 +1,19 @@
 //! Listed matches with their columns: the next one, and the search from one of them.
-ghost use Rattle.std.specs.Prelude.{◌≡◌, ◌+◌, ◌<◌, ◌≤◌, [], ◌∷◌, find, reverse, option_map, length, IfSome, MatchOption};
+ghost use Rattle.std.specs.Prelude.{◌≡◌, ◌↔◌, ◌+◌, ◌<◌, ◌≤◌, [], ◌∷◌, All, find, reverse, option_map, length, slice_get, IfOk, IfSome, IsTrue, MatchOption, OnOk};
+ghost use Rattle.std.specs.List.Sorted.{IsNonDecreasingBy};
 ghost use Rattle.std.specs.Str.{chars};
 ghost use Rattle.regex.specs.Strings.{matcher_pattern};
 ghost use Rattle.textarea_search.specs.ListedMatches.{IsMatchIn, IsOneOf, after_of};
-ghost use Rattle.textarea_search.specs.Spans.{columns_in, spans_after};
+ghost use Rattle.textarea_search.specs.Spans.{IsNeedleOf, columns_in, spans_after};
 ghost use Rattle.textarea_search.specs.Starts.{along, is_ahead_in_line, is_past};
 
+use crate::line_finder::LineFinder;
 use crate::search::direction::Direction;
-use crate::search::listed::{column_from, is_past, next_listed};
+use crate::search::listed::{column_from, is_past, nearest_text, next_listed};
 use regex::Matcher;
+use std::alloc::AllocError;
+
+const MOST_COLUMNS: usize = 65_536;
 
 /// A match of a line: the byte offsets of its start and its end (exclusive), and its start's column.
 #[derive(Clone, Copy)]
@@ -46,6 +51,34 @@ pub(crate) fn match_after(
     })
 }
 
+/// Replaces the content of a vector by the columns at which the listed matches of a line start.
+/// Returns whether these are all; it stops after the first 65,536.
+pub(crate) fn list_columns(
+    matcher: &mut Matcher<'_>,
+    line: &str,
+    columns: &mut Vec<usize>,
+) -> Result<bool, AllocError>
+    ensures all { IfOk result (λ all. IsTrue all
+        ↔ length (columns_in (matcher_pattern matcher.old) line.now) ≤ 65536) }
+    ensures found { IfOk result (λ all. IsTrue all →
+        columns.new.items ≡ columns_in (matcher_pattern matcher.old) line.now) }
+    ensures within { OnOk result
+        (All (λ column. column ≤ length (chars line.now)) columns.new.items) }
+    ensures ascending { OnOk result (IsNonDecreasingBy (λ column. column) columns.new.items) }
+    ensures same { matcher_pattern matcher.new ≡ matcher_pattern matcher.old }
+{
+    columns.clear();
+    let mut last = None;
+    while let Some(found) = match_after(matcher, line, last) {
+        if columns.len() == MOST_COLUMNS {
+            return Ok(false);
+        }
+        columns.push(found.column)?;
+        last = Some(found);
+    }
+    Ok(true)
+}
+
 /// Returns the first column after the given one or, with `at_column`, at it, at which a listed
 /// match starts. It searches only after `before`.
 fn first_from(
@@ -58,8 +91,9 @@ fn first_from(
     requires listed { IfSome before
         (IsOneOf (spans_after (matcher_pattern matcher.old) line.now 0) line.now) }
     requires earlier { IfSome before (λ known. known.column < column) }
-    ensures { result ≡ find (is_past column at_column)
+    ensures found { result ≡ find (is_past column at_column)
         (columns_in (matcher_pattern matcher.old) line.now) }
+    ensures same { matcher_pattern matcher.new ≡ matcher_pattern matcher.old }
 {
     let mut last = before;
     loop {
@@ -83,8 +117,9 @@ fn last_from(
     requires listed { IfSome before
         (IsOneOf (spans_after (matcher_pattern matcher.old) line.now 0) line.now) }
     requires earlier { IfSome before (λ known. known.column < column) }
-    ensures { result ≡ find (λ start. is_past start at_column column)
+    ensures found { result ≡ find (λ start. is_past start at_column column)
         (reverse (columns_in (matcher_pattern matcher.old) line.now)) }
+    ensures same { matcher_pattern matcher.new ≡ matcher_pattern matcher.old }
 {
     let mut last = before;
     loop {
@@ -109,7 +144,7 @@ fn start_of(found: Option<ListedMatch>) -> Option<usize>
 /// Returns the first column in the search's direction from the given one or, with `at_column`, at
 /// it, at which a listed match starts. It searches only after `before`, a match before the column;
 /// for `None`, in the whole line.
-pub(crate) fn column_from_match(
+pub(crate) fn column_ahead(
     matcher: &mut Matcher<'_>,
     line: &str,
     before: Option<ListedMatch>,
@@ -123,9 +158,37 @@ pub(crate) fn column_from_match(
     ensures found { result ≡ find (is_ahead_in_line direction column at_column)
         (along direction (columns_in (matcher_pattern matcher.old) line.now)) }
     ensures within { IfSome result (λ start. start ≤ length (chars line.now)) }
+    ensures same { matcher_pattern matcher.new ≡ matcher_pattern matcher.old }
 {
     match direction {
         Direction::Forward => first_from(matcher, line, before, column, at_column),
         Direction::Back => last_from(matcher, line, before, column, at_column),
     }
+}
+
+/// Returns the first column of a line, in the search's direction, at which a listed match starts.
+/// It passes over a line that lacks a text that each match has.
+pub(crate) fn end_column(
+    matcher: &mut Matcher<'_>,
+    needle: &Option<LineFinder<'_>>,
+    line: &str,
+    direction: Direction,
+) -> Option<usize>
+    requires { IfSome needle.now (λ finder. IsNeedleOf finder (matcher_pattern matcher.old)) }
+    ensures found { result
+        ≡ slice_get (along direction (columns_in (matcher_pattern matcher.old) line.now)) 0 }
+    ensures within { IfSome result (λ start. start ≤ length (chars line.now)) }
+    ensures same { matcher_pattern matcher.new ≡ matcher_pattern matcher.old }
+{
+    let end = match direction {
+        Direction::Forward => 0,
+        Direction::Back => usize::MAX,
+    };
+    if let Some(finder) = needle {
+        finder.find(line.as_bytes())?;
+        if finder.starts_once() {
+            return nearest_text(finder, line, direction, end, true);
+        }
+    }
+    column_ahead(matcher, line, None, direction, end, true)
 }

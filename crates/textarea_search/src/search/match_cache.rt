@@ -70,10 +70,9 @@ impl MatchCache {
         if self.lines.is_empty() {
             return None;
         }
-        match &self.lines[number % self.lines.len()] {
-            Some(cached) => cached.spans_of(pattern, line),
-            None => None,
-        }
+        self.lines[number % self.lines.len()]
+            .as_ref()?
+            .spans_of(pattern, line)
     }
 
     /// Stores the matches of a line under its number. They replace those of another line whose
@@ -132,7 +131,13 @@ impl MatchCache {
         requires { ListsMatchesOf pattern.now (matcher_pattern matcher.old) }
         ensures same { matcher_pattern matcher.new ≡ matcher_pattern matcher.old }
     {
-        if !self.is_missed_again(row, pattern, line)? || line.len() > LONGEST_SEARCHED {
+        let missed_line = Some((row, line.len()));
+        if self.missed_line != missed_line || self.missed_pattern.as_str() != pattern {
+            self.missed_line = missed_line;
+            self.missed_pattern.clear();
+            return self.missed_pattern.push_str(pattern);
+        }
+        if line.len() > LONGEST_SEARCHED {
             return Ok(());
         }
         let starts = self.starts.take();
@@ -143,24 +148,6 @@ impl MatchCache {
             self.sparse = Some(sparse);
         }
         Ok(())
-    }
-
-    // Returns whether the last search for which the cache had no starts was for this pattern in
-    // this line, and notes this search as the last.
-    fn is_missed_again(
-        &mut self,
-        row: usize,
-        pattern: &str,
-        line: &str,
-    ) -> Result<bool, AllocError> {
-        let missed_line = Some((row, line.len()));
-        if self.missed_line == missed_line && self.missed_pattern.as_str() == pattern {
-            return Ok(true);
-        }
-        self.missed_line = missed_line;
-        self.missed_pattern.clear();
-        self.missed_pattern.push_str(pattern)?;
-        Ok(false)
     }
 }
 

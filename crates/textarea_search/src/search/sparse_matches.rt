@@ -9,7 +9,7 @@ ghost use Rattle.textarea_search.specs.Starts.{IsFirstAhead};
 use crate::pattern::Pattern;
 use crate::search::cache_key::CacheKey;
 use crate::search::direction::Direction;
-use crate::search::listed_match::{ListedMatch, column_from_match, match_after};
+use crate::search::listed_match::{ListedMatch, column_ahead, match_after};
 use regex::Matcher;
 use std::alloc::{AllocError, Global};
 
@@ -44,7 +44,7 @@ impl SparseMatches {
         }
         let mut matcher = pattern.matcher()?;
         let before = last_before(self.matches.as_slice(), column);
-        Ok(Some(column_from_match(&mut matcher, line, before, direction, column, at_column)))
+        Ok(Some(column_ahead(&mut matcher, line, before, direction, column, at_column)))
     }
 }
 
@@ -114,13 +114,6 @@ fn last_before(matches: &[ListedMatch], column: usize) -> Option<ListedMatch>
     ensures { IfSome result (λ found. Contains matches.now found × (found.column < column)) }
 {
     let index = matches.partition_point(|found| found.column < column);
-    if index == 0 {
-        return None;
-    }
-    let found = matches[index - 1];
-    if found.column < column {
-        Some(found)
-    } else {
-        None
-    }
+    let found = matches[index.checked_sub(1)?];
+    (found.column < column).then_some(found)
 }

@@ -1,17 +1,21 @@
 ghost use Rattle.std.specs.Prelude.{◌≡◌, ◌≢◌, ◌<◌, ◌≤◌, ℕ, Bool, [], Some, find, length, option_map, IsNone, IsOk, IfOk, IfErr, IfSome, OnOk, OnErr};
 ghost use Rattle.std.specs.Option.{option_copied};
 ghost use Rattle.std.specs.Str.{chars};
+ghost use Rattle.regex_hir.specs.Re.{literal};
 ghost use Rattle.textarea_search.specs.PatternErrors.{IsPatternFailure, IsErrorFor, IsOwnFailure};
 ghost use Rattle.textarea_search.specs.Matches.{match_columns, match_spans};
+ghost use Rattle.textarea_search.specs.Spans.{ListsMatchesOf};
 ghost use Rattle.textarea_search.specs.Starts.{IsFound, along, bytes_at, is_ahead_in_line};
 ghost use Rattle.textarea_search.specs.declared.search.direction.Direction.TheVariants.{Forward, Back};
 
 use crate::error::SearchError;
+use crate::line_finder::LineFinder;
 use crate::pattern::Pattern;
 use crate::search::caching_matcher::CachingMatcher;
 use crate::search::direction::Direction;
 use crate::search::line_matcher::LineMatcher;
 use crate::search::lines::{found_start, start_beyond};
+use crate::search::listed::text_ahead;
 use crate::search::match_cache::MatchCache;
 use crate::search::matches::Matches;
 use std::alloc::{AllocError, Global};
@@ -57,10 +61,7 @@ impl Search {
     pub fn pattern(&self) -> Option<&str>
         ensures { option_copied result ≡ self.now }
     {
-        match &self.pattern {
-            Some(pattern) => Some(pattern.text()),
-            None => None,
-        }
+        Some(self.pattern.as_ref()?.text())
     }
 
     /// Returns the matches of a line as `regex` lists them: from the left, none overlapping the one
@@ -147,20 +148,13 @@ impl Search {
         let Some(pattern) = &self.pattern else {
             return Ok(None);
         };
-        let mut matcher = pattern.matcher()?;
-        let finder = pattern.finder();
-        Ok(found_start(
-            &mut matcher,
-            &finder,
-            direction,
-            lines,
-            cursor,
-            match_cursor,
-        ))
+        let mut empty = MatchCache::new(pattern.allocator());
+        self.find_cached(&mut empty, direction, lines, cursor, match_cursor)
     }
 
     /// Does the same, but from the second search for the pattern in a line on it looks its matches
-    /// there up, which it stores in `cached` if there is memory for that.
+    /// there up, which it stores in `cached` if there is memory for that. It needs none for a text
+    /// whose first byte isn't in the rest of it, which it finds from the cursor on.
     pub fn find_cached(
         &self,
         cached: &mut MatchCache,
@@ -177,8 +171,13 @@ impl Search {
         };
         let (row, column) = cursor;
         let line = lines[row].as_str();
-        match cached.start_ahead(pattern, line, direction, column, match_cursor)? {
-            Some(here) => find_known(pattern, direction, lines, row, here),
+        let finder = pattern.finder();
+        let known = match text_ahead(&finder, line, direction, column, match_cursor) {
+            Some(here) => Some(here),
+            None => cached.start_ahead(pattern, line, direction, column, match_cursor)?,
+        };
+        match known {
+            Some(here) => find_known(pattern, &finder, direction, lines, row, here),
             None => find_and_store(pattern, cached, direction, lines, cursor, match_cursor),
         }
     }
@@ -201,12 +200,14 @@ impl Search {
 // and else the first one beyond the line.
 fn find_known(
     pattern: &Pattern,
+    needle: &Option<LineFinder<'_>>,
     direction: Direction,
     lines: &[String],
     row: usize,
     here: Option<usize>,
 ) -> Result<Option<(usize, usize)>, AllocError>
     requires row { row < length lines.now }
+    requires needle { IfSome needle.now (λ text. ListsMatchesOf pattern.now (literal text)) }
     requires within { IfSome here (λ start. start ≤ length (chars (bytes_at lines.now row))) }
     ensures { (column : ℕ) (at_column : Bool) →
         here ≡ find (is_ahead_in_line direction column at_column)
@@ -217,8 +218,7 @@ fn find_known(
         return Ok(Some((row, start)));
     }
     let mut matcher = pattern.matcher()?;
-    let finder = pattern.finder();
-    Ok(start_beyond(&mut matcher, &finder, direction, lines, row))
+    Ok(start_beyond(&mut matcher, needle, direction, lines, row))
 }
 
 // Searches in the lines, after the starts in the cursor's line are stored if they can be.

@@ -1,7 +1,4 @@
-use Rattle.std.proofs.Common.{arith, ◌≡◌, subst, sym}
-use Rattle.std.proofs.lemmas.Result.{IfOk-weaker}
-use Rattle.regex.specs.Patterns.{ReadsAsText}
-use Rattle.regex.specs.Strings.{regex_source}
+use Rattle.std.proofs.Common.{arith}
 use Rattle.std.proofs.lemmas.Grind.{common_steps}
 use Rattle.textarea_search.proofs.FailureLemmas.{failure_of_built, carried_of_built, own_of_built}
 use Rattle.textarea_search.proofs.pattern.Pattern.new.Goals as goal
@@ -17,8 +14,3 @@ returns-clause-own c =
     let from = c.new.ensures in
     let to = c.of_built.ensures in
     own_of_built c.args.pattern.now c.new.result c.of_built.result from.source from.config from.read to.memory to.carried
-
-pub of_built-requires-clause-plain : goal.of_built-requires-clause-plain
-of_built-requires-clause-plain c = λ plain.
-    IfOk-weaker c.new.result (λ regex. regex_source regex ≡ c.args.pattern.now) (λ regex. ReadsAsText (regex_source regex) (regex_source regex))
-    (λ regex source. subst (λ text. ReadsAsText text text) (sym source) (c.is_plain-plain.ensures plain)) c.new.ensures.source

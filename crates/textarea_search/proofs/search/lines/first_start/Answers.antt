@@ -1,15 +1,12 @@
-use Rattle.std.proofs.Common.{◌≡◌, ◌+◌, ◌≤◌, None, Some, length, map, drop, sym, ap, ◌∙◌, arith, string_bytes, subst, IfSome}
+use Rattle.std.proofs.Common.{◌≡◌, ◌+◌, ◌≤◌, None, Some, length, map, drop, sym, ap, ◌∙◌, arith, string_bytes}
 use Rattle.std.specs.List.{slice_get}
 use Rattle.std.specs.Str.{chars}
 use Rattle.regex.specs.Strings.{matcher_pattern}
-use Rattle.textarea_search.specs.Spans.{IsNeedleOf, columns_in}
+use Rattle.textarea_search.specs.Spans.{columns_in}
 use Rattle.textarea_search.specs.Starts.{starts_from}
 use Rattle.textarea_search.proofs.StartLemmas.{first_start_here, first_start_next}
 use Rattle.textarea_search.proofs.PlaceLemmas.{place_here}
 use Rattle.textarea_search.proofs.search.lines.first_start.Goals as goal
-
-pub end_column_with-requires : goal.end_column_with-requires
-end_column_with-requires c = subst (λ tree. IfSome c.args.needle.now (λ finder. IsNeedleOf finder tree)) (sym c.loop-i.invariant.0) c.requires.needle
 
 pub loop-i-preserved : goal.loop-i-preserved
 loop-i-preserved c =

@@ -1,15 +1,10 @@
-use Rattle.std.proofs.lemmas.Grind.{common_steps}
-use Rattle.std.proofs.Common.{◌≡◌, None, Some, sym, ap, ◌∙◌, arith, subst, IfSome}
+use Rattle.std.proofs.Common.{◌≡◌, None, Some, sym, ap, ◌∙◌, arith}
 use Rattle.std.specs.List.{find}
 use Rattle.regex.specs.Strings.{matcher_pattern}
-use Rattle.textarea_search.specs.Spans.{IsNeedleOf, columns_in}
+use Rattle.textarea_search.specs.Spans.{columns_in}
 use Rattle.textarea_search.specs.Starts.{along, bytes_at, found_start, is_ahead_in_line, starts_by}
-use Rattle.textarea_search.proofs.PlaceLemmas.{place_at}
 use Rattle.textarea_search.proofs.StartLemmas.{bytes_of_line, found_here}
 use Rattle.textarea_search.proofs.search.lines.found_start.Goals as goal
-
-pub start_beyond-requires-clause-needle : goal.start_beyond-requires-clause-needle
-start_beyond-requires-clause-needle c = subst (λ tree. IfSome c.args.needle.now (λ finder. IsNeedleOf finder tree)) (sym c.in_default.ensures.same) c.requires.needle
 
 pub returns-in-Some-clause-found : goal.returns-in-Some-clause-found
 returns-in-Some-clause-found c =
@@ -19,9 +14,6 @@ returns-in-Some-clause-found c =
     c.deref.ensures ∙ sym (bytes_of_line c.args.lines.now c.args.cursor.0 line (omega arith) c.index-lines-row.is) in
     let found : find (is_ahead_in_line c.args.direction c.args.cursor.1 c.args.match_cursor) (along c.args.direction (columns (bytes_at c.args.lines.now c.args.cursor.0))) ≡ Some c.in-Some.start = rw (← bytes) (sym c.in-Some.ensures.found) in
     sym (found_here columns c.args.lines.now c.args.cursor.0 c.args.cursor.1 c.args.match_cursor (omega arith) c.args.direction c.in-Some.start found)
-
-pub returns-in-Some-clause-within : goal.returns-in-Some-clause-within
-returns-in-Some-clause-within c = grind (arith, common_steps, place_at)
 
 pub returns-clause-found : goal.returns-clause-found
 returns-clause-found c =

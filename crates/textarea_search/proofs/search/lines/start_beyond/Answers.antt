@@ -1,17 +1,11 @@
-use Rattle.std.proofs.Common.{◌+◌, ◌-◌, None, Some, length, map, take, drop, reverse, sym, ap, ◌∙◌, arith, string_bytes, subst, IfSome}
+use Rattle.std.proofs.Common.{◌+◌, ◌-◌, None, Some, length, map, take, drop, reverse, sym, ap, ◌∙◌, arith, string_bytes}
 use Rattle.std.specs.List.{slice_get}
 use Rattle.regex.specs.Strings.{matcher_pattern}
-use Rattle.textarea_search.specs.Spans.{IsNeedleOf, columns_in}
+use Rattle.textarea_search.specs.Spans.{columns_in}
 use Rattle.textarea_search.specs.Starts.{starts_from}
 use Rattle.textarea_search.proofs.PlaceLemmas.{place_in_front, place_in_rest, place_of_some}
 use Rattle.textarea_search.proofs.StartLemmas.{back_beyond, forward_beyond}
 use Rattle.textarea_search.proofs.search.lines.start_beyond.Goals as goal
-
-pub first_start-requires-in-None-clause-needle : goal.first_start-requires-in-None-clause-needle
-first_start-requires-in-None-clause-needle c = subst (λ tree. IfSome c.args.needle.now (λ finder. IsNeedleOf finder tree)) (sym c.in-None.ensures.same) c.requires.needle
-
-pub last_start-requires-in-None-last_start-clause-needle : goal.last_start-requires-in-None-last_start-clause-needle
-last_start-requires-in-None-last_start-clause-needle c = subst (λ tree. IfSome c.args.needle.now (λ finder. IsNeedleOf finder tree)) (sym c.in-None-last_start.ensures.same) c.requires.needle
 
 pub returns-in-Some-clause-found : goal.returns-in-Some-clause-found
 returns-in-Some-clause-found c = λ column at none.

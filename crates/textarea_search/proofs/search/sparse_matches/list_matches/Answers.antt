@@ -1,4 +1,4 @@
-use Rattle.std.proofs.Common.{◌≡◌, ◌+◌, ◌∷◌, refl, sym, ◌∙◌, subst, arith}
+use Rattle.std.proofs.Common.{◌≡◌, ◌+◌, ◌∷◌, refl, sym, ◌∙◌, subst}
 use Rattle.std.specs.Prelude.{All, Contains}
 use Rattle.std.proofs.lemmas.List.Elements.{All-contains_itself, All-head, All-nil, All-tail}
 use Rattle.regex.specs.Strings.{matcher_pattern}
@@ -14,9 +14,6 @@ loop-found-init c =
       All-contains_itself all,
       subst (All (IsOneOf all c.args.line.now)) (sym c.clear.ensures.items) (All-nil (IsOneOf all c.args.line.now)),
     )
-
-pub match_after-requires : goal.match_after-requires
-match_after-requires c = c.loop-found.invariant.1
 
 pub loop-found-preserved : goal.loop-found-preserved
 loop-found-preserved c =
@@ -34,6 +31,3 @@ loop-found-preserved c =
       All-tail (Contains all) (found.start, found.end) rest listed,
       c.in_ok-push_if_far.ensures all line (record { place = c.in-Some.ensures.place; listed = ∣ All-head (Contains all) (found.start, found.end) rest listed ∣₁ }) inv.3,
     )
-
-pub loop-found-smaller : goal.loop-found-smaller
-loop-found-smaller c = omega (arith, c.in-Some.ensures.forth, c.in-Some.ensures.place.inside)

@@ -4,7 +4,7 @@ use Rattle.std.specs.Str.{chars}
 use Rattle.regex.specs.Strings.{matcher_pattern}
 use Rattle.textarea_search.specs.Matches.{match_columns}
 use Rattle.textarea_search.specs.Starts.{along, bytes_at, found_start, is_ahead_in_line}
-use Rattle.textarea_search.proofs.PatternLemmas.{columns_listed, needle_for}
+use Rattle.textarea_search.proofs.PatternLemmas.{columns_listed}
 use Rattle.textarea_search.proofs.PlaceLemmas.{place_at_bytes}
 use Rattle.textarea_search.proofs.StartLemmas.{found_here}
 use Rattle.textarea_search.proofs.search.state.find_known.Goals as goal
@@ -17,10 +17,6 @@ returns-in-Some c = λ column at is.
           (subst (λ (o : Option ℕ). IfSome o (λ start. start ≤ length (chars (bytes_at c.args.lines.now c.args.row)))) c.in-Some.is c.requires.within);
       no_pattern = λ _. refl;
     }
-
-pub start_beyond-requires-clause-needle : goal.start_beyond-requires-clause-needle
-start_beyond-requires-clause-needle c =
-    needle_for c.args.pattern.now (matcher_pattern c.in_ok-matcher.matcher) c.finder-finder.result c.in_ok-matcher.ensures.lists c.finder-finder.ensures
 
 pub returns : goal.returns
 returns c = λ column at is.
