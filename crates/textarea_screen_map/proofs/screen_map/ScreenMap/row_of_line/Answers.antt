@@ -12,9 +12,6 @@ use Rattle.textarea_screen_map.proofs.screen_map.ScreenMap.row_of_line.Goals.{Af
 minus-zero : (n : ℕ) → n - 0 ≡ n
 minus-zero n = omega arith
 
-there : (c : After-as_slice-ranges) → c.args.number < length c.as_slice-ranges.result.now
-there c = omega (arith, c.requires.number, ap length (c.as_slice-ranges.ensures ∙ c.rows_at.ensures.ranges))
-
 within : (c : After-as_slice-ranges) → c.args.line < length c.args.lines.now
 within c =
     omega (arith, c.requires.line, length-AreRowsOf c.args.self.now.wrapping (lines_of c.args.lines.now) c.args.self.now.rows c.requires.rows, length-map c.args.lines.now characters_of)
@@ -22,26 +19,11 @@ within c =
 row_is : (c : After-as_str-text) → IsFoundRow c.args.lines.now c.args.self.now.rows c.args.line c.args.number c.as_slice-ranges.result.now c.as_str-text.result.now
 row_is c = found_row _ _ _ _ _ _ c.index-lines-line.result _ c.requires.rows c.requires.line c.requires.number (c.as_slice-ranges.ensures ∙ c.rows_at.ensures.ranges) c.index-lines-line.is c.as_str-text.ensures.value
 
-pub offset_bounds-ranges-number : goal.offset_bounds-ranges-number
-offset_bounds-ranges-number c = omega (arith, there (goal.at.offset_bounds-ranges-number c).After-as_slice-ranges)
-
-pub bounds-ranges-number : goal.bounds-ranges-number
-bounds-ranges-number c = there (goal.at.bounds-ranges-number c).After-as_slice-ranges
-
-pub bounds-ranges-number-2 : goal.bounds-ranges-number-2
-bounds-ranges-number-2 c = there (goal.at.bounds-ranges-number-2 c).After-as_slice-ranges
-
 pub offset_bounds-lines-line : goal.offset_bounds-lines-line
 offset_bounds-lines-line c = omega (arith, within (goal.at.offset_bounds-lines-line c).After-as_slice-ranges)
 
 pub bounds-lines-line : goal.bounds-lines-line
 bounds-lines-line c = within (goal.at.bounds-lines-line c).After-as_slice-ranges
-
-pub range-requires-clause-start_le_end : goal.range-requires-clause-start_le_end
-range-requires-clause-start_le_end c = omega arith
-
-pub range-requires-clause-start_boundary : goal.range-requires-clause-start_boundary
-range-requires-clause-start_boundary c = λ h. absurd (omega (arith, h))
 
 pub range-requires-clause-end_boundary : goal.range-requires-clause-end_boundary
 range-requires-clause-end_boundary c = (row_is (goal.at.range-requires-clause-end_boundary c).After-as_str-text).text_is.placed.start
@@ -50,9 +32,6 @@ pub range-requires-2 : goal.range-requires-2
 range-requires-2 c =
     let placed = (row_is (goal.at.range-requires-2 c).After-as_str-text).text_is.placed in
     record { start_le_end = placed.ordered; start_boundary = λ _. placed.start; end_boundary = placed.end }
-
-pub overflow_add-result : goal.overflow_add-result
-overflow_add-result c = omega (arith, (row_is (goal.at.overflow_add-result c).After-as_str-text).there)
 
 front : (before text line : List ℕ) (start : ℕ) → before ≡ take (start - 0) text → length before + 0 ≡ start → text ≡ line → before ≡ take (length before) line
 front before text line start is size same = grind (arith, common_steps)

@@ -1,4 +1,3 @@
-use Rattle.std.proofs.lemmas.Grind.{common_steps}
 use Rattle.std.proofs.Common.{◌+◌, ◌<◌, arith, min, subst, sym, take}
 use Rattle.std.specs.Str.{chars}
 use Rattle.textarea_util.specs.Limit.{size_limit}
@@ -38,19 +37,9 @@ place_is c shown right =
     let below = rows_below view.rows c.args.line c.args.visual.row (omega (arith, c.requires.line, length-AreRowsOf view.wrapping view.lines view.rows right)) c.requires.number in
     place_of_index view.wrapping view.lines view.rows (record { row = row; column = min column (greatest_column tab_len (row_at view.lines view.rows row)) }) (row_of_texts displayed) index right below shown.displayed leads
 
-pub row_of_line-displayed-requires-clause-line : goal.row_of_line-displayed-requires-clause-line
-row_of_line-displayed-requires-clause-line c = grind (arith, common_steps, length-AreRowsOf)
-
 pub mark_in-known-requires-clause-line : goal.mark_in-known-requires-clause-line
 mark_in-known-requires-clause-line c =
     omega (arith, (shown (goal.at.mark_in-known-requires-clause-line c).After-row_of_line-displayed).line, length-AreRowsOf _ _ _ (right (goal.at.mark_in-known-requires-clause-line c).After-row_of_line-displayed))
-
-pub mark_in-known-requires-clause-whole : goal.mark_in-known-requires-clause-whole
-mark_in-known-requires-clause-whole c = (shown (goal.at.mark_in-known-requires-clause-whole c).After-row_of_line-displayed).whole
-
-pub character_near_column-index-requires-clause-known : goal.character_near_column-index-requires-clause-known
-character_near_column-index-requires-clause-known c =
-    rw (c.reachable_text-reachable.ensures.characters, c.tab_len.ensures) c.mark_in-known.ensures.reachable
 
 pub place_in-requires-clause-line : goal.place_in-requires-clause-line
 place_in-requires-clause-line c =
