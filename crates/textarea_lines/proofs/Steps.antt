@@ -1,7 +1,6 @@
 -- A cursor moves to one position or none, up or down, in a text with its layout.
 use Rattle.std.proofs.lemmas.Grind.{common_steps}
 use Rattle.std.proofs.Common.{◌≡◌, ℕ, List, Option, None, Some, MatchOption, ap, refl, arith}
-use Rattle.std.specs.Option.{IfSome}
 use Rattle.textarea_text.specs.Place.{Place}
 use Rattle.textarea_text.specs.Text.{lines}
 use Rattle.textarea_wrap.specs.RowsView.{RowsView}
@@ -57,8 +56,3 @@ Finds Ends Goes text_layout place found = OfRows text_layout (λ (rows : List Ro
 
 pub finds_once : (Ends : Edge) (Goes : Step) (text_layout : TextAndLayout) (place : Place) (found other : Option Place) → ((rows others : List RowsView) → HasLayout text_layout rows → HasLayout text_layout others → rows ≡ others) → EndsAt Ends Goes → LeadsToOne Goes → Finds Ends Goes text_layout place found → Finds Ends Goes text_layout place other → found ≡ other
 finds_once Ends Goes text_layout place found other one_list ends one h k = grind (arith, common_steps, tab_len_of, one_target)
-
--- of a target with two facts, each fact
-targets : {X : Type 0} (o : Option X) (P : Type 0) (Q R : X → Type 0) → MatchOption o P (λ x. Q x × R x) → IfSome o Q × MatchOption o P R
-targets None P Q R h = (tt, h)
-targets (Some x) P Q R h = h
