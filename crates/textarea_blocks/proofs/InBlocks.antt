@@ -118,6 +118,10 @@ pub ranges_in_block : (blocks : List (List RowsView)) (block index line : ℕ) (
 ranges_in_block blocks block index line rows within inside at is =
     grind (arith, common_steps, line_there blocks block index within inside, line_in_block blocks block index rows within inside, get_or-map)
 
+pub ranges_there : (blocks : List (List RowsView)) (block index line : ℕ) → block < length blocks → index < length (get_or blocks block []) → lines_before blocks block + index ≡ line → ranges_at (all_rows blocks) line ≡ ranges_at (get_or blocks block []) index
+ranges_there blocks block index line within inside at =
+    grind (arith, common_steps, line_there blocks block index within inside, line_in_block blocks block index (record { ranges = []; marks = []; tick = 0 }) within inside, get_or-map)
+
 pub marks_in_block : (blocks : List (List RowsView)) (block index line : ℕ) (rows : RowsView) → block < length blocks → index < length (get_or blocks block []) → lines_before blocks block + index ≡ line → rows ≡ get_or (get_or blocks block []) index rows → rows.marks ≡ marks_at (all_rows blocks) line
 marks_in_block blocks block index line rows within inside at is =
     grind (arith, common_steps, line_there blocks block index within inside, line_in_block blocks block index rows within inside, get_or-map)

@@ -1,8 +1,8 @@
 -- The numbers of lines and of visual rows before blocks, as blocks change.
 use Rattle.std.proofs.lemmas.Grind.{common_steps}
-use Rattle.std.proofs.Common.{◌≡◌, ℕ, ◌+◌, ◌-◌, ◌^◌, ◌<◌, ◌≤◌, inl, inr, List, [], ◌∷◌, ◌++◌, length, take, drop, get_or, set, sym, ap, refl, ◌∙◌, arith}
+use Rattle.std.proofs.Common.{◌≡◌, ℕ, ◌+◌, ◌-◌, ◌^◌, ◌<◌, ◌≤◌, inl, inr, List, [], ◌∷◌, ◌++◌, length, take, drop, get_or, set, sym, ap, ◌∙◌, arith}
 use Rattle.std.proofs.lemmas.Bool.{cases_lt}
-use Rattle.std.proofs.lemmas.List.{drop-set-lt, get_or-append-add, get_or-append_right, get_or_append_left, get_or-drop, get_or-set_same, get_or-take, length-append, length-set, length-take-le, take-append-drop, take-append-le, take-set-le, take-take}
+use Rattle.std.proofs.lemmas.List.{drop-set-lt, get_or-append-add, get_or_append_left, get_or-set_same, length-append, length-set, length-take-le, take-append-drop, take-append-le, take-set-le, take-take}
 use Rattle.std.proofs.Math.Seq.{take-append-add}
 use Rattle.textarea_blocks.specs.Prelude.{RowsView, replaced, Exchanged, all_rows, AreExchanged, AreShifted, AreTotals, CanShift}
 use Rattle.textarea_util.proofs.Replacing.{length-replaced}
@@ -154,36 +154,4 @@ totals_exchanged total sum blocks new numbers news now exchanged h more ordered 
                   )
             ]
       ];
-    }
-
--- numbers that are adjusted and then replaced
-pub numbers_exchanged : (old new turned counted now : List ℕ) (exchanged : Exchanged) → exchanged.from ≤ exchanged.to → exchanged.to ≤ length old → AreShifted old turned exchanged.to exchanged.gone exchanged.come → AreShifted new counted 0 0 exchanged.before → now ≡ replaced turned exchanged.from (exchanged.to - exchanged.from) counted → AreExchanged old new exchanged now
-numbers_exchanged old new turned counted now exchanged ordered within shifted shifted_new is =
-    let size = shifted.len in
-    let size_new = shifted_new.len in
-    let from = exchanged.from in
-    let to = exchanged.to in
-    let front = take from turned in
-    let rest = drop (from + (to - from)) turned in
-    let first : length front ≡ from = length-take-le from turned (omega arith) in
-    record {
-      len = omega (arith, ap length is, length-replaced turned from (to - from) counted (omega arith));
-      above = λ k before.
-          ap (λ (t : List ℕ). get_or t k 0) is ∙ get_or_append_left front (counted ++ rest) 0 k (omega (arith, first)) ∙ get_or-take from turned k 0 before ∙ shifted.above k (omega arith);
-      between = λ k there.
-          let at : from + k - from ≡ k = omega arith in
-          let here = ap (λ (t : List ℕ). get_or t (from + k) 0) is
-          ∙ get_or-append_right front (counted ++ rest) from (from + k) 0 first (omega arith)
-          ∙ ap (λ n. get_or (counted ++ rest) n 0) at
-          ∙ get_or_append_left counted rest 0 k (omega arith) in
-          omega (arith, here, shifted_new.moved k (omega arith) there);
-      after = λ k last there.
-          let n = k - to + (from + length new) in
-          let at : from + (to - from) + (n - from - length counted) ≡ k = omega arith in
-          let here = ap (λ (t : List ℕ). get_or t n 0) is
-          ∙ get_or-append_right front (counted ++ rest) from n 0 first (omega arith)
-          ∙ get_or-append_right counted rest (length counted) (n - from) 0 refl (omega arith)
-          ∙ get_or-drop (from + (to - from)) turned (n - from - length counted) 0
-          ∙ ap (λ m. get_or turned m 0) at in
-          omega (arith, here, shifted.moved k last there);
     }

@@ -1,4 +1,5 @@
 mod Layouts
+mod ChangedLine
 mod Stores
 mod SameWraps
 mod Preparing

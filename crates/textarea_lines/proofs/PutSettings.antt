@@ -1,12 +1,11 @@
 -- A text with other settings, or with its own.
-use Rattle.std.proofs.lemmas.Grind.{common_steps}
-use Rattle.std.proofs.Common.{◌≡◌, ℕ, zero, suc, ◌<◌, ◌==◌, ◌&&◌, ◌||◌, Bool, true, false, cond, not, ap, refl, arith, eq-eqb}
+use Rattle.std.proofs.Common.{◌≡◌, ℕ, zero, suc, ◌<◌, ◌==◌, ◌&&◌, ◌||◌, Bool, true, false, cond, not, refl, arith, eq-eqb}
 use Rattle.std.proofs.Math.Dec.{eqb-suc-zero}
 use Rattle.textarea_wrap.specs.declared.wrap.WrapMode.{WrapMode}
 use Rattle.textarea_wrap.specs.declared.wrap.WrapMode.TheVariants as mode
 use Rattle.textarea_screen_map.specs.declared.layout.Wrapping.{Wrapping}
-use Rattle.textarea_lines.specs.TextLayout.{TextAndLayout, at_width, layout_from_scratch, with_settings, keeps_wrapping, wrapping_at, wrapping_of}
-use Rattle.textarea_lines.specs.Wrappings.{wrapped_at_width, is_same_wrapping, is_same_mode, whole_lines, wrapping_for, wraps}
+use Rattle.textarea_lines.specs.TextLayout.{TextAndLayout, layout_from_scratch, with_settings, keeps_wrapping}
+use Rattle.textarea_lines.specs.Wrappings.{wrapped_at_width, is_same_wrapping, is_same_mode, whole_lines, wraps}
 use Rattle.textarea_lines.specs.declared.settings.LayoutSettings.{LayoutSettings}
 
 -- ---- other settings
@@ -40,20 +39,6 @@ settings_of wrap tab_len numbers width = record { mode = wrap; tab_len = tab_len
 abbrev wrapping_if : Bool → LayoutSettings → ℕ → Wrapping
 wrapping_if b settings line_count = cond b (wrapped_at_width settings settings.inner_width line_count) (whole_lines settings)
 
-wrapped_by_mode : (wrap : WrapMode) (width tab_len : ℕ) (numbers : Bool) (line_count : ℕ) → (width == 0) ≡ false →
-    wrapping_for (settings_of wrap tab_len numbers width) line_count ≡ wrapped_at_width (settings_of wrap tab_len numbers width) width line_count
-wrapped_by_mode mode.None width tab_len numbers line_count some =
-    ap (λ (z : Bool). wrapping_if (not z && false) (settings_of mode.None tab_len numbers width) line_count) some
-wrapped_by_mode mode.Word width tab_len numbers line_count some =
-    ap (λ (z : Bool). wrapping_if (not z && true) (settings_of mode.Word tab_len numbers width) line_count) some
-wrapped_by_mode mode.Glyph width tab_len numbers line_count some =
-    ap (λ (z : Bool). wrapping_if (not z && true) (settings_of mode.Glyph tab_len numbers width) line_count) some
-wrapped_by_mode mode.WordOrGlyph width tab_len numbers line_count some =
-    ap (λ (z : Bool). wrapping_if (not z && true) (settings_of mode.WordOrGlyph tab_len numbers width) line_count) some
-
-pub measured_wrap : (text_layout : TextAndLayout) (inner_width : ℕ) → 0 < inner_width → wrapping_of (with_settings text_layout (at_width text_layout inner_width)) ≡ wrapping_at text_layout inner_width
-measured_wrap text_layout inner_width some = grind (arith, common_steps, text_stays, settings_put, wrapped_by_mode, some_width inner_width some)
-
 -- ---- its own
 
 same_mode : (wrap : WrapMode) → is_same_mode wrap wrap ≡ true
@@ -70,6 +55,3 @@ all_true false b c d ea ec ed = ea
 
 pub same_as_itself : (w : Wrapping) → is_same_wrapping w w ≡ true
 same_as_itself w = all_true (is_same_mode w.mode w.mode) (not (wraps w.mode)) (w.width == w.width) (w.tab_len == w.tab_len) (same_mode w.mode) (eq-eqb w.width w.width refl) (eq-eqb w.tab_len w.tab_len refl)
-
-pub put_again : (text_layout : TextAndLayout) → with_settings text_layout text_layout.layout.settings ≡ text_layout
-put_again text_layout = ap (λ (b : Bool). put_if b text_layout text_layout.layout.settings) (same_as_itself (wrapping_of text_layout))

@@ -1,18 +1,15 @@
 -- A cursor moves to one position or none, up or down, in a text with its layout.
 use Rattle.std.proofs.lemmas.Grind.{common_steps}
-use Rattle.std.proofs.Common.{◌≡◌, ◌∙◌, ℕ, List, Option, None, Some, MatchOption, ap, length, refl, arith, subst}
-use Rattle.std.specs.Option.{IfSome}
-use Rattle.textarea_text.specs.Place.{Place, IsPlaceOf}
+use Rattle.std.proofs.Common.{◌≡◌, ℕ, List, Option, None, Some, MatchOption, ap, refl, arith}
+use Rattle.textarea_text.specs.Place.{Place}
 use Rattle.textarea_text.specs.Text.{lines}
 use Rattle.textarea_wrap.specs.RowsView.{RowsView}
 use Rattle.textarea_screen_map.specs.declared.layout.VisualPosition.{VisualPosition}
 use Rattle.textarea_screen_map.specs.declared.layout.Wrapping.{Wrapping}
-use Rattle.textarea_screen_map.specs.BorrowedLines.{BorrowedRows}
 use Rattle.textarea_screen_map.specs.LineRows.{AreRowsOf}
 use Rattle.textarea_screen_map.specs.VisualPositions.{IsAbove, IsBelow, IsInFirstRow, IsInLastRow, IsVisualPosition}
 use Rattle.textarea_lines.specs.TextRows.{HasLayout, OfRows}
 use Rattle.textarea_lines.specs.TextLayout.{TextAndLayout}
-use Rattle.textarea_lines.specs.View.{IsViewOf}
 use Rattle.textarea_lines.proofs.Stores.{tab_len_of}
 
 -- ---- steps, and positions without a step, in rows at some tab stops
@@ -59,22 +56,3 @@ Finds Ends Goes text_layout place found = OfRows text_layout (λ (rows : List Ro
 
 pub finds_once : (Ends : Edge) (Goes : Step) (text_layout : TextAndLayout) (place : Place) (found other : Option Place) → ((rows others : List RowsView) → HasLayout text_layout rows → HasLayout text_layout others → rows ≡ others) → EndsAt Ends Goes → LeadsToOne Goes → Finds Ends Goes text_layout place found → Finds Ends Goes text_layout place other → found ≡ other
 finds_once Ends Goes text_layout place found other one_list ends one h k = grind (arith, common_steps, tab_len_of, one_target)
-
--- of a target with two facts, each fact
-targets : {X : Type 0} (o : Option X) (P : Type 0) (Q R : X → Type 0) → MatchOption o P (λ x. Q x × R x) → IfSome o Q × MatchOption o P R
-targets None P Q R h = (tt, h)
-targets (Some x) P Q R h = h
-
--- what is true of a view's lines, at its tab stops, is true of the text's lines
-pub in_view : (text_layout : TextAndLayout) (view : BorrowedRows) (Fact : ℕ → List (List ℕ) → Type 0) → IsViewOf text_layout view → Fact view.wrapping.tab_len view.lines → Fact text_layout.layout.settings.tab_len (lines text_layout.text)
-in_view text_layout view Fact is h =
-    subst (λ (t : ℕ). Fact t (lines text_layout.text)) (ap (λ (w : Wrapping). w.tab_len) is.wrapping ∙ tab_len_of text_layout.layout.settings (length (lines text_layout.text)))
-    (subst (λ (ls : List (List ℕ)). Fact view.wrapping.tab_len ls) is.lines h)
-
--- what is found in a view
-pub target_in_view : (Ends : Edge) (Goes : Step) (text_layout : TextAndLayout) (view : BorrowedRows) (place : Place) (found : Option Place) → IsViewOf text_layout view → MatchOption found (Ends view.wrapping.tab_len view.lines view.rows place) (λ target. IsPlaceOf view.lines target × Goes view.wrapping.tab_len view.lines view.rows place target) → IfSome found (IsPlaceOf (lines text_layout.text)) × Finds Ends Goes text_layout place found
-target_in_view Ends Goes text_layout view place found is h =
-    let tab_len = text_layout.layout.settings.tab_len in
-    let both = targets found (Ends tab_len (lines text_layout.text) view.rows place) (IsPlaceOf (lines text_layout.text)) (Goes tab_len (lines text_layout.text) view.rows place)
-    (in_view text_layout view (λ t ls. MatchOption found (Ends t ls view.rows place) (λ target. IsPlaceOf ls target × Goes t ls view.rows place target)) is h) in
-    (both.0, (view.rows, is.rows, both.1))

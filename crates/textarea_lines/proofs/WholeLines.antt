@@ -12,7 +12,7 @@ use Rattle.textarea_text.specs.Touched.{breaks_of, new_line_count, replaced_line
 use Rattle.textarea_util.proofs.Replacing.{length-replaced}
 use Rattle.textarea_text.proofs.Sizes.{length-le-size_of, size_of_text, weight-append, weight-characters, weight_of_following}
 use Rattle.textarea_text.proofs.Splices.{following-append}
-use Rattle.textarea_text.proofs.Touching.{ChangesLine, changes_line}
+use Rattle.textarea_lines.proofs.ChangedLine.{ChangesLine, changes_line}
 use Rattle.textarea_wrap.specs.WrapRules.{ranges_from}
 use Rattle.textarea_wrap.specs.RowsView.{RowsView}
 use Rattle.textarea_wrap.specs.WrapResult.{IsWrapped}
@@ -24,6 +24,7 @@ use Rattle.textarea_screen_map.proofs.Layouts.{AreRowsOf-drop, AreRowsOf-replace
 use Rattle.textarea_blocks.proofs.Numbers.{row_total-replaced}
 use Rattle.textarea_blocks.proofs.LineSums.{size_total-append}
 use Rattle.textarea_screen_map.proofs.RowSizes.{size_of_lines}
+use Rattle.textarea_screen_map.proofs.VisualRows.{rows_before_next}
 use Rattle.textarea_lines.specs.declared.settings.LayoutSettings.{LayoutSettings}
 use Rattle.textarea_lines.specs.TextRows.{CanStayWhole, HasWholeLine, line_size}
 use Rattle.textarea_lines.specs.TextLayout.{Layout, applied_to, after_replacement, some_wrapped}
@@ -52,20 +53,13 @@ one_range settings (line ∷ lines) [] i h within = absurd h
 one_range settings (line ∷ lines) (r ∷ rows) zero h within = whole_ranges settings.tab_len 1 (encode_utf8_all line) r.ranges h.0.wrapped
 one_range settings (line ∷ lines) (r ∷ rows) (suc i) h within = one_range settings lines rows i h.1 (omega arith)
 
-total_next : (rows : List RowsView) (i : ℕ) → i < length rows → row_total (take (i + 1) rows) ≡ row_total (take i rows) + length (ranges_at rows i)
-total_next [] i within = absurd (omega arith)
-total_next (r ∷ rows) zero within = omega arith
-total_next (r ∷ rows) (suc i) within =
-    let next : suc i + 1 ≡ suc (i + 1) = omega arith in
-    ap (λ n. row_total (take n (r ∷ rows))) next ∙ omega (arith, total_next rows i (omega arith))
-
 -- one row is replaced by one row
 pub size_of_one : (rows new : List RowsView) (wrapped : RowsView) (row bytes : ℕ) → new ≡ wrapped ∷ [] → line_bytes wrapped.ranges ≡ bytes → size_total (replaced rows row 1 new) ≡ size_total (take row rows) + (bytes + 1) + size_total (drop (row + 1) rows)
 size_of_one rows new wrapped row bytes is e =
     grind (arith, common_steps, size_total-append (take row rows) (new ++ drop (row + 1) rows), size_total-append new (drop (row + 1) rows))
 
 pub total_of_one : (rows new : List RowsView) (wrapped : RowsView) (row : ℕ) → row < length rows → length (ranges_at rows row) ≡ 1 → new ≡ wrapped ∷ [] → length wrapped.ranges ≡ 1 → row_total (replaced rows row 1 new) ≡ row_total rows
-total_of_one rows new wrapped row within one is has = grind (arith, common_steps, row_total-replaced rows new row 1, total_next rows row within)
+total_of_one rows new wrapped row within one is has = grind (arith, common_steps, row_total-replaced rows new row 1, rows_before_next rows row)
 
 -- a push for which there is room
 pub pushed : {T E X : Type 0} (r : Result T E) (old new : List X) (x : X) → new ≡ cond (is_ok r) (old ++ x ∷ []) old → IsOk r → old ≡ [] → new ≡ x ∷ []
@@ -87,9 +81,11 @@ pub record Inside {Z : Type 0} (settings : LayoutSettings) (old now borrowed_lin
   pub after_is : after ≡ weight (applied (text_of old) splice) + 1
   pub limit : after ≤ size_limit
 
-inside_line : {Z : Type 0} (settings : LayoutSettings) (old now borrowed_lines : List (String Z)) (size after : ℕ) (map : MapView) (splice : Splice) (row : ℕ) → Inside settings old now borrowed_lines size after map splice row → ChangesLine (lines_of old) (lines_of now) row
+pub inside_line : {Z : Type 0} (settings : LayoutSettings) (old now borrowed_lines : List (String Z)) (size after : ℕ) (map : MapView) (splice : Splice) (row : ℕ) → Inside settings old now borrowed_lines size after map splice row → ChangesLine (lines_of old) (lines_of now) (row, splice.place.1)
 inside_line settings old now borrowed_lines size after map splice row h =
-    grind (arith, common_steps, changes_line, length-map old characters_of, length-map now characters_of)
+    let some : 0 < length (lines_of old) = omega (arith, length-map old characters_of, h.holds.stored.some) in
+    let some_now : 0 < length (lines_of now) = omega (arith, length-map now characters_of, h.now_some) in
+    rw h.row_is (changes_line (lines_of old) (lines_of now) splice some some_now h.fits h.none h.now_is)
 
 inside_rows : {Z : Type 0} (settings : LayoutSettings) (old now borrowed_lines : List (String Z)) (size after : ℕ) (map : MapView) (splice : Splice) (row : ℕ) → Inside settings old now borrowed_lines size after map splice row → AreRowsOf (whole_lines settings) (lines_of old) map.rows
 inside_rows settings old now borrowed_lines size after map splice row h =

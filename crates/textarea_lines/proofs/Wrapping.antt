@@ -3,7 +3,7 @@ use Rattle.std.proofs.lemmas.Grind.{common_steps}
 use Rattle.std.proofs.Common.{◌≡◌, ◌≢◌, ◌⊎◌, inl, inr, ℕ, ◌+◌, ◌-◌, ◌==◌, ◌≤◌, Bool, true, false, cond, List, [], ◌∷◌, Option, None, Some, length, ap, refl, sym, subst, ◌∙◌, le_trans, arith, eq-eqb}
 use Rattle.std.proofs.lemmas.Bool.{eqb-true}
 use Rattle.textarea_text.specs.Splice.{Splice, Fits, applied}
-use Rattle.textarea_text.specs.Text.{Symbol, lines}
+use Rattle.textarea_text.specs.Text.{lines}
 use Rattle.textarea_text.specs.Touched.{new_line_count, replaced_line_count}
 use Rattle.textarea_screen_map.specs.LineRows.{AreRowsOf}
 use Rattle.textarea_screen_map.specs.declared.layout.Wrapping.{Wrapping}
@@ -97,13 +97,6 @@ wraps_from_scratch text_layout settings e =
     let is = put_is text_layout settings false e in
     subst (WrapsAllLines text_layout) (sym is) (record { count = refl; ticks = refl })
 
-pub is_set_to : (text_layout : TextAndLayout) (settings : LayoutSettings) → WrapsForSettings text_layout settings (with_settings text_layout settings)
-is_set_to text_layout settings = record {
-  text = text_stays text_layout settings;
-  same_way = wraps_none text_layout settings;
-  other_way = wraps_from_scratch text_layout settings;
-}
-
 width_put : (text_layout : TextAndLayout) (settings : LayoutSettings) → map_width (with_settings text_layout settings) ≡ width_for settings (length (lines text_layout.text))
 width_put text_layout settings = grind (arith, common_steps, settings_put text_layout settings, text_stays text_layout settings)
 
@@ -116,9 +109,6 @@ is_widened text_layout inner_width =
       same_width = λ same. wraps_none text_layout settings (same_test settings text_layout.layout.settings n n refl refl (sym (width_put text_layout settings) ∙ same));
       other_width = λ other. wraps_from_scratch text_layout settings (other_test settings text_layout.layout.settings n n refl refl (λ e. other (width_put text_layout settings ∙ e)));
     }
-
-pub wraps_other_lines : (text_layout : TextAndLayout) (text : List Symbol) → WrapsAllLines text_layout (layout_from_scratch text_layout.layout.settings text_layout.layout.count text)
-wraps_other_lines text_layout text = record { count = refl; ticks = refl }
 
 -- ---- the count
 
@@ -142,9 +132,6 @@ pub splices_grow : (old new : TextAndLayout) (splices : List Splice) → WrapsFo
 splices_grow old new [] h = omega (arith, ap (λ (l : TextAndLayout). l.layout.count) h)
 splices_grow old new (splice ∷ splices) h =
     le_trans (one_grows old h.0 splice h.1) (splices_grow h.0 new splices h.2)
-
-pub width_grows : (old new : TextAndLayout) → WrapsForWidth old new → old.layout.count ≤ new.layout.count
-width_grows old new h = grind (arith, common_steps, all_grow, two_widths (map_width new) (map_width old))
 
 pub settings_grow : (old new : TextAndLayout) (settings : LayoutSettings) → WrapsForSettings old settings new → old.layout.count ≤ new.layout.count
 settings_grow old new settings h = by (keeps_wrapping old settings) refl

@@ -12,7 +12,7 @@ use Rattle.textarea_screen_map.specs.declared.layout.Wrapping.{Wrapping}
 use Rattle.textarea_screen_map.specs.LineRows.{AreRowsOf}
 use Rattle.textarea_blocks.specs.Sums.{row_total}
 use Rattle.textarea_screen_map.specs.VisualRows.{VisualRow, visual_rows, row_at, column_at, greatest_column}
-use Rattle.textarea_screen_map.specs.VisualPositions.{HasNoZeroWidth, IsPlaceAt, IsPlaceNear, IsVisualPosition, LeadsTo}
+use Rattle.textarea_screen_map.specs.VisualPositions.{HasNoZeroWidth, IsAbove, IsBelow, IsPlaceAt, IsPlaceNear, IsVisualPosition, LeadsTo}
 use Rattle.textarea_screen_map.proofs.RowColumns.{column_at-le, column_at-less}
 use Rattle.textarea_screen_map.proofs.VisualRows.{row_count, row_of}
 
@@ -137,3 +137,23 @@ column_within t row index false e within before = column_at-le t row.text index 
 
 pub visual_column_is : (t : ℕ) (lines : List (List ℕ)) (rows : List RowsView) (place : Place) (visual : VisualPosition) → IsVisualPosition t lines rows place visual → visual.column ≤ greatest_column t (row_at lines rows visual.row)
 visual_column_is t lines rows place visual s = grind (arith, common_steps, column_within)
+
+-- ---- up and down
+
+pub is_above : (t : ℕ) (lines : List (List ℕ)) (rows : List RowsView) (place target : Place) (row other column : ℕ) → IsVisualPosition t lines rows place (record { row = row; column = column }) → other + 1 ≡ row → IsPlaceNear t lines rows (record { row = other; column = column }) target → IsAbove t lines rows place target
+is_above t lines rows place target row other column at step near =
+    let is : other ≡ row - 1 = omega (arith, step) in
+    record {
+      visual = record { row = row; column = column };
+      visual_position = at;
+      not_first = omega (arith, step);
+      near = subst (λ (n : ℕ). IsPlaceNear t lines rows (record { row = n; column = column }) target) is near;
+    }
+
+pub is_below : (t : ℕ) (lines : List (List ℕ)) (rows : List RowsView) (place target : Place) (row other column : ℕ) → IsVisualPosition t lines rows place (record { row = row; column = column }) → row + 1 ≡ other → IsPlaceNear t lines rows (record { row = other; column = column }) target → IsBelow t lines rows place target
+is_below t lines rows place target row other column at step near =
+    record {
+      visual = record { row = row; column = column };
+      visual_position = at;
+      near = subst (λ (n : ℕ). IsPlaceNear t lines rows (record { row = n; column = column }) target) (sym step) near;
+    }

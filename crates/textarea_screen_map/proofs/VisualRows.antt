@@ -1,4 +1,5 @@
 -- The visual rows of all lines, each found by its line and its index there.
+use Rattle.std.proofs.lemmas.Grind.{common_steps}
 use Rattle.std.proofs.Common.{◌≡◌, ℕ, zero, suc, ◌+◌, ◌-◌, ◌<◌, ◌≤◌, inl, inr, true, false, nat_eq, Bool, List, [], ◌∷◌, length, take, drop, get_or, sym, ap, refl, ◌∙◌, arith, encode_utf8_all, String, string_bytes}
 use Rattle.std.proofs.lemmas.Bool.{cases_lt}
 use Rattle.std.proofs.lemmas.List.{get_or-append-add, get_or_append_left, length-append, length-map}
@@ -17,7 +18,7 @@ use Rattle.textarea_screen_map.specs.LineRows.{AreRowsOf}
 use Rattle.textarea_blocks.specs.Sums.{ranges_at, range_at, row_total}
 use Rattle.textarea_screen_map.specs.VisualRows.{VisualRow, rows_of_line, rows_from, visual_rows, row_at}
 use Rattle.textarea_screen_map.specs.VisualPositions.{IsVisualPosition}
-use Rattle.textarea_screen_map.proofs.Holding.{bytes_of_line, wrapped_at, holds_offset, range_is, rows_at, some_bytes}
+use Rattle.textarea_screen_map.proofs.Holding.{bytes_of_line, wrapped_at, holds_offset, range_is, rows_at, some_bytes, some_rows}
 use Rattle.textarea_screen_map.proofs.Layouts.{length-AreRowsOf}
 use Rattle.textarea_screen_map.proofs.RowSlices.{RowSlice, characters_between, column_before, column_from, column_to, row_slice_of, row_within}
 
@@ -179,50 +180,40 @@ rows_below (r ∷ rows) zero k within there = omega arith
 rows_below (r ∷ rows) (suc i) k within there = omega (arith, rows_below rows i k (omega arith) there)
 
 -- a position is in the last row of its line that begins at or before its offset
-pub visual_in : (w : Wrapping) (lines : List (List ℕ)) (rows : List RowsView) (place : Place) (k offset first column : ℕ) (slice : List ℕ) → AreRowsOf w lines rows → IsPlaceOf lines place → k < length (ranges_at rows place.0) → (range_at (ranges_at rows place.0) k).0 ≤ offset → (k + 1 < length (ranges_at rows place.0) → offset < (range_at (ranges_at rows place.0) (k + 1)).0) → offset ≡ offset_in (get_or lines place.0 []) place.1 → offset ≤ length (encode_utf8_all (get_or lines place.0 [])) → first ≡ row_total (take place.0 rows) → IsUtf8 slice → slice ≡ take (offset - (range_at (ranges_at rows place.0) k).0) (drop (range_at (ranges_at rows place.0) k).0 (encode_utf8_all (get_or lines place.0 []))) → column ≡ display_end_column w.tab_len 0 (chars slice) → (first + k < row_total rows) × IsVisualPosition w.tab_len lines rows place (record { row = first + k; column = column })
-visual_in w lines rows place k offset first column slice h is_place there from next offset_is short first_is valid slice_is column_is =
+pub visual_in : (w : Wrapping) (lines : List (List ℕ)) (rows : List RowsView) (place : Place) (k offset column : ℕ) (slice : List ℕ) → AreRowsOf w lines rows → IsPlaceOf lines place → k < length (ranges_at rows place.0) → (range_at (ranges_at rows place.0) k).0 ≤ offset → (k + 1 < length (ranges_at rows place.0) → offset < (range_at (ranges_at rows place.0) (k + 1)).0) → offset ≡ offset_in (get_or lines place.0 []) place.1 → offset ≤ length (encode_utf8_all (get_or lines place.0 [])) → IsUtf8 slice → slice ≡ take (offset - (range_at (ranges_at rows place.0) k).0) (drop (range_at (ranges_at rows place.0) k).0 (encode_utf8_all (get_or lines place.0 []))) → column ≡ display_end_column w.tab_len 0 (chars slice) → IsVisualPosition w.tab_len lines rows place (record { row = row_total (take place.0 rows) + k; column = column })
+visual_in w lines rows place k offset column slice h is_place there from next offset_is short valid slice_is column_is =
     let line = get_or lines place.0 [] in
     let ranges = ranges_at rows place.0 in
     let range = range_at ranges k in
+    let row = row_total (take place.0 rows) + k in
     let wrapped = wrapped_at w lines rows place.0 h is_place.0 in
     let p = row_slice_of line range (rows_at w lines rows place.0 h is_place.0).characters (range_is _ _ _ _ ranges k wrapped there) in
     let stored = holds_offset _ _ _ _ ranges k offset wrapped short there from next in
-    let number = rw (← first_is) at (row_numbered w lines rows place.0 k h is_place.0 there) in
-    let first_same : (row_at lines rows (first + k)).first ≡ length p.front = number.first_is ∙ ap length (sym p.front_is) in
-    let text_same : (row_at lines rows (first + k)).text ≡ p.text = number.text_is ∙ sym p.text_is in
-    let size : length (row_at lines rows (first + k)).text ≡ length p.text = ap length text_same in
+    let number = row_numbered w lines rows place.0 k h is_place.0 there in
+    let first_same : (row_at lines rows row).first ≡ length p.front = number.first_is ∙ ap length (sym p.front_is) in
+    let text_same : (row_at lines rows row).text ≡ p.text = number.text_is ∙ sym p.text_is in
+    let size : length (row_at lines rows row).text ≡ length p.text = ap length text_same in
     let after : length p.front ≤ place.1 = column_from line range p place.1 is_place.1 (omega (arith, from, offset_is)) in
     let before : place.1 ≤ length p.front + length p.text = column_to line range p place.1 is_place.1 (omega (arith, stored.to, offset_is)) in
     let spelled : chars slice ≡ take (place.1 - length p.front) p.text =
     characters_between line range p place.1 slice after before valid (slice_is ∙ ap (λ (n : ℕ). take (n - range.0) (drop range.0 (encode_utf8_all line))) offset_is) in
-    let below : first + k < row_total rows = omega (arith, first_is, rows_below rows place.0 k (omega (arith, is_place.0, length-AreRowsOf w lines rows h)) there) in (
-      below,
-      record {
-        row = omega (arith, below, row_count w lines rows h);
-        holds = record {
-          line = sym number.line_is;
-          from = omega (arith, after, first_same);
-          to = omega (arith, before, first_same, size);
-          before_next = λ e.
-              let more = more_rows _ k (length ranges) there number.last e in
-              omega (arith, first_same, size, column_before line range p place.1 (omega (arith, offset_is, stored.before_next more)));
-        };
-        column = rw (column_is, spelled, first_same, text_same);
-      },
-    )
+    record {
+      row = omega (arith, rows_below rows place.0 k (omega (arith, is_place.0, length-AreRowsOf w lines rows h)) there, row_count w lines rows h);
+      holds = record {
+        line = sym number.line_is;
+        from = omega (arith, after, first_same);
+        to = omega (arith, before, first_same, size);
+        before_next = λ e.
+            let more = more_rows _ k (length ranges) there number.last e in
+            omega (arith, first_same, size, column_before line range p place.1 (omega (arith, offset_is, stored.before_next more)));
+      };
+      column = rw (column_is, spelled, first_same, text_same);
+    }
 
 -- ---- a visual row as in the code
 
 pub row_displayed : (row : VisualRow) (line start first : ℕ) (text : List ℕ) (is_last : Bool) → line ≡ row.line → start ≡ row.start → first ≡ row.first → text ≡ row.text → is_last ≡ row.is_last → record { line = line; start = start; first = first; text = text; is_last = is_last } ≡ row
 row_displayed row line start first text is_last l s f t e = rw (l, s, f, t, e) refl
-
-pub number_there : (rows : List RowsView) (line number row : ℕ) → line < length rows → row_total (take line rows) + number ≡ row → row < row_total (take (line + 1) rows) → number < length (ranges_at rows line)
-number_there [] line number row within e below = absurd (omega arith)
-number_there (r ∷ rows) zero number row within e below = omega (arith, e, below)
-number_there (r ∷ rows) (suc line) number row within e below =
-    let step : suc line + 1 ≡ suc (line + 1) = omega arith in
-    let whole = ap (λ n. row_total (take n (r ∷ rows))) step in
-    number_there rows line number (row - length r.ranges) (omega arith) (omega (arith, e)) (omega (arith, e, below, whole))
 
 pub record IsTextOfRow (row : VisualRow) (line number : ℕ) (ranges : List (ℕ × ℕ)) (text : List ℕ) : Type 0 where
   pub placed : IsRowRange text (range_at ranges number)
@@ -240,10 +231,10 @@ last_row v number size there last more =
       | inr most ↦ let same : number + 1 ≡ size = omega (arith, there, most) in let e = last same in grind (arith, nat_tests)
     ]
 
-pub text_of_row : (w : Wrapping) (lines : List (List ℕ)) (rows : List RowsView) (row line number : ℕ) (ranges : List (ℕ × ℕ)) (text : List ℕ) → AreRowsOf w lines rows → line < length lines → number < length (ranges_at rows line) → row_total (take line rows) + number ≡ row → ranges ≡ ranges_at rows line → text ≡ encode_utf8_all (get_or lines line []) → IsTextOfRow (row_at lines rows row) line number ranges text
-text_of_row w lines rows row line number ranges text h within there row_is ranges_is text_is =
+pub text_of_row : (w : Wrapping) (lines : List (List ℕ)) (rows : List RowsView) (line number : ℕ) (ranges : List (ℕ × ℕ)) (text : List ℕ) → AreRowsOf w lines rows → line < length lines → number < length (ranges_at rows line) → ranges ≡ ranges_at rows line → text ≡ encode_utf8_all (get_or lines line []) → IsTextOfRow (row_at lines rows (row_total (take line rows) + number)) line number ranges text
+text_of_row w lines rows line number ranges text h within there ranges_is text_is =
     let wrapped = wrapped_at w lines rows line h within in
-    let numbered = rw row_is at (row_numbered w lines rows line number h within there) in
+    let numbered = row_numbered w lines rows line number h within there in
     rw (text_is, ranges_is) record {
       placed = range_is _ _ _ _ (ranges_at rows line) number wrapped there;
       short = (rows_at w lines rows line h within).short;
@@ -251,22 +242,36 @@ text_of_row w lines rows row line number ranges text h within there row_is range
       start_is = sym numbered.start_is;
       first_is = sym numbered.first_is;
       text_is = sym numbered.text_is;
-      last_is = last_row (row_at lines rows row) number (length (ranges_at rows line)) there numbered.last numbered.more;
+      last_is = last_row (row_at lines rows (row_total (take line rows) + number)) number (length (ranges_at rows line)) there numbered.last numbered.more;
     }
 
--- the same, from the line and the row that are found, and from the borrowed lines
-pub record IsFoundRow {Z : Type 0} (items : List (String Z)) (rows : List RowsView) (row line number : ℕ) (ranges : List (ℕ × ℕ)) (text : List ℕ) : Type 0 where
+-- the same in the borrowed lines
+pub record IsFoundRow {Z : Type 0} (items : List (String Z)) (rows : List RowsView) (line number : ℕ) (ranges : List (ℕ × ℕ)) (text : List ℕ) : Type 0 where
   pub within : line < length items
   pub there : number < length ranges
-  pub text_is : IsTextOfRow (row_at (lines_of items) rows row) line number ranges text
+  pub text_is : IsTextOfRow (row_at (lines_of items) rows (row_total (take line rows) + number)) line number ranges text
+  pub bytes : text ≡ encode_utf8_all (get_or (lines_of items) line [])
 
-pub found_row : {Z : Type 0} (w : Wrapping) (items : List (String Z)) (rows : List RowsView) (row line number : ℕ) (ranges : List (ℕ × ℕ)) (item : String Z) (text : List ℕ) → AreRowsOf w (lines_of items) rows → line < length rows → row_total (take line rows) + number ≡ row → row < row_total (take (line + 1) rows) → ranges ≡ ranges_at rows line → item ≡ get_or items line item → text ≡ string_bytes item → IsFoundRow items rows row line number ranges text
-found_row w items rows row line number ranges item text h line_within row_is inside ranges_is read same =
-    let there = number_there rows line number row line_within row_is inside in
+pub found_row : {Z : Type 0} (w : Wrapping) (items : List (String Z)) (rows : List RowsView) (line number : ℕ) (ranges : List (ℕ × ℕ)) (item : String Z) (text : List ℕ) → AreRowsOf w (lines_of items) rows → line < length rows → number < length (ranges_at rows line) → ranges ≡ ranges_at rows line → item ≡ get_or items line item → text ≡ string_bytes item → IsFoundRow items rows line number ranges text
+found_row w items rows line number ranges item text h line_within there ranges_is read same =
     let in_lines : line < length (lines_of items) = omega (arith, line_within, length-AreRowsOf w (lines_of items) rows h) in
     let within : line < length items = omega (arith, in_lines, length-map items characters_of) in
+    let bytes = bytes_of_line items line item text within read same in
     record {
       within = within;
       there = omega (arith, there, ap length ranges_is);
-      text_is = text_of_row w (lines_of items) rows row line number ranges text h in_lines there row_is ranges_is (bytes_of_line items line item text within read same);
+      text_is = text_of_row w (lines_of items) rows line number ranges text h in_lines there ranges_is bytes;
+      bytes = bytes;
     }
+
+-- ---- the row before and the row after
+
+pub rows_before_next : (rows : List RowsView) (i : ℕ) → row_total (take (i + 1) rows) ≡ row_total (take i rows) + length (ranges_at rows i)
+rows_before_next [] i = grind (arith, common_steps)
+rows_before_next (r ∷ rows) zero = omega arith
+rows_before_next (r ∷ rows) (suc i) =
+    let step : suc i + 1 ≡ suc (i + 1) = omega arith in
+    omega (arith, rows_before_next rows i, ap (λ n. row_total (take n (r ∷ rows))) step)
+
+pub some_of_line : (w : Wrapping) (lines : List (List ℕ)) (rows : List RowsView) (i : ℕ) → AreRowsOf w lines rows → i < length lines → 0 < length (ranges_at rows i)
+some_of_line w lines rows i h within = some_rows _ _ _ _ _ (wrapped_at w lines rows i h within)

@@ -14,8 +14,8 @@ pub use Rattle.textarea_screen_map.specs.LineRows.{AreRowsOf, ticks_after, ticks
 pub use Rattle.textarea_screen_map.specs.LineMarks.{AreMarks, AreMarksOf, IsMark, IsSameBefore, line_start}
 pub use Rattle.textarea_screen_map.specs.Map.{IsRowCount}
 pub use Rattle.textarea_screen_map.specs.Prepared.{CanPutRows, HasRoom, IsPreparedFor, rows_in, rows_with}
-pub use Rattle.textarea_screen_map.specs.RowTexts.{HasFrontOfLine, row_of_texts}
-pub use Rattle.textarea_screen_map.specs.VisualPositions.{HasNoZeroWidth, IsAbove, IsBelow, IsInFirstRow, IsInLastRow, IsPlaceAt, IsPlaceNear, IsVisualPosition, IsVisualUpTo, LeadsTo}
+pub use Rattle.textarea_screen_map.specs.RowTexts.{HasFrontOfLine, IsRowText, row_of_texts}
+pub use Rattle.textarea_screen_map.specs.VisualPositions.{HasNoZeroWidth, IsAbove, IsBelow, IsInFirstRow, IsInLastRow, IsPlaceAt, IsPlaceNear, IsVisualPosition, IsVisualUpTo, LeadsTo, over_all_lines}
 pub use Rattle.textarea_screen_map.specs.VisualRows.{column_at, greatest_column, reachable_text, row_at, row_width}
 pub use Rattle.textarea_screen_map.specs.declared.layout.VisualPosition.{VisualPosition}
 pub use Rattle.textarea_screen_map.specs.declared.layout.Wrapping.{Wrapping}

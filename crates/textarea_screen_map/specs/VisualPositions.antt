@@ -1,9 +1,10 @@
 -- The visual position of a position of the text, and the position for a visual position.
-use Rattle.std.specs.Prelude.{◌≡◌, ◌≢◌, ℕ, ◌+◌, ◌-◌, ◌<◌, ◌≤◌, ◌⊎◌, ◌==◌, ◌&&◌, min, Bool, false, List, length}
+use Rattle.std.specs.Prelude.{◌≡◌, ◌≢◌, ℕ, ◌+◌, ◌-◌, ◌<◌, ◌≤◌, ◌⊎◌, ◌==◌, ◌&&◌, min, Bool, false, List, length, take}
 use Rattle.std.specs.List.{AllByRecursion}
 use Rattle.textarea_text.specs.Place.{Place}
 use Rattle.textarea_wrap.specs.Columns.{plain_width}
 use Rattle.textarea_wrap.specs.RowsView.{RowsView}
+use Rattle.textarea_blocks.specs.Sums.{row_total}
 use Rattle.textarea_screen_map.specs.declared.layout.VisualPosition.{VisualPosition}
 use Rattle.textarea_screen_map.specs.VisualRows.{VisualRow, visual_rows, row_at, column_at, greatest_column}
 
@@ -20,6 +21,10 @@ pub record IsVisualPosition (tab_len : ℕ) (lines : List (List ℕ)) (rows : Li
   pub row : visual.row < length (visual_rows lines rows)
   pub holds : IsInRow (row_at lines rows visual.row) place
   pub column : visual.column ≡ column_at tab_len (row_at lines rows visual.row).text (place.1 - (row_at lines rows visual.row).first)
+
+-- the visual position whose row has this index among the rows of a line
+abbrev pub over_all_lines : List RowsView → ℕ → VisualPosition → VisualPosition
+over_all_lines rows line visual = record visual { row = row_total (take line rows) + visual.row }
 
 -- whether two visual positions are the same
 abbrev pub is_same_visual : VisualPosition → VisualPosition → Bool

@@ -337,27 +337,21 @@ impl ScreenMap {
         self.blocks.first_row(line)
     }
 
-    fn line_of_row(&self, row: usize) -> (usize, usize)
+    pub(crate) fn line_of_row(&self, row: usize) -> (usize, usize)
         requires { row < row_total self.now.rows }
         ensures line { result.0 < length self.now.rows }
         ensures row { row_total (take result.0 self.now.rows) + result.1 ≡ row }
-        ensures inside { row < row_total (take (result.0 + 1) self.now.rows) }
+        ensures number { result.1 < length (ranges_at self.now.rows result.0) }
     {
         self.blocks.line_of_row(row)
     }
 
-    pub(crate) fn rows_of(&self, line: usize) -> &[(usize, usize)]
+    pub(crate) fn rows_at(&self, line: usize) -> &Rows
         requires { line < length self.now.rows }
-        ensures { result.now ≡ ranges_at self.now.rows line }
+        ensures ranges { result.now.ranges ≡ ranges_at self.now.rows line }
+        ensures marks { result.now.marks ≡ marks_at self.now.rows line }
     {
-        self.blocks.rows_of(line)
-    }
-
-    pub(crate) fn marks_of(&self, line: usize) -> &[(usize, usize)]
-        requires { line < length self.now.rows }
-        ensures { result.now ≡ marks_at self.now.rows line }
-    {
-        self.blocks.marks_of(line)
+        self.blocks.rows_at(line)
     }
 }
 

@@ -3,7 +3,7 @@
 //! the next tab stop, and takes one column without tab stops.
 ghost use Rattle.std.specs.Prelude.{◌≡◌, ◌+◌, ◌<◌, ◌≤◌, [], encode_utf8_all, get_or, length, take, MatchOption};
 ghost use Rattle.textarea_text.specs.Offset.{offset_at};
-ghost use Rattle.textarea_screen_map.specs.Prelude.{size_limit, AreMarksOf, IsMark, reachable_text, IsPlaceOf, size_of, lines_of, AreRowsOf, range_at, row_total, greatest_column, row_at, row_width, IsAbove, IsBelow, IsInFirstRow, IsInLastRow, IsPlaceAt, IsPlaceNear, IsVisualPosition, HasFrontOfLine, row_of_texts, AreRowsRight, borrowed_rows};
+ghost use Rattle.textarea_screen_map.specs.Prelude.{size_limit, AreMarksOf, IsMark, reachable_text, IsPlaceOf, size_of, lines_of, AreRowsOf, range_at, ranges_at, row_total, greatest_column, row_at, row_width, IsAbove, IsBelow, IsInFirstRow, IsInLastRow, IsPlaceAt, IsPlaceNear, IsVisualPosition, HasFrontOfLine, over_all_lines, row_of_texts, AreRowsRight, borrowed_rows};
 
 use crate::columns::{character_at_column, character_near_column, reachable_text, width_between};
 use crate::layout::VisualPosition;
@@ -113,17 +113,28 @@ impl<'a> TextLayoutView<'a> {
         ensures visual { IsVisualPosition self.now.wrapping.tab_len self.now.lines self.now.rows
             place result }
     {
+        let VisualPosition { row, column } = self.visual_in_line(place);
+        VisualPosition {
+            row: self.map.first_row(place.0) + row,
+            column,
+        }
+    }
+
+    // The same with the row's index among the rows of the position's line.
+    fn visual_in_line(&self, place: (usize, usize)) -> VisualPosition
+        requires { IsPlaceOf self.now.lines place }
+        ensures number { result.row < length (ranges_at self.now.rows place.0) }
+        ensures visual { IsVisualPosition self.now.wrapping.tab_len self.now.lines self.now.rows
+            place (over_all_lines self.now.rows place.0 result) }
+    {
         let offset = self.offset_of(place);
-        let ranges = self.map.rows_of(place.0);
+        let ranges = self.map.rows_at(place.0).as_slice();
         let row = row_holding(ranges, offset);
         let tab_len = self.tab_len();
         let known = self.marks.at_column(place.0, tab_len, place.1);
         let line = self.lines[place.0].as_str();
         let column = width_between(line, ranges[row].0, offset, known, tab_len);
-        VisualPosition {
-            row: self.map.first_row(place.0) + row,
-            column,
-        }
+        VisualPosition { row, column }
     }
 
     /// Returns the bytes before a position in its line. Only the text from the nearest known
@@ -133,7 +144,7 @@ impl<'a> TextLayoutView<'a> {
         ensures { result ≡ offset_at self.now.lines place }
     {
         let known = self.marks.at_column(place.0, self.tab_len(), place.1);
-        let rows_marks = self.map.marks_of(place.0);
+        let rows_marks = self.map.rows_at(place.0).marks();
         let line = self.lines[place.0].as_str();
         offset_of_column(line, place.1, rows_marks, (known.column, known.offset))
     }
@@ -162,7 +173,19 @@ impl<'a> TextLayoutView<'a> {
         ensures near { IsPlaceNear self.now.wrapping.tab_len self.now.lines self.now.rows
             visual result }
     {
-        let displayed = self.map.row_at(self.lines, visual.row);
+        let (line, row) = self.map.line_of_row(visual.row);
+        self.near_in_line(line, VisualPosition { row, ..visual })
+    }
+
+    // The same for the row's index among the rows of a line.
+    fn near_in_line(&self, line: usize, visual: VisualPosition) -> (usize, usize)
+        requires line { line < length self.now.lines }
+        requires number { visual.row < length (ranges_at self.now.rows line) }
+        ensures place { IsPlaceOf self.now.lines result }
+        ensures near { IsPlaceNear self.now.wrapping.tab_len self.now.lines self.now.rows
+            (over_all_lines self.now.rows line visual) result }
+    {
+        let displayed = self.map.row_of_line(self.lines, line, visual.row);
         let known = self.mark_in(displayed, visual.column);
         let reachable = reachable_text(displayed.text, displayed.is_last);
         let index = character_near_column(reachable, known, visual.column, self.tab_len());
@@ -176,7 +199,8 @@ impl<'a> TextLayoutView<'a> {
         requires few { (row_of_texts displayed).first + index < size_limit }
         ensures { result ≡ (displayed.entry.line, (row_of_texts displayed.entry).first + index) }
     {
-        let first = columns_of_front(displayed.before, self.map.marks_of(displayed.line));
+        let marks = self.map.rows_at(displayed.line).marks();
+        let first = columns_of_front(displayed.before, marks);
         (displayed.line, first + index)
     }
 
@@ -225,12 +249,17 @@ impl<'a> TextLayoutView<'a> {
             (λ target. IsPlaceOf self.now.lines target
             × IsAbove self.now.wrapping.tab_len self.now.lines self.now.rows place target) }
     {
-        let mut visual = self.visual_position(place);
-        if visual.row == 0 {
+        let line = place.0;
+        let VisualPosition { row, column } = self.visual_in_line(place);
+        if row > 0 {
+            let row = row - 1;
+            return Some(self.near_in_line(line, VisualPosition { row, column }));
+        }
+        if line == 0 {
             return None;
         }
-        visual.row -= 1;
-        Some(self.place_near(visual))
+        let row = self.map.rows_at(line - 1).as_slice().len() - 1;
+        Some(self.near_in_line(line - 1, VisualPosition { row, column }))
     }
 
     /// Returns where a cursor moves one visual row down; `None` in the last visual row.
@@ -241,13 +270,17 @@ impl<'a> TextLayoutView<'a> {
             (λ target. IsPlaceOf self.now.lines target
             × IsBelow self.now.wrapping.tab_len self.now.lines self.now.rows place target) }
     {
-        let total = self.map.row_count();
-        let mut visual = self.visual_position(place);
-        visual.row += 1;
-        if visual.row == total {
+        let line = place.0;
+        let VisualPosition { row, column } = self.visual_in_line(place);
+        let count = self.map.rows_at(line).as_slice().len();
+        let row = row + 1;
+        if row < count {
+            return Some(self.near_in_line(line, VisualPosition { row, column }));
+        }
+        if line + 1 == self.lines.len() {
             return None;
         }
-        Some(self.place_near(visual))
+        Some(self.near_in_line(line + 1, VisualPosition { row: 0, column }))
     }
 }
 

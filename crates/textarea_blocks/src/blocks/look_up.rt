@@ -53,22 +53,14 @@ impl RowBlocks {
         self.place_of(line).0
     }
 
-    /// Returns for each row of the line the byte offsets of its start and its end in the line.
-    pub fn rows_of(&self, line: usize) -> &[(usize, usize)]
+    /// Returns the visual rows of the line.
+    pub fn rows_at(&self, line: usize) -> &Rows
         requires { line < length (all_rows self.now.blocks) }
-        ensures { result.now ≡ ranges_at (all_rows self.now.blocks) line }
+        ensures ranges { result.now.ranges ≡ ranges_at (all_rows self.now.blocks) line }
+        ensures marks { result.now.marks ≡ marks_at (all_rows self.now.blocks) line }
     {
         let (block, index) = self.place_of(line);
-        self.blocks[block][index].as_slice()
-    }
-
-    /// Returns the marks of the line's rows, as `Rows::marks` does.
-    pub fn marks_of(&self, line: usize) -> &[(usize, usize)]
-        requires { line < length (all_rows self.now.blocks) }
-        ensures { result.now ≡ marks_at (all_rows self.now.blocks) line }
-    {
-        let (block, index) = self.place_of(line);
-        self.blocks[block][index].marks()
+        &self.blocks[block][index]
     }
 
     /// Returns the first visual row of the line.
@@ -85,7 +77,7 @@ impl RowBlocks {
         requires { row < row_total (all_rows self.now.blocks) }
         ensures line { result.0 < length (all_rows self.now.blocks) }
         ensures row { row_total (take result.0 (all_rows self.now.blocks)) + result.1 ≡ row }
-        ensures inside { row < row_total (take (result.0 + 1) (all_rows self.now.blocks)) }
+        ensures number { result.1 < length (ranges_at (all_rows self.now.blocks) result.0) }
     {
         let block = self.rows.last_at_most(row);
         let (index, left) = row_in(self.blocks[block].as_slice(), row - self.rows.at(block));
@@ -125,7 +117,7 @@ fn row_in(rows: &[Rows], row: usize) -> (usize, usize)
     requires { row < row_total rows.now }
     ensures line { result.0 < length rows.now }
     ensures row { row_total (take result.0 rows.now) + result.1 ≡ row }
-    ensures inside { row < row_total (take (result.0 + 1) rows.now) }
+    ensures number { result.1 < length (ranges_at rows.now result.0) }
 {
     let mut line = 0;
     let mut left = row;

@@ -1,6 +1,6 @@
 //! A visual row as texts of its line.
-ghost use Rattle.std.specs.Prelude.{◌≡◌, ◌+◌, ◌<◌, [], encode_utf8_all, get_or, length, take};
-ghost use Rattle.textarea_screen_map.specs.Prelude.{size_limit, lines_of, AreRowsOf, row_total, row_at, HasFrontOfLine, row_of_texts};
+ghost use Rattle.std.specs.Prelude.{◌+◌, ◌<◌, length, take};
+ghost use Rattle.textarea_screen_map.specs.Prelude.{lines_of, AreRowsOf, ranges_at, row_total, IsRowText};
 
 use super::ScreenMap;
 
@@ -21,18 +21,21 @@ impl ScreenMap {
     pub fn row_at<'a>(&self, lines: &'a [String], row: usize) -> RowText<'a>
         requires rows { AreRowsOf self.now.wrapping (lines_of lines.now) self.now.rows }
         requires row { row < row_total self.now.rows }
-        ensures displayed { row_of_texts result ≡ row_at (lines_of lines.now) self.now.rows row }
-        ensures number { row_total (take result.line self.now.rows) + result.number ≡ row }
-        ensures line { result.line < length self.now.rows }
-        ensures front { HasFrontOfLine (lines_of lines.now) result }
-        ensures whole { length result.text.now
-            ≡ length (encode_utf8_all (get_or (lines_of lines.now) result.line []))
-            → result.text.now ≡ encode_utf8_all (get_or (lines_of lines.now) result.line []) }
-        ensures before { length result.before.now < size_limit }
-        ensures short { length result.text.now < size_limit }
+        ensures { IsRowText (lines_of lines.now) self.now.rows row result }
     {
         let (line, number) = self.line_of_row(row);
-        let ranges = self.rows_of(line);
+        self.row_of_line(lines, line, number)
+    }
+
+    /// Returns the visual row of this index among those of a line, as slices of `lines`.
+    pub fn row_of_line<'a>(&self, lines: &'a [String], line: usize, number: usize) -> RowText<'a>
+        requires rows { AreRowsOf self.now.wrapping (lines_of lines.now) self.now.rows }
+        requires line { line < length self.now.rows }
+        requires number { number < length (ranges_at self.now.rows line) }
+        ensures { IsRowText (lines_of lines.now) self.now.rows
+            (row_total (take line self.now.rows) + number) result }
+    {
+        let ranges = self.rows_at(line).as_slice();
         let (start, end) = ranges[number];
         let text = lines[line].as_str();
         RowText {

@@ -55,6 +55,3 @@ returns-clause-rows c =
           (subst (λ (t : List ℕ). IsWrapped mode.None c.wrapping-wrapping.result.tab_len 1 t c.unwrap-wrapped.result.ranges) bytes right);
       marked = IfOk-at_ok _ c.unwrap-wrapped.ensures c.line_ranges.ensures.marks ∙ ap (λ (t : List ℕ). marks_of t c.unwrap-wrapped.result.ranges) bytes;
     }
-
-pub returns-clause-wrapping : goal.returns-clause-wrapping
-returns-clause-wrapping c = c.replace.ensures.wrapping ∙ c.wrapping-wrapping.ensures

@@ -1,4 +1,3 @@
-use Rattle.std.proofs.lemmas.Grind.{common_steps}
 use Rattle.std.proofs.Common.{◌+◌, ◌-◌, ◌++◌, List, [], ap, refl, sym, subst, arith, length, take, drop}
 use Rattle.std.proofs.lemmas.List.{length-drop, length-take-le, take_rest}
 use Rattle.textarea_text.specs.Text.{lines_of}
@@ -28,6 +27,3 @@ returns-clause-ticks c =
     ticks_together (ticks_of (all_rows c.new-rows.result.blocks)) _ _ _ c.args.count.now _ _ _ _ _ _ (ap (λ t. ticks_of (all_rows t)) c.new-rows.ensures)
     c.in_ok-push_lines.ensures.ticks c.in_ok-push_lines.ensures.counted c.in_ok-push_lines-2.ensures.ticks c.in_ok-push_lines-2.ensures.counted c.in_ok-push_lines-3.ensures.ticks
     (omega (arith, c.requires, c.as_slice.ensures.len, length-take-le c.args.replacement.now.row items (omega arith), ap length (take_rest items at), length-drop at items))
-
-pub returns-clause-counted : goal.returns-clause-counted
-returns-clause-counted c = grind (arith, common_steps, length-take-le, take_rest, length-drop)

@@ -26,9 +26,6 @@ loop-c-init c =
       before_first = mark.first;
     }
 
-pub display_column_after-next-requires : goal.display_column_after-next-requires
-display_column_after-next-requires c = omega (arith, c.loop-c.invariant.walked.fits, c.requires.short)
-
 pub overflow_add-index : goal.overflow_add-index
 overflow_add-index c =
     omega (arith, c.loop-c.invariant.walked.within, characters_few c.args.text.now c.utf8.text, c.requires.short)

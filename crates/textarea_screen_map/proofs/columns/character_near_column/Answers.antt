@@ -1,4 +1,4 @@
-use Rattle.std.proofs.Common.{◌+◌, ap, arith, length, length-drop, subst, sym}
+use Rattle.std.proofs.Common.{◌+◌, arith, subst, sym}
 use Rattle.std.specs.Str.{IsCharBoundary, chars}
 use Rattle.textarea_text.proofs.Columns.{IsCharBoundary-column}
 use Rattle.textarea_wrap.proofs.MarkLemmas.{characters_few}
@@ -22,7 +22,3 @@ character_ahead-requires-clause-known c = further (goal.at.character_ahead-requi
 pub overflow_add-further : goal.overflow_add-further
 overflow_add-further c =
     omega (arith, (further (goal.at.overflow_add-further c).After-visible_count-count).within, characters_few c.args.text.now c.utf8.text, c.requires.short)
-
-pub overflow_add-further-2 : goal.overflow_add-further-2
-overflow_add-further-2 c =
-    omega (arith, c.visible_count-count.ensures.within, ap length c.range_from.ensures.value, length-drop c.args.known.offset c.args.text.now, c.requires.short)

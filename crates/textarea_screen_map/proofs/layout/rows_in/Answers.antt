@@ -1,18 +1,12 @@
 use Rattle.std.proofs.lemmas.Grind.{common_steps}
-use Rattle.std.proofs.Common.{◌≡◌, ℕ, ◌+◌, ◌++◌, ◌∷◌, List, [], ap, arith, length, max, refl, subst}
-use Rattle.std.proofs.lemmas.List.{length-map, take_all}
-use Rattle.textarea_text.specs.Text.{characters_of, lines_of}
+use Rattle.std.proofs.Common.{◌≡◌, ◌+◌, ◌++◌, ◌∷◌, List, [], ap, arith, length, max}
 use Rattle.textarea_text.proofs.Sizes.{size_of_more}
 use Rattle.textarea_wrap.specs.RowsView.{RowsView}
 use Rattle.textarea_blocks.specs.Sums.{row_total}
-use Rattle.textarea_screen_map.specs.Map.{IsRowCount}
 use Rattle.textarea_screen_map.proofs.Layouts.{AreRowsOf-more}
 use Rattle.textarea_blocks.proofs.Numbers.{row_total-append}
 use Rattle.textarea_screen_map.proofs.RowSizes.{size_of_line, size_of_take}
 use Rattle.textarea_screen_map.proofs.layout.rows_in.Goals as goal
-
-pub loop-line-init : goal.loop-line-init
-loop-line-init c = (([], tt, refl), omega arith)
 
 pub overflow_add-total : goal.overflow_add-total
 overflow_add-total c =
@@ -29,11 +23,3 @@ loop-line-preserved c =
       (rows ++ wrapped ∷ [], AreRowsOf-more c.args.wrapping [] c.args.lines.now c.loop-line.line-index c.line-item.result c.as_str.result.now rows wrapped (omega arith) c.line-item.is c.as_str.ensures.value before.1 c.in_ok-wrapped.ensures.rows c.in_ok-wrapped.ensures.marks c.in_ok-wrapped.ensures.short, total),
       omega (arith, c.loop-line.invariant.1, few, ap length c.as_slice.ensures, ap length c.as_str.ensures.value, size_of_more c.args.lines.now c.loop-line.line-index c.line-item.result (omega arith) c.line-item.is),
     )
-
-pub returns-clause-limit : goal.returns-clause-limit
-returns-clause-limit c = c.in_ok-size_within_limit.ensures.limit.0 refl
-
-pub returns-clause-rows : goal.returns-clause-rows
-returns-clause-rows c =
-    let all = take_all c.loop-line.line-index (lines_of c.args.lines.now) (omega (arith, c.loop-line-test.false, length-map c.args.lines.now characters_of)) in
-    subst (λ (t : List (List ℕ)). IsRowCount c.args.wrapping t c.loop-line.total) all c.loop-line.invariant.0

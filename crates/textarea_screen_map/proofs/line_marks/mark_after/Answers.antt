@@ -16,9 +16,6 @@ pub range_from-requires : goal.range_from-requires
 range_from-requires c = λ _.
     subst (IsCharBoundary c.args.line.now) (sym c.requires.known.offset_is) (IsCharBoundary-column c.args.line.now c.args.known.column c.utf8.line)
 
-pub display_column_after-display-requires : goal.display_column_after-display-requires
-display_column_after-display-requires c = omega (arith, c.loop-c.invariant.walked.fits, c.requires.short)
-
 pub loop-c-init : goal.loop-c-init
 loop-c-init c =
     let from = walk_from c.args.tab_len c.args.line.now _ c.args.known c.utf8.line c.requires.known (ap chars_rest c.into_iter-c-iterator.ensures.into_iter_gives ∙ c.chars-c-items.ensures.rest ∙ c.range_from.ensures.value) in

@@ -1,6 +1,5 @@
-use Rattle.std.proofs.lemmas.Grind.{common_steps}
 use Rattle.std.proofs.Common.{arith, length}
-use Rattle.textarea_blocks.proofs.InBlocks.{before_within, edge_there, lines_sum, before_all}
+use Rattle.textarea_blocks.proofs.InBlocks.{before_within, edge_there, lines_sum}
 use Rattle.textarea_blocks.proofs.blocks.RowBlocks.edge_of.Goals as goal
 
 pub place_of-requires : goal.place_of-requires
@@ -10,6 +9,3 @@ place_of-requires c =
 pub returns-clause-edge : goal.returns-clause-edge
 returns-clause-edge c =
     edge_there c.args.self.now.blocks c.args.line c.place_of.result.0 c.requires c.place_of.ensures.block
-
-pub returns-then-line-line_count-clause-edge : goal.returns-then-line-line_count-clause-edge
-returns-then-line-line_count-clause-edge c = grind (arith, common_steps, before_all)

@@ -77,22 +77,3 @@ invariant_of-self c =
 
 pub returns : goal.returns
 returns c = grind (arith, common_steps, exchanged, blocks_set c.self.inside.blocks.items c.args.block c.replace_items.new.items)
-
-pub index-requires : goal.index-requires
-index-requires c =
-    omega (arith, c.requires.block, ap (λ (v : BlocksView). length v.blocks) c.self.view_is, block_count c.self.inside.blocks.items, c.self.inside.blocks.ok.0)
-
-pub index_mut-requires : goal.index_mut-requires
-index_mut-requires c =
-    omega (arith, c.requires.block, ap (λ (v : BlocksView). length v.blocks) c.self.view_is, block_count c.self.inside.blocks.items, c.self.inside.blocks.ok.0)
-
-pub overflow_add-block : goal.overflow_add-block
-overflow_add-block c =
-    omega (arith, c.requires.block, ap (λ (v : BlocksView). length v.blocks) c.self.view_is, block_count c.self.inside.blocks.items, c.self.inside.blocks.ok.0, c.self.inside.blocks.small)
-
-pub overflow_add-block-2 : goal.overflow_add-block-2
-overflow_add-block-2 c =
-    omega (arith, c.requires.block, ap (λ (v : BlocksView). length v.blocks) c.self.view_is, block_count c.self.inside.blocks.items, c.self.inside.blocks.ok.0, c.self.inside.blocks.small)
-
-pub replace_items-requires-clause-within : goal.replace_items-requires-clause-within
-replace_items-requires-clause-within c = grind (arith, common_steps, block_count, rows_are)

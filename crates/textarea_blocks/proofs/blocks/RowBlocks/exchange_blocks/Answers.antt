@@ -1,7 +1,7 @@
 use Rattle.std.proofs.lemmas.Grind.{common_steps}
 use Rattle.std.proofs.Common.{◌≡◌, ◌-◌, ◌≤◌, ◌∙◌, ap, arith, length}
 use Rattle.textarea_blocks.specs.Prelude.{BlocksView, all_rows, lines_before, rows_of_each, row_total, Exchanged}
-use Rattle.textarea_blocks.proofs.InBlocks.{before_ordered, before_within, blocks_exchanged, lines_sum, rows_sum, total_before, block_count}
+use Rattle.textarea_blocks.proofs.InBlocks.{before_ordered, before_within, blocks_exchanged, lines_sum, rows_sum, total_before}
 use Rattle.textarea_blocks.proofs.Totals.{all_exchanged, totals_can_shift, totals_exchanged}
 use Rattle.textarea_blocks.proofs.blocks.RowBlocks.exchange_blocks.Goals as goal
 use Rattle.textarea_blocks.proofs.blocks.RowBlocks.exchange_blocks.Goals.{After-lines_before, After-rows_before}
@@ -84,7 +84,3 @@ invariant_of-self c =
 
 pub returns : goal.returns
 returns c = grind (arith, common_steps, blocks_exchanged)
-
-pub replace_items-requires-clause-room : goal.replace_items-requires-clause-room
-replace_items-requires-clause-room c =
-    omega (arith, c.requires.room, ap (λ (v : BlocksView). v.more) c.self.view_is, ap (λ (v : BlocksView). length v.blocks) c.new.view_is, block_count c.new.inside.blocks.items, c.new.inside.blocks.ok.0, c.self.inside.blocks.ok.0)

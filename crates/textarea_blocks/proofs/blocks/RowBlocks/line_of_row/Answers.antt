@@ -1,7 +1,7 @@
 use Rattle.std.proofs.lemmas.Grind.{common_steps}
 use Rattle.std.proofs.Common.{◌≡◌, ◌+◌, ◌-◌, ◌<◌, ◌≤◌, ◌∙◌, List, [], ap, arith, get_or, length, take, ℕ}
-use Rattle.textarea_blocks.specs.Prelude.{RowsView, BlocksView, all_rows, lines_before, rows_of_each, row_total}
-use Rattle.textarea_blocks.proofs.InBlocks.{before_more, block_count, line_there, rows_are, rows_sum, total_before, total_in_block}
+use Rattle.textarea_blocks.specs.Prelude.{RowsView, BlocksView, all_rows, lines_before, ranges_at, rows_of_each, row_total}
+use Rattle.textarea_blocks.proofs.InBlocks.{before_more, block_count, line_there, ranges_there, rows_are, rows_sum, total_before, total_in_block}
 use Rattle.textarea_blocks.proofs.Totals.{located_at}
 use Rattle.textarea_blocks.proofs.blocks.RowBlocks.line_of_row.Goals as goal
 use Rattle.textarea_blocks.proofs.blocks.RowBlocks.line_of_row.Goals.{After-at, After-at-2}
@@ -39,7 +39,7 @@ record Line (rows : List (List RowsView)) (block line index : ℕ) : Type 0 wher
   at : lines_before rows block + index ≡ line
   there : line < length (all_rows rows)
   up_to : row_total (take line (all_rows rows)) ≡ total_before row_total rows block + row_total (take index (get_or rows block []))
-  after : row_total (take (line + 1) (all_rows rows)) ≡ total_before row_total rows block + row_total (take (index + 1) (get_or rows block []))
+  ranges : ranges_at (all_rows rows) line ≡ ranges_at (get_or rows block []) index
 
 line : (c : After-at-2) (known : RowInBlock (rows_of_each c.self.inside.blocks.items) c.last_at_most-block.result c.at.result c.args.row c.as_slice.result.now) → Line (rows_of_each c.self.inside.blocks.items) c.last_at_most-block.result (c.at-2.result + c.row_in-index.result.0) c.row_in-index.result.0
 line c known =
@@ -53,7 +53,7 @@ line c known =
       at = at;
       there = omega (arith, at, line_there blocks block index known.within inside);
       up_to = total_in_block row_total rows_sum blocks block index _ known.within (omega arith) at;
-      after = total_in_block row_total rows_sum blocks block (index + 1) _ known.within (omega arith) (omega (arith, at));
+      ranges = ranges_there blocks block index _ known.within inside at;
     }
 
 pub row_in-index-requires : goal.row_in-index-requires
@@ -68,5 +68,5 @@ returns-clause-line c = grind (arith, common_steps, line, row_in_block)
 pub returns-clause-row : goal.returns-clause-row
 returns-clause-row c = grind (arith, common_steps, row_in_block, line)
 
-pub returns-clause-inside : goal.returns-clause-inside
-returns-clause-inside c = grind (arith, common_steps, row_in_block, line)
+pub returns-clause-number : goal.returns-clause-number
+returns-clause-number c = grind (arith, common_steps, row_in_block, line)

@@ -2,7 +2,6 @@ use Rattle.std.proofs.lemmas.Grind.{common_steps}
 use Rattle.std.proofs.Common.{◌<◌, arith, length}
 use Rattle.textarea_blocks.specs.Blocks.{rows_of_each}
 use Rattle.textarea_blocks.proofs.InBlocks.{before_more, lines_sum}
-use Rattle.textarea_blocks.proofs.Totals.{located_at}
 use Rattle.textarea_blocks.proofs.blocks.RowBlocks.place_of.Goals as goal
 
 pub returns-clause-within : goal.returns-clause-within
@@ -11,13 +10,3 @@ returns-clause-within c =
     let block = c.last_at_most-block.result in
     let within : block < length blocks = omega (arith, c.last_at_most-block.ensures.within, c.self.invariant.lines_are.len) in
     grind (arith, common_steps, before_more length lines_sum blocks block within)
-
-pub overflow_sub-result : goal.overflow_sub-result
-overflow_sub-result c = omega (arith, c.at.ensures, c.last_at_most-block.ensures.from)
-
-pub returns-clause-line : goal.returns-clause-line
-returns-clause-line c = grind (arith, common_steps)
-
-pub returns-clause-block : goal.returns-clause-block
-returns-clause-block c =
-    grind (arith, common_steps, located_at, lines_sum)

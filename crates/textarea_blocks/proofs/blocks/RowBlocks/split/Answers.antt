@@ -3,7 +3,7 @@ use Rattle.std.proofs.Common.{◌≡◌, ◌+◌, ◌-◌, ◌≤◌, ◌∷◌,
 use Rattle.std.proofs.lemmas.List.{append-nil, length-drop, length-set, length-take-le}
 use Rattle.textarea_util.proofs.Replacing.{length-replaced}
 use Rattle.textarea_blocks.specs.Prelude.{RowsView, BlocksView, all_rows, lines_before, row_total}
-use Rattle.textarea_blocks.proofs.InBlocks.{after_set, block_count, block_split, lines_sum, rows_sum}
+use Rattle.textarea_blocks.proofs.InBlocks.{after_set, block_split, lines_sum, rows_sum}
 use Rattle.textarea_blocks.proofs.Numbers.{row_total-take_drop}
 use Rattle.textarea_blocks.proofs.Totals.{all_set, take_above}
 use Rattle.textarea_blocks.proofs.blocks.RowBlocks.split.Goals as goal
@@ -84,11 +84,3 @@ returns-clause-edge c =
         length-take-le c.args.at here c.requires.at,
       ),
     )
-
-pub overflow_add-block : goal.overflow_add-block
-overflow_add-block c =
-    omega (arith, c.requires.block, ap (λ (v : BlocksView). length v.blocks) c.self.view_is, block_count c.self.inside.blocks.items, c.self.inside.blocks.ok.0, c.self.inside.blocks.small)
-
-pub overflow_add-block-2 : goal.overflow_add-block-2
-overflow_add-block-2 c =
-    omega (arith, c.requires.block, ap (λ (v : BlocksView). length v.blocks) c.self.view_is, block_count c.self.inside.blocks.items, c.self.inside.blocks.ok.0, c.self.inside.blocks.small)

@@ -72,18 +72,3 @@ invariant_of-self-2 c =
 
 pub returns-clause-retained : goal.returns-clause-retained
 returns-clause-retained c = grind (arith, common_steps, split_off_is, blocks_set c.self.inside.blocks.items c.args.block c.split_off.new.self)
-
-pub index_mut-requires : goal.index_mut-requires
-index_mut-requires c =
-    omega (arith, c.requires.block, ap (λ (v : BlocksView). length v.blocks) c.self.view_is, block_count c.self.inside.blocks.items, c.self.inside.blocks.ok.0)
-
-pub split_off-requires : goal.split_off-requires
-split_off-requires c = grind (arith, common_steps, block_count, rows_are)
-
-pub overflow_add-block : goal.overflow_add-block
-overflow_add-block c =
-    omega (arith, c.requires.block, ap (λ (v : BlocksView). length v.blocks) c.self.view_is, block_count c.self.inside.blocks.items, c.self.inside.blocks.ok.0, c.self.inside.blocks.small)
-
-pub overflow_add-block-2 : goal.overflow_add-block-2
-overflow_add-block-2 c =
-    omega (arith, c.requires.block, ap (λ (v : BlocksView). length v.blocks) c.self.view_is, block_count c.self.inside.blocks.items, c.self.inside.blocks.ok.0, c.self.inside.blocks.small)

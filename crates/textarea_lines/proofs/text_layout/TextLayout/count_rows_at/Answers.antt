@@ -4,10 +4,6 @@ use Rattle.textarea_lines.proofs.Stores.{lines_stored}
 use Rattle.textarea_lines.proofs.Widths.{next_wrap}
 use Rattle.textarea_lines.proofs.text_layout.TextLayout.count_rows_at.Goals as goal
 
-pub invariant_of-self : goal.invariant_of-self
-invariant_of-self c =
-    record { contents = c.self.invariant.contents; measured = c.self.invariant.measured; cached = rw c.drop_measured.ensures tt; place = c.self.invariant.place; marked = c.self.invariant.marked }
-
 pub invariant_of-self-in-Ok : goal.invariant_of-self-in-Ok
 invariant_of-self-in-Ok c =
     let inside = c.self.inside in
@@ -21,6 +17,3 @@ invariant_of-self-in-Ok c =
 
 pub returns-in-Err-clause-rows : goal.returns-in-Err-clause-rows
 returns-in-Err-clause-rows c = grind (arith, common_steps, lines_stored)
-
-pub returns-in-Ok-clause-rows : goal.returns-in-Ok-clause-rows
-returns-in-Ok-clause-rows c = grind (arith, common_steps)

@@ -1,5 +1,5 @@
 use Rattle.std.proofs.lemmas.Grind.{common_steps}
-use Rattle.std.proofs.Common.{◌≡◌, ◌≤◌, ◌∙◌, ℕ, List, ap, arith, length, subst, sym}
+use Rattle.std.proofs.Common.{◌≡◌, ◌≤◌, ◌∙◌, ℕ, ap, arith, length, subst, sym}
 use Rattle.std.specs.Prelude.{chars, encode_utf8_all, take}
 use Rattle.textarea_text.specs.Offset.{offset_at}
 use Rattle.textarea_text.specs.Place.{IsPlace, IsPlaceOf}
@@ -35,12 +35,6 @@ index-requires c =
     let here = rows_place c.self.inside.lines.items c.args.place c.self.invariant.contents.stored.some (subst (λ (l : TextAndLayout). IsPlace l.text c.args.place) (sym c.self.view_is) c.requires) in
     omega (arith, row_within c.self.inside.lines.items c.args.place here, c.self.inside.lines.ok.0)
 
-pub byte_offset_from-requires-clause-known : goal.byte_offset_from-requires-clause-known
-byte_offset_from-requires-clause-known c = grind (arith, common_steps, column_within)
-
-pub byte_offset_from-requires-clause-offset : goal.byte_offset_from-requires-clause-offset
-byte_offset_from-requires-clause-offset c = grind (arith, common_steps, offset_read)
-
 pub byte_offset_from-requires-clause-column : goal.byte_offset_from-requires-clause-column
 byte_offset_from-requires-clause-column c = column (goal.at.byte_offset_from-requires-clause-column c).After-as_str-line
 
@@ -56,9 +50,3 @@ pub returns-then-place-lt-NEARBY : goal.returns-then-place-lt-NEARBY
 returns-then-place-lt-NEARBY c =
     let known = (goal.at.returns-then-place-lt-NEARBY c).After-as_str-line in
     right known c.byte_offset.result c.byte_offset.ensures
-
-pub offset_of-requires : goal.offset_of-requires
-offset_of-requires c = subst (λ (ls : List (List ℕ)). IsPlaceOf ls c.args.place) (sym c.view.ensures.lines) c.requires
-
-pub returns : goal.returns
-returns c = c.offset_of.ensures ∙ ap (λ (ls : List (List ℕ)). offset_at ls c.args.place) c.view.ensures.lines

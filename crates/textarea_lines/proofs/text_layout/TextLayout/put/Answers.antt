@@ -58,6 +58,3 @@ contents c =
 
 pub invariant_of-self : goal.invariant_of-self
 invariant_of-self c = record { contents = (contents c).rows.rows; measured = (contents c).measured; cached = (contents c).cached; place = (contents c).place; marked = (contents c).marked }
-
-pub returns : goal.returns
-returns c = (contents c).rows.is

@@ -24,12 +24,6 @@ prepare_rows_for-requires c = record {
   few = grind (arith, common_steps);
 }
 
-pub replace_in-requires-clause-room : goal.replace_in-requires-clause-room
-replace_in-requires-clause-room c = omega (arith, c.in_ok-prepared.ensures.room, c.prepare_rows_for.new.lines.ok.0, ap length c.in_ok-prepared.ensures.same_lines)
-
-pub replace-requires : goal.replace-requires
-replace-requires c = c.in_ok-prepared.ensures.ready.ready
-
 pub invariant_of-self-2 : goal.invariant_of-self-2
 invariant_of-self-2 c =
     let known = steps (goal.at.invariant_of-self-2 c).After-replace in

@@ -47,6 +47,3 @@ returns-in_err-rows-clause-no_memory c = λ yes.
 
 pub returns-clause-rows : goal.returns-clause-rows
 returns-clause-rows c = counted_from_scratch _ _ _ _ _ _ _ _ _ _ _ (steps (goal.at.returns-clause-rows c).After-wrapping) c.in_ok-rows.ensures.rows
-
-pub returns-clause-same : goal.returns-clause-same
-returns-clause-same c = c.self-2.view_is ∙ c.count_rows_at.ensures.same

@@ -9,6 +9,3 @@ returns c =
     let inside = c.self.inside in
     subst (λ (v : BorrowedRows). IsViewOf c.args.self.now v) (sym c.new.ensures)
     (is_view inside.settings inside.lines.items c.as_slice.result.now inside.size inside.count inside.map c.args.self.now (record { rows = c.self.invariant.contents; is = c.self.view_is }) c.as_slice.ensures.value)
-
-pub new-requires-clause-marks : goal.new-requires-clause-marks
-new-requires-clause-marks c = rw c.as_slice.ensures.value c.self.invariant.marked

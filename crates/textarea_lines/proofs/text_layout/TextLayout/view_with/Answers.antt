@@ -29,9 +29,6 @@ contents c =
 pub new-requires-clause-rows : goal.new-requires-clause-rows
 new-requires-clause-rows c = grind (arith, common_steps, is_borrowed, contents c)
 
-pub new-requires-clause-marks : goal.new-requires-clause-marks
-new-requires-clause-marks c = rw c.as_slice.ensures.value c.self.invariant.marked
-
 pub returns : goal.returns
 returns c =
     let inside = c.self.inside in

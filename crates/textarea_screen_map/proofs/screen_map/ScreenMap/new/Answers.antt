@@ -25,6 +25,3 @@ invariant_of-result c =
 
 pub returns-clause-rows : goal.returns-clause-rows
 returns-clause-rows c = right (goal.at.returns-clause-rows c).In_ok-push_lines
-
-pub returns-clause-limit : goal.returns-clause-limit
-returns-clause-limit c = c.in_ok-size.ensures.limit.0 refl

@@ -3,7 +3,7 @@ use Rattle.textarea_util.specs.Replaced.{replaced}
 use Rattle.textarea_wrap.specs.RowsView.{RowsView}
 use Rattle.textarea_blocks.specs.Sums.{IsWithinLimit, row_total, size_total}
 use Rattle.textarea_screen_map.specs.Map.{MapView}
-use Rattle.textarea_screen_map.specs.Prepared.{CanPutRows, HasRoom, rows_in}
+use Rattle.textarea_screen_map.specs.Prepared.{rows_in}
 use Rattle.textarea_blocks.proofs.InBlocks.{rows_sum}
 use Rattle.textarea_blocks.proofs.LineSums.{exchange, lines_few, size_total-append}
 use Rattle.textarea_screen_map.proofs.screen_map.ScreenMap.replace.Goals as goal
@@ -19,11 +19,6 @@ visual rows new row count before after =
     let rows_of = exchange row_total rows (take count (drop row rows)) new row count rows_sum refl in
     omega (arith, rows_of.segment, rows_of.after, before.few, after.few)
 
-pub put_rows-requires-clause-room : goal.put_rows-requires-clause-room
-put_rows-requires-clause-room c =
-    let prepared = c.args.prepared in
-    subst (λ (map : MapView). HasRoom map.rows map.room prepared.row prepared.count prepared.rows) (sym c.self.view_is) c.requires.room
-
 pub put_rows-requires-clause-lines : goal.put_rows-requires-clause-lines
 put_rows-requires-clause-lines c =
     let after = subst (λ (map : MapView). IsWithinLimit (replaced map.rows c.args.prepared.row c.args.prepared.count (rows_in c.args.prepared.rows))) (sym c.self.view_is) c.requires.limit in
@@ -33,11 +28,3 @@ pub put_rows-requires-clause-rows : goal.put_rows-requires-clause-rows
 put_rows-requires-clause-rows c =
     let after = subst (λ (map : MapView). IsWithinLimit (replaced map.rows c.args.prepared.row c.args.prepared.count (rows_in c.args.prepared.rows))) (sym c.self.view_is) c.requires.limit in
     visual _ _ c.args.prepared.row c.args.prepared.count c.self.invariant.limit after
-
-pub invariant_of-self : goal.invariant_of-self
-invariant_of-self c =
-    let ready = subst (λ (map : MapView). CanPutRows map c.args.prepared) (sym c.self.view_is) c.requires in
-    rw c.put_rows.ensures (record { all = ready.total; size_is = ready.size; limit = ready.limit })
-
-pub returns-clause-wrapping : goal.returns-clause-wrapping
-returns-clause-wrapping c = refl

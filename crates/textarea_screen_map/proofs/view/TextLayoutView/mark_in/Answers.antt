@@ -1,17 +1,12 @@
-use Rattle.std.proofs.Common.{◌≡◌, ◌∙◌, ◌<◌, [], ap, arith, encode_utf8_all, get_or, length, subst, sym}
-use Rattle.std.proofs.lemmas.List.{length-map}
+use Rattle.std.proofs.Common.{◌≡◌, ◌∙◌, ◌<◌, [], ap, encode_utf8_all, get_or, length, subst, sym}
 use Rattle.std.specs.Str.{chars}
-use Rattle.textarea_text.specs.Text.{characters_of, lines_of}
+use Rattle.textarea_text.specs.Text.{lines_of}
 use Rattle.textarea_screen_map.specs.BorrowedLines.{BorrowedRows}
 use Rattle.textarea_screen_map.specs.LineMarks.{IsMark}
 use Rattle.textarea_screen_map.specs.VisualRows.{reachable_text}
 use Rattle.textarea_screen_map.proofs.KnownColumns.{borrowed_line}
 use Rattle.textarea_screen_map.proofs.view.TextLayoutView.mark_in.Goals as goal
 use Rattle.textarea_screen_map.proofs.view.TextLayoutView.mark_in.Goals.{After-at_display}
-
-pub bounds-lines-displayed : goal.bounds-lines-displayed
-bounds-lines-displayed c =
-    omega (arith, subst (λ (v : BorrowedRows). c.args.displayed.line < length v.lines) (sym c.self.view_is) c.requires.line, length-map c.self.inside.lines.now characters_of)
 
 -- the row is the whole line
 marked : (c : After-at_display) → IsMark c.args.self.now.wrapping.tab_len (chars c.args.displayed.text.now) c.at_display.result

@@ -1,94 +1,21 @@
-use Rattle.std.proofs.lemmas.Grind.{common_steps}
-use Rattle.std.proofs.Common.{◌≡◌, ◌+◌, ◌-◌, ◌<◌, ◌≤◌, ◌∙◌, ℕ, List, [], ap, arith, drop, encode_utf8_all, get_or, length, max, subst, sym, take}
-use Rattle.std.proofs.lemmas.List.{length-append, length-map}
-use Rattle.std.specs.Str.{IsCharBoundary, chars}
-use Rattle.textarea_text.specs.Offset.{offset_at}
-use Rattle.textarea_text.specs.Place.{IsPlaceOf}
-use Rattle.textarea_text.specs.Text.{lines_of}
-use Rattle.textarea_text.proofs.Columns.{IsCharBoundary-column, encodes_split, offset_in}
-use Rattle.textarea_wrap.specs.Columns.{display_end_column}
-use Rattle.textarea_wrap.specs.WrapResult.{IsWrapped}
-use Rattle.textarea_blocks.specs.Sums.{range_at, ranges_at, row_total}
+use Rattle.std.proofs.Common.{◌+◌, ◌<◌, ap, arith, subst, take}
+use Rattle.textarea_blocks.specs.Sums.{row_total}
 use Rattle.textarea_screen_map.specs.BorrowedLines.{BorrowedRows}
-use Rattle.textarea_screen_map.specs.VisualPositions.{IsVisualPosition}
-use Rattle.textarea_screen_map.proofs.Holding.{wrapped_of, first_begins, range_is, some_rows}
-use Rattle.textarea_screen_map.proofs.KnownColumns.{IsBorrowedLine, borrowed_line}
-use Rattle.textarea_screen_map.proofs.Layouts.{length-AreRowsOf}
+use Rattle.textarea_screen_map.specs.LineRows.{AreRowsOf}
 use Rattle.textarea_screen_map.proofs.RowSizes.{size_of_items}
-use Rattle.textarea_screen_map.proofs.VisualRows.{rows_below, visual_in}
+use Rattle.textarea_screen_map.proofs.ThereAndBack.{visual_row_is}
 use Rattle.textarea_screen_map.proofs.view.TextLayoutView.visual_position.Goals as goal
-use Rattle.textarea_screen_map.proofs.view.TextLayoutView.visual_position.Goals.{After-as_str-line, After-rows_of-ranges}
+use Rattle.textarea_screen_map.proofs.view.TextLayoutView.visual_position.Goals.{After-first_row}
 
-place : (c : After-rows_of-ranges) → IsPlaceOf (lines_of c.self.inside.lines.now) c.args.place
-place c = subst (λ (v : BorrowedRows). IsPlaceOf v.lines c.args.place) (sym c.self.view_is) c.requires
-
-wrapped : (c : After-rows_of-ranges) → IsWrapped c.self.inside.map.now.wrapping.mode c.self.inside.map.now.wrapping.tab_len (max c.self.inside.map.now.wrapping.width 1) (encode_utf8_all (get_or (lines_of c.self.inside.lines.now) c.args.place.0 [])) c.rows_of-ranges.result.now
-wrapped c = wrapped_of _ _ _ _ _ c.rows_of-ranges.ensures c.self.invariant.0.right (place c).0
-
-offset_is : (c : After-rows_of-ranges) → c.offset_of-offset.result ≡ offset_in (get_or (lines_of c.self.inside.lines.now) c.args.place.0 []) c.args.place.1
-offset_is c = subst (λ (v : BorrowedRows). c.offset_of-offset.result ≡ offset_at v.lines c.args.place) (sym c.self.view_is) c.offset_of-offset.ensures
-
-line : (c : After-as_str-line) → c.args.place.0 < length (lines_of c.self.inside.lines.now) → IsBorrowedLine c.self.inside.lines.now c.self.inside.map.now.rows c.args.place.0 c.as_str-line.result.now
-line c within =
-    borrowed_line c.self.inside.map.now.wrapping c.self.inside.lines.now c.self.inside.map.now.rows c.args.place.0 c.index-self-place.result c.as_str-line.result.now c.self.invariant.0.right within c.index-self-place.is (cc (c.as_str-line.ensures.value, c.index-self-place.is))
-
-pub rows_of-ranges-requires : goal.rows_of-ranges-requires
-rows_of-ranges-requires c = grind (arith, common_steps, length-AreRowsOf, length-map)
-
-pub row_holding-row-requires : goal.row_holding-row-requires
-row_holding-row-requires c =
-    let is = wrapped (goal.at.row_holding-row-requires c).After-rows_of-ranges in
-    record { some = some_rows _ _ _ _ _ is; first = omega (arith, first_begins _ _ _ _ _ is) }
-
-pub width_between-column-requires-clause-short : goal.width_between-column-requires-clause-short
-width_between-column-requires-clause-short c =
-    let at = goal.at.width_between-column-requires-clause-short c in
-    (line at.After-as_str-line (place at.After-rows_of-ranges).0).short
-
-pub width_between-column-requires-clause-start : goal.width_between-column-requires-clause-start
-width_between-column-requires-clause-start c =
-    let at = goal.at.width_between-column-requires-clause-start c in
-    let known = line at.After-as_str-line (place at.After-rows_of-ranges).0 in
-    rw known.bytes (range_is _ _ _ _ _ c.row_holding-row.result (wrapped at.After-rows_of-ranges) c.row_holding-row.ensures.within).start
-
-pub width_between-column-requires-clause-end : goal.width_between-column-requires-clause-end
-width_between-column-requires-clause-end c =
-    let at = goal.at.width_between-column-requires-clause-end c in
-    let known = line at.After-as_str-line (place at.After-rows_of-ranges).0 in
-    let same = offset_is at.After-rows_of-ranges ∙ ap (λ (t : List ℕ). offset_in t c.args.place.1) (sym known.spelled) in
-    subst (IsCharBoundary c.as_str-line.result.now) (sym same) (IsCharBoundary-column c.as_str-line.result.now c.args.place.1 c.as_str-line.utf8)
+within : (c : After-first_row) → c.first_row.result + c.visual_in_line-row.result.row < row_total c.args.self.now.rows
+within c =
+    let view = c.args.self.now in
+    let right = subst (λ (v : BorrowedRows). AreRowsOf v.wrapping v.lines v.rows) c.self.view_is c.self.invariant.0.right in
+    omega (arith, visual_row_is view.wrapping view.lines view.rows c.args.place _ right c.visual_in_line-row.ensures.visual, c.first_row.ensures, ap (λ (v : BorrowedRows). row_total (take c.args.place.0 v.rows)) c.self.view_is)
 
 pub overflow_add-result : goal.overflow_add-result
 overflow_add-result c =
-    let map = c.self.inside.map.now in
-    let items = c.self.inside.lines.now in
-    let there = (place (goal.at.overflow_add-result c).After-rows_of-ranges).0 in
-    let within : c.args.place.0 < length map.rows = omega (arith, there, length-AreRowsOf map.wrapping (lines_of items) map.rows c.self.invariant.0.right) in
-    let stored : c.row_holding-row.result < length (ranges_at map.rows c.args.place.0) = omega (arith, c.row_holding-row.ensures.within, ap length c.rows_of-ranges.ensures) in
-    omega (arith, c.first_row.ensures, rows_below map.rows c.args.place.0 c.row_holding-row.result within stored, (size_of_items map.wrapping items map.rows c.self.invariant.0.right).1, c.self.invariant.0.limit)
+    omega (arith, within c, ap (λ (v : BorrowedRows). row_total v.rows) c.self.view_is, (size_of_items _ _ _ c.self.invariant.0.right).1, c.self.invariant.0.limit)
 
-pub returns : goal.returns
-returns c =
-    let at = goal.at.returns c in
-    let map = c.self.inside.map.now in
-    let cs = get_or (lines_of c.self.inside.lines.now) c.args.place.0 [] in
-    let row = c.row_holding-row.result in
-    let offset = c.offset_of-offset.result in
-    let same = offset_is at.After-rows_of-ranges in
-    let known = line at.After-as_str-line (place at.After-rows_of-ranges).0 in
-    let start = ap (λ (t : List (ℕ × ℕ)). (range_at t row).0) c.rows_of-ranges.ensures in
-    let begins = (range_at c.rows_of-ranges.result.now row).0 in
-    let slice = take (offset - begins) (drop begins c.as_str-line.result.now) in
-    let first = (range_at (ranges_at map.rows c.args.place.0) row).0 in
-    let short : offset ≤ length (encode_utf8_all cs) = omega (arith, same, ap length (encodes_split cs c.args.place.1), length-append (encode_utf8_all (take c.args.place.1 cs)) (encode_utf8_all (drop c.args.place.1 cs))) in
-    let found = visual_in map.wrapping (lines_of c.self.inside.lines.now) map.rows c.args.place row offset c.first_row.result c.width_between-column.result slice c.self.invariant.0.right (place at.After-rows_of-ranges)
-    (omega (arith, c.row_holding-row.ensures.within, ap length c.rows_of-ranges.ensures))
-    (omega (arith, c.row_holding-row.ensures.from, start))
-    (λ more. omega (arith, c.row_holding-row.ensures.next (omega (arith, more, ap length c.rows_of-ranges.ensures)), ap (λ (t : List (ℕ × ℕ)). (range_at t (row + 1)).0) c.rows_of-ranges.ensures))
-    same short c.first_row.ensures c.width_between-column.ensures.text
-    (ap (λ (n : ℕ). take (offset - n) (drop n c.as_str-line.result.now)) start ∙ ap (λ (t : List ℕ). take (offset - first) (drop first t)) known.bytes)
-    (c.width_between-column.ensures.value ∙ ap (λ t. display_end_column t 0 (chars slice)) (c.tab_len-tab_len.ensures ∙ ap (λ (v : BorrowedRows). v.wrapping.tab_len) (sym c.self.view_is))) in
-    record {
-      row = subst (λ (v : BorrowedRows). c.first_row.result + row < row_total v.rows) c.self.view_is found.0;
-      visual = subst (λ (v : BorrowedRows). IsVisualPosition v.wrapping.tab_len v.lines v.rows c.args.place (record { row = c.first_row.result + row; column = c.width_between-column.result })) c.self.view_is found.1;
-    }
+pub returns-clause-row : goal.returns-clause-row
+returns-clause-row c = within c

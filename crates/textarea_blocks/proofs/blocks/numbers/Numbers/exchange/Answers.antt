@@ -47,9 +47,3 @@ pub returns : goal.returns
 returns c =
     let known = (goal.at.returns c).After-move_numbers-2 in
     rw (not_turned c.len-self-inside.result c.exchange_numbers.new.numbers.items, ← old known, ← new known) c.exchange_numbers.ensures
-
-pub invariant_of-self : goal.invariant_of-self
-invariant_of-self c = record {
-  enough = λ k after there. absurd (omega (arith, after, there, c.len-self-inside.ensures, c.exchange_numbers.new.numbers.ok.0));
-  small = λ k after there. absurd (omega (arith, after, there, c.len-self-inside.ensures, c.exchange_numbers.new.numbers.ok.0));
-}

@@ -15,9 +15,3 @@ returns c =
     not_turned c.len-self-inside.result now
     ∙ pushed c.push.result items now number c.push.ensures.items (c.push.ensures.succeeds (omega (arith, c.requires, room, turned.shifted.len, turned.capacity, inside.items.ok.0, c.move_numbers.new.numbers.ok.0)))
     ∙ ap (λ t. t ++ number ∷ []) (settled inside.items.items items inside.from inside.less inside.more turned.shifted ∙ ap (λ (v : NumbersView). v.numbers) c.self.view_is)
-
-pub invariant_of-self : goal.invariant_of-self
-invariant_of-self c = record {
-  enough = λ k after there. absurd (omega (arith, after, there, c.len-self-inside.ensures, c.push.new.self.ok.0));
-  small = λ k after there. absurd (omega (arith, after, there, c.len-self-inside.ensures, c.push.new.self.ok.0));
-}

@@ -1,4 +1,4 @@
-use Rattle.std.proofs.Common.{◌≡◌, ◌+◌, ◌∙◌, ℕ, List, Option, Some, None, SomeIff, ap, arith, get_or, length, refl, subst}
+use Rattle.std.proofs.Common.{◌≡◌, ◌+◌, ◌∙◌, ℕ, List, Option, Some, None, SomeIff, ap, arith, get_or, length, subst}
 use Rattle.textarea_blocks.specs.Shifted.{CanShift, NumbersView}
 use Rattle.textarea_blocks.proofs.Shifting.{AreJoined, joined, not_turned, settled}
 use Rattle.textarea_blocks.proofs.blocks.numbers.Numbers.shift_from.Goals as goal
@@ -49,10 +49,3 @@ invariant_of-self-2 c = (one (goal.at.invariant_of-self-2 c).After-saturating_su
 
 pub returns-clause-shifted : goal.returns-clause-shifted
 returns-clause-shifted c = (one (goal.at.returns-clause-shifted c).After-saturating_sub-self-inside-3).shifted
-
-pub returns-then-gone-come-clause-shifted : goal.returns-then-gone-come-clause-shifted
-returns-then-gone-come-clause-shifted c = record {
-  len = refl;
-  above = λ k above. refl;
-  moved = λ k after there. ap (λ n. get_or c.args.self.now.numbers k 0 + n) c.if-gone-come.true;
-}

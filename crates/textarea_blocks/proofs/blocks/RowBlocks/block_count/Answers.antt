@@ -1,8 +1,0 @@
-use Rattle.textarea_blocks.proofs.InBlocks.{block_count}
-use Rattle.std.proofs.Common.{ap, arith, length}
-use Rattle.textarea_blocks.specs.Blocks.{BlocksView}
-use Rattle.textarea_blocks.proofs.blocks.RowBlocks.block_count.Goals as goal
-
-pub returns : goal.returns
-returns c =
-    omega (arith, c.len.ensures, ap (λ (v : BlocksView). length v.blocks) c.self.view_is, block_count c.self.inside.blocks.items, c.self.inside.blocks.ok.0)
