@@ -1,9 +1,9 @@
-use Rattle.std.proofs.Common.{◌≡◌, ◌-◌, ◌==◌, ◌<◌, ℕ, false, true, sym, ap, subst, ◌∙◌, arith}
+use Rattle.std.proofs.Common.{◌≡◌, ◌-◌, ◌==◌, ◌<◌, false, true, sym, ap, subst, ◌∙◌, arith}
 use Rattle.std.proofs.lemmas.Bool.{cond-false, cond-true, eq-eqb}
 use Rattle.std.proofs.lemmas.Bool.Decides.{nat_tests}
 use Rattle.textarea_highlight.specs.Seen.{ShowsBetween}
 use Rattle.textarea_view.specs.Prelude.{line_view}
-use Rattle.textarea_view.proofs.Visible.{drawn_part, drawn_whole}
+use Rattle.textarea_view.proofs.Visible.{drawn_part}
 use Rattle.textarea_view.proofs.scene.row_context.show_visible.Goals as goal
 
 pub returns-then-part-eq0 : goal.returns-then-part-eq0
