@@ -56,15 +56,12 @@ impl Clone for Document {
 
     /// Returns a copy of the document with its history, or an error if memory runs out.
     fn clone(&self) -> Result<Document, AllocError> {
-        let text_layout = self.text_layout.clone()?;
-        let ranges = self.ranges.clone()?;
-        let history = self.history.clone()?;
         Ok(Document {
-            text_layout,
+            text_layout: self.text_layout.clone()?,
             cursor: self.cursor,
             anchor: self.anchor,
-            ranges,
-            history,
+            ranges: self.ranges.clone()?,
+            history: self.history.clone()?,
         })
     }
 }
