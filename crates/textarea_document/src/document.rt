@@ -142,9 +142,8 @@ impl Document {
         let Some(edit) = self.history.newest() else {
             return Ok(false);
         };
-        let back = make_change(&mut self.text_layout, &mut self.ranges, edit.inverse())?;
+        self.cursor = make_change(&mut self.text_layout, &mut self.ranges, edit.inverse())?;
         self.history.step_back();
-        self.cursor = back;
         self.anchor = None;
         Ok(true)
     }
@@ -160,9 +159,8 @@ impl Document {
         let Some(edit) = self.history.next() else {
             return Ok(false);
         };
-        let ahead = make_change(&mut self.text_layout, &mut self.ranges, edit.change())?;
+        self.cursor = make_change(&mut self.text_layout, &mut self.ranges, edit.change())?;
         self.history.step_forward();
-        self.cursor = ahead;
         self.anchor = None;
         Ok(true)
     }
@@ -177,9 +175,8 @@ impl Document {
         ensures err { OnErr result (self.new ≡ self.old) }
     {
         self.history.reserve()?;
-        let ahead = make_change(&mut self.text_layout, &mut self.ranges, edit.change())?;
+        self.cursor = make_change(&mut self.text_layout, &mut self.ranges, edit.change())?;
         self.history.put(edit, typed, now);
-        self.cursor = ahead;
         self.anchor = None;
         Ok(())
     }

@@ -119,11 +119,7 @@ impl Document {
     fn set_clipped_anchor(&mut self, anchor: Option<(usize, usize)>)
         ensures { self.new ≡ anchored self.old anchor }
     {
-        if let Some(place) = anchor {
-            self.anchor = Some(clip(self.lines(), place));
-        } else {
-            self.anchor = None;
-        }
+        self.anchor = anchor.map(|place| clip(self.lines(), place));
     }
 }
 
