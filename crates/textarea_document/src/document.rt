@@ -56,15 +56,12 @@ impl Clone for Document {
 
     /// Returns a copy of the document with its history, or an error if memory runs out.
     fn clone(&self) -> Result<Document, AllocError> {
-        let text_layout = self.text_layout.clone()?;
-        let ranges = self.ranges.clone()?;
-        let history = self.history.clone()?;
         Ok(Document {
-            text_layout,
+            text_layout: self.text_layout.clone()?,
             cursor: self.cursor,
             anchor: self.anchor,
-            ranges,
-            history,
+            ranges: self.ranges.clone()?,
+            history: self.history.clone()?,
         })
     }
 }
@@ -145,9 +142,8 @@ impl Document {
         let Some(edit) = self.history.newest() else {
             return Ok(false);
         };
-        let back = make_change(&mut self.text_layout, &mut self.ranges, edit.inverse())?;
+        self.cursor = make_change(&mut self.text_layout, &mut self.ranges, edit.inverse())?;
         self.history.step_back();
-        self.cursor = back;
         self.anchor = None;
         Ok(true)
     }
@@ -163,9 +159,8 @@ impl Document {
         let Some(edit) = self.history.next() else {
             return Ok(false);
         };
-        let ahead = make_change(&mut self.text_layout, &mut self.ranges, edit.change())?;
+        self.cursor = make_change(&mut self.text_layout, &mut self.ranges, edit.change())?;
         self.history.step_forward();
-        self.cursor = ahead;
         self.anchor = None;
         Ok(true)
     }
@@ -180,9 +175,8 @@ impl Document {
         ensures err { OnErr result (self.new ≡ self.old) }
     {
         self.history.reserve()?;
-        let ahead = make_change(&mut self.text_layout, &mut self.ranges, edit.change())?;
+        self.cursor = make_change(&mut self.text_layout, &mut self.ranges, edit.change())?;
         self.history.put(edit, typed, now);
-        self.cursor = ahead;
         self.anchor = None;
         Ok(())
     }

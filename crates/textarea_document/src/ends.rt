@@ -38,8 +38,5 @@ pub fn word_end_after(line: &str, column: usize) -> usize
     ensures within { result ≤ length (chars line.now) }
     ensures after { column < length (chars line.now) → column < result }
 {
-    match find_word_exclusive_end_forward(line, column) {
-        Some(end) => end,
-        None => column_count(line),
-    }
+    find_word_exclusive_end_forward(line, column).unwrap_or_else(|| column_count(line))
 }

@@ -1,6 +1,6 @@
 //! Moves by words.
 ghost use Rattle.std.specs.Prelude.{◌≡◌, ◌<◌, length};
-ghost use Rattle.textarea_document.specs.Prelude.{lines_of, IsPlaceOf, first_word_end, next_head, next_word_row, previous_end, word_back, word_end, word_forward};
+ghost use Rattle.textarea_document.specs.Prelude.{lines_of, IsPlaceOf, first_word_end, next_word_row, word_back, word_end, word_forward};
 
 use textarea_text::places::{last_row, line_end, line_of};
 use textarea_text::word::{
@@ -16,7 +16,8 @@ pub fn word_forward(lines: &[String], cursor: (usize, usize)) -> (usize, usize)
     let (row, column) = cursor;
     match find_word_start_forward(line_of(lines, row), column) {
         Some(found) => (row, found),
-        None => next_head(lines, row),
+        None if row + 1 < lines.len() => (row + 1, 0),
+        None => line_end(lines, row),
     }
 }
 
@@ -44,33 +45,8 @@ pub fn word_back(lines: &[String], cursor: (usize, usize)) -> (usize, usize)
     let (row, column) = cursor;
     match find_word_start_backward(line_of(lines, row), column) {
         Some(found) => (row, found),
-        None => previous_end(lines, row),
-    }
-}
-
-// Returns the next line's start, or the end of the last line.
-fn next_head(lines: &[String], row: usize) -> (usize, usize)
-    requires { row < length lines.now }
-    ensures value { result ≡ next_head (lines_of lines.now) row }
-    ensures place { IsPlaceOf (lines_of lines.now) result }
-{
-    if row + 1 < lines.len() {
-        (row + 1, 0)
-    } else {
-        line_end(lines, row)
-    }
-}
-
-// Returns the previous line's end, or the text's start in the first line.
-fn previous_end(lines: &[String], row: usize) -> (usize, usize)
-    requires { row < length lines.now }
-    ensures value { result ≡ previous_end (lines_of lines.now) row }
-    ensures place { IsPlaceOf (lines_of lines.now) result }
-{
-    if row == 0 {
-        (0, 0)
-    } else {
-        line_end(lines, row - 1)
+        None if row == 0 => (0, 0),
+        None => line_end(lines, row - 1),
     }
 }
 

@@ -1,5 +1,5 @@
 -- The symbols of a change, from the content of its edit; and the replacements that make it.
-use Rattle.std.proofs.Common.{◌≡◌, ℕ, ◌+◌, ◌<◌, ◌≤◌, Bool, true, false, cond, List, [], ◌∷◌, length, sym, ap, ◌∙◌, arith, subst, inl, inr, ◌⊎◌, String, encode_utf8, Vec}
+use Rattle.std.proofs.Common.{◌≡◌, ℕ, ◌+◌, ◌<◌, ◌≤◌, Bool, false, cond, List, [], ◌∷◌, length, sym, ap, ◌∙◌, arith, subst, inl, inr, ◌⊎◌, String, encode_utf8, Vec}
 use Rattle.std.proofs.lemmas.List.{append-nil, length-map}
 use Rattle.textarea_history.specs.Prelude.{Global, IfSome, chars, IsUtf8, Symbol, characters, characters_of, lines_of, text_of, Place, IsPlace, IsPlaceOf, OccursAt, changed, end, inserted, removed, Splice, Allows, Fits, applied, IsReplacementFor, ReplacesBetween, breaks_of, new_line_count, replaced_line_count, Replacement, Stored, IsWellFormed, directed, stored_of, symbols_in, Content}
 use Rattle.textarea_text.proofs.Columns.{chars_from_bytes}
@@ -72,21 +72,4 @@ removed_by items splice start to none r some fits removes begins ends is k =
       coming = omega (arith, k.coming, coming, ap breaks_of is);
       within = k.within;
       text = k.text ∙ (removing items splice start to some fits removes begins ends).text none is;
-    }
-
--- ---- insertions
-
-pub inserted_by : (items : List (String Global)) (splice : Splice) (start : Place) (symbols : List Symbol) (r : Replacement) → splice.inserts ≡ true → start ≡ splice.place → symbols ≡ splice.symbols → ReplacesBetween items start start symbols r → IsReplacementFor items splice r
-inserted_by items splice start symbols r inserts begins same k =
-    let text = text_of items in
-    let removed_lines : replaced_line_count splice ≡ 1 = ap (λ (b : Bool). cond b 1 (breaks_of splice.symbols + 1)) inserts in
-    let coming : new_line_count splice ≡ breaks_of splice.symbols + 1 = ap (λ (b : Bool). cond b (breaks_of splice.symbols + 1) 1) inserts in
-    let there : applied text splice ≡ inserted text splice.place splice.symbols =
-    ap (λ (b : Bool). cond b (inserted text splice.place splice.symbols) (removed text splice.place splice.symbols)) inserts in
-    record {
-      row = k.row ∙ ap (λ (p : Place). p.0) begins;
-      removed_lines = omega (arith, k.row, k.removed_lines, removed_lines);
-      coming = omega (arith, k.coming, coming, ap breaks_of same);
-      within = k.within;
-      text = k.text ∙ ap (λ (p : Place). inserted text p symbols) begins ∙ ap (inserted text splice.place) same ∙ sym there;
     }

@@ -365,10 +365,3 @@ stepped_forward items index maximum run_open last log within view splice e =
     ap (λ (d : List Splice). record { done = d; undone = drop (index + 1) splices; maximum = maximum; run_open = false; last = last }) done
     ∙ ap (λ (u : List Splice). record { done = take index splices ++ splice ∷ []; undone = u; maximum = maximum; run_open = false; last = last }) undone
     ∙ ap (λ (l : Log). redone_log l splice) view
-
--- the done and undone edits are those of the store
-pub bounded_log : (items : List Stored) (index maximum : ℕ) (run_open : Bool) (last : ℕ) (log : Log) → length items ≤ maximum → log_at (map splice_in items) index maximum run_open last ≡ log → length log.done + length log.undone ≤ maximum
-bounded_log items index maximum run_open last log bounded view =
-    let splices = map splice_in items in
-    subst (λ (l : Log). length l.done + length l.undone ≤ maximum) view
-    (omega (arith, length-map items splice_in, length-append (take index splices) (drop index splices), ap length (take-append-drop index splices)))

@@ -38,12 +38,8 @@ impl Clone for EditKind {
             EditKind::DeleteNewline => Ok(EditKind::DeleteNewline),
             EditKind::InsertStr(s) => Ok(EditKind::InsertStr(s.clone()?)),
             EditKind::DeleteStr(s) => Ok(EditKind::DeleteStr(s.clone()?)),
-            EditKind::InsertChunk(fragment_lines) => Ok(EditKind::InsertChunk(
-                fragment_lines.clone()?,
-            )),
-            EditKind::DeleteChunk(fragment_lines) => Ok(EditKind::DeleteChunk(
-                fragment_lines.clone()?,
-            )),
+            EditKind::InsertChunk(lines) => Ok(EditKind::InsertChunk(lines.clone()?)),
+            EditKind::DeleteChunk(lines) => Ok(EditKind::DeleteChunk(lines.clone()?)),
         }
     }
 }

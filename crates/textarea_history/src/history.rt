@@ -134,10 +134,7 @@ impl History {
         requires { IsWellFormed edit.now }
         ensures { result ≡ joins self.now.log edit.now.splice coalesce (as_nanos now) }
     {
-        let Some(c) = typed_character(edit, coalesce) else {
-            return false;
-        };
-        let Some(edge) = self.run else {
+        let (Some(c), Some(edge)) = (typed_character(edit, coalesce), self.run) else {
             return false;
         };
         let newest = &self.items[self.index - 1];
@@ -202,10 +199,7 @@ impl History {
             (λ edit. newest self.now.log ≡ Some edit.now.splice) }
         ensures well_formed { IfSome result (λ edit. IsWellFormed edit.now) }
     {
-        if self.index == 0 {
-            return None;
-        }
-        Some(&self.items[self.index - 1])
+        self.items.get(self.index.checked_sub(1)?)
     }
 
     /// Returns the edit that was undone last, which `redo` redoes next.
@@ -214,10 +208,7 @@ impl History {
             (λ edit. next self.now.log ≡ Some edit.now.splice) }
         ensures well_formed { IfSome result (λ edit. IsWellFormed edit.now) }
     {
-        if self.index == self.items.len() {
-            return None;
-        }
-        Some(&self.items[self.index])
+        self.items.get(self.index)
     }
 
     /// Moves the newest done edit, which was undone, to the undone ones, and ends the run.

@@ -21,8 +21,5 @@ pub fn only_character(text: &str) -> Option<char>
 {
     let mut rest = text.chars();
     let first = rest.next()?;
-    match rest.next() {
-        None => Some(first),
-        Some(_) => None,
-    }
+    rest.next().is_none().then_some(first)
 }

@@ -35,12 +35,7 @@ fn first_left(ranges: &[AtomicRange], place: (usize, usize), at_place: bool) -> 
     requires { AreApart ranges.now }
     ensures { result ≡ find (λ range. not (has_ended place at_place range)) ranges.now }
 {
-    let index = ended_count(ranges, place, at_place);
-    if index < ranges.len() {
-        Some(ranges[index])
-    } else {
-        None
-    }
+    ranges.get(ended_count(ranges, place, at_place)).copied()
 }
 
 /// Returns the range that strictly contains the position: it starts before it and ends after it.
@@ -48,12 +43,7 @@ pub fn range_around(ranges: &[AtomicRange], place: (usize, usize)) -> Option<Ato
     requires { AreApart ranges.now }
     ensures { result ≡ range_around ranges.now place }
 {
-    let range = first_left(ranges, place, true)?;
-    if is_inside(range, place) {
-        Some(range)
-    } else {
-        None
-    }
+    first_left(ranges, place, true).filter(|range| is_inside(*range, place))
 }
 
 fn is_inside(range: AtomicRange, place: (usize, usize)) -> bool
@@ -103,12 +93,8 @@ pub fn range_at_place(
     requires { AreApart ranges.now }
     ensures { result ≡ range_at_place ranges.now place direction }
 {
-    let range = first_left(ranges, place, passes_end(direction))?;
-    if is_range_at_place(range, place, direction) {
-        Some(range)
-    } else {
-        None
-    }
+    let first = first_left(ranges, place, passes_end(direction));
+    first.filter(|range| is_range_at_place(*range, place, direction))
 }
 
 // Whether a range that ends at the position isn't at it in this direction.

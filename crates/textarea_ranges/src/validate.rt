@@ -70,10 +70,7 @@ fn counted_row(lines: &[String], known: Counted, row: usize) -> Counted
     if known.row == row {
         return known;
     }
-    let columns = match lines.get(row) {
-        Some(line) => column_count(line.as_str()),
-        None => 0,
-    };
+    let columns = lines.get(row).map_or(0, |line| column_count(line.as_str()));
     Counted { row, columns }
 }
 

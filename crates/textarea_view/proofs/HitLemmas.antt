@@ -1,5 +1,5 @@
 -- The greatest column of a row, and columns that are not before it.
-use Rattle.std.proofs.Common.{◌≡◌, ℕ, ◌-◌, ◌*◌, ◌^◌, ◌<◌, ◌≤◌, min, max, Bool, true, false, cond, List, length, take, sym, ap, subst, ◌∙◌, arith, IsUtf8}
+use Rattle.std.proofs.Common.{◌≡◌, ℕ, ◌-◌, ◌*◌, ◌^◌, ◌<◌, ◌≤◌, min, max, Bool, true, false, cond, List, length, take, ap, subst, arith, IsUtf8}
 use Rattle.std.specs.Str.{chars}
 use Rattle.std.proofs.lemmas.List.{length-take}
 use Rattle.std.proofs.lemmas.Str.{encodes-chars, length-le-encodes}
@@ -9,7 +9,7 @@ use Rattle.textarea_screen_map.specs.BorrowedLines.{BorrowedRows}
 use Rattle.textarea_screen_map.specs.VisualPositions.{IsPlaceAt}
 use Rattle.textarea_screen_map.specs.VisualRows.{column_at, greatest_column, row_width}
 use Rattle.textarea_view.specs.Hit.{IsNear, greatest_at}
-use Rattle.textarea_view.specs.Prelude.{Place, RowView, VisualPosition, VisualRow, hit_column}
+use Rattle.textarea_view.specs.Prelude.{Place, RowView, VisualRow, hit_column}
 
 few : (tab_len : ℕ) (cs : List ℕ) (n : ℕ) → tab_len < 2 ^ 8 → length cs ≤ n → display_end_column tab_len 0 cs ≤ 255 * n
 few tab_len cs n small short = omega (arith, end_column-few (max tab_len 1) cs (omega arith), short)

@@ -3,7 +3,7 @@ use Rattle.std.proofs.Common.{◌≡◌, ℕ, Bool, true, false, IsTrue, List, R
 use Rattle.std.proofs.lemmas.Bool.{cond-false}
 use Rattle.textarea_view.specs.Prelude.{AreLinesOf, AreLinesWith, block_change, frame_change, inside_change, inside_with, drawn_lines, placeholder_change, rows_change, style_change, row_area, FrameState, shows_placeholder, CursorCellRender, Look, block_cell, RowArea, FillsArea, lines_change, rows_above_end, in_placeholder_style, placeholder_lines, cursor_cell, SceneState, BlockView, Changes, KeepsOutside, area_of, CellView, contains, LineView, TextView, Buffer, Rect, Style, ViewportState}
 use Rattle.textarea_view.proofs.Drawing.{lines_inside}
-use Rattle.textarea_screen.proofs.ChangeLemmas.{Changes-then, KeepsOutside-from_changes, KeepsOutside-then, KeepsOutside-wider}
+use Rattle.textarea_screen.proofs.ChangeLemmas.{Changes-then, KeepsOutside-from_changes}
 
 -- a fact is also true after an error
 pub also_on_err : {T E Fact : Type 0} (r : Result T E) → Fact → OnErr r Fact
@@ -36,12 +36,6 @@ filled_by_placeholder frame viewport inner old new displayed change =
     subst (λ b. FilledWith b frame viewport inner old new) (sym displayed)
     (drawn_lines frame.scene.look frame.surround.placeholder.lines inner (area_of old), refl, change)
 
-pub filled_by_rows : (frame : FrameState) (viewport : ViewportState) (inner : Rect) (old new : Buffer) → shows_placeholder frame ≡ false →
-    ((lines : List LineView) × FillsArea frame.scene viewport.row inner (area_of old) lines × Changes old new (rows_change frame.scene.look viewport inner lines)) →
-    IsFilledBy frame viewport inner old new
-filled_by_rows frame viewport inner old new displayed drawn =
-    subst (λ b. FilledWith b frame viewport inner old new) (sym displayed) drawn
-
 style_outside : (inner : Rect) (style : Style) (x y : ℕ) (cell : CellView) → contains inner x y ≡ false → style_change inner style x y cell ≡ cell
 style_outside inner style x y cell outside = cond-false (contains inner x y) _ _ outside
 
@@ -58,10 +52,6 @@ outside_of area inner within x y outside = by (contains inner x y) refl
     by : (b : Bool) → contains inner x y ≡ b → b ≡ false
     by false e = refl
     by true e = cc (within x y e, outside)
-
-pub unchanged_around : (area inner : Rect) (old now new : Buffer) → ((x y : ℕ) → IsTrue (contains inner x y) → IsTrue (contains area x y)) → KeepsOutside (contains area) old now → KeepsOutside (contains inner) now new → KeepsOutside (contains area) old new
-unchanged_around area inner old now new within around inside =
-    KeepsOutside-then around (KeepsOutside-wider (contains area) inside (outside_of area inner within))
 
 pub framed : (frame : FrameState) (viewport : ViewportState) (area inner : Rect) (old now new : Buffer) → Changes old now (block_change frame.surround.block area) → IsFilledBy frame viewport inner now new →
     (lines : List LineView) × AreLinesOf frame viewport inner (area_of old) lines × Changes old new (frame_change frame viewport area inner lines)

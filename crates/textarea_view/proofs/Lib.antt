@@ -5,7 +5,5 @@ mod Holds
 mod Numbers
 mod OneFilling
 mod Placeholder
-mod RowSettings
 mod Visible
 pub mod Layers
-pub mod RowMarks

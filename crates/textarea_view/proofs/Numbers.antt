@@ -1,5 +1,5 @@
 -- The spans in front of a visual row, and their columns.
-use Rattle.std.proofs.Common.{◌≡◌, ℕ, zero, suc, ◌+◌, ◌-◌, ◌*◌, ◌%◌, ◌/◌, ◌^◌, ◌<◌, ◌≤◌, ◌==◌, ◌&&◌, nat_lt, Bool, true, false, cond, List, [], ◌∷◌, ◌++◌, length, replicate, sum_by, Option, None, Some, refl, sym, ap, ◌∙◌, subst, arith, codes, IsAscii, IsUtf8}
+use Rattle.std.proofs.Common.{◌≡◌, ℕ, ◌+◌, ◌-◌, ◌%◌, ◌^◌, ◌<◌, ◌≤◌, ◌==◌, ◌&&◌, nat_lt, Bool, true, false, cond, List, [], ◌∷◌, ◌++◌, length, sum_by, Option, None, Some, refl, sym, ap, ◌∙◌, subst, arith, codes, IsAscii, IsUtf8}
 use Rattle.std.specs.Fmt.{decimal}
 use Rattle.std.specs.List.{All, fold}
 use Rattle.std.specs.Option.{option_map, option_map_or}
@@ -17,11 +17,11 @@ use Rattle.textarea_wrap.specs.Columns.{IsVisible, plain_width}
 use Rattle.textarea_highlight.specs.Highlights.{Highlights, Range, with_base, with_cursor_line, with_highlight, with_number, with_placeholder, with_segment}
 use Rattle.textarea_highlight.specs.Numbers.{number_span, number_text, placeholder_span, spaces}
 use Rattle.textarea_highlight.specs.Borders.{search_rank}
-use Rattle.textarea_highlight.specs.Seen.{IsText, span_columns, spans_columns}
+use Rattle.textarea_highlight.specs.Seen.{IsText, span_columns}
 use Rattle.textarea_highlight.specs.Texts.{text_bytes_of}
 use Rattle.textarea_wrap.specs.Metrics.{line_number_columns}
 use Rattle.textarea_screen.specs.Text.{SpanView}
-use Rattle.textarea_view.specs.Prelude.{SceneState, VisualRow, highlights_of, holds_place, number_digits, number_width, row_at, row_highlights, segment_in, with_cursor, with_custom, with_customs, with_match, with_range_segment, with_row_number, with_search_matches, with_selected, with_selected_segment, byte_range, matches_in, searched_lines}
+use Rattle.textarea_view.specs.Prelude.{SceneState, VisualRow, highlights_of, holds_place, number_digits, number_width, segment_in, with_cursor, with_custom, with_match, with_range_segment, with_row_number, with_search_matches, with_selected, with_selected_segment, byte_range, matches_in, searched_lines}
 use Rattle.textarea_view.specs.SceneDrawn.{AreNumbers}
 use Rattle.textarea_view.specs.SceneRows.{bare_row, match_range, with_line_number}
 

@@ -1,10 +1,10 @@
 -- The lines of a placeholder, drawn one below the other.
-use Rattle.std.proofs.Common.{◌≡◌, ℕ, ◌+◌, ◌<◌, ◌==◌, ◌++◌, true, false, List, [], ◌∷◌, length, map, take, get_or, zero, suc, cond, refl, sym, ap, ap₂, ◌∙◌, arith}
+use Rattle.std.proofs.Common.{◌≡◌, ℕ, ◌+◌, ◌<◌, ◌==◌, ◌++◌, true, false, List, [], ◌∷◌, length, map, take, get_or, zero, suc, cond, refl, sym, ap, ◌∙◌, arith}
 use Rattle.std.specs.List.{flat_map}
 use Rattle.std.proofs.lemmas.Bool.{cond-false}
 use Rattle.std.proofs.lemmas.Bool.Decides.{nat_tests}
-use Rattle.std.proofs.lemmas.List.{length-take, map-append, map_more, take_more}
-use Rattle.textarea_view.specs.Prelude.{CursorCellRender, Draw, Hidden, content_bytes, row_clusters, span_clusters, cells_of_row, placed_row, row_cell, row_change, RowArea, Changes, CellView, is_in_row, patched, ContentView, LineView, SpanView, content_view, span_view, text_bytes, BorrowedBytes, SpanText, Borrowed, Owned, Buffer, Style, Span, lines_change, after_cursor, blank, cell_of_line, borrowed_line, borrowed_span, placeholder_lines}
+use Rattle.std.proofs.lemmas.List.{length-take, take_more}
+use Rattle.textarea_view.specs.Prelude.{CursorCellRender, Draw, Hidden, row_clusters, span_clusters, cells_of_row, placed_row, row_cell, row_change, RowArea, Changes, CellView, is_in_row, patched, LineView, SpanView, Buffer, Style, lines_change, after_cursor, blank, cell_of_line, borrowed_line, borrowed_span, placeholder_lines}
 use Rattle.textarea_paint.specs.Row.{first_visible_column}
 use Rattle.textarea_screen.proofs.ChangeLemmas.{Changes-as, Changes-then}
 use Rattle.textarea_view.proofs.Drawing.{lines_change-push}
@@ -26,28 +26,6 @@ line_at cursor_cell (line ∷ lines) (suc i) d within = ap (λ cell. after_curso
 
 pub cell_of_line-hidden : (line : ℕ) → cell_of_line Hidden line ≡ Hidden
 cell_of_line-hidden line = elim (line == 0) as (λ b. cond b Hidden Hidden ≡ Hidden) [ true ↦ refl | false ↦ refl ]
-
--- a borrow of a span's text has the same bytes
-display_bytes : (text : SpanText) → text_bytes text ≡ content_bytes (content_view text)
-display_bytes (Borrowed text) = refl
-display_bytes (Owned text) = refl
-
-abbrev made : ContentView → Style → SpanView
-made content style = record { content = content; style = style }
-
-pub borrowed_from : (item borrowed : Span) (bytes : List ℕ) → content_view borrowed.content ≡ BorrowedBytes bytes → borrowed.style ≡ item.style → bytes ≡ text_bytes item.content →
-    span_view borrowed ≡ borrowed_span (span_view item)
-borrowed_from item borrowed bytes content style are = ap₂ made (content ∙ ap BorrowedBytes (are ∙ display_bytes item.content)) style
-
--- one more borrowed span, after the blank
-pub borrowed_more : (items done more : List Span) (i : ℕ) (item borrowed : Span) (style : Style) → i < length items → map span_view done ≡ blank style ∷ map borrowed_span (map span_view (take i items)) →
-    item ≡ get_or items i item → span_view borrowed ≡ borrowed_span (span_view item) → more ≡ done ++ borrowed ∷ [] → map span_view more ≡ blank style ∷ map borrowed_span (map span_view (take (i + 1) items))
-borrowed_more items done more i item borrowed style within known is same pushed =
-    let before = map span_view (take i items) in
-    ap (map span_view) pushed ∙ map-append span_view done (borrowed ∷ []) ∙ ap (λ (spans : List SpanView). spans ++ span_view borrowed ∷ []) known
-    ∙ ap (λ (spans : List SpanView). blank style ∷ spans)
-    (ap (λ (span : SpanView). map borrowed_span before ++ span ∷ []) (same ∙ ap (λ (span : Span). borrowed_span (span_view span)) is)
-    ∙ sym (map-append borrowed_span before (span_view (get_or items i item) ∷ [])) ∙ ap (map borrowed_span) (sym (map_more span_view items i item within)))
 
 -- ---- the cells
 

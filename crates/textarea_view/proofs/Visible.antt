@@ -1,5 +1,5 @@
 -- A line that shows the visible part of a row has the cells of the line of the whole row.
-use Rattle.std.proofs.Common.{◌≡◌, ◌⊎◌, ℕ, ◌+◌, ◌-◌, ◌<◌, ◌≤◌, ◌==◌, Bool, true, false, cond, List, [], ◌∷◌, ◌++◌, length, map, sum_by, Option, None, refl, sym, ap, ap₂, ◌∙◌, inl, inr, ⊎_elim, arith, encode_utf8_all}
+use Rattle.std.proofs.Common.{◌≡◌, ◌⊎◌, ℕ, ◌+◌, ◌-◌, ◌<◌, ◌≤◌, ◌==◌, Bool, true, false, cond, List, [], ◌∷◌, ◌++◌, length, map, sum_by, Option, None, refl, sym, ap, ap₂, ◌∙◌, inl, inr, ⊎_elim, arith}
 use Rattle.std.specs.List.{All, flat_map}
 use Rattle.std.specs.Str.{chars}
 use Rattle.std.proofs.lemmas.Bool.{and_parts, eq-eqb, false≢true}
@@ -24,7 +24,7 @@ use Rattle.textarea_screen.specs.declared.screen.alignment.Alignment.TheVariants
 use Rattle.textarea_highlight.specs.Highlights.{Highlights, end_cell, end_style}
 use Rattle.textarea_highlight.specs.Plain.{ends_conjunct, is_plain, is_single}
 use Rattle.textarea_highlight.specs.Row.{ShowsRow, part_end, part_numbers}
-use Rattle.textarea_highlight.specs.Seen.{AreInTwo, AreSpansSplit, IsSpanSplit, IsText, ShowsBetween, line_of_segments, span_columns, spans_columns}
+use Rattle.textarea_highlight.specs.Seen.{AreInTwo, IsSpanSplit, IsText, ShowsBetween, line_of_segments, span_columns, spans_columns}
 use Rattle.textarea_highlight.specs.Texts.{text_bytes_of}
 use Rattle.textarea_highlight.specs.declared.highlight.highlighter.RowPart.{RowPart}
 use Rattle.textarea_paint.specs.Clusters.{Cluster, content_bytes, in_style, row_clusters, span_clusters}

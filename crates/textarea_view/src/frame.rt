@@ -46,7 +46,7 @@ impl Frame<'_, '_> {
         self.is_empty && self.surround.placeholder_rows() > 0
     }
 
-    // Draws the visual rows or the placeholder into the inner area.
+    // Draws the visual rows, over the style of the text area, or the placeholder.
     fn draw_inside(
         &self,
         alloc: Global,
@@ -61,11 +61,15 @@ impl Frame<'_, '_> {
             × Changes buffer.old buffer.new (inside_change self.now viewport inner lines)) }
         ensures outside { KeepsOutside (contains inner) buffer.old buffer.new }
     {
+        let scene = &self.scene;
+        let rows = row_area(scene.look, viewport, inner);
         if self.shows_placeholder() {
-            draw_placeholder_of(alloc, buffer, self.surround, &self.scene, viewport, inner)
-        } else {
-            draw_rows(alloc, cached, buffer, &self.scene, viewport, inner)
+            let placeholder = self.surround.placeholder();
+            return draw_placeholder(alloc, buffer, rows, placeholder, scene.cursor_cell());
         }
+        let (top, _) = viewport.scroll_top();
+        buffer.set_style(inner, scene.look.style);
+        scene.draw(alloc, cached, buffer, rows, top)
     }
 
     // Draws the block, if there is one.
@@ -79,51 +83,6 @@ impl Frame<'_, '_> {
             None => Ok(()),
         }
     }
-}
-
-// Draws the placeholder into the inner area.
-fn draw_placeholder_of(
-    alloc: Global,
-    buffer: &mut Buffer,
-    surround: &Surround<'_>,
-    scene: &Scene<'_>,
-    viewport: Viewport,
-    inner: Rect,
-) -> Result<(), AllocError>
-    ensures ok { OnOk result (Changes buffer.old buffer.new
-        (placeholder_change scene.now.look surround.now.placeholder.style viewport inner
-        (drawn_lines scene.now.look surround.now.placeholder.lines inner (area_of buffer.old)))) }
-    ensures outside { KeepsOutside (contains inner) buffer.old buffer.new }
-{
-    let rows = row_area(scene.look, viewport, inner);
-    draw_placeholder(
-        alloc,
-        buffer,
-        rows,
-        surround.placeholder(),
-        scene.cursor_cell(),
-    )
-}
-
-// Draws the visual rows over the style of the text area.
-fn draw_rows(
-    alloc: Global,
-    cached: &mut MatchCache,
-    buffer: &mut Buffer,
-    scene: &Scene<'_>,
-    viewport: Viewport,
-    inner: Rect,
-) -> Result<(), AllocError>
-    requires { HasPlaces scene.now }
-    ensures ok { OnOk result ((lines : List LineView)
-        × FillsArea scene.now viewport.row inner (area_of buffer.old) lines
-        × Changes buffer.old buffer.new (rows_change scene.now.look viewport inner lines)) }
-    ensures outside { KeepsOutside (contains inner) buffer.old buffer.new }
-{
-    let rows = row_area(scene.look, viewport, inner);
-    let (top, _) = viewport.scroll_top();
-    buffer.set_style(inner, scene.look.style);
-    scene.draw(alloc, cached, buffer, rows, top)
 }
 
 /// Draws the frame. `viewport` is that of the last frame; the returned one follows the cursor. The

@@ -48,10 +48,12 @@ impl Frame<'_, '_> {
         ensures { IfOk result (λ placement. IsPlacement self.now viewport inner placement) }
     {
         if self.shows_placeholder() {
-            Ok(placement_at_corner(inner))
-        } else {
-            placement_in_rows(alloc, &self.scene, self.mode, viewport, inner)
+            return Ok(Placement {
+                viewport: Viewport::at_start(inner),
+                caret: corner_caret(inner),
+            });
         }
+        placement_in_rows(alloc, &self.scene, self.mode, viewport, inner)
     }
 }
 
@@ -146,16 +148,6 @@ fn viewport_at(
     match mode {
         WrapMode::None => viewport.showing_row_and_column(inner, row, column, number_width),
         _ => viewport.showing_row(inner, row),
-    }
-}
-
-// Returns the viewport and caret with a placeholder: not scrolled, the caret in the corner.
-fn placement_at_corner(inner: Rect) -> Placement
-    ensures { result ≡ placed_at_corner inner }
-{
-    Placement {
-        viewport: Viewport::at_start(inner),
-        caret: corner_caret(inner),
     }
 }
 

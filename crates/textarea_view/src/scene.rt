@@ -100,10 +100,7 @@ impl<'a> Scene<'a> {
     {
         match rows.alignment {
             Alignment::Left => Ok(0),
-            _ => {
-                let line = self.row_line(alloc, row)?;
-                Ok(row_start(rows, &line))
-            }
+            _ => Ok(row_start(rows, &self.row_line(alloc, row)?)),
         }
     }
 
@@ -142,25 +139,14 @@ fn draw_rows<'a>(
     let mut line = Line::from_spans(Vec::new(alloc));
     for i in 0..count {
         let left = frame.show_visible_in(&mut line, rows, top + i, matches, &mut highlighter)?;
-        draw_below(buffer, RowArea { left, ..rows }, i, &line)?;
+        draw_row(
+            buffer,
+            RowArea { left, ..rows },
+            rows.area.y() + i as u16,
+            &line,
+        )?;
     }
     Ok(())
-}
-
-// Draws a line into the row that is `below` rows below the first of the area.
-fn draw_below(
-    buffer: &mut Buffer,
-    rows: RowArea,
-    below: usize,
-    line: &Line<'_>,
-) -> Result<(), AllocError>
-    requires { below < rows.area.height }
-    ensures ok { OnOk result (Changes buffer.old buffer.new
-        (row_cell rows (rows.area.y + below) (line_view line.now))) }
-    ensures err { OnErr result
-        (KeepsOutside (is_in_row rows.area (rows.area.y + below)) buffer.old buffer.new) }
-{
-    draw_row(buffer, rows, rows.area.y() + below as u16, line)
 }
 
 // Returns the number of rows of the area that are above the end of the buffer's area.

@@ -164,12 +164,11 @@ impl Viewport {
     pub fn hit_row(&self, inner_area: Rect, last_row: usize, position: Position) -> Option<usize>
         ensures { result ≡ hit_row self.now.row inner_area last_row position.x position.y }
     {
-        if inner_area.contains(position) {
-            let down = usize::from(position.y - inner_area.y());
-            Some(self.row.saturating_add(down).min(last_row))
-        } else {
-            None
+        if !inner_area.contains(position) {
+            return None;
         }
+        let down = usize::from(position.y - inner_area.y());
+        Some(self.row.saturating_add(down).min(last_row))
     }
 
     // Returns the viewport of the area from this row and column on.
@@ -201,12 +200,7 @@ fn last_visible(first: usize, len: usize) -> usize
 fn scroll_from(first: usize, by: i32) -> usize
     ensures { result ≡ scrolled first by }
 {
-    let distance = by.unsigned_abs() as usize;
-    if by < 0 {
-        first.saturating_sub(distance)
-    } else {
-        first.saturating_add(distance)
-    }
+    first.saturating_add_signed(by as isize)
 }
 
 // Returns the first of `len` rows or columns in view, changed no more than it must be to show `at`.

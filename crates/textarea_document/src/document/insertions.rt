@@ -21,11 +21,7 @@ impl Document {
         ensures outside { All (λ range. ¬ IsInside result range) self.now.ranges }
     {
         let _lines = self.text_layout.lines();
-        move_out(
-            self.ranges.as_slice(),
-            self.cursor,
-            AtomicCursorBias::Forward,
-        )
+        move_out(self.ranges(), self.cursor(), AtomicCursorBias::Forward)
     }
 
     /// Moves the cursor to the insertion position, and drops the selection; nothing is recorded.
@@ -47,12 +43,8 @@ impl Document {
         ensures err { OnErr result (self.new ≡ self.old) }
     {
         let (row, column) = self.insertion_place();
-        let after = (row, column + 1);
-        self.edit(
-            Edit::between(EditKind::InsertChar(c), (row, column), after),
-            typed,
-            now,
-        )
+        let edit = Edit::between(EditKind::InsertChar(c), (row, column), (row, column + 1));
+        self.edit(edit, typed, now)
     }
 
     /// Breaks the line at the insertion position.
@@ -61,12 +53,8 @@ impl Document {
         ensures err { OnErr result (self.new ≡ self.old) }
     {
         let (row, column) = self.insertion_place();
-        let after = (row + 1, 0);
-        self.edit(
-            Edit::between(EditKind::InsertNewline, (row, column), after),
-            false,
-            now,
-        )
+        let edit = Edit::between(EditKind::InsertNewline, (row, column), (row + 1, 0));
+        self.edit(edit, false, now)
     }
 
     /// Inserts the fragment at the insertion position, with a line break between each two of its

@@ -74,8 +74,8 @@ impl Document {
         ensures moved { result ≡ is_some (range_around self.old.ranges self.old.cursor) }
         ensures new { self.new ≡ normalized self.old bias }
     {
-        let found = lookup::range_around(self.ranges.as_slice(), self.cursor).is_some();
-        self.cursor = lookup::move_out(self.ranges.as_slice(), self.cursor, bias);
+        let found = lookup::range_around(self.ranges(), self.cursor).is_some();
+        self.cursor = lookup::move_out(self.ranges(), self.cursor, bias);
         found
     }
 
@@ -90,7 +90,7 @@ impl Document {
         ensures before { direction ≡ Backward → IfSome result (λ _. is_at_start self.now ≡ false) }
         ensures after { direction ≡ Forward → IfSome result (λ _. is_at_end self.now ≡ false) }
     {
-        lookup::range_at_place(self.ranges.as_slice(), self.cursor, direction)
+        lookup::range_at_place(self.ranges(), self.cursor(), direction)
     }
 
     /// Removes the atomic range at the cursor in this direction, and returns it. The selection
@@ -119,11 +119,7 @@ impl Document {
     fn set_clipped_anchor(&mut self, anchor: Option<(usize, usize)>)
         ensures { self.new ≡ anchored self.old anchor }
     {
-        if let Some(place) = anchor {
-            self.anchor = Some(clip(self.lines(), place));
-        } else {
-            self.anchor = None;
-        }
+        self.anchor = anchor.map(|place| clip(self.lines(), place));
     }
 }
 
@@ -132,8 +128,7 @@ fn anchor_out(ranges: &[AtomicRange], anchor: Option<(usize, usize)>) -> Option<
     requires { AreApart ranges.now }
     ensures { result ≡ anchor_out ranges.now anchor }
 {
-    let place = anchor?;
-    Some(lookup::move_out(ranges, place, AtomicCursorBias::Backward))
+    Some(lookup::move_out(ranges, anchor?, AtomicCursorBias::Backward))
 }
 
 // Returns the selection's beginning, or `None` if it is the cursor.

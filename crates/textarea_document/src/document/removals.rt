@@ -202,11 +202,8 @@ impl Document {
             return Ok(false);
         }
         let start = line_end(self.lines(), row - 1);
-        self.edit(
-            Edit::between(EditKind::DeleteNewline, (row, 0), start),
-            false,
-            now,
-        )?;
+        let edit = Edit::between(EditKind::DeleteNewline, (row, 0), start);
+        self.edit(edit, false, now)?;
         Ok(true)
     }
 }

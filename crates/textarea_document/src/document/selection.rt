@@ -34,12 +34,7 @@ impl Document {
         ensures ordered { IfSome result (λ ends.
             index_of self.now.text ends.0 < index_of self.now.text ends.1) }
     {
-        let (start, end) = self.selection()?;
-        if comes_before(start, end) {
-            Some((start, end))
-        } else {
-            None
-        }
+        self.selection().filter(|ends| comes_before(ends.0, ends.1))
     }
 
     /// Removes the selected text, and returns whether there was any; an empty selection stays.
@@ -70,8 +65,7 @@ impl Document {
         let Some((start, end)) = self.filled_selection() else {
             return Ok(None);
         };
-        let fragment_lines = self.take(start, end, now)?;
-        Ok(Some(fragment_lines))
+        Ok(Some(self.take(start, end, now)?))
     }
 }
 

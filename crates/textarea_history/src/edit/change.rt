@@ -56,22 +56,16 @@ impl<'a> Change<'a> {
     pub fn cursor_before(&self) -> (usize, usize)
         ensures { result ≡ place_before self.now }
     {
-        if self.inserts {
-            self.start()
-        } else {
-            self.end()
-        }
+        let edit = self.edit;
+        if self.inserts { edit.start } else { edit.end }
     }
 
     /// Returns the cursor's (row, column) after the change.
     pub fn cursor_after(&self) -> (usize, usize)
         ensures { result ≡ place_after self.now }
     {
-        if self.inserts {
-            self.end()
-        } else {
-            self.start()
-        }
+        let edit = self.edit;
+        if self.inserts { edit.end } else { edit.start }
     }
 
     /// Returns whether it has no line break, so that it changes only one line.
@@ -109,8 +103,8 @@ impl<'a> Change<'a> {
             let offset = byte_offset(lines[row].as_str(), column);
             return self.apply_inside(lines, offset);
         }
-        let replacement = self.prepare(*lines.allocator(), lines.as_slice())?;
-        replacement.apply(lines)
+        self.prepare(*lines.allocator(), lines.as_slice())?
+            .apply(lines)
     }
 
     /// Makes a change without a line break, in place. `offset` is the byte offset of its start in
@@ -140,13 +134,12 @@ impl<'a> Change<'a> {
                 self.insert_inside(lines, offset, c.encode_utf8(&mut buffer))
             }
             Content::Text(text) => self.insert_inside(lines, offset, text.as_str()),
+            Content::Typed(text) if edit.inserts => {
+                self.insert_inside(lines, offset, text.as_str())
+            }
             Content::Typed(text) => {
-                if edit.inserts {
-                    self.insert_inside(lines, offset, text.as_str())
-                } else {
-                    let restored = reverse_text(*lines.allocator(), text.as_str())?;
-                    self.insert_inside(lines, offset, restored.as_str())
-                }
+                let restored = reverse_text(*lines.allocator(), text.as_str())?;
+                self.insert_inside(lines, offset, restored.as_str())
             }
             Content::Break | Content::Chunk(_) => unreachable!(),
         }
@@ -190,22 +183,16 @@ impl<'a> Change<'a> {
                 self.prepare_insertion(alloc, lines, c.encode_utf8(&mut buffer), &[])
             }
             Content::Text(text) => self.prepare_insertion(alloc, lines, text.as_str(), &[]),
+            Content::Typed(text) if edit.inserts => {
+                self.prepare_insertion(alloc, lines, text.as_str(), &[])
+            }
             Content::Typed(text) => {
-                if edit.inserts {
-                    self.prepare_insertion(alloc, lines, text.as_str(), &[])
-                } else {
-                    let restored = reverse_text(alloc, text.as_str())?;
-                    self.prepare_insertion(alloc, lines, restored.as_str(), &[])
-                }
+                let restored = reverse_text(alloc, text.as_str())?;
+                self.prepare_insertion(alloc, lines, restored.as_str(), &[])
             }
             Content::Break => self.prepare_insertion(alloc, lines, "", &[String::new(alloc)]),
-            Content::Chunk(fragment_lines) => {
-                self.prepare_insertion(
-                    alloc,
-                    lines,
-                    fragment_lines[0].as_str(),
-                    &fragment_lines[1..],
-                )
+            Content::Chunk(chunk) => {
+                self.prepare_insertion(alloc, lines, chunk[0].as_str(), &chunk[1..])
             }
         }
     }

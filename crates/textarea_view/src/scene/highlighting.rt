@@ -134,13 +134,8 @@ impl RowContext<'_, '_> {
     {
         let scene = self.scene;
         for own in scene.highlights {
-            add_segment(
-                highlighter,
-                displayed,
-                (own.start, own.end),
-                own.style,
-                own.priority,
-            )?;
+            let range = (own.start, own.end);
+            add_segment(highlighter, displayed, range, own.style, own.priority)?;
         }
         Ok(())
     }
@@ -158,17 +153,11 @@ fn add_segment(
         (highlighter.new ≡ with_range_segment (row_of_texts displayed.entry) range style rank
         highlighter.old) }
 {
-    match segment_in(displayed, range) {
-        Some((from, to)) => {
-            highlighter.custom(
-                displayed.line,
-                ((displayed.line, from), (displayed.line, to)),
-                style,
-                rank,
-            )
-        }
-        None => Ok(()),
-    }
+    let Some((from, to)) = segment_in(displayed, range) else {
+        return Ok(());
+    };
+    let line = displayed.line;
+    highlighter.custom(line, ((line, from), (line, to)), style, rank)
 }
 
 // Returns the row's section of a range, as byte offsets in the row, if its line is in the range.

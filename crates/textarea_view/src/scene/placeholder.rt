@@ -79,8 +79,7 @@ fn draw_line(
 {
     match cursor_cell {
         CursorCellRender::Draw(style) => {
-            let displayed = after_blank(alloc, line, style)?;
-            draw_row(buffer, rows, y, &displayed)
+            draw_row(buffer, rows, y, &after_blank(alloc, line, style)?)
         }
         CursorCellRender::Hidden => draw_row(buffer, rows, y, line),
     }

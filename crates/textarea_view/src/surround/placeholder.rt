@@ -57,11 +57,7 @@ impl<'a> Surround<'a> {
     pub fn placeholder_style(&self) -> Option<Style>
         ensures { result ≡ style_with_lines self.now.placeholder.lines self.now.placeholder.style }
     {
-        if self.placeholder.lines.is_empty() {
-            None
-        } else {
-            Some(self.placeholder.style)
-        }
+        (!self.placeholder.lines.is_empty()).then_some(self.placeholder.style)
     }
 
     /// Returns the number of the placeholder's lines. It is drawn only if it has one or more.

@@ -1,4 +1,4 @@
-use Rattle.std.proofs.Common.{◌≤◌, sym, ap, subst, ◌∙◌, refl}
+use Rattle.std.proofs.Common.{◌≤◌, sym, ap, subst}
 use Rattle.textarea_view.specs.Hit.{greatest_at}
 use Rattle.textarea_view.specs.Prelude.{VisualRow}
 use Rattle.textarea_screen_map.specs.VisualRows.{greatest_column, row_at}
@@ -18,12 +18,3 @@ returns-clause-hit c =
       view_is = rw (← c.scene.view_is) at c.in_ok-view.ensures.view;
       near = nearer rows c.in_ok-view.view c.args.row _ c.most_columns-most.result _ within (rw (c.hit_column-column.ensures) at c.place_near.ensures.near);
     })
-
-pub returns-clause-place : goal.returns-clause-place
-returns-clause-place c = rw (← c.scene.view_is) c.place_near.ensures.place
-
-pub place_near-requires : goal.place_near-requires
-place_near-requires c = rw (← c.scene.view_is) at c.requires.row
-
-pub row_at-displayed-requires : goal.row_at-displayed-requires
-row_at-displayed-requires c = rw (← c.scene.view_is) at c.requires.row

@@ -1,7 +1,8 @@
-use Rattle.std.proofs.Common.{◌∙◌, sym}
+use Rattle.std.proofs.Common.{arith}
+use Rattle.std.proofs.lemmas.Grind.{common_steps}
+use Rattle.textarea_document.specs.Prelude.{Place}
 use Rattle.textarea_document.proofs.Orders.{index_before}
 use Rattle.textarea_document.proofs.document.Document.filled_selection.Goals as goal
 
-pub returns-then-comes_before-clause-ordered : goal.returns-then-comes_before-clause-ordered
-returns-then-comes_before-clause-ordered c =
-    index_before c.args.self.now.text c.in_ok-start.start c.in_ok-start.end c.in_ok-start.ensures.places.0 c.in_ok-start.ensures.places.1 (sym c.comes_before.ensures ∙ c.if-comes_before.true)
+pub returns-clause-ordered : goal.returns-clause-ordered
+returns-clause-ordered c = grind (arith, common_steps, λ (start end : Place). index_before c.args.self.now.text start end)

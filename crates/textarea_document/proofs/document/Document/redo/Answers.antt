@@ -11,12 +11,12 @@ make_change-requires-clause-fits c =
     subst (Fits inside.text_layout.text) (sym c.change.ensures) (next_fits document c.in-Some.edit.now.splice c.self.invariant c.in-Some.ensures.edit)
 
 -- the resulting document is the one after the step
-left : (c : After-step_forward) → document_of c.make_change.new.text_layout c.in_ok-ahead.ahead None c.make_change.new.ranges.items c.step_forward.new.self.log ≡ after_redo_by (Some c.in-Some.edit.now.splice) (document_of c.self.inside.text_layout c.self.inside.cursor c.self.inside.anchor c.self.inside.ranges.items c.self.inside.history.log)
+left : (c : After-step_forward) → document_of c.make_change.new.text_layout c.in_ok-self-inside.field-0 None c.make_change.new.ranges.items c.step_forward.new.self.log ≡ after_redo_by (Some c.in-Some.edit.now.splice) (document_of c.self.inside.text_layout c.self.inside.cursor c.self.inside.anchor c.self.inside.ranges.items c.self.inside.history.log)
 left c =
     let inside = c.self.inside in
     let splice = c.in-Some.edit.now.splice in
-    let is = c.in_ok-ahead.ensures in
-    changed_is inside.text_layout c.make_change.new.text_layout inside.cursor c.in_ok-ahead.ahead inside.anchor inside.ranges.items c.make_change.new.ranges.items inside.history.log c.step_forward.new.self.log (redone_log inside.history.log splice) _ (splice) c.change.ensures is.text_layout is.cursor is.ranges (c.step_forward.ensures splice c.in-Some.ensures.edit)
+    let is = c.in_ok-self-inside.ensures in
+    changed_is inside.text_layout c.make_change.new.text_layout inside.cursor c.in_ok-self-inside.field-0 inside.anchor inside.ranges.items c.make_change.new.ranges.items inside.history.log c.step_forward.new.self.log (redone_log inside.history.log splice) _ (splice) c.change.ensures is.text_layout is.cursor is.ranges (c.step_forward.ensures splice c.in-Some.ensures.edit)
 
 pub invariant_of-self-2 : goal.invariant_of-self-2
 invariant_of-self-2 c =

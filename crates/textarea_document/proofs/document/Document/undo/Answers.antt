@@ -11,12 +11,12 @@ make_change-requires-clause-fits c =
     subst (Fits inside.text_layout.text) (sym c.inverse.ensures) (newest_fits document c.in-Some.edit.now.splice c.self.invariant c.in-Some.ensures.edit)
 
 -- the resulting document is the one after the step
-left : (c : After-step_back) → document_of c.make_change.new.text_layout c.in_ok-back.back None c.make_change.new.ranges.items c.step_back.new.self.log ≡ after_undo_by (Some c.in-Some.edit.now.splice) (document_of c.self.inside.text_layout c.self.inside.cursor c.self.inside.anchor c.self.inside.ranges.items c.self.inside.history.log)
+left : (c : After-step_back) → document_of c.make_change.new.text_layout c.in_ok-self-inside.field-0 None c.make_change.new.ranges.items c.step_back.new.self.log ≡ after_undo_by (Some c.in-Some.edit.now.splice) (document_of c.self.inside.text_layout c.self.inside.cursor c.self.inside.anchor c.self.inside.ranges.items c.self.inside.history.log)
 left c =
     let inside = c.self.inside in
     let splice = c.in-Some.edit.now.splice in
-    let is = c.in_ok-back.ensures in
-    changed_is inside.text_layout c.make_change.new.text_layout inside.cursor c.in_ok-back.back inside.anchor inside.ranges.items c.make_change.new.ranges.items inside.history.log c.step_back.new.self.log (undone_log inside.history.log splice) _ (inverse splice) c.inverse.ensures is.text_layout is.cursor is.ranges (c.step_back.ensures splice c.in-Some.ensures.edit)
+    let is = c.in_ok-self-inside.ensures in
+    changed_is inside.text_layout c.make_change.new.text_layout inside.cursor c.in_ok-self-inside.field-0 inside.anchor inside.ranges.items c.make_change.new.ranges.items inside.history.log c.step_back.new.self.log (undone_log inside.history.log splice) _ (inverse splice) c.inverse.ensures is.text_layout is.cursor is.ranges (c.step_back.ensures splice c.in-Some.ensures.edit)
 
 pub invariant_of-self-2 : goal.invariant_of-self-2
 invariant_of-self-2 c =

@@ -1,8 +1,6 @@
-use Rattle.std.proofs.Common.{◌++◌, sym, subst}
-use Rattle.std.proofs.lemmas.Result.{IfOk-weaker}
-use Rattle.textarea_history.specs.Prelude.{chars, characters, following, lines_of, IsPlaceOf}
+use Rattle.std.proofs.Common.{sym, subst}
+use Rattle.textarea_history.specs.Prelude.{lines_of, IsPlaceOf}
 use Rattle.textarea_text.proofs.StringRows.{rows_place}
-use Rattle.textarea_history.proofs.Changes.{inserted_by}
 use Rattle.textarea_history.proofs.edit.change.Change.prepare_insertion.Goals as goal
 
 known : (c : goal.After-start-start) → IsPlaceOf (lines_of c.args.lines.now) c.start-start.result
@@ -13,9 +11,3 @@ prepare_replacement-requires-clause-from c = known c
 
 pub prepare_replacement-requires-clause-to : goal.prepare_replacement-requires-clause-to
 prepare_replacement-requires-clause-to c = known c
-
-pub returns : goal.returns
-returns c =
-    IfOk-weaker c.prepare_replacement.result _ _
-    (λ r. inserted_by c.args.lines.now c.args.self.now c.start-start.result (characters (chars c.args.first.now) ++ following (lines_of c.args.rest.now)) r c.requires.inserts c.start-start.ensures c.requires.symbols)
-    c.prepare_replacement.ensures
