@@ -33,7 +33,8 @@ impl<'b> TextArea<'b> {
             (λ area. (strings : List (String Global)) × Drains I.next_gives lines strings
             × (area ≡ new_state (text_of strings))) }
     {
-        TextArea::new(collect_lines(alloc, lines)?)
+        let all = collect_lines(alloc, lines)?;
+        TextArea::new(all)
     }
 
     /// Returns a text area with copies of the iterator's lines and the cursor at the start. Without
@@ -48,7 +49,8 @@ impl<'b> TextArea<'b> {
             (λ area. (texts : List (Bor (List ℕ))) × Drains I.next_gives lines texts
             × (area ≡ new_state (text_of_each texts))) }
     {
-        TextArea::new(copy_lines(alloc, lines)?)
+        let all = copy_lines(alloc, lines)?;
+        TextArea::new(all)
     }
 }
 
