@@ -19,3 +19,4 @@ pub mod PlaceLemmas
 pub mod TabLemmas
 pub mod NearestLemmas
 mod WordLemmas
+pub mod JoinedTexts

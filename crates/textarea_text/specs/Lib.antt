@@ -12,3 +12,4 @@ pub mod Nearest
 pub mod Paragraphs
 pub mod Words
 pub mod Prelude
+pub mod JoinedLines

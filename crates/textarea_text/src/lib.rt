@@ -3,6 +3,7 @@
 
 pub mod fragment;
 pub mod inside;
+pub mod joined_lines;
 pub mod laws;
 pub mod place_shift;
 pub mod places;

@@ -1,0 +1,91 @@
+//! A text of one or more lines in one string.
+ghost use Rattle.std.specs.Prelude.{◌≡◌, ◌+◌, ◌≤◌, ◌++◌, ◌∷◌, [], get_or, length, OnOk, OnErr};
+ghost use Rattle.textarea_text.specs.Prelude.{chars, Break, characters, breaks_of, lines};
+
+use std::alloc::{AllocError, Global};
+use std::marker::Model;
+
+/// A text of at least one line, in one string with the byte offsets of its breaks, so that a copy
+/// takes memory only twice. A line feed in it is a character of its line.
+#[derive(Drop)]
+pub struct JoinedLines {
+    text: String,
+    breaks: Vec<usize>,
+}
+
+impl Model for JoinedLines {
+    ghost use Rattle.std.specs.Prelude.{List, string_bytes};
+    ghost use Rattle.textarea_text.specs.Text.{Symbol};
+    ghost use Rattle.textarea_text.specs.JoinedLines.{AreBreaks, symbols_from};
+
+    ghost Value = { List Symbol };
+
+    ghost view = { λ lines. symbols_from (string_bytes lines.text) 0 lines.breaks.items };
+
+    ghost invariant = { λ lines. AreBreaks (string_bytes lines.text) 0 lines.breaks.items };
+}
+
+impl JoinedLines {
+    /// Returns one empty line.
+    pub fn new(alloc: Global) -> JoinedLines
+        ensures { result ≡ [] }
+    {
+        JoinedLines {
+            text: String::new(alloc),
+            breaks: Vec::new(alloc),
+        }
+    }
+
+    /// Appends a text to the last line.
+    pub fn push_str(&mut self, text: &str) -> Result<(), AllocError>
+        ensures ok { OnOk result (self.new ≡ self.old ++ characters (chars text.now)) }
+        ensures err { OnErr result (self.new ≡ self.old) }
+    {
+        self.text.push_str(text)
+    }
+
+    /// Appends a break, and after it an empty line.
+    pub fn push_break(&mut self) -> Result<(), AllocError>
+        ensures ok { OnOk result (self.new ≡ self.old ++ (Break ∷ [])) }
+        ensures err { OnErr result (self.new ≡ self.old) }
+    {
+        self.breaks.push(self.text.len())?;
+        Ok(())
+    }
+
+    /// Returns the number of lines, which is that of breaks and one.
+    pub fn line_count(&self) -> usize
+        ensures { result ≡ breaks_of self.now + 1 }
+    {
+        self.breaks.len() + 1
+    }
+
+    /// Returns a line.
+    pub fn line(&self, index: usize) -> &str
+        requires { index ≤ breaks_of self.now }
+        ensures { chars result.now ≡ get_or (lines self.now) index [] }
+    {
+        let breaks = self.breaks.as_slice();
+        let from = start_of(breaks, index);
+        let to = end_of(breaks, index, self.text.len());
+        &self.text[from..to]
+    }
+}
+
+// Returns where the line with this index begins, after the break before it.
+fn start_of(breaks: &[usize], index: usize) -> usize
+    requires { index ≤ length breaks.now }
+    ensures { result ≡ get_or (0 ∷ breaks.now) index 0 }
+{
+    if index == 0 { 0 } else { breaks[index - 1] }
+}
+
+// Returns where the line with this index ends: at the break after it, or at the end of all.
+fn end_of(breaks: &[usize], index: usize, end: usize) -> usize
+    ensures { result ≡ get_or breaks.now index end }
+{
+    match breaks.get(index) {
+        Some(offset) => *offset,
+        None => end,
+    }
+}
