@@ -53,21 +53,68 @@ impl JoinedLines {
         Ok(())
     }
 
+    /// Returns the lines, borrowed.
+    pub fn as_lines(&self) -> TextLines<'_>
+        ensures { result ≡ self.now }
+    {
+        TextLines {
+            text: self.text.as_str(),
+            breaks: self.breaks.as_slice(),
+        }
+    }
+}
+
+/// Borrowed lines: a text of at least one line, with the byte offsets of its breaks. A line feed in
+/// it is a character of its line.
+pub struct TextLines<'a> {
+    text: &'a str,
+    breaks: &'a [usize],
+}
+
+impl<'a> Model for TextLines<'a> {
+    ghost use Rattle.std.specs.Prelude.{List};
+    ghost use Rattle.textarea_text.specs.Text.{Symbol};
+    ghost use Rattle.textarea_text.specs.JoinedLines.{AreBreaks, symbols_from};
+
+    ghost Value = { List Symbol };
+
+    ghost view = { λ lines. symbols_from lines.text.now 0 lines.breaks.now };
+
+    ghost invariant = { λ lines. AreBreaks lines.text.now 0 lines.breaks.now };
+}
+
+impl<'a> TextLines<'a> {
+    /// Returns the text as one line.
+    pub fn line_of(text: &'a str) -> TextLines<'a>
+        ensures { result ≡ characters (chars text.now) }
+    {
+        TextLines { text, breaks: &[] }
+    }
+
+    /// Returns two empty lines.
+    pub fn of_break() -> TextLines<'a>
+        ensures { result ≡ Break ∷ [] }
+    {
+        TextLines {
+            text: "",
+            breaks: &[0],
+        }
+    }
+
     /// Returns the number of lines, which is that of breaks and one.
-    pub fn line_count(&self) -> usize
+    pub fn count(&self) -> usize
         ensures { result ≡ breaks_of self.now + 1 }
     {
         self.breaks.len() + 1
     }
 
-    /// Returns a line.
-    pub fn line(&self, index: usize) -> &str
+    /// Returns the line with this index.
+    pub fn line(&self, index: usize) -> &'a str
         requires { index ≤ breaks_of self.now }
         ensures { chars result.now ≡ get_or (lines self.now) index [] }
     {
-        let breaks = self.breaks.as_slice();
-        let from = start_of(breaks, index);
-        let to = end_of(breaks, index, self.text.len());
+        let from = start_of(self.breaks, index);
+        let to = end_of(self.breaks, index, self.text.len());
         &self.text[from..to]
     }
 }
