@@ -3,10 +3,11 @@ use Rattle.std.proofs.Common.{◌≡◌, ℕ, zero, suc, Result, Ok, Err, OnOk, 
 use Rattle.std.proofs.lemmas.List.{append_assoc, append-nil, drop-append-le, drop_all, length-append, length-drop, take-append-le, take_all}
 use Rattle.std.proofs.lemmas.Str.{IsCharBoundary-end, IsCharBoundary-from_take, IsUtf8-append, IsUtf8-drop, IsUtf8-take, chars-append, chars-nil}
 use Rattle.std.specs.Str.{chars, IsUtf8, IsCharBoundary}
-use Rattle.textarea_text.specs.Text.{Symbol, Character, Break, characters, lines, on_first}
+use Rattle.textarea_text.specs.Text.{Symbol, Character, Break, characters, following, joined, lines, on_first}
 use Rattle.textarea_text.specs.Touched.{breaks_of}
 use Rattle.textarea_text.specs.JoinedLines.{AreBreaks, symbols_from, lines_from}
 use Rattle.textarea_text.proofs.Splices.{characters-append}
+use Rattle.textarea_text.proofs.TextPlaces.{joined-lines}
 use Rattle.textarea_text.proofs.Touching.{breaks_of-append, breaks_of-characters}
 
 -- ---- before an appended text
@@ -56,6 +57,15 @@ symbols_from-break bytes from (offset ∷ offsets) at =
     ∙ sym (append_assoc (characters (chars (take (offset - from) (drop from bytes)))) (Break ∷ symbols_from bytes offset offsets) (Break ∷ []))
 
 -- ---- its lines
+
+length-on_first : (c : ℕ) (rows : List (List ℕ)) → 0 < length rows → length (on_first c rows) ≡ length rows
+length-on_first c [] some = absurd (omega arith)
+length-on_first c (line ∷ rows) some = refl
+
+pub length-lines : (text : List Symbol) → length (lines text) ≡ breaks_of text + 1
+length-lines [] = refl
+length-lines (Character c ∷ text) = length-on_first c (lines text) (omega (arith, length-lines text)) ∙ length-lines text
+length-lines (Break ∷ text) = omega (arith, length-lines text)
 
 pub breaks_of-symbols_from : (bytes : List ℕ) (from : ℕ) (offsets : List ℕ) → breaks_of (symbols_from bytes from offsets) ≡ length offsets
 breaks_of-symbols_from bytes from [] = breaks_of-characters (chars (drop from bytes))
@@ -107,3 +117,12 @@ pushed (Ok x) bytes more now offsets text later at is =
     (subst (λ t. AreBreaks t 0 offsets) (sym is) (AreBreaks-text bytes more 0 offsets text later at), ap (λ t. symbols_from t 0 offsets) is ∙ symbols_from-text bytes more 0 offsets text at)
 pushed (Err x) bytes more now offsets text later at is =
     (subst (λ t. AreBreaks t 0 offsets) (sym is) at, tt)
+
+-- ---- the first line, and the others after breaks
+
+joined_parts : (rows : List (List ℕ)) → 0 < length rows → joined rows ≡ characters (get_or rows 0 []) ++ following (drop 1 rows)
+joined_parts [] some = absurd (omega arith)
+joined_parts (line ∷ rows) some = refl
+
+pub first_and_rest : (text : List Symbol) → characters (get_or (lines text) 0 []) ++ following (drop 1 (lines text)) ≡ text
+first_and_rest text = sym (joined_parts (lines text) (omega (arith, length-lines text))) ∙ joined-lines text

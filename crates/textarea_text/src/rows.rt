@@ -1,7 +1,8 @@
 //! Lines that replace others: built beside the old lines, then put in without allocating.
 ghost use Rattle.std.specs.Prelude.{◌≡◌, ◌+◌, ◌-◌, ◌<◌, ◌≤◌, ◌++◌, ◌∷◌, ◌↔◌, [], length, string_bytes, take, drop, MatchOption, encode_utf8_all, vec_len, vec_capacity, min, IfOk, IsOk, OnOk, OnErr, slice_index, true};
-ghost use Rattle.textarea_text.specs.Prelude.{chars, char_count, is_char_start, size_limit, characters, following, joined, lines_of, symbol_in, text_of, offset_at, IsPlaceOf, IsSymbolBefore, ReplacesRows, index_of, replaced, size_of, ReplacesBetween};
+ghost use Rattle.textarea_text.specs.Prelude.{chars, char_count, is_char_start, size_limit, breaks_of, characters, joined, lines, lines_of, symbol_in, text_of, offset_at, IsPlaceOf, IsSymbolBefore, ReplacesRows, index_of, replaced, size_of, ReplacesBetween};
 
+use crate::joined_lines::TextLines;
 use std::alloc::{AllocError, Global};
 use textarea_util::limit::within_limit;
 use textarea_util::replace::replace_items;
@@ -219,25 +220,21 @@ impl Replacement {
     }
 }
 
-/// Builds the lines in which `first`, and each line of `rest` after a break, replace the text
-/// between two positions. There is one new line for each of these. The old lines stay until
-/// `apply`.
+/// Builds the lines in which `inserted` replaces the text between two positions: one for each line
+/// of it. The old lines stay until `apply`.
 pub fn prepare_replacement(
     alloc: Global,
     lines: &[String],
     from: (usize, usize),
     to: (usize, usize),
-    first: &str,
-    rest: &[String],
+    inserted: &TextLines<'_>,
 ) -> Result<Replacement, AllocError>
     requires from { IsPlaceOf (lines_of lines.now) from }
     requires to { IsPlaceOf (lines_of lines.now) to }
     requires ordered { from.0 ≤ to.0 }
-    ensures { IfOk result
-        (ReplacesBetween lines.now from to
-        (characters (chars first.now) ++ following (lines_of rest.now))) }
+    ensures { IfOk result (ReplacesBetween lines.now from to inserted.now) }
 {
-    let new = new_rows(alloc, lines, from, to, first, rest)?;
+    let new = new_rows(alloc, lines, from, to, inserted)?;
     Ok(Replacement {
         row: from.0,
         count: to.0 + 1 - from.0,
@@ -251,45 +248,54 @@ fn new_rows(
     lines: &[String],
     start: (usize, usize),
     end: (usize, usize),
-    first: &str,
-    rest: &[String],
+    inserted: &TextLines<'_>,
 ) -> Result<Vec<String>, AllocError>
     requires start { IsPlaceOf (lines_of lines.now) start }
     requires end { IsPlaceOf (lines_of lines.now) end }
     ensures rows { IfOk result
-        (λ rows. ReplacesRows (lines_of lines.now) start end
-        (characters (chars first.now) ++ following (lines_of rest.now)) (lines_of rows.items)) }
-    ensures len { IfOk result (λ rows. vec_len rows ≡ length rest.now + 1) }
+        (λ rows. ReplacesRows (lines_of lines.now) start end inserted.now (lines_of rows.items)) }
+    ensures len { IfOk result (λ rows. vec_len rows ≡ breaks_of inserted.now + 1) }
 {
     let before = lines[start.0].as_str();
     let offset = byte_offset(before, start.1);
     let head = &before[..offset];
     let after = lines[end.0].as_str();
     let tail = &after[end_offset(after, end, start, offset)..];
-    let mut rows = Vec::with_capacity(alloc, rest.len() + 1)?;
-    push_rows(&mut rows, head, first, rest, tail)?;
+    let mut rows = Vec::with_capacity(alloc, inserted.count())?;
+    push_rows(&mut rows, head, inserted, tail)?;
     Ok(rows)
 }
 
-// Pushes to no lines: `head` with `first`, then the lines of `rest`; `tail` ends the last of all.
+// Pushes the inserted lines to no lines: `head` begins the first of them, and `tail` ends the last.
 fn push_rows(
     rows: &mut Vec<String>,
     head: &str,
-    first: &str,
-    rest: &[String],
+    inserted: &TextLines<'_>,
     tail: &str,
 ) -> Result<(), AllocError>
     requires none { rows.old.items ≡ [] }
     ensures rows { OnOk result (joined (lines_of rows.new.items) ≡ characters (chars head.now)
-        ++ ((characters (chars first.now) ++ following (lines_of rest.now))
-        ++ characters (chars tail.now))) }
-    ensures len { OnOk result (vec_len rows.new ≡ length rest.now + 1) }
+        ++ (inserted.now ++ characters (chars tail.now))) }
+    ensures len { OnOk result (vec_len rows.new ≡ breaks_of inserted.now + 1) }
 {
-    rows.push(put_together(*rows.allocator(), head, first)?)?;
-    rows.extend_from_slice(rest)?;
+    rows.push(put_together(*rows.allocator(), head, inserted.line(0))?)?;
+    push_rest(rows, inserted)?;
     let mut last = rows.pop().unwrap();
     last.push_str(tail)?;
     rows.push(last)?;
+    Ok(())
+}
+
+// Appends copies of all lines but the first.
+fn push_rest(rows: &mut Vec<String>, inserted: &TextLines<'_>) -> Result<(), AllocError>
+    ensures rows { OnOk result (lines_of rows.new.items
+        ≡ lines_of rows.old.items ++ drop 1 (lines inserted.now)) }
+    ensures len { OnOk result (vec_len rows.new ≡ vec_len rows.old + breaks_of inserted.now) }
+{
+    for index in 1..inserted.count() {
+        let line = String::from_str(*rows.allocator(), inserted.line(index))?;
+        rows.push(line)?;
+    }
     Ok(())
 }
 
