@@ -6,7 +6,7 @@ use Rattle.std.specs.Str.{chars, IsUtf8, IsCharBoundary}
 use Rattle.textarea_text.specs.Text.{Symbol, Character, Break, characters, following, joined, lines, on_first}
 use Rattle.textarea_text.specs.Touched.{breaks_of}
 use Rattle.textarea_text.specs.JoinedLines.{AreBreaks, symbols_from, lines_from}
-use Rattle.textarea_text.proofs.Splices.{characters-append}
+use Rattle.textarea_text.proofs.Splices.{characters-append, following-append}
 use Rattle.textarea_text.proofs.TextPlaces.{joined-lines}
 use Rattle.textarea_text.proofs.Touching.{breaks_of-append, breaks_of-characters}
 
@@ -126,3 +126,12 @@ joined_parts (line ∷ rows) some = refl
 
 pub first_and_rest : (text : List Symbol) → characters (get_or (lines text) 0 []) ++ following (drop 1 (lines text)) ≡ text
 first_and_rest text = sym (joined_parts (lines text) (omega (arith, length-lines text))) ∙ joined-lines text
+
+-- ---- lines after breaks at the end
+
+pub followed_more : (old : List Symbol) (rows : List (List ℕ)) (line : List ℕ) → ((old ++ following rows) ++ (Break ∷ [])) ++ characters line ≡ old ++ following (rows ++ line ∷ [])
+followed_more old rows line =
+    append_assoc (old ++ following rows) (Break ∷ []) (characters line)
+    ∙ append_assoc old (following rows) (Break ∷ characters line)
+    ∙ ap (λ (t : List Symbol). old ++ (following rows ++ (Break ∷ t))) (sym (append-nil (characters line)))
+    ∙ ap (λ (t : List Symbol). old ++ t) (sym (following-append rows (line ∷ [])))

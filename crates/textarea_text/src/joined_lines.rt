@@ -1,6 +1,6 @@
 //! A text of one or more lines in one string.
 ghost use Rattle.std.specs.Prelude.{◌≡◌, ◌+◌, ◌≤◌, ◌++◌, ◌∷◌, [], get_or, length, OnOk, OnErr};
-ghost use Rattle.textarea_text.specs.Prelude.{chars, Break, characters, breaks_of, lines};
+ghost use Rattle.textarea_text.specs.Prelude.{chars, Break, characters, breaks_of, following, lines, lines_of};
 
 use std::alloc::{AllocError, Global};
 use std::marker::Model;
@@ -50,6 +50,17 @@ impl JoinedLines {
         ensures err { OnErr result (self.new ≡ self.old) }
     {
         self.breaks.push(self.text.len())?;
+        Ok(())
+    }
+
+    /// Appends lines, each after a break.
+    pub fn push_lines(&mut self, more: &[String]) -> Result<(), AllocError>
+        ensures { OnOk result (self.new ≡ self.old ++ following (lines_of more.now)) }
+    {
+        for line in more {
+            self.push_break()?;
+            self.push_str(line.as_str())?;
+        }
         Ok(())
     }
 

@@ -2,46 +2,33 @@
 ghost use Rattle.std.specs.Prelude.{◌≡◌, ◌+◌, ◌≤◌, ◌++◌, ◌∷◌, length, take, drop, vec_len, IfOk, OnOk, []};
 ghost use Rattle.textarea_text.specs.Prelude.{chars, lines_of, text_of, IsPlaceOf, index_of, symbols_between};
 
+use crate::joined_lines::JoinedLines;
 use crate::rows::{byte_offset, byte_offset_from, offset_within};
 use std::alloc::{AllocError, Global};
 
-/// Returns the text between two positions as a fragment, one string for each row that it touches.
+/// Returns a copy of the text between two positions.
 pub fn between(
     alloc: Global,
     lines: &[String],
     from: (usize, usize),
     to: (usize, usize),
-) -> Result<Vec<String>, AllocError>
+) -> Result<JoinedLines, AllocError>
     requires from { IsPlaceOf (lines_of lines.now) from }
     requires to { IsPlaceOf (lines_of lines.now) to }
     requires ordered { index_of (text_of lines.now) from ≤ index_of (text_of lines.now) to }
-    ensures len { IfOk result (λ fragment_lines. vec_len fragment_lines + from.0 ≡ to.0 + 1) }
-    ensures text { IfOk result
-        (λ fragment_lines. text_of fragment_lines.items ≡ symbols_between (text_of lines.now) from
-        to) }
+    ensures { IfOk result (λ copy. copy ≡ symbols_between (text_of lines.now) from to) }
 {
-    let mut fragment_lines = Vec::with_capacity(alloc, to.0 - from.0 + 1)?;
+    let mut copy = JoinedLines::new(alloc);
     let first = lines[from.0].as_str();
     if from.0 == to.0 {
-        push_line(&mut fragment_lines, text_between(first, from.1, to.1))?;
-        return Ok(fragment_lines);
+        copy.push_str(text_between(first, from.1, to.1))?;
+        return Ok(copy);
     }
-    push_line(&mut fragment_lines, text_from(first, from.1))?;
-    fragment_lines.extend_from_slice(&lines[from.0 + 1..to.0])?;
-    push_line(&mut fragment_lines, text_before(lines[to.0].as_str(), to.1))?;
-    Ok(fragment_lines)
-}
-
-// Appends a copy of the text.
-fn push_line(fragment_lines: &mut Vec<String>, text: &str) -> Result<(), AllocError>
-    ensures rows { OnOk result
-        (lines_of fragment_lines.new.items ≡ lines_of fragment_lines.old.items ++ chars text.now ∷
-        []) }
-    ensures len { OnOk result (vec_len fragment_lines.new ≡ vec_len fragment_lines.old + 1) }
-{
-    let fragment_line = String::from_str(*fragment_lines.allocator(), text)?;
-    fragment_lines.push(fragment_line)?;
-    Ok(())
+    copy.push_str(text_from(first, from.1))?;
+    copy.push_lines(&lines[from.0 + 1..to.0])?;
+    copy.push_break()?;
+    copy.push_str(text_before(lines[to.0].as_str(), to.1))?;
+    Ok(copy)
 }
 
 /// The text of a line before the column.

@@ -1,40 +1,19 @@
-use Rattle.std.proofs.Common.{◌∙◌, ◌<◌, ◌++◌, ◌∷◌, [], ap, arith, drop, sym, take}
-use Rattle.std.proofs.lemmas.Grind.{common_steps}
-use Rattle.textarea_text.specs.Prelude.{chars, lines_of}
-use Rattle.textarea_text.proofs.StringRows.{line_at, row_within}
-use Rattle.textarea_text.proofs.BetweenLemmas.{between_from_lines, between_within, copied_between, up_to_from_index}
+use Rattle.std.proofs.Common.{rules, ◌≡◌, ◌+◌, ◌≤◌, ◌++◌, ◌∷◌, length, take, drop, vec_len, IfOk, OnOk, [], ℕ, ◌-◌, ◌*◌, ◌<◌, ◌/◌, ◌%◌, Bool, true, false, nat_eq, nat_lt, List, slice_index_or, slice_set, bit_and, bit_or, Fits, w8, w32, w64, Bor, MutBor}
+use Rattle.textarea_text.specs.Prelude.{chars, lines_of, text_of, IsPlaceOf, index_of, symbols_between}
 use Rattle.textarea_text.proofs.text_slice.between.Goals as goal
 
-pub overflow_sub-to : goal.overflow_sub-to
-overflow_sub-to c =
-    (up_to_from_index (lines_of c.args.lines.now) c.args.from c.args.to c.requires.from c.requires.to c.requires.ordered).0
+-- src/text_slice.rt:25:9
+pub returns-then-from-to : goal.returns-then-from-to
+returns-then-from-to c = ?
 
-pub returns-then-from-to-clause-text : goal.returns-then-from-to-clause-text
-returns-then-from-to-clause-text c =
-    let up = up_to_from_index (lines_of c.args.lines.now) c.args.from c.args.to c.requires.from c.requires.to c.requires.ordered in
-    between_from_lines c.args.lines.now c.push_line.new.fragment_lines.items c.args.from c.args.to c.requires.from c.requires.to up
-    (grind (arith, common_steps, between_within, line_at c.args.lines.now c.args.from.0 c.index-lines-from.result (row_within c.args.lines.now c.args.from c.requires.from) c.index-lines-from.is))
+-- src/text_slice.rt:28:21
+pub slice_bounds-push_lines-count : goal.slice_bounds-push_lines-count
+slice_bounds-push_lines-count c = ?
 
-pub slice_bounds-extend_from_slice-count : goal.slice_bounds-extend_from_slice-count
-slice_bounds-extend_from_slice-count c =
-    grind (arith, common_steps, up_to_from_index (lines_of c.args.lines.now) c.args.from c.args.to c.requires.from c.requires.to c.requires.ordered)
+-- src/text_slice.rt:28:21
+pub slice_bounds-push_lines-start : goal.slice_bounds-push_lines-start
+slice_bounds-push_lines-start c = ?
 
-pub slice_bounds-extend_from_slice-start : goal.slice_bounds-extend_from_slice-start
-slice_bounds-extend_from_slice-start c =
-    let below : c.args.from.0 < c.args.to.0 = grind (arith, common_steps, up_to_from_index (lines_of c.args.lines.now) c.args.from c.args.to c.requires.from c.requires.to c.requires.ordered) in
-    omega (arith, below)
-
-pub returns-clause-len : goal.returns-clause-len
-returns-clause-len c =
-    grind (arith, common_steps, up_to_from_index (lines_of c.args.lines.now) c.args.from c.args.to c.requires.from c.requires.to c.requires.ordered, row_within c.args.lines.now c.args.to c.requires.to)
-
-pub returns-clause-text : goal.returns-clause-text
-returns-clause-text c =
-    let up = up_to_from_index (lines_of c.args.lines.now) c.args.from c.args.to c.requires.from c.requires.to c.requires.ordered in
-    let below : c.args.from.0 < c.args.to.0 = grind (arith, common_steps, up) in
-    let copied = c.in_ok-extend_from_slice.ensures.items in
-    let begins = c.in_ok-push_line-2.ensures.rows ∙ ap (λ t. lines_of t ++ chars c.text_from.result.now ∷ []) c.in_ok-fragment_lines.ensures.items in
-    let first = c.text_from.ensures ∙ ap (λ t. drop c.args.from.1 (chars t)) c.as_str-first.ensures.value ∙ ap (drop c.args.from.1) (sym (line_at c.args.lines.now c.args.from.0 c.index-lines-from.result (row_within c.args.lines.now c.args.from c.requires.from) c.index-lines-from.is)) in
-    let last = c.text_before.ensures ∙ ap (λ t. take c.args.to.1 (chars t)) c.as_str.ensures.value ∙ ap (take c.args.to.1) (sym (line_at c.args.lines.now c.args.to.0 c.index-lines-to.result (row_within c.args.lines.now c.args.to c.requires.to) c.index-lines-to.is)) in
-    between_from_lines c.args.lines.now c.push_line-3.new.fragment_lines.items c.args.from c.args.to c.requires.from c.requires.to up
-    (copied_between c.args.lines.now c.push_line-2.new.fragment_lines.items c.extend_from_slice.new.self.items c.push_line-3.new.fragment_lines.items copied.0 c.args.from c.args.to (chars c.text_from.result.now) (chars c.text_before.result.now) c.requires.to.0 below begins copied.1 copied.2 c.in_ok-push_line-3.ensures.rows first last)
+-- src/text_slice.rt:10:1
+pub returns : goal.returns
+returns c = ?
