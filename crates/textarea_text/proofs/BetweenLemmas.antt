@@ -1,9 +1,8 @@
 -- The text between two positions, and its lines.
 use Rattle.std.proofs.Common.{◌≡◌, ℕ, ◌+◌, ◌-◌, ◌<◌, ◌≤◌, List, [], ◌∷◌, ◌++◌, length, take, drop, get_or, sym, ap, ◌∙◌, arith, String, string_bytes}
 use Rattle.textarea_text.proofs.Prelude.{common_steps, nat_tests, append-nil, append_assoc, drop-append-le, drop-map, drop-take, drop_more, length-append, length-drop, length-take, map-append, take-map}
-use Rattle.textarea_text.specs.Prelude.{AllZip, Symbol, characters, characters_of, following, joined, lines_of, text_of, Place, IsPlaceOf, IsUpTo, index_of, symbols_between}
-use Rattle.textarea_text.proofs.Copies.{lines_copied}
-use Rattle.textarea_text.proofs.Splices.{joined-append}
+use Rattle.textarea_text.specs.Prelude.{Symbol, Break, characters, characters_of, following, joined, lines_of, text_of, Place, IsPlaceOf, IsUpTo, index_of, symbols_between}
+use Rattle.textarea_text.proofs.Splices.{following-append, joined-append}
 use Rattle.textarea_text.proofs.TextPlaces.{parted_rows, index_parted}
 
 -- ---- the lines up to a position
@@ -103,12 +102,18 @@ between_apart rows from to within below =
     ∙ ap (λ line. drop from.1 line ∷ drop next until) first
     ∙ ap (λ t. drop from.1 (get_or rows from.0 []) ∷ t) (drop-append-le next (take to.0 rows) last (omega (arith, length-take to.0 rows)) ∙ ap (λ t. t ++ last) middle)
 
-pub between_from_lines : {Z : Type 0} (lines fragment_lines : List (String Z)) (from to : Place) → IsPlaceOf (lines_of lines) from → IsPlaceOf (lines_of lines) to → IsUpTo from to → lines_of fragment_lines ≡ lines_between (lines_of lines) from to → text_of fragment_lines ≡ symbols_between (text_of lines) from to
-between_from_lines lines fragment_lines from to h h' before e = ap joined e ∙ sym (between (lines_of lines) from to h h' before).between_is
+pub joined_between : (rows : List (List ℕ)) (from to : Place) → IsPlaceOf rows from → IsPlaceOf rows to → IsUpTo from to → joined (lines_between rows from to) ≡ symbols_between (joined rows) from to
+joined_between rows from to h h' before = sym (between rows from to h h' before).between_is
 
--- the first and the last line are parts of lines, and those between them are copies
-pub copied_between : {Z : Type 0} (lines one all new copies : List (String Z)) (from to : Place) (first last : List ℕ) → to.0 < length (lines_of lines) → from.0 < to.0 → lines_of one ≡ first ∷ [] → all ≡ one ++ copies → AllZip (λ s t. string_bytes t ≡ string_bytes s) (take (to.0 - (from.0 + 1)) (drop (from.0 + 1) lines)) copies → lines_of new ≡ lines_of all ++ last ∷ [] → first ≡ drop from.1 (get_or (lines_of lines) from.0 []) → last ≡ take to.1 (get_or (lines_of lines) to.0 []) → lines_of new ≡ lines_between (lines_of lines) from to
-copied_between lines one all new copies from to first last within below begins more same ends is_first is_last =
-    let middle : lines_of copies ≡ take (to.0 - (from.0 + 1)) (drop (from.0 + 1) (lines_of lines)) = lines_copied (take (to.0 - (from.0 + 1)) (drop (from.0 + 1) lines)) copies same
-    ∙ grind (arith, common_steps, take-map characters_of (to.0 - (from.0 + 1)) (drop (from.0 + 1) lines), drop-map characters_of (from.0 + 1) lines) in
-    grind (arith, common_steps, between_apart (lines_of lines) from to within below, map-append characters_of one copies, middle)
+-- the first and the last line are parts of lines, and those between them are whole
+pub copied_between : (rows : List (List ℕ)) (from to : Place) (copy : List Symbol) (first last : List ℕ) → IsPlaceOf rows from → IsPlaceOf rows to → IsUpTo from to → from.0 < to.0 → copy ≡ ((characters first ++ following (take (to.0 - (from.0 + 1)) (drop (from.0 + 1) rows))) ++ (Break ∷ [])) ++ characters last → first ≡ drop from.1 (get_or rows from.0 []) → last ≡ take to.1 (get_or rows to.0 []) → copy ≡ symbols_between (joined rows) from to
+copied_between rows from to copy first last h h' before below is is_first is_last =
+    let middle = take (to.0 - (from.0 + 1)) (drop (from.0 + 1) rows) in
+    is
+    ∙ ap (λ (t : List Symbol). t ++ characters last) (append_assoc (characters first) (following middle) (Break ∷ []))
+    ∙ append_assoc (characters first) (following middle ++ (Break ∷ [])) (characters last)
+    ∙ ap (λ (t : List Symbol). characters first ++ t) (append_assoc (following middle) (Break ∷ []) (characters last) ∙ ap (λ (t : List Symbol). following middle ++ (Break ∷ t)) (sym (append-nil (characters last))) ∙ sym (following-append middle (last ∷ [])))
+    ∙ ap (λ t. characters t ++ following (middle ++ last ∷ [])) is_first
+    ∙ ap (λ t. characters (drop from.1 (get_or rows from.0 [])) ++ following (middle ++ t ∷ [])) is_last
+    ∙ ap joined (sym (between_apart rows from to h'.0 below))
+    ∙ joined_between rows from to h h' before
