@@ -2,23 +2,24 @@
 ghost use Rattle.std.specs.Prelude.{◌≡◌, ◌<◌, ◌++◌, ◌∷◌, [], length, vec_len, string_bytes, IfOk, OnOk, MatchOption};
 ghost use Rattle.textarea_text.specs.Prelude.{chars, Break, characters, lines_of, text_of, fragment_symbols, fragment_text, unified, without_last_break};
 
+use crate::joined_lines::JoinedLines;
+use crate::rows::strings_of;
 use std::alloc::{AllocError, Global};
 
 /// Splits a text at each line feed into lines. A carriage return directly before a line feed is
 /// dropped. There is one line more than line feeds, so an empty text gives one empty line.
-pub fn fragment_of(alloc: Global, text: &str) -> Result<Vec<String>, AllocError>
-    ensures some { IfOk result (λ fragment_lines. 0 < vec_len fragment_lines) }
-    ensures text { IfOk result
-        (λ fragment_lines. text_of fragment_lines.items ≡ fragment_symbols (chars text.now)) }
+pub fn fragment_of(alloc: Global, text: &str) -> Result<JoinedLines, AllocError>
+    ensures { IfOk result (λ fragment. fragment ≡ fragment_symbols (chars text.now)) }
 {
-    let mut fragment_lines = Vec::new(alloc);
+    let mut fragment = JoinedLines::new(alloc);
     let mut rest = text;
     while let Some((line, after)) = first_line(rest) {
-        fragment_lines.push(String::from_str(alloc, line)?)?;
+        fragment.push_str(line)?;
+        fragment.push_break()?;
         rest = after;
     }
-    fragment_lines.push(String::from_str(alloc, rest)?)?;
-    Ok(fragment_lines)
+    fragment.push_str(rest)?;
+    Ok(fragment)
 }
 
 // The text's first line, if a line feed ends it, and the text after that line feed.
@@ -41,7 +42,8 @@ pub fn lines_of_file(alloc: Global, text: &str) -> Result<Vec<String>, AllocErro
     ensures text { IfOk result (λ lines.
         text_of lines.items ≡ without_last_break (fragment_symbols (chars text.now))) }
 {
-    let mut lines = fragment_of(alloc, text)?;
+    let fragment = fragment_of(alloc, text)?;
+    let mut lines = strings_of(alloc, &fragment.as_lines())?;
     drop_empty_end(&mut lines);
     Ok(lines)
 }

@@ -77,6 +77,7 @@ impl JoinedLines {
 
 /// Borrowed lines: a text of at least one line, with the byte offsets of its breaks. A line feed in
 /// it is a character of its line.
+#[derive(Drop)]
 pub struct TextLines<'a> {
     text: &'a str,
     breaks: &'a [usize],

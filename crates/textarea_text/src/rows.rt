@@ -286,6 +286,17 @@ fn push_rows(
     Ok(())
 }
 
+/// Returns the lines, each as a string.
+pub fn strings_of(alloc: Global, from: &TextLines<'_>) -> Result<Vec<String>, AllocError>
+    ensures some { IfOk result (λ strings. 0 < vec_len strings) }
+    ensures text { IfOk result (λ strings. text_of strings.items ≡ from.now) }
+{
+    let mut strings = Vec::with_capacity(alloc, from.count())?;
+    strings.push(String::from_str(alloc, from.line(0))?)?;
+    push_rest(&mut strings, from)?;
+    Ok(strings)
+}
+
 // Appends copies of all lines but the first.
 fn push_rest(rows: &mut Vec<String>, inserted: &TextLines<'_>) -> Result<(), AllocError>
     ensures rows { OnOk result (lines_of rows.new.items

@@ -1,16 +1,22 @@
-use Rattle.std.proofs.Common.{arith, rules, ap}
-use Rattle.std.proofs.lemmas.Grind.{common_steps}
-use Rattle.textarea_text.specs.Prelude.{chars, fragment_symbols}
-use Rattle.textarea_text.proofs.FragmentLemmas.{fragment_more, fragment_done}
+use Rattle.std.proofs.Common.{◌∙◌, ◌++◌, ◌∷◌, [], List, arith, rules, ap, sym}
+use Rattle.std.proofs.lemmas.List.{append_assoc}
+use Rattle.textarea_text.specs.Prelude.{Break, Symbol, chars, characters, fragment_symbols}
 use Rattle.textarea_text.proofs.fragment.fragment_of.Goals as goal
 
 pub loop-line-preserved : goal.loop-line-preserved
-loop-line-preserved c = (
-  search rules,
-  fragment_more c.loop-line.fragment_lines.items c.push.new.self.items c.in_ok-from_str.field-0 (chars c.loop-line.rest.now) (chars c.in-Some.line.now) (chars c.in-Some.after.now) (fragment_symbols (chars c.args.text.now))
-      c.loop-line.invariant.1 c.in-Some.ensures.lines (ap chars c.in_ok-from_str.ensures.ok) c.in_ok-push.ensures.items,
-)
+loop-line-preserved c =
+    let line = characters (chars c.in-Some.line.now) in
+    let after = fragment_symbols (chars c.in-Some.after.now) in
+    let so_far = c.loop-line.fragment in
+    (search rules,
+      ap (λ (t : List Symbol). t ++ after) (c.in_ok-push_break.ensures.ok ∙ ap (λ (t : List Symbol). t ++ (Break ∷ [])) c.in_ok-push_str.ensures.ok)
+      ∙ append_assoc (so_far ++ line) (Break ∷ []) after
+      ∙ append_assoc so_far line (Break ∷ after)
+      ∙ ap (λ (t : List Symbol). so_far ++ t) (sym c.in-Some.ensures.lines)
+      ∙ c.loop-line.invariant.1)
 
-pub returns-clause-text : goal.returns-clause-text
-returns-clause-text c =
-    grind (arith, common_steps, fragment_done c.loop-line.fragment_lines.items c.push-2.new.self.items c.in_ok-from_str-2.field-0 (chars c.loop-line.rest.now) (fragment_symbols (chars c.args.text.now)) c.loop-line.invariant.1 c.in_default.ensures.lines (ap chars c.in_ok-from_str-2.ensures.ok) c.in_ok-push-2.ensures.items)
+pub returns : goal.returns
+returns c =
+    c.in_ok-push_str-2.ensures.ok
+    ∙ ap (λ (t : List Symbol). c.loop-line.fragment ++ t) (sym c.in_default.ensures.lines)
+    ∙ c.loop-line.invariant.1
