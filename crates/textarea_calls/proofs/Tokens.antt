@@ -1,5 +1,5 @@
 -- The tokens of a text with escapes, one after another.
-use Rattle.std.proofs.Common.{arith, ◌≡◌, ◌≢◌, ℕ, zero, suc, ◌+◌, ◌<◌, ◌≤◌, Bool, true, false, ◌&&◌, ◌==◌, List, [], ◌∷◌, ◌++◌, Option, Some, None, length, drop, nat_lt, option_map, if◌then◌else◌, refl, ap, sym, ◌∙◌, subst, append_assoc, append-nil, length-drop, eqb-true, map, flat_map}
+use Rattle.std.proofs.Common.{arith, ◌≡◌, ◌≢◌, ℕ, zero, suc, ◌+◌, ◌<◌, ◌≤◌, Bool, true, false, ◌&&◌, ◌==◌, List, [], ◌∷◌, ◌++◌, Option, Some, None, length, drop, nat_lt, option_map, if◌then◌else◌, refl, ap, sym, ◌∙◌, subst, append_assoc, append-nil, length-drop, eqb-true, flat_map}
 use Rattle.std.specs.Prelude.{encode_utf8, option_and_then, chars, slice_get}
 use Rattle.std.specs.Char.{len_utf8}
 use Rattle.std.specs.List.{after_first, before_first, join_by, position_or_len}
@@ -8,7 +8,7 @@ use Rattle.std.proofs.lemmas.Bool.Decides.{nat_tests}
 use Rattle.textarea_calls.specs.Arguments.{IsUnparsedAs}
 use Rattle.textarea_calls.specs.declared.arguments.Unparsed.{Unparsed}
 use Rattle.textarea_calls.specs.declared.arguments.Unparsed.TheVariants.{NoCommand, Memory}
-use Rattle.textarea_calls.specs.Escapes.{Token, Character, Break, character_numbered, control, escape, first_character, in_front, is_break, is_closing, lines_of_tokens, numbered_escape, plain_character, text_of_tokens, token, tokens, tokens_within, unescaped, unescaped_lines}
+use Rattle.textarea_calls.specs.Escapes.{Token, Character, Break, character_numbered, control, escape, first_character, in_front, is_break, is_closing, lines_after_escape, lines_of_tokens, numbered_escape, plain_character, text_of_tokens, token, tokens, tokens_within, unescaped, unescaped_lines}
 
 -- ---- ---- each character takes at least one byte
 
@@ -167,29 +167,75 @@ lines_joined [] = (omega arith, refl)
 lines_joined (Character c ∷ tokens) = more_in_front (encode_utf8 c) (text_of_tokens tokens) (lines_of_tokens tokens) (lines_joined tokens)
 lines_joined (Break ∷ tokens) = break_in_front (text_of_tokens tokens) (lines_of_tokens tokens) (lines_joined tokens)
 
-flat_map_viewed : {S : Type 0} → (view : S → List ℕ) (lines : List S) → flat_map (λ line. 10 ∷ line) (map view lines) ≡ flat_map (λ line. 10 ∷ view line) lines
-flat_map_viewed view [] = refl
-flat_map_viewed view (line ∷ lines) = ap (λ (t : List ℕ). (10 ∷ view line) ++ t) (flat_map_viewed view lines)
-
-joined_viewed : {S : Type 0} → (view : S → List ℕ) (lines : List S) → joined (map view lines) ≡ join_by view (10 ∷ []) lines
-joined_viewed view [] = refl
-joined_viewed view (line ∷ lines) = ap (λ (t : List ℕ). view line ++ t) (flat_map_viewed view lines)
-
-pub unescaped_joined : {S : Type 0} → (text : List ℕ) (view : S → List ℕ) (lines : List S) → unescaped_lines text ≡ Some (map view lines) → unescaped text ≡ Some (join_by view (10 ∷ []) lines)
+-- the text of the tokens is made of their lines
+unescaped_joined : (text : List ℕ) → unescaped text ≡ option_map joined (unescaped_lines text)
 unfolding unescaped unescaped_lines
-unescaped_joined text view lines is =
-    elim (tokens text) as (λ found. option_map lines_of_tokens found ≡ Some (map view lines) → option_map text_of_tokens found ≡ Some (join_by view (10 ∷ []) lines)) [
-      | None ↦ λ none. let never : None ≡ Some (map view lines) = none in cc
-      | Some found ↦ λ some.
-          let same : lines_of_tokens found ≡ map view lines = cc in
-          ap Some ((lines_joined found).1 ∙ ap joined same ∙ joined_viewed view lines)
-    ] is
+unescaped_joined text =
+    elim (tokens text) as (λ found. option_map text_of_tokens found ≡ option_map joined (option_map lines_of_tokens found)) [
+      | None ↦ refl
+      | Some found ↦ ap Some (lines_joined found).1
+    ]
 
+-- a text before the first line is before the text
+front_joined : (front text : List ℕ) → option_map joined (option_map (λ lines. in_front front lines) (unescaped_lines text)) ≡ option_map (λ more. front ++ more) (unescaped text)
+unfolding unescaped unescaped_lines
+front_joined front text =
+    elim (tokens text) as (λ found. option_map joined (option_map (λ lines. in_front front lines) (option_map lines_of_tokens found)) ≡ option_map (λ more. front ++ more) (option_map text_of_tokens found)) [
+      | None ↦ refl
+      | Some found ↦ ap Some (sym (more_in_front front (text_of_tokens found) (lines_of_tokens found) (lines_joined found)).1)
+    ]
+
+-- a line before the lines is before a line feed and the text
+line_before : (line text : List ℕ) → option_map joined (option_map (λ lines. line ∷ lines) (unescaped_lines text)) ≡ option_map (λ more. line ++ (10 ∷ more)) (unescaped text)
+unfolding unescaped unescaped_lines
+line_before line text =
+    elim (tokens text) as (λ found. option_map joined (option_map (λ lines. line ∷ lines) (option_map lines_of_tokens found)) ≡ option_map (λ more. line ++ (10 ∷ more)) (option_map text_of_tokens found)) [
+      | None ↦ refl
+      | Some found ↦ ap Some (sym ((more_in_front line (10 ∷ text_of_tokens found) ([] ∷ lines_of_tokens found) (break_in_front (text_of_tokens found) (lines_of_tokens found) (lines_joined found))).1 ∙ ap (λ (first : List ℕ). joined (first ∷ lines_of_tokens found)) (append-nil line)))
+    ]
+
+-- a text, and after a line feed the text that the rest writes, if there is a rest
+abbrev pub with_rest : List ℕ → Option (List ℕ) → Option (List ℕ)
+with_rest text None = Some text
+with_rest text (Some rest) = option_map (λ more. text ++ (10 ∷ more)) (unescaped rest)
+
+pub rest_joined : (text : List ℕ) (rest : Option (List ℕ)) → option_map joined (option_map (λ lines. text ∷ lines) (lines_after_escape rest)) ≡ with_rest text rest
+rest_joined text None = ap Some (append-nil text)
+rest_joined text (Some rest) = line_before text rest
+
+-- once the first line of a text is appended, the text goes on with the rest
+pub line_pushed : (old new text : List ℕ) (rest : Option (List ℕ)) → option_map (λ lines. in_front old lines) (unescaped_lines text) ≡ option_map (λ more. new ∷ more) (lines_after_escape rest) → option_map (λ more. old ++ more) (unescaped text) ≡ with_rest new rest
+line_pushed old new text rest pushed = sym (front_joined old text) ∙ ap (option_map joined) pushed ∙ rest_joined new rest
+
+pub none_mapped : {A B : Type 0} → (f : A → B) (found : Option A) → option_map f found ≡ None → found ≡ None
+none_mapped f None none = refl
+none_mapped f (Some found) none = let never : Some (f found) ≡ None = none in cc
+
+-- where the lines can't be read, the text can't be
 pub unescaped_unread : (text : List ℕ) (unread : Unparsed) → IsUnparsedAs (unescaped_lines text) unread → IsUnparsedAs (unescaped text) unread
-unfolding unescaped unescaped_lines
 unescaped_unread text Memory is = tt
-unescaped_unread text NoCommand is =
-    elim (tokens text) as (λ found. option_map lines_of_tokens found ≡ None → option_map text_of_tokens found ≡ None) [
-      | None ↦ λ none. refl
-      | Some found ↦ λ some. let never : Some (lines_of_tokens found) ≡ None = some in cc
-    ] is
+unescaped_unread text NoCommand is = unescaped_joined text ∙ ap (option_map joined) is
+
+-- ---- ---- a text that is read line by line
+
+nothing_before : (found : Option (List ℕ)) → found ≡ option_map (λ more. [] ++ more) found
+nothing_before None = refl
+nothing_before (Some text) = refl
+
+-- the first line was appended to nothing
+pub first_read : (old new text : List ℕ) (rest : Option (List ℕ)) → old ≡ [] → option_map (λ lines. in_front old lines) (unescaped_lines text) ≡ option_map (λ more. new ∷ more) (lines_after_escape rest) → unescaped text ≡ with_rest new rest
+first_read old new text rest none pushed =
+    nothing_before (unescaped text) ∙ ap (λ (front : List ℕ). option_map (λ more. front ++ more) (unescaped text)) (sym none) ∙ line_pushed old new text rest pushed
+
+fed_before : (text fed : List ℕ) (found : Option (List ℕ)) → fed ≡ text ++ (10 ∷ []) → option_map (λ more. text ++ (10 ∷ more)) found ≡ option_map (λ more. fed ++ more) found
+fed_before text fed None is = refl
+fed_before text fed (Some more) is = ap Some (sym (append_assoc text (10 ∷ []) more)) ∙ ap (λ (front : List ℕ). Some (front ++ more)) (sym is)
+
+-- a line feed and the next line were appended
+pub next_read : (text read fed new after : List ℕ) (rest : Option (List ℕ)) → unescaped text ≡ with_rest read (Some after) → fed ≡ read ++ (10 ∷ []) → option_map (λ lines. in_front fed lines) (unescaped_lines after) ≡ option_map (λ more. new ∷ more) (lines_after_escape rest) → unescaped text ≡ with_rest new rest
+next_read text read fed new after rest is feed pushed = is ∙ fed_before read fed (unescaped after) feed ∙ line_pushed fed new after rest pushed
+
+-- a later line can't be read
+pub rest_unread : (text read after : List ℕ) (unread : Unparsed) → unescaped text ≡ with_rest read (Some after) → IsUnparsedAs (unescaped_lines after) unread → IsUnparsedAs (unescaped text) unread
+rest_unread text read after Memory is unread = tt
+rest_unread text read after NoCommand is unread = is ∙ ap (option_map (λ more. read ++ (10 ∷ more))) (unescaped_unread after NoCommand unread)

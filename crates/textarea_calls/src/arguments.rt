@@ -3,7 +3,7 @@ ghost use Rattle.std.specs.Char.{is_ascii_digit, is_ascii_hexdigit};
 ghost use Rattle.std.specs.List.{list_all};
 ghost use Rattle.std.specs.Prelude.{◌≡◌, ◌<◌, ◌≤◌, ◌++◌, ◌∷◌, length, map, option_copied, option_map, string_bytes, vec_len, IfOk, IfSome, MatchOption};
 ghost use Rattle.textarea_calls.specs.Arguments.{IsReadAs, byte_number, mode_named, move_named, number, page, split_first, scroll_amounts, short_number, sides, sides_of_area, signed_number, truth, two_numbers, two_short_numbers};
-ghost use Rattle.textarea_calls.specs.FirstLine.{IsFirstLineOf};
+ghost use Rattle.textarea_calls.specs.FirstLine.{IsLinePushed};
 ghost use Rattle.textarea_calls.specs.Escapes.{HasNoBackslash, character, character_numbered, escape, first_character, numbered_escape, unescaped, unescaped_lines};
 ghost use Rattle.textarea_calls.specs.Inputs.{modifiers_named, input_named, key_without_arguments, key_named, key_with};
 ghost use Rattle.textarea_calls.specs.Ranges.{range, ranges, ranges_after_space};
@@ -342,8 +342,13 @@ pub fn one_character(text: &str) -> Option<char>
 pub fn unescape(alloc: Global, text: &str) -> Result<String, Unparsed>
     ensures { IsReadAs string_bytes (unescaped text.now) result }
 {
-    let lines = unescaped_lines(alloc, text)?;
-    Ok(lines.join(alloc, "\n")?)
+    let mut unescaped = String::with_capacity(alloc, text.len())?;
+    let mut rest = push_line(&mut unescaped, text)?;
+    while let Some(text) = rest {
+        unescaped.push('\n')?;
+        rest = push_line(&mut unescaped, text)?;
+    }
+    Ok(unescaped)
 }
 
 // Returns the lines of a text with escapes. The text is split at each escape `\n`. An escape of a
@@ -356,24 +361,25 @@ pub fn unescaped_lines(alloc: Global, text: &str) -> Result<Vec<String>, Unparse
     let mut lines = Vec::new(alloc);
     let mut rest = Some(text);
     while let Some(text) = rest {
-        let (line, after) = first_line(alloc, text)?;
+        let mut line = String::new(alloc);
+        rest = push_line(&mut line, text)?;
         lines.push(line)?;
-        rest = after;
     }
     Ok(lines)
 }
 
-// The first line of a text with escapes, and the text after the `\n` that ends it, if there is one.
-fn first_line(alloc: Global, text: &str) -> Result<(String, Option<&str>), Unparsed>
-    ensures value { IsFirstLineOf text.now result }
-    ensures shorter { IfOk result (λ x. IfSome x.1 (λ rest. length rest.now < length text.now)) }
+// Appends the first line of a text with escapes to `line`, and returns the text after the `\n` that
+// ends it, if there is one.
+fn push_line<'a>(line: &mut String, text: &'a str) -> Result<Option<&'a str>, Unparsed>
+    ensures value { IsLinePushed (string_bytes line.old) (string_bytes line.new) text.now result }
+    ensures shorter { IfOk result (λ after. IfSome after
+        (λ rest. length rest.now < length text.now)) }
 {
-    let mut line = String::new(alloc);
     let mut rest = text;
     while let Some((front, escaped)) = split_at_backslash(rest) {
         line.push_str(front)?;
         if let Some(after) = escaped.strip_prefix('n') {
-            return Ok((line, Some(after)));
+            return Ok(Some(after));
         }
         let Some((c, after)) = escaped_character(escaped) else {
             return Err(Unparsed::NoCommand);
@@ -382,7 +388,7 @@ fn first_line(alloc: Global, text: &str) -> Result<(String, Option<&str>), Unpar
         rest = after;
     }
     line.push_str(rest)?;
-    Ok((line, None))
+    Ok(None)
 }
 
 // Splits the text at its first backslash: the text before it, and the text after it. Most such texts

@@ -3,8 +3,8 @@ use Rattle.std.proofs.lemmas.Str.Pattern.{strip_prefix_char}
 use Rattle.std.specs.Prelude.{encode_utf8}
 use Rattle.textarea_calls.specs.Escapes.{in_front, unescaped_lines}
 use Rattle.textarea_calls.proofs.Fronts.{line_broken, line_escaped, line_joined, line_plain, line_unread}
-use Rattle.textarea_calls.proofs.Tokens.{line_grown}
-use Rattle.textarea_calls.proofs.arguments.first_line.Goals as goal
+use Rattle.textarea_calls.proofs.Tokens.{line_grown, none_mapped}
+use Rattle.textarea_calls.proofs.arguments.push_line.Goals as goal
 
 pub returns-in-Some-strip_prefix-clause-value : goal.returns-in-Some-strip_prefix-clause-value
 returns-in-Some-strip_prefix-clause-value c =
@@ -26,8 +26,9 @@ returns-in_default-escaped_character-clause-value c =
     let rest = c.loop-front.rest.now in
     let front = c.in-Some.front.now in
     let split_is = c.in-Some.ensures in
-    c.loop-front.invariant.2
-    ∙ ap (option_map before) (line_unread rest front c.in-Some.escaped.now c.loop-front.invariant.0 split_is.0 split_is.1 c.in_default-escaped_character.ensures.value)
+    none_mapped (λ lines. in_front (string_bytes c.args.line.now) lines) (unescaped_lines c.args.text.now)
+    (c.loop-front.invariant.2
+    ∙ ap (option_map before) (line_unread rest front c.in-Some.escaped.now c.loop-front.invariant.0 split_is.0 split_is.1 c.in_default-escaped_character.ensures.value))
 
 pub loop-front-preserved : goal.loop-front-preserved
 loop-front-preserved c =
