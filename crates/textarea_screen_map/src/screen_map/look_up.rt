@@ -28,7 +28,12 @@ impl ScreenMap {
     }
 
     /// Returns the visual row of this index among those of a line, as slices of `lines`.
-    pub fn row_of_line<'a>(&self, lines: &'a [String], line: usize, number: usize) -> RowText<'a>
+    pub(crate) fn row_of_line<'a>(
+        &self,
+        lines: &'a [String],
+        line: usize,
+        number: usize,
+    ) -> RowText<'a>
         requires rows { AreRowsOf self.now.wrapping (lines_of lines.now) self.now.rows }
         requires line { line < length self.now.rows }
         requires number { number < length (ranges_at self.now.rows line) }

@@ -1,5 +1,5 @@
 //! The matches that `regex` lists for a line, one after another. A matcher serves for many lines.
-ghost use Rattle.std.specs.Prelude.{◌≡◌, ◌+◌, ◌≤◌, ◌<◌, [], ◌∷◌, List, ℕ, length, take, find, reverse, encode_utf8_all, IsCharBoundary, IsUtf8, IfSome, MatchOption, OnOk};
+ghost use Rattle.std.specs.Prelude.{◌≡◌, ◌+◌, ◌≤◌, ◌<◌, [], ◌∷◌, List, ℕ, length, take, find, reverse, encode_utf8_all, IsCharBoundary, IsUtf8, IfSome, IsSome, MatchOption, OnOk};
 ghost use Rattle.std.specs.Str.{chars};
 ghost use Rattle.regex_hir.specs.Re.{literal};
 ghost use Rattle.regex.specs.Strings.{matcher_pattern, match_span, match_haystack};
@@ -95,7 +95,7 @@ fn byte_of(line: &str, column: usize) -> usize
 
 /// Returns the first column in the search's direction from the given one or, with `at_column`, at
 /// it, at which a match of a text starts that can't overlap itself: where the line has the text, so
-/// the search begins at the column. Returns `None` for another needle.
+/// the search begins at the column. Returns `None` only for another needle.
 pub(crate) fn text_ahead(
     needle: &Option<LineFinder<'_>>,
     line: &str,
@@ -103,9 +103,10 @@ pub(crate) fn text_ahead(
     column: usize,
     at_column: bool,
 ) -> Option<Option<usize>>
-    ensures { (pattern : List ℕ) →
+    ensures found { (pattern : List ℕ) →
         IfSome needle.now (λ text. ListsMatchesOf pattern (literal text)) →
         IfSome result (IsFirstAhead pattern line.now direction column at_column) }
+    ensures once { IfSome needle.now (λ text. StartsOnce text → IsSome result) }
 {
     match needle {
         Some(finder) if finder.starts_once() => {
