@@ -1,8 +1,8 @@
 -- The text between two positions.
-use Rattle.std.proofs.Common.{◌≡◌, ◌+◌, ◌-◌, ◌≤◌, ◌<◌, List, [], ◌∷◌, length, take, drop, sym, ap, ◌∙◌, subst, arith, String}
-use Rattle.std.proofs.lemmas.List.{length-drop, length-take-le}
+use Rattle.std.proofs.Common.{◌≡◌, ℕ, ◌+◌, ◌-◌, ◌≤◌, ◌<◌, List, [], ◌∷◌, ◌++◌, length, length-append, map, take, drop, get_or, sym, ap, ◌∙◌, subst, arith, String, Global}
+use Rattle.std.proofs.lemmas.List.{append-nil, length-drop, length-take-le, map-append}
 use Rattle.std.proofs.Math.Seq.{take-add}
-use Rattle.textarea_document.specs.Prelude.{IfSome, Symbol, text_of, Place, IsPlace, OccursAt, end, index_of, Splice, Fits, Stored, IsWellFormed, symbols_between, removal}
+use Rattle.textarea_document.specs.Prelude.{IfSome, Symbol, characters, characters_of, lines_of, text_of, Place, IsPlace, OccursAt, end, index_of, Splice, Fits, Stored, IsWellFormed, symbols_between, removal}
 use Rattle.textarea_text.proofs.TextPlaces.{index_within, place_of-index}
 use Rattle.textarea_text.proofs.Splices.{end-append}
 
@@ -46,3 +46,15 @@ well_formed edit splice is some ends fragment_lines = record {
 pub some_lines : {Z : Type 0} (fragment_lines : List (String Z)) {symbols : List Symbol} → text_of fragment_lines ≡ symbols → 0 < length symbols → 0 < length fragment_lines
 some_lines [] e some = omega (arith, ap length e)
 some_lines (fragment_line ∷ fragment_lines) e some = omega arith
+
+-- the line of a fragment of one line, or of a copy of it
+pub only_text : (fragment_lines copies : List (String Global)) (rest : List (String Global)) (line : String Global) → lines_of copies ≡ lines_of fragment_lines → length fragment_lines ≡ 1 → copies ≡ rest ++ line ∷ [] → characters (characters_of line) ≡ text_of fragment_lines
+only_text [] copies rest line same one is = absurd (omega (arith, one))
+only_text (first ∷ second ∷ more) copies rest line same one is = absurd (omega (arith, one))
+only_text (first ∷ []) copies rest line same one is =
+    let copied : lines_of (rest ++ line ∷ []) ≡ characters_of first ∷ [] = ap lines_of (sym is) ∙ same in
+    ap characters (last_of rest copied) ∙ sym (append-nil (characters (characters_of first)))
+  where
+    last_of : (rest : List (String Global)) → lines_of (rest ++ line ∷ []) ≡ characters_of first ∷ [] → characters_of line ≡ characters_of first
+    last_of [] e = ap (λ (lines : List (List ℕ)). get_or lines 0 []) e
+    last_of (other ∷ rest) e = absurd (omega (arith, ap length e, ap length (map-append characters_of rest (line ∷ [])), length-append (map characters_of rest) (characters_of line ∷ [])))

@@ -13,7 +13,7 @@ pub use Rattle.textarea_text.specs.Between.{clip, symbols_between}
 pub use Rattle.textarea_text.specs.Place.{IsBefore, IsPlace, IsPlaceOf, IsSymbolBefore, IsUpTo, Place, OccursAt, end, index_of, is_before, is_same_place, last_row, line_end, line_of, place_of}
 pub use Rattle.textarea_text.specs.Size.{size_of}
 pub use Rattle.textarea_text.specs.Splice.{CanApply, Fits, Splice, IsTextBefore, applied, applied_all, inverse, place_after, place_before}
-pub use Rattle.textarea_text.specs.Text.{Break, Character, Symbol, characters_of, joined, lines, lines_of, symbol_in, text_of}
+pub use Rattle.textarea_text.specs.Text.{Break, Character, Symbol, characters, characters_of, joined, lines, lines_of, symbol_in, text_of}
 pub use Rattle.textarea_text.specs.Words.{next_word_last}
 unfoldable pub use Rattle.textarea_text.specs.Words.{class_of}
 pub use Rattle.textarea_history.specs.Edit.{IsWellFormed, Stored, inserts_of, symbols_of}

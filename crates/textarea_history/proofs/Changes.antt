@@ -5,6 +5,7 @@ use Rattle.textarea_history.specs.Prelude.{Global, IfSome, chars, IsUtf8, Symbol
 use Rattle.textarea_text.proofs.Columns.{chars_from_bytes}
 use Rattle.textarea_text.proofs.StringRows.{changed_by_none, columns_ordered, rows_ordered, rows_place, occurs_until}
 use Rattle.textarea_text.proofs.Touching.{breaks_of-joined, end_row}
+use Rattle.std.specs.declared.sync.Arc.{Arc}
 use Rattle.textarea_history.proofs.Runs.{line_count_as}
 use Rattle.textarea_history.specs.declared.edit.Content.TheVariants as content
 
@@ -19,11 +20,11 @@ pub characters_of_one : (bs : List ℕ) (c : ℕ) → IsUtf8 bs → bs ≡ encod
 characters_of_one bs c text e = ap characters (chars_from_bytes bs (c ∷ []) text (e ∙ sym (append-nil (encode_utf8 c))))
 
 -- a break, or a fragment of at least two lines, is not within a line
-pub has_break : (stored_content : Content) (inserts reported : Bool) (start to : Place) (edit : Stored) (now : Splice) → stored_of stored_content inserts start to ≡ edit → directed edit.splice reported ≡ now → IsWellFormed edit → breaks_of now.symbols ≡ 0 → (stored_content ≡ content.Break) ⊎ ((fragment_lines : Vec (String Global) Global) × stored_content ≡ content.Chunk fragment_lines) → ⊥
+pub has_break : (stored_content : Content) (inserts reported : Bool) (start to : Place) (edit : Stored) (now : Splice) → stored_of stored_content inserts start to ≡ edit → directed edit.splice reported ≡ now → IsWellFormed edit → breaks_of now.symbols ≡ 0 → (stored_content ≡ content.Break) ⊎ ((fragment_lines : Arc (Vec (String Global) Global) Global) × stored_content ≡ content.Chunk fragment_lines) → ⊥
 has_break stored_content inserts reported start to edit now view view' h none (inl is) =
     omega (arith, none, ap breaks_of (symbols_of_change stored_content inserts reported start to edit now view view'), ap (λ k. breaks_of (symbols_in inserts k)) is)
 has_break stored_content inserts reported start to edit now view view' h none (inr found) =
-    let fragment_lines = found.0.items in
+    let fragment_lines = found.0.value.items in
     let many : 2 ≤ length fragment_lines = line_count_as found.1 (subst (λ (s : Stored). IfSome s.fragment_lines (λ n. 2 ≤ n)) (sym view) h.fragment_lines) in
     let long = length-map fragment_lines characters_of in
     omega (arith, none, many, long, ap breaks_of (symbols_of_change stored_content inserts reported start to edit now view view'), ap (λ k. breaks_of (symbols_in inserts k)) found.1, breaks_of-joined (lines_of fragment_lines) (omega (arith, many, long)))

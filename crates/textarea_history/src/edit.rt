@@ -8,10 +8,11 @@ ghost use Rattle.textarea_history.specs.Prelude.{inverse, place_after, place_bef
 pub use change::Change;
 use std::alloc::AllocError;
 use std::marker::Model;
+use std::sync::Arc;
 use textarea_text::util::Pos;
 
 /// What an edit inserts or removes: a character, a line break, a text within a line, or a fragment
-/// of at least two lines.
+/// of at least two lines, which may be shared with whoever else keeps it.
 #[derive(Drop)]
 pub enum EditKind {
     InsertChar(char),
@@ -20,8 +21,8 @@ pub enum EditKind {
     DeleteNewline,
     InsertStr(String),
     DeleteStr(String),
-    InsertChunk(Vec<String>),
-    DeleteChunk(Vec<String>),
+    InsertChunk(Arc<Vec<String>>),
+    DeleteChunk(Arc<Vec<String>>),
 }
 
 impl Clone for EditKind {
@@ -64,7 +65,7 @@ enum Content {
     Text(String),
     Typed(String),
     Break,
-    Chunk(Vec<String>),
+    Chunk(Arc<Vec<String>>),
 }
 
 impl Clone for Content {

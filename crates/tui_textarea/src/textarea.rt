@@ -18,6 +18,7 @@ pub mod settings;
 mod surround;
 
 ghost use Rattle.std.specs.Prelude.{◌≡◌, ◌<◌, ◌≤◌, ◌↔◌, length, OnErr, OnOk, IfOk, IsTrue, [], string_bytes, vec_len};
+ghost use Rattle.std.specs.Arc.{arc_value};
 ghost use Rattle.std.specs.Str.{chars};
 ghost use Rattle.tui_textarea.specs.Prelude.{fragment_text, size_limit, lines, lines_of, text_of, IsPlace, size_of, fresh_document, clip, new_state, with_other_lines};
 
@@ -25,6 +26,7 @@ use crate::drawing::Drawing;
 use crate::textarea::settings::Settings;
 use std::alloc::{AllocError, Global};
 use std::marker::Model;
+use std::sync::Arc;
 use std::time::Duration;
 use textarea_document::Document;
 use textarea_lines::settings::LayoutSettings;
@@ -52,7 +54,7 @@ const DEFAULT_LAYOUT: LayoutSettings = LayoutSettings {
 #[derive(Drop)]
 pub struct TextArea<'a> {
     document: Document,
-    yank: Vec<String>,
+    yank: Arc<Vec<String>>,
     settings: Settings,
     time: Duration,
     search: Search,
@@ -61,6 +63,7 @@ pub struct TextArea<'a> {
 }
 
 impl<'a> Model for TextArea<'a> {
+    ghost use Rattle.std.specs.Arc.{arc_value};
     ghost use Rattle.std.specs.Duration.{as_nanos};
     ghost use Rattle.textarea_text.specs.Text.{text_of};
     ghost use Rattle.tui_textarea.specs.State.{State};
@@ -69,7 +72,7 @@ impl<'a> Model for TextArea<'a> {
 
     ghost view = { λ area. record {
       document = area.document;
-      yank = text_of area.yank.items;
+      yank = text_of (arc_value area.yank).items;
       settings = area.settings;
       time = as_nanos area.time;
       pattern = area.search;
@@ -98,10 +101,11 @@ impl<'a> Clone for TextArea<'a> {
 }
 
 impl<'a> TextArea<'a> {
-    // Returns copies of the document and of the yanked text.
-    fn clone_text(&self) -> Result<(Document, Vec<String>), AllocError>
+    // Returns a copy of the document, and the yanked text, which is shared.
+    fn clone_text(&self) -> Result<(Document, Arc<Vec<String>>), AllocError>
         ensures document { IfOk result (λ copies. copies.0 ≡ self.now.document) }
-        ensures yank { IfOk result (λ copies. text_of copies.1.items ≡ self.now.yank) }
+        ensures yank { IfOk result (λ copies.
+            text_of (arc_value copies.1).items ≡ self.now.yank) }
     {
         let yank = self.yank.clone()?;
         Ok((self.document.clone()?, yank))
@@ -126,7 +130,7 @@ impl<'a> TextArea<'a> {
         let alloc = *lines.allocator();
         Ok(TextArea {
             document: Document::new(alloc, lines, DEFAULT_LAYOUT, DEFAULT_MAX_HISTORIES)?,
-            yank: Vec::new(alloc),
+            yank: Arc::new(alloc, Vec::new(alloc))?,
             settings: Settings::default(),
             time: Duration::ZERO,
             search: Search::default(),

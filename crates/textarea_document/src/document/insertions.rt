@@ -1,10 +1,12 @@
 //! Insertions at the cursor, or at the end of the atomic range that strictly contains it.
 ghost use Rattle.std.specs.Prelude.{◌≡◌, ◌<◌, ◌≤◌, true, OnOk, OnErr, IsOk, IfOk, All, []};
+ghost use Rattle.std.specs.Arc.{arc_value};
 ghost use Rattle.textarea_document.specs.Prelude.{as_nanos, size_limit, text_of, IsPlace, size_of, IsInside, break_inserted, character_inserted, insertion_place, has_symbols, nothing_inserted, symbols_inserted};
 
 use crate::document::Document;
 use crate::document::edits::edit_of;
 use std::alloc::AllocError;
+use std::sync::Arc;
 use std::time::Duration;
 use textarea_data::range::AtomicCursorBias;
 use textarea_history::edit::{Edit, EditKind};
@@ -60,15 +62,20 @@ impl Document {
     /// Inserts the fragment at the insertion position, with a line break between each two of its
     /// strings, and returns whether it has a symbol. Without one the cursor moves there and the
     /// selection is dropped. A fragment larger than any text is an out-of-memory error.
-    pub fn insert(&mut self, fragment_lines: Vec<String>, now: Duration) -> Result<bool, AllocError>
+    pub fn insert(
+        &mut self,
+        fragment_lines: Arc<Vec<String>>,
+        now: Duration,
+    ) -> Result<bool, AllocError>
         ensures inserted { IfOk result
-            (λ inserted. inserted ≡ has_symbols (text_of fragment_lines.items)) }
+            (λ inserted. inserted ≡ has_symbols (text_of (arc_value fragment_lines).items)) }
         ensures ok { OnOk result
-            (self.new ≡ symbols_inserted self.old (text_of fragment_lines.items) (as_nanos now)) }
+            (self.new ≡ symbols_inserted self.old (text_of (arc_value fragment_lines).items)
+            (as_nanos now)) }
         ensures err { OnErr result (self.new ≡ self.old) }
-        ensures nothing { text_of fragment_lines.items ≡ [] → IsOk result }
+        ensures nothing { text_of (arc_value fragment_lines).items ≡ [] → IsOk result }
         ensures limit { IfOk result
-            (λ inserted. inserted ≡ true → size_of fragment_lines.items ≤ size_limit) }
+            (λ inserted. inserted ≡ true → size_of (arc_value fragment_lines).items ≤ size_limit) }
     {
         if !has_symbol(fragment_lines.as_slice()) {
             self.insert_nothing();
@@ -77,7 +84,8 @@ impl Document {
         rows::size_within_limit(fragment_lines.as_slice())?;
         let start = self.insertion_place();
         let end = end_of(start, fragment_lines.as_slice());
-        self.edit(edit_of(fragment_lines, true, start, end), false, now)?;
+        let edit = edit_of(fragment_lines, true, start, end)?;
+        self.edit(edit, false, now)?;
         Ok(true)
     }
 }

@@ -1,15 +1,16 @@
 //! Removals from a document.
 ghost use Rattle.std.specs.Prelude.{◌≡◌, ◌<◌, OnOk, OnErr, IsOk, IfOk, IfSome, not, true, false, ◌==◌, None};
+ghost use Rattle.std.specs.Arc.{arc_value};
 ghost use Rattle.textarea_document.specs.Prelude.{as_nanos, text_of, IsPlace, index_of, symbols_between, Backward, Forward, TakesWhole, widened, range_at_cursor, range_before, range_after, cursor_range_removed, is_at_end, is_at_start, removal, removed_symbols, removed_before, removed_after, break_removed, between_removed, symbol_removed_before, symbol_removed_after, after_edit};
 
 use crate::document::Document;
 use crate::document::edits::edit_of;
 use std::alloc::AllocError;
+use std::sync::Arc;
 use std::time::Duration;
 use textarea_data::range::{AtomicDeleteDirection, AtomicRange};
 use textarea_history::edit::{Edit, EditKind, deletion_of};
 use textarea_ranges::lookup;
-use textarea_text::fragment::copy_fragment;
 use textarea_text::places::line_end;
 use textarea_text::rows;
 use textarea_text::text_slice::between;
@@ -30,39 +31,39 @@ impl Document {
         ensures err { OnErr result (self.new ≡ self.old) }
     {
         let (start, end) = self.widen(from, to);
-        let fragment_lines = between(self.allocator(), self.lines(), start, end)?;
-        self.remove_whole(fragment_lines, start, end, now)
+        let removed = between(self.allocator(), self.lines(), start, end)?;
+        self.remove_whole(Arc::new(self.allocator(), removed)?, start, end, now)
     }
 
     /// Removes the text between two positions, and each range that it overlaps, and returns it as a
-    /// fragment, with a line break between each two of its strings.
+    /// fragment, with a line break between each two of its strings. The history shares it.
     #[tactic(auto, unfolding(crate::specs::Edits::between_removed))]
     pub fn take(
         &mut self,
         from: (usize, usize),
         to: (usize, usize),
         now: Duration,
-    ) -> Result<Vec<String>, AllocError>
+    ) -> Result<Arc<Vec<String>>, AllocError>
         requires from { IsPlace self.old.text from }
         requires to { IsPlace self.old.text to }
         requires ordered { index_of self.old.text from < index_of self.old.text to }
         ensures removed_symbols { IfOk result (λ fragment_lines.
-            text_of fragment_lines.items ≡ removed_symbols self.old from to) }
+            text_of (arc_value fragment_lines).items ≡ removed_symbols self.old from to) }
         ensures ok { OnOk result (self.new ≡ between_removed self.old from to (as_nanos now)) }
         ensures err { OnErr result (self.new ≡ self.old) }
     {
         let (start, end) = self.widen(from, to);
-        let fragment_lines = between(self.allocator(), self.lines(), start, end)?;
-        let removed = copy_fragment(self.allocator(), fragment_lines.as_slice())?;
-        self.remove_whole(fragment_lines, start, end, now)?;
-        Ok(removed)
+        let removed = between(self.allocator(), self.lines(), start, end)?;
+        let fragment_lines = Arc::new(self.allocator(), removed)?;
+        self.remove_whole(fragment_lines.clone()?, start, end, now)?;
+        Ok(fragment_lines)
     }
 
     // Removes this fragment, which is between two positions of the text. It covers each range
     // completely or not at all.
     fn remove_whole(
         &mut self,
-        fragment_lines: Vec<String>,
+        fragment_lines: Arc<Vec<String>>,
         from: (usize, usize),
         to: (usize, usize),
         now: Duration,
@@ -70,13 +71,14 @@ impl Document {
         requires from { IsPlace self.old.text from }
         requires to { IsPlace self.old.text to }
         requires ordered { index_of self.old.text from < index_of self.old.text to }
-        requires fragment_lines { text_of fragment_lines.items ≡ symbols_between self.old.text from to }
+        requires fragment_lines { text_of (arc_value fragment_lines).items
+            ≡ symbols_between self.old.text from to }
         requires whole { TakesWhole self.old.ranges from to }
         ensures ok { OnOk result (self.new
             ≡ after_edit self.old (removal self.old.text from to) false (as_nanos now)) }
         ensures err { OnErr result (self.new ≡ self.old) }
     {
-        self.edit(edit_of(fragment_lines, false, from, to), false, now)
+        self.edit(edit_of(fragment_lines, false, from, to)?, false, now)
     }
 
     // Returns the two ends of a removal, widened over each range that it overlaps.

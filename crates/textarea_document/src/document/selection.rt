@@ -1,9 +1,11 @@
 //! The selection of a document.
 ghost use Rattle.std.specs.Prelude.{◌≡◌, ◌<◌, ◌≤◌, OnOk, OnErr, IsOk, IfOk, IfSome, MatchOption, is_some, true, false};
+ghost use Rattle.std.specs.Arc.{arc_value};
 ghost use Rattle.textarea_document.specs.Prelude.{as_nanos, text_of, IsPlace, IsUpTo, index_of, is_before, is_selected, selected_removed, selected_symbols, selection, selection_end, selection_start};
 
 use crate::document::Document;
 use std::alloc::AllocError;
+use std::sync::Arc;
 use std::time::Duration;
 
 impl Document {
@@ -53,11 +55,11 @@ impl Document {
 
     /// Removes the selected text, and returns what was removed as a fragment, with a line break
     /// between each two of its strings. `None` if no symbol is selected; an empty selection stays.
-    pub fn take_selection(&mut self, now: Duration) -> Result<Option<Vec<String>>, AllocError>
+    pub fn take_selection(&mut self, now: Duration) -> Result<Option<Arc<Vec<String>>>, AllocError>
         ensures found { IfOk result (λ removed. is_some removed ≡ is_selected self.old) }
         ensures removed { IfOk result (λ removed.
-            IfSome removed (λ fragment_lines. text_of fragment_lines.items ≡ selected_symbols
-            self.old)) }
+            IfSome removed (λ fragment_lines. text_of (arc_value fragment_lines).items
+            ≡ selected_symbols self.old)) }
         ensures ok { OnOk result (self.new ≡ selected_removed self.old (as_nanos now)) }
         ensures err { OnErr result (self.new ≡ self.old) }
         ensures nothing { is_selected self.old ≡ false → IsOk result }

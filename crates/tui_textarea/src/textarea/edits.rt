@@ -1,13 +1,15 @@
 //! Insertions. Each first removes the selected text, as its own edit, and then moves a cursor that
 //! is strictly inside an atomic range to the range's end.
 ghost use Rattle.std.specs.Prelude.{◌≡◌, ◌<◌, OnOk, OnErr, IsOk, IfOk, false, [], replicate, vec_len};
+ghost use Rattle.std.specs.Arc.{arc_value};
 ghost use Rattle.std.specs.Str.{chars};
 ghost use Rattle.tui_textarea.specs.Prelude.{Character, text_of, has_symbols, is_selected, fragment_symbols, pasted_symbols, inserts_tab, inserts_text, symbols_or_none_inserted, spaces_to_stop, char_inserted, char_or_break_inserted, newline_inserted, tab_inserted, tab_or_spaces_inserted, str_inserted, IsInsertOutOfMemory, selection_cancelled, unselected};
 
 use crate::textarea::TextArea;
 use std::alloc::{AllocError, Global};
+use std::sync::Arc;
 use textarea_document::document::insertions::has_symbol;
-use textarea_text::fragment::{copy_fragment, fragment_of, unify_line_ends};
+use textarea_text::fragment::{fragment_of, unify_line_ends};
 use textarea_text::tab::spaces_to_stop;
 use textarea_text::util::spaces;
 
@@ -59,7 +61,7 @@ impl TextArea<'_> {
             return self.insert_nothing();
         }
         let fragment_lines = fragment_of(self.allocator(), text)?;
-        self.insert_over_selection(fragment_lines)?;
+        self.insert_over_selection(Arc::new(self.allocator(), fragment_lines)?)?;
         Ok(true)
     }
 
@@ -93,15 +95,19 @@ impl TextArea<'_> {
             self.insert_nothing()?;
             return Ok(false);
         }
-        let fragment_lines = copy_fragment(self.allocator(), self.yank.as_slice())?;
+        let fragment_lines = self.yank.clone()?;
         self.insert_over_selection(fragment_lines)
     }
 
     // Replaces the selected text by a fragment, and returns whether the fragment has a symbol.
-    fn insert_over_selection(&mut self, fragment_lines: Vec<String>) -> Result<bool, AllocError>
+    fn insert_over_selection(
+        &mut self,
+        fragment_lines: Arc<Vec<String>>,
+    ) -> Result<bool, AllocError>
         ensures inserted { IfOk result
-            (λ inserted. inserted ≡ has_symbols (text_of fragment_lines.items)) }
-        ensures ok { OnOk result (self.new ≡ str_inserted self.old (text_of fragment_lines.items)) }
+            (λ inserted. inserted ≡ has_symbols (text_of (arc_value fragment_lines).items)) }
+        ensures ok { OnOk result
+            (self.new ≡ str_inserted self.old (text_of (arc_value fragment_lines).items)) }
         ensures err { OnErr result (IsInsertOutOfMemory self.old self.new) }
     {
         self.document.remove_selection(self.time)?;
@@ -195,12 +201,11 @@ fn has_pasted_text(text: &str) -> bool
 }
 
 // Returns a fragment of one line, of `count` spaces.
-fn spaces_as_fragment(alloc: Global, count: u8) -> Result<Vec<String>, AllocError>
-    ensures some { IfOk result (λ fragment_lines. 0 < vec_len fragment_lines) }
-    ensures text { IfOk result
-        (λ fragment_lines. text_of fragment_lines.items ≡ replicate count (Character 32)) }
+fn spaces_as_fragment(alloc: Global, count: u8) -> Result<Arc<Vec<String>>, AllocError>
+    ensures { IfOk result (λ fragment_lines.
+        text_of (arc_value fragment_lines).items ≡ replicate count (Character 32)) }
 {
     let mut fragment_lines = Vec::new(alloc);
     fragment_lines.push(String::from_str(alloc, spaces(count))?)?;
-    Ok(fragment_lines)
+    Ok(Arc::new(alloc, fragment_lines)?)
 }

@@ -5,6 +5,7 @@ ghost use Rattle.tui_textarea.specs.Prelude.{IsPlace, is_selected, selection, fr
 
 use crate::textarea::TextArea;
 use std::alloc::AllocError;
+use std::sync::Arc;
 use textarea_text::fragment::{fragment_of, join_with_line_feeds};
 use textarea_text::places::text_end;
 use textarea_text::text_slice::between;
@@ -56,7 +57,8 @@ impl TextArea<'_> {
         ensures nothing { is_selected self.old.document ≡ false → IsOk result }
     {
         if let Some((start, end)) = self.document.filled_selection() {
-            self.yank = between(self.allocator(), self.document.lines(), start, end)?;
+            let copied = between(self.allocator(), self.document.lines(), start, end)?;
+            self.yank = Arc::new(self.allocator(), copied)?;
         }
         self.document.set_anchor(None);
         Ok(())
@@ -91,7 +93,8 @@ impl TextArea<'_> {
             (self.new ≡ record self.old { yank = fragment_symbols (chars text.now) }) }
         ensures err { OnErr result (self.new ≡ self.old) }
     {
-        self.yank = fragment_of(self.allocator(), text)?;
+        let fragment_lines = fragment_of(self.allocator(), text)?;
+        self.yank = Arc::new(self.allocator(), fragment_lines)?;
         Ok(())
     }
 }

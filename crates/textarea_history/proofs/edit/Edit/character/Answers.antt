@@ -12,5 +12,5 @@ returns-in-Typed c =
 
 pub returns-in-Chunk : goal.returns-in-Chunk
 returns-in-Chunk c =
-    only_lines (lines_of c.in-Chunk.field-0.items) (omega (arith, line_count_as c.in-Chunk.is (subst (λ (s : Stored). IfSome s.fragment_lines (λ n. 2 ≤ n)) (sym c.self.view_is) c.requires.fragment_lines), length-map c.in-Chunk.field-0.items characters_of))
+    only_lines (lines_of c.in-Chunk.field-0.value.items) (omega (arith, line_count_as c.in-Chunk.is (subst (λ (s : Stored). IfSome s.fragment_lines (λ n. 2 ≤ n)) (sym c.self.view_is) c.requires.fragment_lines), length-map c.in-Chunk.field-0.value.items characters_of))
     ∙ ap character_of (symbols_as c.self.inside.start c.self.inside.end c.self.view_is c.in-Chunk.is)

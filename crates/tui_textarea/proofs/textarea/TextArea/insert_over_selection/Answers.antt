@@ -7,5 +7,5 @@ use Rattle.tui_textarea.proofs.textarea.TextArea.insert_over_selection.Goals as 
 
 pub returns-clause-ok : goal.returns-clause-ok
 returns-clause-ok c =
-    unselected_lifted c.insert.result (λ (d : DocumentState) (m : ℕ). symbols_inserted d (text_of c.args.fragment_lines.items) m) c.self.view_is
+    unselected_lifted c.insert.result (λ (d : DocumentState) (m : ℕ). symbols_inserted d (text_of c.args.fragment_lines.value.items) m) c.self.view_is
     c.remove_selection.new.self c.insert.new.self c.in_ok-remove_selection.ensures.ok c.insert.ensures.ok

@@ -1,4 +1,4 @@
-use Rattle.std.proofs.Common.{◌≡◌, ◌∙◌, ℕ, List, Option, is_some, [], ap, false}
+use Rattle.std.proofs.Common.{◌≡◌, ◌∙◌, ℕ, Global, List, Option, String, Vec, is_some, [], ap, false}
 use Rattle.textarea_document.specs.DocumentState.{DocumentState, new_document}
 use Rattle.tui_textarea.specs.DrawingState.{DrawingState, new_drawing}
 use Rattle.textarea_view.specs.SurroundState.{SurroundState, new_surround}
@@ -23,5 +23,5 @@ made_new text document yank settings pattern surround drawing d y s p b f =
 
 pub returns : goal.returns
 returns c =
-    made_new (text_of c.args.lines.items) c.in_ok-new.field-0 (text_of c.new-2.result.items) c.default.result c.default-2.result c.new-3.result c.new-4.result
-    c.in_ok-new.ensures (ap text_of c.new-2.ensures.items) c.default.ensures c.default-2.ensures c.new-3.ensures c.new-4.ensures
+    made_new (text_of c.args.lines.items) c.in_ok-new.field-0 (text_of c.in_ok-new-2.field-0.value.items) c.default.result c.default-2.result c.new-4.result c.new-5.result
+    c.in_ok-new.ensures (ap (λ (v : Vec (String Global) Global). text_of v.items) c.in_ok-new-2.ensures.ok ∙ ap text_of c.new-2.ensures.items) c.default.ensures c.default-2.ensures c.new-4.ensures c.new-5.ensures
