@@ -1,8 +1,8 @@
 //! Draws frames and checks their carets.
 ghost use Rattle.textarea_calls.specs.Possible.{CanBeMade};
 
-use crate::caret::{is_caret_promised, is_wide_row};
-use crate::tally::{FrameTally, count};
+use crate::frames::caret::{is_caret_promised, is_wide_row};
+use crate::frames::tally::{FrameTally, count};
 use std::alloc::{AllocError, Global};
 use textarea_calls::Call;
 use textarea_run::perform::perform;

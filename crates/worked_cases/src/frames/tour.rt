@@ -1,9 +1,9 @@
 //! A text in all settings and areas, after all calls, and at all tab lengths.
-use crate::asked::{borrows, calls_of, script_of};
-use crate::caret::has_tab;
-use crate::judge::FrameJudge;
-use crate::setting::Setting;
-use crate::tally::FrameTally;
+use crate::frames::asked::{borrows, calls_of, script_of};
+use crate::frames::caret::has_tab;
+use crate::frames::judge::FrameJudge;
+use crate::frames::setting::Setting;
+use crate::frames::tally::FrameTally;
 use std::alloc::{AllocError, Global};
 use textarea_calls::Call;
 use textarea_calls::commands::{Command, read};
