@@ -199,12 +199,12 @@ abbrev pub with_rest : List ℕ → Option (List ℕ) → Option (List ℕ)
 with_rest text None = Some text
 with_rest text (Some rest) = option_map (λ more. text ++ (10 ∷ more)) (unescaped rest)
 
-pub rest_joined : (text : List ℕ) (rest : Option (List ℕ)) → option_map joined (option_map (λ lines. text ∷ lines) (lines_after_escape rest)) ≡ with_rest text rest
+rest_joined : (text : List ℕ) (rest : Option (List ℕ)) → option_map joined (option_map (λ lines. text ∷ lines) (lines_after_escape rest)) ≡ with_rest text rest
 rest_joined text None = ap Some (append-nil text)
 rest_joined text (Some rest) = line_before text rest
 
 -- once the first line of a text is appended, the text goes on with the rest
-pub line_pushed : (old new text : List ℕ) (rest : Option (List ℕ)) → option_map (λ lines. in_front old lines) (unescaped_lines text) ≡ option_map (λ more. new ∷ more) (lines_after_escape rest) → option_map (λ more. old ++ more) (unescaped text) ≡ with_rest new rest
+line_pushed : (old new text : List ℕ) (rest : Option (List ℕ)) → option_map (λ lines. in_front old lines) (unescaped_lines text) ≡ option_map (λ more. new ∷ more) (lines_after_escape rest) → option_map (λ more. old ++ more) (unescaped text) ≡ with_rest new rest
 line_pushed old new text rest pushed = sym (front_joined old text) ∙ ap (option_map joined) pushed ∙ rest_joined new rest
 
 pub none_mapped : {A B : Type 0} → (f : A → B) (found : Option A) → option_map f found ≡ None → found ≡ None

@@ -12,7 +12,7 @@ use std::sync::Arc;
 use textarea_text::util::Pos;
 
 /// What an edit inserts or removes: a character, a line break, a text within a line, or a fragment
-/// of at least two lines, which may be shared with whoever else keeps it.
+/// of at least two lines, which the yank and other edits may share.
 #[derive(Drop)]
 pub enum EditKind {
     InsertChar(char),
