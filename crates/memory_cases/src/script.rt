@@ -1,6 +1,6 @@
 //! Makes the calls of a script in one run.
-use textarea_calls::commands::{Command, calls, read};
 use textarea_cases::end::EndReason;
+use textarea_commands::commands::{Command, calls, read};
 use textarea_run::RunEnd;
 use textarea_run::run::run;
 use tui_textarea::{Buffer, Rect, TextArea};

@@ -1,9 +1,2 @@
-pub mod Escapes
-pub mod Fronts
-pub mod Lines
-pub mod Numbers
-pub mod Ranges
-pub mod Scripts
-pub mod Tokens
 pub mod TableOverlap
 pub mod FlagLemmas

@@ -1,12 +1,5 @@
 pub mod CallGroups
 pub mod Possible
-pub mod Arguments
-pub mod Commands
-pub mod Escapes
-pub mod FirstLine
-pub mod Inputs
-pub mod Ranges
-pub mod Script
 pub mod FlagRule
 pub mod Table
 pub mod Keys

@@ -1,11 +1,9 @@
-//! The calls of a text area as data: their keys, form in scripts, groups, and results.
+//! The calls of a text area as data: their keys, groups, and results.
 #![tactic(auto)]
 
 pub mod action;
 pub mod answer;
-mod arguments;
 pub mod call;
-pub mod commands;
 pub mod keys;
 pub mod kind;
 pub mod laws;

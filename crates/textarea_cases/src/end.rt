@@ -1,7 +1,7 @@
 //! The end of a case.
 use std::alloc::{AllocError, AllocFailed};
 use std::fmt;
-use textarea_calls::commands::ReadError;
+use textarea_commands::commands::ReadError;
 
 /// The status if memory ran out outside of a call, so that nothing was judged.
 const NOT_JUDGED: u8 = 3;

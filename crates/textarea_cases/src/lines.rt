@@ -2,7 +2,7 @@
 use crate::stop::Stop;
 use std::alloc::{AllocError, Global};
 use textarea_calls::Call;
-use textarea_calls::commands::{Command, read};
+use textarea_commands::commands::{Command, read};
 
 /// Returns the lines of a case after its comments. A `\u{20}` at a line's end becomes a blank.
 pub fn plain(alloc: Global, case: &str) -> Result<String, AllocError> {

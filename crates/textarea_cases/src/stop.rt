@@ -1,7 +1,7 @@
 //! Why a case fails.
 use std::alloc::{AllocError, AllocFailed};
 use std::fmt;
-use textarea_calls::commands::ReadError;
+use textarea_commands::commands::ReadError;
 
 /// The status if memory ran out.
 const NO_MEMORY: u8 = 3;

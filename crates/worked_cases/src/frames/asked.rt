@@ -2,8 +2,8 @@
 use std::alloc::{AllocError, Global};
 use std::slice::Iter;
 use textarea_calls::Call;
-use textarea_calls::commands::Command;
 use textarea_cases::words::{Borrows, call_of, character, lines_in, titled};
+use textarea_commands::commands::Command;
 use tui_textarea::{Borders, Color, Style};
 
 /// Returns the values that calls borrow: a titled block, a placeholder of one line, and a key.

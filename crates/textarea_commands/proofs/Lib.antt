@@ -1,0 +1,7 @@
+pub mod Escapes
+pub mod Fronts
+pub mod Lines
+pub mod Numbers
+pub mod Ranges
+pub mod Scripts
+pub mod Tokens

@@ -1,0 +1,6 @@
+//! The lines of scripts as commands: their table, arguments and escapes, and the calls that they mean.
+
+#![tactic(auto)]
+
+mod arguments;
+pub mod commands;
