@@ -1,4 +1,4 @@
-/* Written by tools/c-binding from crates/textarea_c. Do not edit. */
+/* Written by tools/c-binding from crates/textarea_c and crates/textarea_c_data. Do not edit. */
 /** A text area, a multi-line editor widget for terminals.
  *
  * A program makes a handle with all bytes zero, passes its address to `ta_new`, to other calls, and
@@ -201,16 +201,6 @@ typedef struct ta_handle_t {
     bool full;
 } ta_handle_t;
 
-/** Measured heights, in screen rows: those of the text, or of the placeholder if that is drawn; the
- * height of the whole area that shows it, from `min_rows` to `max_rows`; and these two, which are
- * the heights that are set, or more if the block needs more. */
-typedef struct ta_measure_t {
-    uint16_t content_rows;
-    uint16_t preferred_rows;
-    uint16_t min_rows;
-    uint16_t max_rows;
-} ta_measure_t;
-
 /** A rectangle of cells: its left column, its top row, its width and its height. */
 typedef struct ta_area_t {
     uint16_t x;
@@ -257,6 +247,16 @@ typedef struct ta_input_t {
     bool alt;
     bool shift;
 } ta_input_t;
+
+/** Measured heights, in screen rows: those of the text, or of the placeholder if that is drawn; the
+ * height of the whole area that shows it, from `min_rows` to `max_rows`; and these two, which are
+ * the heights that are set, or more if the block needs more. */
+typedef struct ta_measure_t {
+    uint16_t content_rows;
+    uint16_t preferred_rows;
+    uint16_t min_rows;
+    uint16_t max_rows;
+} ta_measure_t;
 
 /** Characters of a line that are edited as a whole: from `start_col` up to, but not including,
  * `end_col`. Row and columns count from 0, columns in characters. */

@@ -1,4 +1,4 @@
-"""Written by tools/c-binding from crates/textarea_c. Do not edit."""
+"""Written by tools/c-binding from crates/textarea_c and crates/textarea_c_data. Do not edit."""
 
 from ctypes import *
 
@@ -106,10 +106,6 @@ class Handle(Structure):
     _fields_ = [("stored", Held), ("full", c_bool)]
 
 
-class Measure(Structure):
-    _fields_ = [("content_rows", c_uint16), ("preferred_rows", c_uint16), ("min_rows", c_uint16), ("max_rows", c_uint16)]
-
-
 class Area(Structure):
     _fields_ = [("x", c_uint16), ("y", c_uint16), ("width", c_uint16), ("height", c_uint16)]
 
@@ -128,6 +124,10 @@ class Cell(Structure):
 
 class Input(Structure):
     _fields_ = [("key", c_uint32), ("argument", c_uint32), ("ctrl", c_bool), ("alt", c_bool), ("shift", c_bool)]
+
+
+class Measure(Structure):
+    _fields_ = [("content_rows", c_uint16), ("preferred_rows", c_uint16), ("min_rows", c_uint16), ("max_rows", c_uint16)]
 
 
 class Range(Structure):

@@ -1,4 +1,4 @@
-//! Written by tools/c-binding from crates/textarea_c. Do not edit.
+//! Written by tools/c-binding from crates/textarea_c and crates/textarea_c_data. Do not edit.
 #![allow(dead_code)]
 
 pub const OK: u32 = 0;
@@ -109,15 +109,6 @@ pub struct Handle {
 
 #[repr(C)]
 #[derive(Clone, Copy)]
-pub struct Measure {
-    pub content_rows: u16,
-    pub preferred_rows: u16,
-    pub min_rows: u16,
-    pub max_rows: u16,
-}
-
-#[repr(C)]
-#[derive(Clone, Copy)]
 pub struct Area {
     pub x: u16,
     pub y: u16,
@@ -161,6 +152,15 @@ pub struct Input {
     pub ctrl: bool,
     pub alt: bool,
     pub shift: bool,
+}
+
+#[repr(C)]
+#[derive(Clone, Copy)]
+pub struct Measure {
+    pub content_rows: u16,
+    pub preferred_rows: u16,
+    pub min_rows: u16,
+    pub max_rows: u16,
 }
 
 #[repr(C)]

@@ -12,8 +12,8 @@ use Rattle.tui_textarea.specs.Ranges.{ranges_accepted}
 use Rattle.tui_textarea.specs.State.{State}
 use Rattle.textarea_c.specs.declared.editor.Editor.{Editor}
 use Rattle.textarea_c.specs.Calls.{Calls, SetsRanges, Tells, Tries, with_area}
-use Rattle.textarea_c.specs.Ranges.{IsRangeOut}
-use Rattle.textarea_c.specs.declared.plain.range.Range.{Range}
+use Rattle.textarea_c_data.specs.Ranges.{IsRangeOut}
+use Rattle.textarea_c_data.specs.declared.range.Range.{Range}
 
 -- a call that returns whether there was something to do
 pub tried : {E : Type 0} (answer : Result Bool E) (status : ℕ) (found : Bool) (area new : State) (a : Editor)

@@ -6,8 +6,8 @@ use Rattle.textarea_screen.specs.Rect.{contains}
 use Rattle.textarea_screen.specs.declared.screen.buffer.Buffer.{Buffer}
 use Rattle.textarea_screen.specs.declared.screen.rect.Rect.{Rect}
 use Rattle.textarea_screen.specs.declared.screen.style.Style.{Style}
-use Rattle.textarea_c.specs.declared.plain.area.Area.{Area}
-use Rattle.textarea_c.specs.Areas.{IsArea}
+use Rattle.textarea_c_data.specs.declared.area.Area.{Area}
+use Rattle.textarea_c_data.specs.Areas.{IsArea}
 
 -- the style is applied to the cells of the area
 pub record IsStyledIn (area : Area) (style : Style) (old new : Buffer) : Type 0 where

@@ -1,25 +1,12 @@
--- The lines of a text area, as C passes and gets them.
-use Rattle.std.specs.Prelude.{ℕ, ◌≡◌, List, length, map, Option, MatchOption, encode_utf8_all}
+-- The lines that replace those of a text area.
+use Rattle.std.specs.Prelude.{ℕ, List}
 use Rattle.textarea_text.specs.Between.{clip}
 use Rattle.textarea_text.specs.Text.{joined}
 use Rattle.textarea_document.specs.DocumentState.{fresh_document}
 use Rattle.tui_textarea.specs.State.{State, with_other_lines}
-use Rattle.textarea_c.specs.Copied.{written}
 
 -- these lines replace the old ones, as `set_lines` says
 abbrev pub with_lines : State → List (List ℕ) → ℕ × ℕ → State
 with_lines state lines cursor =
     with_other_lines state
     (fresh_document (joined lines) state.document.layout.settings state.document.layout.count (clip lines cursor) state.document.log.maximum)
-
--- the bytes of each line
-abbrev pub texts_of : List (List ℕ) → List (List ℕ)
-texts_of rows = map encode_utf8_all rows
-
--- the bytes of these characters are written, with their number
-abbrev pub AreCharactersOut : List ℕ → List ℕ → List ℕ → ℕ → Type 0
-AreCharactersOut characters old new needed = (new ≡ written old (encode_utf8_all characters)) × (needed ≡ length (encode_utf8_all characters))
-
--- the bytes of the line are written, with their number, or the status says that there is no line
-abbrev pub IsLineOut : Option (List ℕ) → ℕ → List ℕ → List ℕ → ℕ → Type 0
-IsLineOut line status old new needed = MatchOption line (status ≡ 1) (λ characters. (status ≡ 0) × AreCharactersOut characters old new needed)

@@ -6,8 +6,8 @@ use Rattle.textarea_screen.specs.declared.screen.rect.Rect.{Rect}
 use Rattle.tui_textarea.specs.Drawing.{IsRendered, widget_of}
 use Rattle.tui_textarea.specs.Rendered.{IsDrawn}
 use Rattle.textarea_c.specs.declared.editor.Editor.{Editor}
-use Rattle.textarea_c.specs.declared.plain.area.Area.{Area}
-use Rattle.textarea_c.specs.Areas.{IsArea}
+use Rattle.textarea_c_data.specs.declared.area.Area.{Area}
+use Rattle.textarea_c_data.specs.Areas.{IsArea}
 
 -- with status 0 the text area is drawn into the rectangle that the area stands for; no other cell
 -- changes, and otherwise the text area stays

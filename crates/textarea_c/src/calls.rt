@@ -3,6 +3,20 @@
 //! Each returns `TA_EMPTY_HANDLE` if the handle is empty, and leaves its out-parameters unchanged if
 //! it doesn't return `TA_OK`; the handle `copy` of `ta_clone` is empty then.
 
+// Takes the editor behind the handle, makes a call on it, and puts it back.
+macro_rules! on {
+    ($handle:ident, $alloc:ident, $editor:ident => $call:expr) => {{
+        let Some(mut $editor) = $handle.take($alloc) else {
+            return textarea_c_data::status::EMPTY_HANDLE;
+        };
+        let status = $call;
+        $handle.put($editor);
+        status
+    }};
+}
+
+pub(crate) use on;
+
 pub mod appearance;
 pub mod edits;
 pub mod history;

@@ -2,15 +2,16 @@
 ghost use Rattle.std.specs.Prelude.{◌≡◌, ◌≢◌, IfSome, MatchOption, None, Some};
 ghost use Rattle.tui_textarea.specs.Drawing.{highlighted, unhighlighted, with_look_set};
 ghost use Rattle.textarea_c.specs.Calls.{Asks, Calls, ChangesBy, Reads, Sets, SetsBy};
-ghost use Rattle.textarea_c.specs.Inputs.{character_of};
-ghost use Rattle.textarea_c.specs.Modes.{render_mode_of};
-ghost use Rattle.textarea_c.specs.Styles.{style_of};
+ghost use Rattle.textarea_c_data.specs.Inputs.{character_of};
+ghost use Rattle.textarea_c_data.specs.Modes.{render_mode_of};
+ghost use Rattle.textarea_c_data.specs.Styles.{style_of};
 
+use crate::calls::on;
 use crate::handle::Handle;
-use crate::modes::{read_render_mode, render_mode_number};
-use crate::plain::style::Style;
-use crate::status::{FALSE, INVALID_ARGUMENT, OK, done, on};
 use std::alloc::Global;
+use textarea_c_data::modes::{read_render_mode, render_mode_number};
+use textarea_c_data::status::{FALSE, INVALID_ARGUMENT, OK, done};
+use textarea_c_data::style::Style;
 
 /// Shows the character with this number instead of each character of the text. The cursor's cell
 /// and `ta_cursor_at_position` still follow the columns of the text itself.

@@ -5,13 +5,14 @@ ghost use Rattle.textarea_document.specs.Edits.{has_symbols};
 ghost use Rattle.textarea_text.specs.Fragment.{fragment_symbols, pasted_symbols};
 ghost use Rattle.tui_textarea.specs.Edits.{char_inserted, inserts_tab, inserts_text, newline_inserted, str_inserted, tab_inserted};
 ghost use Rattle.textarea_c.specs.Calls.{Calls, Given, Inserts, TriesToInsert};
-ghost use Rattle.textarea_c.specs.Inputs.{character_of};
-ghost use Rattle.textarea_c.specs.Texts.{text_in};
+ghost use Rattle.textarea_c_data.specs.Inputs.{character_of};
+ghost use Rattle.textarea_c_data.specs.Texts.{text_in};
 
+use crate::calls::on;
 use crate::handle::Handle;
-use crate::slices::text_of;
-use crate::status::{INVALID_ARGUMENT, done, flag, on};
 use std::alloc::Global;
+use textarea_c_data::slices::text_of;
+use textarea_c_data::status::{INVALID_ARGUMENT, done, flag};
 
 /// Inserts the character with this number at the cursor, or at the end of the atomic range that
 /// strictly contains it, as typed; a line feed and a carriage return break the line.

@@ -5,10 +5,11 @@ ghost use Rattle.textarea_document.specs.Outcomes.{after_redo, run_ended, after_
 ghost use Rattle.tui_textarea.specs.State.{with_document};
 ghost use Rattle.textarea_c.specs.Calls.{Answers, Calls, Reads, Sets, Tries};
 
+use crate::calls::on;
 use crate::handle::Handle;
-use crate::status::{OK, flag, on, truth};
 use std::alloc::Global;
 use std::time::Duration;
+use textarea_c_data::status::{OK, flag, truth};
 
 /// Undoes the newest edit. The cursor is then after the restored text, or where the removed text
 /// began, and nothing is selected.

@@ -2,12 +2,13 @@
 ghost use Rattle.tui_textarea.specs.Input.{asked_by, asked_without_shortcuts};
 ghost use Rattle.textarea_c.specs.Acts.{ActsBy};
 ghost use Rattle.textarea_c.specs.Calls.{Calls};
-ghost use Rattle.textarea_c.specs.Inputs.{input_read};
+ghost use Rattle.textarea_c_data.specs.Inputs.{input_read};
 
+use crate::calls::on;
 use crate::handle::Handle;
-use crate::plain::input::Input;
-use crate::status::{INVALID_ARGUMENT, flag, on};
 use std::alloc::Global;
+use textarea_c_data::input::Input;
+use textarea_c_data::status::{INVALID_ARGUMENT, flag};
 
 /// Makes the call that the key table with shortcuts has for the input. With Shift, a move or scroll
 /// extends the selection, or begins one; without Shift it drops the selection. A move without a

@@ -3,18 +3,19 @@ ghost use Rattle.std.specs.Prelude.{◌≡◌, ◌≢◌, IfSome, MatchOption, S
 ghost use Rattle.tui_textarea.specs.LayoutCalls.{number_style, with_alignment, with_line_numbers, with_wrap_mode, without_line_numbers};
 ghost use Rattle.tui_textarea.specs.Measure.{IsMeasured};
 ghost use Rattle.textarea_c.specs.Calls.{Asks, Calls, Changes, ChangesBy, Copies, Reads};
-ghost use Rattle.textarea_c.specs.Measures.{measure_of};
-ghost use Rattle.textarea_c.specs.Modes.{wrap_mode_of};
-ghost use Rattle.textarea_c.specs.Numbers.{alignment_of};
-ghost use Rattle.textarea_c.specs.Styles.{style_of};
+ghost use Rattle.textarea_c_data.specs.Measures.{measure_of};
+ghost use Rattle.textarea_c_data.specs.Modes.{wrap_mode_of};
+ghost use Rattle.textarea_c_data.specs.Numbers.{alignment_of};
+ghost use Rattle.textarea_c_data.specs.Styles.{style_of};
 
+use crate::calls::on;
 use crate::handle::Handle;
-use crate::measure::Measure;
-use crate::modes::{read_wrap_mode, wrap_mode_number};
-use crate::plain::numbers::{alignment_number, read_alignment};
-use crate::plain::style::Style;
-use crate::status::{FALSE, INVALID_ARGUMENT, OK, OUT_OF_MEMORY, done, on};
 use std::alloc::Global;
+use textarea_c_data::measure::Measure;
+use textarea_c_data::modes::{read_wrap_mode, wrap_mode_number};
+use textarea_c_data::numbers::{alignment_number, read_alignment};
+use textarea_c_data::status::{FALSE, INVALID_ARGUMENT, OK, OUT_OF_MEMORY, done};
+use textarea_c_data::style::Style;
 
 /// Sets how lines are wrapped, to one of `TA_WRAP_..`. Before the first `ta_render` no line is
 /// wrapped.

@@ -3,13 +3,14 @@ ghost use Rattle.std.specs.Prelude.{◌≡◌, [], IfOk, MatchOption, None, Some
 ghost use Rattle.tui_textarea.specs.State.{new_state};
 ghost use Rattle.textarea_c.specs.Calls.{Calls};
 ghost use Rattle.textarea_c.specs.Fresh.{IsEditorOf, Loads, with_text};
-ghost use Rattle.textarea_c.specs.Texts.{text_in};
+ghost use Rattle.textarea_c_data.specs.Texts.{text_in};
 
+use crate::calls::on;
 use crate::editor::Editor;
 use crate::handle::Handle;
-use crate::slices::text_of;
-use crate::status::{INVALID_ARGUMENT, OK, OUT_OF_MEMORY, on};
 use std::alloc::{AllocError, Global};
+use textarea_c_data::slices::text_of;
+use textarea_c_data::status::{INVALID_ARGUMENT, OK, OUT_OF_MEMORY};
 use textarea_screen::screen::{Buffer, Rect};
 use tui_textarea::TextArea;
 

@@ -4,17 +4,19 @@ ghost use Rattle.std.specs.List.{concat};
 ghost use Rattle.textarea_text.specs.Fragment.{fragment_text};
 ghost use Rattle.textarea_text.specs.Text.{lines, lines_of};
 ghost use Rattle.textarea_c.specs.Calls.{Asks, Calls, ChangesIf, Copies, Reads};
-ghost use Rattle.textarea_c.specs.Copied.{ends_of, written};
-ghost use Rattle.textarea_c.specs.Lines.{AreCharactersOut, IsLineOut, texts_of, with_lines};
-ghost use Rattle.textarea_c.specs.Split.{lines_between};
-ghost use Rattle.textarea_c.specs.Texts.{some_of};
+ghost use Rattle.textarea_c_data.specs.Copied.{ends_of, written};
+ghost use Rattle.textarea_c_data.specs.Lines.{AreCharactersOut, IsLineOut, texts_of};
+ghost use Rattle.textarea_c.specs.Lines.{with_lines};
+ghost use Rattle.textarea_c_data.specs.Split.{lines_between};
+ghost use Rattle.textarea_c_data.specs.Texts.{some_of};
 
+use crate::calls::on;
 use crate::editor::Editor;
 use crate::handle::Handle;
-use crate::plain::lines::{copy_line, read_lines, write_lines};
-use crate::slices::copied_text;
-use crate::status::{INVALID_ARGUMENT, OK, OUT_OF_MEMORY, done, on, truth};
 use std::alloc::Global;
+use textarea_c_data::lines::{copy_line, read_lines, write_lines};
+use textarea_c_data::slices::copied_text;
+use textarea_c_data::status::{INVALID_ARGUMENT, OK, OUT_OF_MEMORY, done, truth};
 
 /// Replaces all lines, and moves the cursor to the position in them that is nearest to `row` and
 /// `column`. The lines follow one another in `text`; `ends` has the byte in `text` after each of

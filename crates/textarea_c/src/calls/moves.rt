@@ -4,13 +4,14 @@ ghost use Rattle.textarea_data.specs.declared.cursor.CursorMove.TheVariants as m
 ghost use Rattle.textarea_data.specs.declared.scroll.Scrolling.TheVariants as scrolling;
 ghost use Rattle.tui_textarea.specs.Moves.{IsMoved, IsScrolled, gone_to};
 ghost use Rattle.textarea_c.specs.Calls.{Calls, Goes, GoesBy, Reads, Sets};
-ghost use Rattle.textarea_c.specs.Numbers.{move_of, page_of};
+ghost use Rattle.textarea_c_data.specs.Numbers.{move_of, page_of};
 
+use crate::calls::on;
 use crate::editor::Editor;
 use crate::handle::Handle;
-use crate::plain::numbers::{read_move, read_page};
-use crate::status::{INVALID_ARGUMENT, OK, on};
 use std::alloc::Global;
+use textarea_c_data::numbers::{read_move, read_page};
+use textarea_c_data::status::{INVALID_ARGUMENT, OK};
 use textarea_data::cursor::CursorMove;
 use textarea_data::scroll::Scrolling;
 

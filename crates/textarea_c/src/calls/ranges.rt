@@ -4,18 +4,19 @@ ghost use Rattle.textarea_document.specs.Edits.{range_at_cursor};
 ghost use Rattle.textarea_ranges.specs.Lookup.{range_around};
 ghost use Rattle.tui_textarea.specs.Ranges.{cursor_normalized, atomic_range_removed, ranges_cleared};
 ghost use Rattle.textarea_c.specs.Calls.{Calls, Reads, Sets, SetsRanges, Tries, TriesBy};
-ghost use Rattle.textarea_c.specs.Copied.{written};
-ghost use Rattle.textarea_c.specs.Numbers.{bias_of, direction_of};
-ghost use Rattle.textarea_c.specs.Ranges.{IsRangeOut, plain_range, plain_rejected, range_of};
+ghost use Rattle.textarea_c_data.specs.Copied.{written};
+ghost use Rattle.textarea_c_data.specs.Numbers.{bias_of, direction_of};
+ghost use Rattle.textarea_c_data.specs.Ranges.{IsRangeOut, plain_range, plain_rejected, range_of};
 
+use crate::calls::on;
 use crate::editor::Editor;
 use crate::handle::Handle;
-use crate::plain::numbers::{read_bias, read_direction};
-use crate::plain::range::{
+use std::alloc::Global;
+use textarea_c_data::numbers::{read_bias, read_direction};
+use textarea_c_data::range::{
     Range, Rejected, read_ranges, write_range, write_ranges, write_rejected,
 };
-use crate::status::{INVALID_ARGUMENT, OK, OUT_OF_MEMORY, RANGES_REJECTED, on, truth};
-use std::alloc::Global;
+use textarea_c_data::status::{INVALID_ARGUMENT, OK, OUT_OF_MEMORY, RANGES_REJECTED, truth};
 use textarea_data::range::{AtomicDeleteDirection, AtomicRangeError, RejectedAtomicRange};
 
 /// Replaces the atomic ranges; they are sorted by row and start. Each has at least one character,

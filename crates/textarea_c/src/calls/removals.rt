@@ -3,10 +3,11 @@ ghost use Rattle.textarea_document.specs.Edits.{has_symbols};
 ghost use Rattle.tui_textarea.specs.Removals.{break_before_removed, has_ahead, has_before, has_after, has_break_before, has_line_before, has_line_after, has_word_before, has_word_after, line_end_removed, line_head_removed, removes_or, symbol_before_removed, symbol_after_removed, symbols_ahead_removed, text_cleared, unselected_or, word_before_removed, word_after_removed};
 ghost use Rattle.textarea_c.specs.Calls.{Calls, Tries};
 
+use crate::calls::on;
 use crate::editor::Editor;
 use crate::handle::Handle;
-use crate::status::{flag, on};
 use std::alloc::Global;
+use textarea_c_data::status::flag;
 
 /// Removes the atomic range that ends at the cursor or strictly contains it, or else the
 /// character before the cursor, or at column 0 the line break.

@@ -2,15 +2,16 @@
 ghost use Rattle.std.specs.Prelude.{◌≡◌, ◌≢◌, IfSome, MatchOption, is_some, length, string_bytes};
 ghost use Rattle.tui_textarea.specs.Search.{next_match, previous_match, after_search};
 ghost use Rattle.textarea_c.specs.Calls.{Asks, Calls, Given, Patterns, Reads, Searches};
-ghost use Rattle.textarea_c.specs.Copied.{written};
+ghost use Rattle.textarea_c_data.specs.Copied.{written};
 ghost use Rattle.textarea_c.specs.Rejections.{IsRejection};
-ghost use Rattle.textarea_c.specs.Texts.{text_in};
+ghost use Rattle.textarea_c_data.specs.Texts.{text_in};
 
+use crate::calls::on;
 use crate::editor::Editor;
 use crate::handle::Handle;
-use crate::slices::{copied, text_of};
-use crate::status::{FALSE, INVALID_ARGUMENT, OK, OUT_OF_MEMORY, PATTERN_REJECTED, flag, on};
 use std::alloc::Global;
+use textarea_c_data::slices::{copied, text_of};
+use textarea_c_data::status::{FALSE, INVALID_ARGUMENT, OK, OUT_OF_MEMORY, PATTERN_REJECTED, flag};
 use textarea_search::error::SearchError;
 
 /// Sets the search pattern, in the syntax of the Rust crate `regex`; an empty one removes the

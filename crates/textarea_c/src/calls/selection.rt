@@ -5,13 +5,14 @@ ghost use Rattle.textarea_document.specs.Selection.{is_selected, selection};
 ghost use Rattle.textarea_text.specs.Fragment.{fragment_symbols, fragment_text};
 ghost use Rattle.tui_textarea.specs.Selection.{all_selected, selection_cancelled, selection_copied, selection_cut, selection_started};
 ghost use Rattle.textarea_c.specs.Calls.{Answers, Asks, Calls, Changes, ChangesBy, Copies, Sets, Tries};
-ghost use Rattle.textarea_c.specs.Lines.{AreCharactersOut};
-ghost use Rattle.textarea_c.specs.Texts.{text_in};
+ghost use Rattle.textarea_c_data.specs.Lines.{AreCharactersOut};
+ghost use Rattle.textarea_c_data.specs.Texts.{text_in};
 
+use crate::calls::on;
 use crate::handle::Handle;
-use crate::slices::{copied_text, text_of};
-use crate::status::{FALSE, INVALID_ARGUMENT, OK, OUT_OF_MEMORY, done, flag, on, truth};
 use std::alloc::Global;
+use textarea_c_data::slices::{copied_text, text_of};
+use textarea_c_data::status::{FALSE, INVALID_ARGUMENT, OK, OUT_OF_MEMORY, done, flag, truth};
 
 /// Begins an empty selection at the cursor.
 ///

@@ -2,12 +2,13 @@
 ghost use Rattle.std.specs.Prelude.{◌≡◌, ◌≢◌, IfSome, length};
 ghost use Rattle.tui_textarea.specs.LayoutCalls.{indent_of, tab_length, with_tab_length};
 ghost use Rattle.textarea_c.specs.Calls.{Answers, Calls, Changes, Reads, Sets};
-ghost use Rattle.textarea_c.specs.Copied.{written};
+ghost use Rattle.textarea_c_data.specs.Copied.{written};
 
+use crate::calls::on;
 use crate::handle::Handle;
-use crate::slices::copied;
-use crate::status::{OK, done, on, truth};
 use std::alloc::Global;
+use textarea_c_data::slices::copied;
+use textarea_c_data::status::{OK, done, truth};
 
 /// Sets the distance of tab stops, in columns; at 0 a tab inserts nothing.
 ///

@@ -2,12 +2,13 @@
 ghost use Rattle.std.specs.Prelude.{◌≡◌, ◌≢◌, IfSome, Some};
 ghost use Rattle.tui_textarea.specs.Drawing.{with_look_set};
 ghost use Rattle.textarea_c.specs.Calls.{Calls, Reads, SetsBy};
-ghost use Rattle.textarea_c.specs.Styles.{style_of};
+ghost use Rattle.textarea_c_data.specs.Styles.{style_of};
 
+use crate::calls::on;
 use crate::handle::Handle;
-use crate::plain::style::Style;
-use crate::status::{INVALID_ARGUMENT, OK, on};
 use std::alloc::Global;
+use textarea_c_data::status::{INVALID_ARGUMENT, OK};
+use textarea_c_data::style::Style;
 
 /// Sets the style of each cell of the inner area, under all others; a placeholder has its own.
 ///

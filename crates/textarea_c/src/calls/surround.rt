@@ -6,20 +6,21 @@ ghost use Rattle.textarea_view.specs.SurroundState.{first_bytes, style_with_line
 ghost use Rattle.textarea_view.specs.Outcomes.{with_max_rows, with_min_rows, with_placeholder_style, with_placeholder_text};
 ghost use Rattle.tui_textarea.specs.Measure.{with_surround};
 ghost use Rattle.textarea_c.specs.Calls.{Asks, Calls, ChangesBy, ChangesIf, Reads, Sets, SetsBy, with_block, with_placeholder};
-ghost use Rattle.textarea_c.specs.Copied.{written};
-ghost use Rattle.textarea_c.specs.Spans.{AreSpansOut, block_read, plain_block, plain_line, spans_of, text_read, title_spans};
-ghost use Rattle.textarea_c.specs.Styles.{style_of};
-ghost use Rattle.textarea_c.specs.Texts.{text_in};
+ghost use Rattle.textarea_c_data.specs.Copied.{written};
+ghost use Rattle.textarea_c_data.specs.Spans.{AreSpansOut, block_read, plain_block, plain_line, spans_of, text_read, title_spans};
+ghost use Rattle.textarea_c_data.specs.Styles.{style_of};
+ghost use Rattle.textarea_c_data.specs.Texts.{text_in};
 
+use crate::calls::on;
 use crate::editor::Editor;
 use crate::handle::Handle;
-use crate::plain::read_styled::{read_block, read_text};
-use crate::plain::spans::{Block, Line, Span};
-use crate::plain::style::Style;
-use crate::plain::write_styled::{block_of, write_lines, write_title};
-use crate::slices::{copied, text_of};
-use crate::status::{FALSE, INVALID_ARGUMENT, OK, OUT_OF_MEMORY, done, on};
 use std::alloc::Global;
+use textarea_c_data::read_styled::{read_block, read_text};
+use textarea_c_data::slices::{copied, text_of};
+use textarea_c_data::spans::{Block, Line, Span};
+use textarea_c_data::status::{FALSE, INVALID_ARGUMENT, OK, OUT_OF_MEMORY, done};
+use textarea_c_data::style::Style;
+use textarea_c_data::write_styled::{block_of, write_lines, write_title};
 use textarea_screen::screen;
 
 /// Draws this block around the text, and replaces the old one. The texts of its title's spans

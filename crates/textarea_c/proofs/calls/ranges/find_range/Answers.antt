@@ -2,7 +2,7 @@ use Rattle.std.proofs.Common.{◌≡◌, ℕ, Option, MatchOption, refl, subst}
 use Rattle.textarea_data.specs.declared.range.AtomicDeleteDirection.{AtomicDeleteDirection}
 use Rattle.textarea_data.specs.declared.range.AtomicRange.{AtomicRange}
 use Rattle.textarea_document.specs.Edits.{range_at_cursor}
-use Rattle.textarea_c.specs.Ranges.{IsRangeOut}
+use Rattle.textarea_c_data.specs.Ranges.{IsRangeOut}
 use Rattle.textarea_c.proofs.calls.ranges.find_range.Goals as goal
 
 pub returns-in-Some-clause-range : goal.returns-in-Some-clause-range

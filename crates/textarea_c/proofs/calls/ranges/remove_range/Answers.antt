@@ -2,7 +2,7 @@ use Rattle.std.proofs.Common.{Option, subst}
 use Rattle.textarea_data.specs.declared.range.AtomicRange.{AtomicRange}
 use Rattle.textarea_document.specs.Edits.{range_at_cursor}
 use Rattle.tui_textarea.specs.Ranges.{atomic_range_removed}
-use Rattle.textarea_c.specs.Ranges.{IsRangeOut}
+use Rattle.textarea_c_data.specs.Ranges.{IsRangeOut}
 use Rattle.textarea_c.proofs.Tried.{range_left, range_removed}
 use Rattle.textarea_c.proofs.calls.ranges.remove_range.Goals as goal
 

@@ -1,7 +1,7 @@
 use Rattle.std.proofs.Common.{◌≡◌, MatchOption}
 use Rattle.textarea_document.specs.Edits.{range_at_cursor}
-use Rattle.textarea_c.specs.Numbers.{direction_of}
-use Rattle.textarea_c.specs.Ranges.{IsRangeOut}
+use Rattle.textarea_c_data.specs.Numbers.{direction_of}
+use Rattle.textarea_c_data.specs.Ranges.{IsRangeOut}
 use Rattle.textarea_c.proofs.Tried.{seen_in}
 use Rattle.textarea_c.proofs.calls.ranges.ta_atomic_range_at_cursor.Goals as goal
 

@@ -2,8 +2,8 @@ use Rattle.std.proofs.Common.{◌≡◌, ◌≢◌, MatchOption, is_some}
 use Rattle.textarea_document.specs.Edits.{range_at_cursor}
 use Rattle.tui_textarea.specs.Ranges.{atomic_range_removed}
 use Rattle.textarea_c.specs.Calls.{TriesBy}
-use Rattle.textarea_c.specs.Numbers.{direction_of}
-use Rattle.textarea_c.specs.Ranges.{IsRangeOut}
+use Rattle.textarea_c_data.specs.Numbers.{direction_of}
+use Rattle.textarea_c_data.specs.Ranges.{IsRangeOut}
 use Rattle.textarea_c.proofs.Tried.{lifted, seen_in}
 use Rattle.textarea_c.proofs.calls.ranges.ta_delete_atomic_range_at_cursor.Goals as goal
 

@@ -1,0 +1,29 @@
+-- The inputs that C passes.
+use Rattle.std.specs.Prelude.{ℕ, ◌==◌, nat_lt, if◌then◌else◌, List, [], ◌∷◌, Option, Some, None, option_map}
+use lib.Utf8.{scalar}
+use Rattle.textarea_data.specs.declared.input.Key.{Key}
+use Rattle.textarea_data.specs.declared.input.Key.TheVariants as key
+use Rattle.textarea_data.specs.declared.input.Input.{Input}
+use Rattle.textarea_c_data.specs.declared.input.Input.{Input as PlainInput}
+use Rattle.textarea_c_data.specs.Tables.{value_of_number}
+
+-- the keys that take no argument
+abbrev pub plain_keys : List (ℕ × Key)
+plain_keys =
+    (0, key.Null) ∷ (3, key.Backspace) ∷ (4, key.Enter) ∷ (5, key.Left) ∷ (6, key.Right) ∷ (7, key.Up) ∷ (8, key.Down) ∷ (9, key.Tab) ∷ (10, key.Delete)
+    ∷ (11, key.Home) ∷ (12, key.End) ∷ (13, key.PageUp) ∷ (14, key.PageDown) ∷ (15, key.Esc) ∷ (16, key.Copy) ∷ (17, key.Cut) ∷ (18, key.Paste)
+    ∷ (19, key.MouseScrollDown) ∷ (20, key.MouseScrollUp) ∷ []
+
+-- the character of a number, unless it is a surrogate or too large
+abbrev pub character_of : ℕ → Option ℕ
+character_of number = if scalar number then Some number else None
+
+-- the key of a number; 1 is that of a character, and 2 that of a function key
+abbrev pub key_read : ℕ → ℕ → Option Key
+key_read number argument =
+    if number == 1 then option_map key.Char (character_of argument)
+    else if number == 2 then (if nat_lt argument 256 then Some (key.F argument) else None)
+    else value_of_number plain_keys number
+
+abbrev pub input_read : PlainInput → Option Input
+input_read i = option_map (λ k. record { key = k; ctrl = i.ctrl; alt = i.alt; shift = i.shift }) (key_read i.key i.argument)

@@ -1,0 +1,14 @@
+pub mod Areas
+pub mod Cells
+pub mod Copied
+pub mod Inputs
+pub mod Lines
+pub mod Measures
+pub mod Modes
+pub mod Numbers
+pub mod Ranges
+pub mod Spans
+pub mod Split
+pub mod Styles
+pub mod Tables
+pub mod Texts

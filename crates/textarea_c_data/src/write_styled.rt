@@ -1,0 +1,106 @@
+//! Styled texts and blocks that C gets.
+ghost use Rattle.std.specs.Prelude.{◌≡◌, ℕ, ◌+◌, length, map, option_map};
+ghost use Rattle.textarea_screen.specs.Block.{block_view};
+ghost use Rattle.textarea_screen.specs.Text.{line_view, span_view};
+ghost use Rattle.textarea_c_data.specs.Copied.{saturated, written, written_at};
+ghost use Rattle.textarea_c_data.specs.Spans.{AreSpansOut, bytes_of, plain_block, plain_line, plain_span, spans_of, title_spans};
+
+use crate::area::Padding;
+use crate::slices::{copy_at, put};
+use crate::spans::{Block, Line, Span};
+use crate::style::Style;
+use textarea_screen::screen;
+
+/// Returns the block without its title's spans.
+pub fn block_of(block: &screen::Block<'static>) -> Block
+    ensures { result ≡ plain_block (block_view block.now) }
+{
+    let title_style = match &block.title {
+        Some(title) => title.style,
+        None => screen::Style::new(),
+    };
+    Block {
+        borders: block.borders.0,
+        has_title: block.title.is_some(),
+        padding: Padding::of(block.padding),
+        style: Style::of(block.style),
+        border_style: Style::of(block.border_style),
+        title_style: Style::of(title_style),
+    }
+}
+
+/// Writes the spans of the title and their texts, as many as there is room for. Returns the numbers
+/// of bytes and spans, 0 without a title.
+pub fn write_title(
+    title: &Option<screen::Line<'static>>,
+    text: &mut [u8],
+    spans: &mut [Span],
+) -> (usize, usize)
+    ensures { AreSpansOut (title_spans (option_map line_view title.now)) text.old text.new result.0
+        spans.old spans.new result.1 }
+{
+    match title {
+        Some(line) => write_spans(line.spans.as_slice(), 0, 0, text, spans),
+        None => (0, 0),
+    }
+}
+
+/// Writes the lines, their spans and the texts of these, as many as there is room for. Returns the
+/// numbers of bytes and spans.
+pub fn write_lines(
+    content: &[screen::Line<'static>],
+    text: &mut [u8],
+    spans: &mut [Span],
+    lines: &mut [Line],
+) -> (usize, usize)
+    ensures spans { AreSpansOut (spans_of (map line_view content.now)) text.old text.new result.0
+        spans.old spans.new result.1 }
+    ensures lines { lines.new ≡ written lines.old (map plain_line (map line_view content.now)) }
+{
+    let mut used = (0, 0);
+    for (row, line) in content.iter().enumerate() {
+        let own = line.spans.as_slice();
+        used = write_spans(own, used.0, used.1, text, spans);
+        let plain = Line {
+            spans: own.len(),
+            style: Style::of(line.style),
+        };
+        put(plain, row, lines);
+    }
+    used
+}
+
+// Writes the texts of the spans to the byte `start` and those after it, and the spans to the index
+// `first` and those after it, as many as there is room for. Returns the byte and the index after
+// them, or the greatest number.
+fn write_spans(
+    spans: &[screen::Span<'static>],
+    start: usize,
+    first: usize,
+    text: &mut [u8],
+    out: &mut [Span],
+) -> (usize, usize)
+    ensures text { (at : ℕ) → start ≡ saturated at
+        → text.new ≡ written_at at text.old (bytes_of (map span_view spans.now)) }
+    ensures bytes { (at : ℕ) → start ≡ saturated at
+        → result.0 ≡ saturated (at + length (bytes_of (map span_view spans.now))) }
+    ensures spans { (at : ℕ) → first ≡ saturated at
+        → out.new ≡ written_at at out.old (map plain_span (map span_view spans.now)) }
+    ensures count { (at : ℕ) → first ≡ saturated at
+        → result.1 ≡ saturated (at + length spans.now) }
+{
+    let mut bytes = start;
+    let mut count = first;
+    for span in spans {
+        let content = span.content.as_str().as_bytes();
+        let plain = Span {
+            bytes: content.len(),
+            style: Style::of(span.style),
+        };
+        copy_at(content, bytes, text);
+        put(plain, count, out);
+        bytes = bytes.saturating_add(plain.bytes);
+        count = count.saturating_add(1);
+    }
+    (bytes, count)
+}
