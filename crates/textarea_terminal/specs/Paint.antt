@@ -4,7 +4,7 @@ use Rattle.std.specs.List.{filter, filter_map}
 use Rattle.std.specs.Option.{option_or}
 use Rattle.textarea_screen.specs.Cell.{CellView, fresh_cell}
 use Rattle.textarea_terminal.specs.Control.{Control, bytes_of}
-use Rattle.textarea_terminal.specs.Control.Control.{Print, MoveTo, SetPen, EraseAll, ShowCursor, HideCursor, BeginUpdate, EndUpdate}
+use Rattle.textarea_terminal.specs.Control.Control.{Print, MoveTo, SetPen}
 use Rattle.textarea_terminal.specs.PaintCells.{cluster_columns, is_half}
 use Rattle.textarea_terminal.specs.Pen.{look_of, plain_look}
 use Rattle.textarea_terminal.specs.Screen.{Terminal, run, printed, rest_of, cursor_after}

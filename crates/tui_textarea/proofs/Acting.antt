@@ -1,5 +1,5 @@
 -- Inputs, by any fact of splices that steps have.
-use Rattle.std.proofs.Common.{◌≡◌, ℕ, List, [], Option, None, Some, ap, is_some, refl, subst, sym, ◌∙◌, inl, inr, ⊎_elim}
+use Rattle.std.proofs.Common.{◌≡◌, ℕ, List, Option, None, Some, ap, is_some, refl, subst, sym, ◌∙◌, inl, inr, ⊎_elim}
 use Rattle.std.specs.Str.{chars}
 use Rattle.textarea_calls.specs.declared.call.Call.{Call}
 use Rattle.textarea_calls.specs.declared.call.Call.TheVariants as call

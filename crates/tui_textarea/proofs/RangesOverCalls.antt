@@ -1,10 +1,9 @@
 -- How the atomic ranges move over each call, by the laws of the text area, and over a run.
-use Rattle.std.proofs.Common.{◌≡◌, ◌⊎◌, ℕ, ◌<◌, Bor, List, [], ◌∷◌, ◌++◌, ◌+◌, length, get_or, map, take, ap, refl, subst, sym, ◌∙◌, inl, inr, ⊎_elim}
+use Rattle.std.proofs.Common.{◌≡◌, ◌⊎◌, ℕ, ◌<◌, Bor, List, [], ◌∷◌, ◌++◌, ◌+◌, length, get_or, map, take, ap, refl, subst, sym, ◌∙◌, inl, inr}
 use Rattle.std.proofs.lemmas.List.{append-nil, append_assoc, map-append}
 use Rattle.textarea_calls.specs.declared.action.Action.{Action}
 use Rattle.textarea_calls.specs.declared.action.Action.TheVariants as action
 use Rattle.textarea_calls.specs.declared.kind.Edit.TheVariants as edit
-use Rattle.textarea_text.specs.Fragment.{fragment_symbols}
 use Rattle.textarea_data.specs.declared.range.AtomicRange.{AtomicRange}
 use Rattle.textarea_data.specs.declared.range.RejectedAtomicRange.{RejectedAtomicRange}
 use Rattle.textarea_screen.specs.declared.screen.buffer.Buffer.{Buffer}
