@@ -16,15 +16,19 @@ pub struct Prompt {
     area: TextArea<'static>,
 }
 
+fn set_up(area: &mut TextArea<'_>) -> Result<(), AllocError> {
+    area.set_block(Block::bordered().border_style(Style::new().cyan()));
+    area.set_max_rows(MOST_ROWS + 2);
+    area.set_cursor_line_style(Style::new());
+    area.set_placeholder_style(Style::new().dark_gray());
+    area.set_placeholder_text("Ask anything")?;
+    area.set_wrap_mode(WrapMode::Word)
+}
+
 impl Prompt {
     pub fn new(alloc: Global) -> Result<Prompt, AllocError> {
         let mut area = TextArea::try_default(alloc)?;
-        area.set_block(Block::bordered().border_style(Style::new().cyan()));
-        area.set_max_rows(MOST_ROWS + 2);
-        area.set_wrap_mode(WrapMode::Word)?;
-        area.set_cursor_line_style(Style::new());
-        area.set_placeholder_text("Ask anything")?;
-        area.set_placeholder_style(Style::new().dark_gray());
+        set_up(&mut area)?;
         Ok(Prompt { area })
     }
 

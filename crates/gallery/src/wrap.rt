@@ -53,8 +53,12 @@ fn area_with(
     mode: WrapMode,
 ) -> Result<TextArea<'static>, AllocError> {
     let mut area = field(alloc, name)?;
+    fill(&mut area, mode)?;
+    Ok(area)
+}
+
+fn fill(area: &mut TextArea<'_>, mode: WrapMode) -> Result<(), AllocError> {
     area.insert_str(TEXT)?;
     area.move_cursor(CursorMove::Head);
-    area.set_wrap_mode(mode)?;
-    Ok(area)
+    area.set_wrap_mode(mode)
 }

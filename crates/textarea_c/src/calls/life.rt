@@ -1,5 +1,6 @@
 //! Making, copying and freeing text areas.
 ghost use Rattle.std.specs.Prelude.{◌≡◌, [], IfOk, MatchOption, None, Some};
+ghost use Rattle.textarea_screen.specs.Buffer.{area_of};
 ghost use Rattle.tui_textarea.specs.State.{new_state};
 ghost use Rattle.textarea_c.specs.Calls.{Calls};
 ghost use Rattle.textarea_c.specs.Fresh.{IsEditorOf, Loads, with_text};
@@ -15,39 +16,44 @@ use textarea_screen::screen::{Buffer, Rect};
 use tui_textarea::TextArea;
 
 // Returns an editor of this text area, with an empty screen and nothing rejected.
-fn editor_of(alloc: Global, area: TextArea<'static>) -> Result<Editor, AllocError>
-    ensures { IfOk result (λ editor. IsEditorOf area.entry editor) }
+fn editor_of(alloc: Global, area: TextArea<'static>, screen: Buffer) -> Editor
+    requires width { (area_of screen).width ≡ 0 }
+    requires height { (area_of screen).height ≡ 0 }
+    ensures { IsEditorOf area.entry result }
 {
-    Ok(Editor {
+    Editor {
         area,
-        screen: Buffer::empty(alloc, Rect::new(0, 0, 0, 0))?,
+        screen,
         rejected: Vec::new(alloc),
         pattern_error: String::new(alloc),
-    })
+    }
 }
 
 // Returns an editor of an empty text area, on the heap.
 fn fresh_editor(alloc: Global) -> Result<Box<Editor>, AllocError>
     ensures { IfOk result (λ editor. IsEditorOf (new_state []) editor.value) }
 {
+    let screen = Buffer::empty(alloc, Rect::new(0, 0, 0, 0))?;
     let area = TextArea::try_default(alloc)?;
-    Ok(Box::new(alloc, editor_of(alloc, area)?)?)
+    Ok(Box::new(alloc, editor_of(alloc, area, screen))?)
 }
 
 // Returns an editor with this text, on the heap.
 fn editor_with(alloc: Global, text: &str) -> Result<Box<Editor>, AllocError>
     ensures { IfOk result (λ editor. IsEditorOf (with_text text.now) editor.value) }
 {
+    let screen = Buffer::empty(alloc, Rect::new(0, 0, 0, 0))?;
     let area = TextArea::from_text(alloc, text)?;
-    Ok(Box::new(alloc, editor_of(alloc, area)?)?)
+    Ok(Box::new(alloc, editor_of(alloc, area, screen))?)
 }
 
 // Returns an editor of a copy of the text area, on the heap.
 fn copied_editor(alloc: Global, area: &TextArea<'static>) -> Result<Box<Editor>, AllocError>
     ensures { IfOk result (λ editor. IsEditorOf area.now editor.value) }
 {
+    let screen = Buffer::empty(alloc, Rect::new(0, 0, 0, 0))?;
     let area = area.clone()?;
-    Ok(Box::new(alloc, editor_of(alloc, area)?)?)
+    Ok(Box::new(alloc, editor_of(alloc, area, screen))?)
 }
 
 /// Makes an empty text area, with one empty line, behind the handle. A text area that was behind it

@@ -8,7 +8,6 @@ use crate::draft::Draft;
 use crate::file_text::{LineEnd, line_end_of, lines_of};
 use crate::help::help_lines;
 use std::alloc::{AllocError, Global};
-use textarea_calls::Call;
 use textarea_data::cursor::CursorRenderMode;
 use textarea_screen::screen::{Color, Modifier, Style};
 use textarea_wrap::wrap::WrapMode;
@@ -33,30 +32,22 @@ pub fn opened(alloc: Global, lines: Vec<String>, wraps: bool) -> Result<Draft, A
     ensures text { IfOk result (λ draft. draft.area.document.text ≡ text_of lines.items) }
     ensures unchanged { IfOk result (λ draft. draft.is_changed ≡ false) }
 {
-    let mut draft = Draft::new(alloc, TextArea::new(lines)?)?;
-    set_up(&mut draft, wraps)?;
-    Ok(draft)
+    let mut area = TextArea::new(lines)?;
+    set_up(&mut area, wraps)?;
+    Draft::new(alloc, area)
 }
 
-// Sets up the draft of a new text area.
-fn set_up(draft: &mut Draft, wraps: bool) -> Result<(), AllocError>
-    ensures text { OnOk result (draft.old.is_changed ≡ false →
-        draft.new.area.document.text ≡ draft.old.area.document.text) }
-    ensures unchanged { OnOk result (draft.new.is_changed ≡ draft.old.is_changed) }
+// Sets up a new text area.
+fn set_up(area: &mut TextArea<'_>, wraps: bool) -> Result<(), AllocError>
+    ensures { OnOk result (area.new.document.text ≡ area.old.document.text) }
 {
-    let lit = Style::default().fg(Color::Black).bg(Color::Yellow);
-    let selected = Style::default().add_modifier(Modifier::REVERSED);
-    draft.set(&[
-        Call::SetUndoCoalescing(true),
-        Call::SetMaxHistories(UNDOS),
-        Call::SetHardTabIndent(true),
-        Call::SetCursorRenderMode(CursorRenderMode::Hidden),
-        Call::SetCursorLineStyle(Style::default()),
-        Call::SetSearchStyle(lit),
-        Call::SetSelectionStyle(selected),
-        Call::SetWrapMode(wrap_mode(wraps)),
-    ])?;
-    Ok(())
+    area.set_undo_coalescing(true);
+    area.set_max_histories(UNDOS);
+    area.set_hard_tab_indent(true);
+    area.set_search_style(Style::default().fg(Color::Black).bg(Color::Yellow));
+    area.set_selection_style(Style::default().add_modifier(Modifier::REVERSED));
+    hide_cursor(area);
+    area.set_wrap_mode(wrap_mode(wraps))
 }
 
 /// Returns the draft of a file's text, and its line end.
@@ -91,7 +82,9 @@ pub fn help_area(alloc: Global, is_modal: bool) -> Result<TextArea<'static>, All
     Ok(help)
 }
 
-fn hide_cursor(area: &mut TextArea<'_>) {
+fn hide_cursor(area: &mut TextArea<'_>)
+    ensures { area.new.document ≡ area.old.document }
+{
     area.set_cursor_render_mode(CursorRenderMode::Hidden);
     area.set_cursor_line_style(Style::default());
 }
