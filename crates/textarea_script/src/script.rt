@@ -117,8 +117,10 @@ fn run_calls(
 
 // The area of the last call that draws, if there is one.
 fn last_drawn(calls: &[Call<'_>]) -> Option<Rect> {
-    calls.iter().rev().find_map(|call| match call {
-        Call::Render(area) => Some(*area),
-        _ => None,
-    })
+    for call in calls.iter().rev() {
+        if let Call::Render(area) = call {
+            return Some(*area);
+        }
+    }
+    None
 }
