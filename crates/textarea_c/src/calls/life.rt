@@ -1,6 +1,5 @@
 //! Making, copying and freeing text areas.
 ghost use Rattle.std.specs.Prelude.{◌≡◌, [], IfOk, MatchOption, None, Some};
-ghost use Rattle.textarea_screen.specs.Buffer.{area_of};
 ghost use Rattle.tui_textarea.specs.State.{new_state};
 ghost use Rattle.textarea_c.specs.Calls.{Calls};
 ghost use Rattle.textarea_c.specs.Fresh.{IsEditorOf, Loads, with_text};
@@ -15,45 +14,45 @@ use textarea_c_data::status::{INVALID_ARGUMENT, OK, OUT_OF_MEMORY};
 use textarea_screen::screen::{Buffer, Rect};
 use tui_textarea::TextArea;
 
-// Returns an editor of this text area, with an empty screen and nothing rejected.
-fn editor_of(alloc: Global, area: TextArea<'static>, screen: Buffer) -> Editor
-    requires width { (area_of screen).width ≡ 0 }
-    requires height { (area_of screen).height ≡ 0 }
-    ensures { IsEditorOf area.entry result }
+// Returns an editor of this text area, on the heap, with an empty screen and nothing rejected.
+fn editor_of(alloc: Global, area: TextArea<'static>) -> Result<Box<Editor>, AllocError>
+    ensures { IfOk result (λ editor. IsEditorOf area.entry editor.value) }
 {
-    Editor {
+    let screen = match Buffer::empty(alloc, Rect::new(0, 0, 0, 0)) {
+        Ok(screen) => screen,
+        Err(error) => {
+            drop(area);
+            return Err(error);
+        }
+    };
+    let editor = Editor {
         area,
         screen,
         rejected: Vec::new(alloc),
         pattern_error: String::new(alloc),
-    }
+    };
+    Ok(Box::new(alloc, editor)?)
 }
 
-// Returns an editor of an empty text area, on the heap.
+// Returns an editor of an empty text area.
 fn fresh_editor(alloc: Global) -> Result<Box<Editor>, AllocError>
     ensures { IfOk result (λ editor. IsEditorOf (new_state []) editor.value) }
 {
-    let screen = Buffer::empty(alloc, Rect::new(0, 0, 0, 0))?;
-    let area = TextArea::try_default(alloc)?;
-    Ok(Box::new(alloc, editor_of(alloc, area, screen))?)
+    editor_of(alloc, TextArea::try_default(alloc)?)
 }
 
-// Returns an editor with this text, on the heap.
+// Returns an editor with this text.
 fn editor_with(alloc: Global, text: &str) -> Result<Box<Editor>, AllocError>
     ensures { IfOk result (λ editor. IsEditorOf (with_text text.now) editor.value) }
 {
-    let screen = Buffer::empty(alloc, Rect::new(0, 0, 0, 0))?;
-    let area = TextArea::from_text(alloc, text)?;
-    Ok(Box::new(alloc, editor_of(alloc, area, screen))?)
+    editor_of(alloc, TextArea::from_text(alloc, text)?)
 }
 
-// Returns an editor of a copy of the text area, on the heap.
+// Returns an editor of a copy of the text area.
 fn copied_editor(alloc: Global, area: &TextArea<'static>) -> Result<Box<Editor>, AllocError>
     ensures { IfOk result (λ editor. IsEditorOf area.now editor.value) }
 {
-    let screen = Buffer::empty(alloc, Rect::new(0, 0, 0, 0))?;
-    let area = area.clone()?;
-    Ok(Box::new(alloc, editor_of(alloc, area, screen))?)
+    editor_of(alloc, area.clone()?)
 }
 
 /// Makes an empty text area, with one empty line, behind the handle. A text area that was behind it

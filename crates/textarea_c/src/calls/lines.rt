@@ -4,9 +4,9 @@ ghost use Rattle.std.specs.List.{concat};
 ghost use Rattle.textarea_text.specs.Fragment.{fragment_text};
 ghost use Rattle.textarea_text.specs.Text.{lines, lines_of};
 ghost use Rattle.textarea_c.specs.Calls.{Asks, Calls, ChangesIf, Copies, Reads};
+ghost use Rattle.textarea_c.specs.Lines.{with_lines};
 ghost use Rattle.textarea_c_data.specs.Copied.{ends_of, written};
 ghost use Rattle.textarea_c_data.specs.Lines.{AreCharactersOut, IsLineOut, texts_of};
-ghost use Rattle.textarea_c.specs.Lines.{with_lines};
 ghost use Rattle.textarea_c_data.specs.Split.{lines_between};
 ghost use Rattle.textarea_c_data.specs.Texts.{some_of};
 

@@ -2,8 +2,8 @@
 ghost use Rattle.std.specs.Prelude.{◌≡◌, ◌≢◌, IfSome, MatchOption, is_some, length, string_bytes};
 ghost use Rattle.tui_textarea.specs.Search.{next_match, previous_match, after_search};
 ghost use Rattle.textarea_c.specs.Calls.{Asks, Calls, Given, Patterns, Reads, Searches};
-ghost use Rattle.textarea_c_data.specs.Copied.{written};
 ghost use Rattle.textarea_c.specs.Rejections.{IsRejection};
+ghost use Rattle.textarea_c_data.specs.Copied.{written};
 ghost use Rattle.textarea_c_data.specs.Texts.{text_in};
 
 use crate::calls::on;
