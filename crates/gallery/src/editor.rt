@@ -2,7 +2,7 @@
 ghost use Rattle.gallery.specs.Ends.{EndsByEsc};
 
 use anyhow::Result;
-use std::alloc::Global;
+use std::alloc::{AllocError, Global};
 use tui_textarea::{Block, Buffer, Input, Key, Line, Rect, Style, TextArea, WrapMode};
 
 const TEXT: &str = "# Notes\n\nA line that is longer than the screen goes on in the next row, \
@@ -15,13 +15,17 @@ pub struct Editor {
     is_changed: bool,
 }
 
+fn set_up(area: &mut TextArea<'_>) -> Result<(), AllocError> {
+    area.set_cursor_line_style(Style::new().on_dark_gray());
+    area.set_selection_style(Style::new().black().on_cyan());
+    area.set_line_number_style(Style::new().dark_gray())?;
+    area.set_wrap_mode(WrapMode::Word)
+}
+
 impl Editor {
     pub fn new(alloc: Global) -> Result<Editor> {
         let mut area = TextArea::from_text(alloc, TEXT)?;
-        area.set_line_number_style(Style::new().dark_gray())?;
-        area.set_wrap_mode(WrapMode::Word)?;
-        area.set_cursor_line_style(Style::new().on_dark_gray());
-        area.set_selection_style(Style::new().black().on_cyan());
+        set_up(&mut area)?;
         let is_changed = false;
         Ok(Editor {
             alloc,

@@ -28,14 +28,17 @@ struct Session {
 /// Runs the program of this name until it ends, or until the terminal is gone.
 pub fn run(rt: &HostRuntime, name: &str) -> Result<()> {
     let screen = Rect::new(0, 0, size_in(rt, "COLUMNS", 80), size_in(rt, "LINES", 24));
+    let painter = Painter::new(rt.alloc(), screen)?;
     let mut session = Session {
         alloc: rt.alloc(),
         program: Program::new(rt.alloc(), name)?,
         decoder: Decoder::new(rt.alloc()),
-        painter: Painter::new(rt.alloc(), screen)?,
+        painter,
         screen,
     };
-    session.run(rt)
+    let ended = session.run(rt);
+    drop(session);
+    ended
 }
 
 fn size_in(rt: &HostRuntime, variable: &str, other: u16) -> u16 {

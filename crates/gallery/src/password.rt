@@ -16,9 +16,9 @@ impl Password {
         let mut area = TextArea::try_default(alloc)?;
         area.set_mask_char('•');
         area.set_cursor_line_style(Style::new());
-        area.set_placeholder_text("at least 8 characters")?;
         area.set_placeholder_style(Style::new().dark_gray());
-        Ok(Password { alloc, area })
+        let placed = area.set_placeholder_text("at least 8 characters");
+        placed.map(|()| Password { alloc, area })
     }
 
     fn is_long(&self) -> bool {

@@ -43,16 +43,16 @@ pub fn run(rt: &HostRuntime, only: Option<&str>) -> Result<()> {
 }
 
 fn play(rt: &HostRuntime, name: &str, size: &str, lines: &str) -> Result<()> {
+    let screen = screen_of(size)?;
     let mut stage = Stage {
         name,
         program: Program::new(rt.alloc(), name)?,
-        screen: screen_of(size)?,
+        screen,
         now: Duration::ZERO,
     };
-    for line in lines.lines() {
-        stage.take_line(rt, line)?;
-    }
-    Ok(())
+    let played = stage.take_lines(rt, lines);
+    drop(stage);
+    played
 }
 
 // The screen with this number of columns and rows.
@@ -62,6 +62,13 @@ fn screen_of(size: &str) -> Result<Rect> {
 }
 
 impl Stage<'_> {
+    fn take_lines(&mut self, rt: &HostRuntime, lines: &str) -> Result<()> {
+        for line in lines.lines() {
+            self.take_line(rt, line)?;
+        }
+        Ok(())
+    }
+
     fn take_line(&mut self, rt: &HostRuntime, line: &str) -> Result<()> {
         let (word, rest) = line.split_once(' ').unwrap_or((line, ""));
         match word {

@@ -19,8 +19,7 @@ impl Finder {
         let mut text = TextArea::from_text(alloc, POEM)?;
         text.set_search_style(Style::new().black().on_yellow());
         text.set_cursor_line_style(Style::new());
-        let field = field(alloc, " Find ")?;
-        Ok(Finder { text, field })
+        field(alloc, " Find ").map(|field| Finder { text, field })
     }
 
     /// Enter and Down go to the next match, Up to the previous one, and Esc ends the program.

@@ -16,8 +16,7 @@ impl Typing {
     pub fn new(alloc: Global) -> Result<Typing, AllocError> {
         let mut runs = field(alloc, " by runs ")?;
         runs.set_undo_coalescing(true);
-        let characters = field(alloc, " by characters ")?;
-        Ok(Typing { runs, characters })
+        field(alloc, " by characters ").map(|characters| Typing { runs, characters })
     }
 
     /// Each key goes to both; Ctrl with `u` undoes, and Esc ends the program. A pause ends a run.

@@ -4,9 +4,10 @@ ghost use Rattle.textarea_calls.specs.Possible.{CanBeMade};
 ghost use Rattle.textarea_script.specs.declared.streams.TheConstants.{OUT_OF_MEMORY, STREAM_FAILED};
 
 use crate::streams::{Failure, read_whole, status, write_whole};
-use std::alloc::Global;
+use std::alloc::{AllocError, Global};
 use std::io::{Read, Write};
 use std::string::ToString;
+use textarea_calls::kind::{Kind, kind_of};
 pub use textarea_calls::{Answer, Call};
 use textarea_commands::commands;
 use textarea_commands::commands::Command;
@@ -65,17 +66,35 @@ fn read_script<R: Read>(alloc: Global, reader: &mut R) -> Result<Vec<Command>, F
 // Returns what is printed after a run of the commands on an empty text area.
 fn printed_of(alloc: Global, commands: Vec<Command>) -> Result<String, Failure> {
     let mut area = TextArea::try_default(alloc)?;
+    let printed = printed_run(alloc, &mut area, commands);
+    drop(area);
+    printed
+}
+
+// Returns what is printed after a run of the commands on a text area.
+fn printed_run(
+    alloc: Global,
+    area: &mut TextArea<'_>,
+    commands: Vec<Command>,
+) -> Result<String, Failure> {
     let mut buffer = Buffer::empty(alloc, Rect::new(0, 0, COLUMNS, ROWS))?;
-    let run = run_commands(alloc, &mut area, commands, &mut buffer)?;
+    let run = run_commands(alloc, area, commands, &mut buffer)?;
+    Ok(printed_end(alloc, area, &run, &buffer)?)
+}
+
+// Prints the end of a run: the answers, the text area, and the cells that were drawn last.
+fn printed_end(
+    alloc: Global,
+    area: &TextArea<'_>,
+    run: &RunOutput,
+    buffer: &Buffer,
+) -> Result<String, AllocError> {
     let report = Report {
         answers: run.answers.as_slice(),
-        area: &area,
-        screen: run.drawn.map(|area| Screen {
-            buffer: &buffer,
-            area,
-        }),
+        area,
+        screen: run.drawn.map(|area| Screen { buffer, area }),
     };
-    Ok(report.to_string(alloc)?)
+    report.to_string(alloc)
 }
 
 // What a run leaves beside the text area: the answers of the calls, and the area that was drawn
@@ -118,8 +137,8 @@ fn run_calls(
 // The area of the last call that draws, if there is one.
 fn last_drawn(calls: &[Call<'_>]) -> Option<Rect> {
     for call in calls.iter().rev() {
-        if let Call::Render(area) = call {
-            return Some(*area);
+        if let Kind::Render(area) = kind_of(*call) {
+            return Some(area);
         }
     }
     None
