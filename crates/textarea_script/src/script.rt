@@ -1,6 +1,5 @@
 //! Scripts: calls on a text area, one command per line.
-ghost use Rattle.std.specs.Prelude.{◌≡◌, ◌≤◌, ◌<◌, ◌≢◌, All, IfErr};
-ghost use Rattle.textarea_calls.specs.Possible.{CanBeMade};
+ghost use Rattle.std.specs.Prelude.{◌≡◌, ◌≤◌, ◌<◌, ◌≢◌, IfErr};
 ghost use Rattle.textarea_script.specs.declared.streams.TheConstants.{OUT_OF_MEMORY, STREAM_FAILED};
 
 use crate::streams::{Failure, read_whole, status, write_whole};
@@ -113,25 +112,14 @@ fn run_commands(
     buffer: &mut Buffer,
 ) -> Result<RunOutput, Failure> {
     let calls = commands::calls(alloc, commands.as_slice())?;
-    run_calls(area, calls.as_slice(), buffer)
-}
-
-// Makes the calls, which borrow from the commands.
-fn run_calls(
-    area: &mut TextArea<'_>,
-    calls: &[Call<'_>],
-    buffer: &mut Buffer,
-) -> Result<RunOutput, Failure>
-    requires { All CanBeMade calls.now }
-{
-    let end = run(area, calls, buffer);
-    if end.refused.is_some() {
-        return Err(Failure::Memory);
+    let end = run(area, calls.as_slice(), buffer);
+    match end.refused {
+        Some(_) => Err(Failure::Memory),
+        None => Ok(RunOutput {
+            answers: end.answers,
+            drawn: last_drawn(calls.as_slice()),
+        }),
     }
-    Ok(RunOutput {
-        answers: end.answers,
-        drawn: last_drawn(calls),
-    })
 }
 
 // The area of the last call that draws, if there is one.
