@@ -44,8 +44,8 @@ impl Draft {
         ensures area { IfOk result (λ draft. draft.area ≡ area.entry) }
         ensures unchanged { IfOk result (λ draft. draft.is_changed ≡ false) }
     {
-        let no_cells = Buffer::empty(alloc, Rect::new(0, 0, 0, 0))?;
-        Ok(Draft {
+        let no_cells = Buffer::empty(alloc, Rect::new(0, 0, 0, 0));
+        no_cells.map(|no_cells| Draft {
             area,
             no_cells,
             is_changed: false,

@@ -33,8 +33,8 @@ pub fn opened(alloc: Global, lines: Vec<String>, wraps: bool) -> Result<Draft, A
     ensures unchanged { IfOk result (λ draft. draft.is_changed ≡ false) }
 {
     let mut area = TextArea::new(lines)?;
-    set_up(&mut area, wraps)?;
-    Draft::new(alloc, area)
+    let set = set_up(&mut area, wraps);
+    set.and_then(|()| Draft::new(alloc, area))
 }
 
 // Sets up a new text area.
