@@ -18,7 +18,7 @@ mod status;
 
 use crate::controls::Controls;
 use crate::draft::Draft;
-use crate::editor::parts::{file_draft, help_area, opened, plain_field, replace};
+use crate::editor::parts::{fields, file_draft, opened, replace};
 use crate::effect::Effect;
 use crate::file_text::LineEnd;
 use crate::focus::Focus;
@@ -63,8 +63,13 @@ impl Editor {
         ensures empty { IfOk result (λ editor. (draft_of editor).area.document.text ≡ []) }
     {
         let draft = opened(alloc, Vec::new(alloc), true)?;
-        let field = plain_field(alloc)?;
-        let help = help_area(alloc, is_modal)?;
+        let (field, help) = match fields(alloc, is_modal) {
+            Ok(fields) => fields,
+            Err(error) => {
+                drop(draft);
+                return Err(error);
+            }
+        };
         Ok(Editor {
             draft,
             field,

@@ -68,15 +68,24 @@ pub fn replace(draft: &mut Draft, by: Draft)
     *draft = by;
 }
 
-/// Returns an empty field, as the prompt has it.
-pub fn plain_field(alloc: Global) -> Result<TextArea<'static>, AllocError> {
+/// Returns the text areas of the prompt and of the help.
+pub fn fields(
+    alloc: Global,
+    is_modal: bool,
+) -> Result<(TextArea<'static>, TextArea<'static>), AllocError> {
+    let field = plain_field(alloc)?;
+    help_area(alloc, is_modal).map(|help| (field, help))
+}
+
+// Returns an empty field, as the prompt has it.
+fn plain_field(alloc: Global) -> Result<TextArea<'static>, AllocError> {
     let mut field = TextArea::try_default(alloc)?;
     hide_cursor(&mut field);
     Ok(field)
 }
 
-/// Returns the text area of the help.
-pub fn help_area(alloc: Global, is_modal: bool) -> Result<TextArea<'static>, AllocError> {
+// Returns the text area of the help.
+fn help_area(alloc: Global, is_modal: bool) -> Result<TextArea<'static>, AllocError> {
     let mut help = TextArea::new(help_lines(alloc, is_modal)?)?;
     hide_cursor(&mut help);
     Ok(help)
