@@ -1,5 +1,5 @@
 // The text areas of an editor.
-ghost use Rattle.std.specs.Prelude.{◌≡◌, false, IfOk, OnOk, string_bytes};
+ghost use Rattle.std.specs.Prelude.{◌≡◌, [], false, IfOk, OnOk, string_bytes};
 ghost use Rattle.textarea_editor.specs.Effects.{IsWritten};
 ghost use Rattle.textarea_editor.specs.EventCalls.{wrap_mode};
 ghost use Rattle.textarea_text.specs.Text.{text_of};
@@ -68,17 +68,21 @@ pub fn replace(draft: &mut Draft, by: Draft)
     *draft = by;
 }
 
-/// Returns the text areas of the prompt and of the help.
+/// Returns the text areas of the prompt, which is empty, and of the help.
 pub fn fields(
     alloc: Global,
     is_modal: bool,
-) -> Result<(TextArea<'static>, TextArea<'static>), AllocError> {
+) -> Result<(TextArea<'static>, TextArea<'static>), AllocError>
+    ensures { IfOk result (λ made. made.0.document.text ≡ []) }
+{
     let field = plain_field(alloc)?;
     help_area(alloc, is_modal).map(|help| (field, help))
 }
 
 // Returns an empty field, as the prompt has it.
-fn plain_field(alloc: Global) -> Result<TextArea<'static>, AllocError> {
+fn plain_field(alloc: Global) -> Result<TextArea<'static>, AllocError>
+    ensures { IfOk result (λ field. field.document.text ≡ []) }
+{
     let mut field = TextArea::try_default(alloc)?;
     hide_cursor(&mut field);
     Ok(field)
