@@ -101,11 +101,11 @@ fn own_color(color: Option<Color>) -> Option<Color> {
 }
 
 fn area_of(text: &str) -> Option<Rect> {
-    let mut differences = text.split(' ');
-    let x = number(differences.next())?;
-    let y = number(differences.next())?;
-    let width = number(differences.next())?;
-    let height = number(differences.next())?;
+    let mut numbers = text.split(' ');
+    let x = number(numbers.next())?;
+    let y = number(numbers.next())?;
+    let width = number(numbers.next())?;
+    let height = number(numbers.next())?;
     Some(Rect::new(x, y, width, height))
 }
 

@@ -180,13 +180,13 @@ fn setting_style<'a>(name: &str, style: &str) -> Option<Call<'a>>
 fn highlight<'a>(arguments: &str) -> Option<Call<'a>>
     ensures { IfSome result CanBeMade }
 {
-    let mut differences = arguments.split(' ');
-    let start = (number(differences.next())?, number(differences.next())?);
-    let end = (number(differences.next())?, number(differences.next())?);
+    let mut words = arguments.split(' ');
+    let start = (number(words.next())?, number(words.next())?);
+    let end = (number(words.next())?, number(words.next())?);
     Some(Call::CustomHighlight {
         range: (start, end),
-        style: style_named(differences.next()?)?,
-        priority: differences.next()?.parse().ok()?,
+        style: style_named(words.next()?)?,
+        priority: words.next()?.parse().ok()?,
     })
 }
 

@@ -190,16 +190,16 @@ impl Trial {
         borrows: &Borrows,
         line: &str,
     ) -> Result<String, Stop> {
-        if let Some(end_text) = report_text(alloc, area, &self.cells.buffer, line)? {
-            return Ok(end_text);
+        if let Some(answer) = report_text(alloc, area, &self.cells.buffer, line)? {
+            return Ok(answer);
         }
-        if let Some(end_text) = self.cells.words_result(alloc, area, borrows, line)? {
+        if let Some(answer) = self.cells.words_result(alloc, area, borrows, line)? {
             self.script.has_words = true;
-            return Ok(end_text);
+            return Ok(answer);
         }
-        let end_text = self.cells.line_result(alloc, area, line)?;
-        self.script.push(line, end_text.as_str())?;
-        Ok(end_text)
+        let answer = self.cells.line_result(alloc, area, line)?;
+        self.script.push(line, answer.as_str())?;
+        Ok(answer)
     }
 
     // Compares the text area with the state that was read since the last call, if there is any.
