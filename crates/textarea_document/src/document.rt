@@ -111,7 +111,7 @@ impl Document {
         ensures place { IsPlace self.now.text result }
         ensures small { (result.0 < size_limit) × (result.1 ≤ size_limit) }
     {
-        let _lines = self.text_layout.lines();
+        self.text_layout.places_are_small();
         self.cursor
     }
 
@@ -275,9 +275,9 @@ fn make_change(
     let start = change.start();
     let old = change.cursor_before();
     let new = change.cursor_after();
-    let _lines = text_layout.lines(); // their positions are small, before and after the change
+    text_layout.places_are_small();
     text_layout.apply(change)?;
-    let _changed = text_layout.lines();
+    text_layout.places_are_small();
     move_ranges(ranges, start, old, new);
     Ok(new)
 }

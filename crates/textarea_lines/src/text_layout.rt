@@ -120,17 +120,22 @@ impl TextLayout {
         })
     }
 
-    /// Returns the lines, at least one. Their bytes and their number together are at most 2^48, so
-    /// a position's row is less than 2^48, and its column is at most that.
+    /// Returns the lines, at least one. Their bytes and their number together are at most 2^48.
     pub fn lines(&self) -> &[String]
         ensures value { text_of result.now ≡ self.now.text }
         ensures lines { lines_of result.now ≡ lines self.now.text }
         ensures some { 0 < length result.now }
         ensures limit { size_of result.now ≤ size_limit }
-        ensures small { (place : Place) → IsPlace self.now.text place →
-            (place.0 < size_limit) × (place.1 ≤ size_limit) }
     {
         self.lines.as_slice()
+    }
+
+    /// The law of small positions: a position's row is below 2^48, and its column at most that.
+    pub fn places_are_small(&self)
+        ensures { (place : Place) → IsPlace self.now.text place →
+            (place.0 < size_limit) × (place.1 ≤ size_limit) }
+    {
+        let _ = &self.lines; // by the invariant their bytes and their number are at most 2^48
     }
 
     /// Returns the allocator of the lines and their rows.

@@ -50,9 +50,15 @@ impl<'a> TextLayoutView<'a> {
         ensures lines { lines_of result.now ≡ self.now.lines }
         ensures some { 0 < length result.now }
         ensures limit { size_of result.now ≤ size_limit }
-        ensures right { AreRowsOf self.now.wrapping self.now.lines self.now.rows }
     {
         self.lines
+    }
+
+    /// The law of rows, for every view: its visual rows are those of its lines.
+    pub fn rows_are_right(&self)
+        ensures { AreRowsOf self.now.wrapping self.now.lines self.now.rows }
+    {
+        let _ = &self.map; // it is in the invariant
     }
 
     /// Returns the columns between tab stops.

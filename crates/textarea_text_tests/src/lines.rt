@@ -269,7 +269,7 @@ fn type_and_take_back(
     text_layout: &mut TextLayout,
 ) -> Result<Option<(usize, VisualPosition)>, AllocError> {
     let place = end_of(text_layout);
-    let _lines = text_layout.lines();
+    text_layout.places_are_small();
     let edit = Edit::between(EditKind::InsertChar('x'), place, (place.0, place.1 + 1));
     make_and_take_back(text_layout, &edit)
 }
@@ -278,7 +278,7 @@ fn break_and_take_back(
     text_layout: &mut TextLayout,
 ) -> Result<Option<(usize, VisualPosition)>, AllocError> {
     let place = end_of(text_layout);
-    let _lines = text_layout.lines();
+    text_layout.places_are_small();
     let edit = Edit::between(EditKind::InsertNewline, place, (place.0 + 1, 0));
     make_and_take_back(text_layout, &edit)
 }
@@ -286,7 +286,7 @@ fn break_and_take_back(
 fn insert_break(text_layout: &mut TextLayout, place: Place) -> Result<(), AllocError>
     requires { IsPlace text_layout.old.text place }
 {
-    let _lines = text_layout.lines();
+    text_layout.places_are_small();
     let edit = Edit::between(EditKind::InsertNewline, place, (place.0 + 1, 0));
     text_layout.apply(edit.change())
 }

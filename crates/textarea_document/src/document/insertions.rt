@@ -22,7 +22,7 @@ impl Document {
         ensures small { (result.0 < size_limit) × (result.1 ≤ size_limit) }
         ensures outside { All (λ range. ¬ IsInside result range) self.now.ranges }
     {
-        let _lines = self.text_layout.lines();
+        self.text_layout.places_are_small();
         move_out(self.ranges(), self.cursor(), AtomicCursorBias::Forward)
     }
 

@@ -45,15 +45,14 @@ impl<'f, 'a> RowContext<'f, 'a> {
         ensures { result ≡ scene.now }
     {
         let rows = &scene.rows;
-        let _lines = rows.lines(); // which ensures that the rows are those of the lines
+        rows.rows_are_right();
         let selected = match scene.selection {
             Some((start, end)) => Some((byte_place(rows, start), byte_place(rows, end))),
             None => None,
         };
-        let cursor_row = scene.rows.visual_position(scene.cursor).row;
         RowContext {
             scene,
-            cursor_row,
+            cursor_row: rows.visual_position(scene.cursor).row,
             selected,
         }
     }

@@ -9,14 +9,14 @@ pub move_ranges-requires-clause-apart : goal.move_ranges-requires-clause-apart
 move_ranges-requires-clause-apart c = AreApart-valid (lines c.args.text_layout.now.text) c.args.ranges.now.items c.requires.valid c.requires.in_order
 
 pub move_ranges-requires-clause-movable : goal.move_ranges-requires-clause-movable
-move_ranges-requires-clause-movable c = movable c.args.text_layout.now.text c.args.ranges.now.items c.lines-lines.ensures.small c.requires.valid
+move_ranges-requires-clause-movable c = movable c.args.text_layout.now.text c.args.ranges.now.items c.places_are_small.ensures c.requires.valid
 
 pub move_ranges-requires-clause-small : goal.move_ranges-requires-clause-small
 move_ranges-requires-clause-small c =
     let splice = c.args.change in
     let text = c.args.text_layout.now.text in
     let text_is : c.apply.new.self.text ≡ applied text splice = ap (λ (l : TextAndLayout). l.text) c.in_ok-apply.ensures.ok in
-    let small = c.lines-changed.ensures.small (place_after splice) (subst (λ (t : List Symbol). IsPlace t (place_after splice)) (sym text_is) (takes_back text splice c.requires.fits).is_place) in
+    let small = c.places_are_small-2.ensures (place_after splice) (subst (λ (t : List Symbol). IsPlace t (place_after splice)) (sym text_is) (takes_back text splice c.requires.fits).is_place) in
     subst (λ (p : Place). (p.0 ≤ size_limit) × (p.1 ≤ size_limit)) (sym c.cursor_after-new.ensures) (omega (arith, small.0), small.1)
 
 pub returns-clause-ranges : goal.returns-clause-ranges

@@ -4,7 +4,7 @@ use Rattle.textarea_document.proofs.document.Document.insertion_place.Goals as g
 
 pub returns-clause-small : goal.returns-clause-small
 returns-clause-small c =
-    c.lines-lines.ensures.small c.move_out.result
+    c.places_are_small.ensures c.move_out.result
     (subst (λ (s : DocumentState). IsPlace s.text c.move_out.result) (sym c.self.view_is) (c.move_out.ensures.place (lines c.args.self.now.text) c.ranges-2.ensures.valid c.cursor.ensures.place))
 
 pub returns-clause-outside : goal.returns-clause-outside
