@@ -14,8 +14,10 @@ impl TextArea<'_> {
         ensures { self.new
             ≡ with_look_set self.old (record self.old.drawing.look { style = style }) }
     {
-        let look = self.drawing.look();
-        self.drawing.set_look(Look { style, ..look });
+        self.drawing.set_look(Look {
+            style,
+            ..self.drawing.look()
+        });
     }
 
     /// Returns the style of each cell of the inner area, under all other styles.
@@ -30,10 +32,9 @@ impl TextArea<'_> {
         ensures { self.new
             ≡ with_look_set self.old (record self.old.drawing.look { cursor_style = style }) }
     {
-        let look = self.drawing.look();
         self.drawing.set_look(Look {
             cursor_style: style,
-            ..look
+            ..self.drawing.look()
         });
     }
 
@@ -49,10 +50,9 @@ impl TextArea<'_> {
         ensures { self.new
             ≡ with_look_set self.old (record self.old.drawing.look { cursor_line_style = style }) }
     {
-        let look = self.drawing.look();
         self.drawing.set_look(Look {
             cursor_line_style: style,
-            ..look
+            ..self.drawing.look()
         });
     }
 
@@ -68,10 +68,9 @@ impl TextArea<'_> {
         ensures { self.new
             ≡ with_look_set self.old (record self.old.drawing.look { selection_style = style }) }
     {
-        let look = self.drawing.look();
         self.drawing.set_look(Look {
             selection_style: style,
-            ..look
+            ..self.drawing.look()
         });
     }
 
@@ -87,10 +86,9 @@ impl TextArea<'_> {
         ensures { self.new
             ≡ with_look_set self.old (record self.old.drawing.look { search_style = style }) }
     {
-        let look = self.drawing.look();
         self.drawing.set_look(Look {
             search_style: style,
-            ..look
+            ..self.drawing.look()
         });
     }
 
@@ -107,10 +105,9 @@ impl TextArea<'_> {
         ensures { self.new ≡ with_look_set self.old
             (record self.old.drawing.look { mask = Some mask }) }
     {
-        let look = self.drawing.look();
         self.drawing.set_look(Look {
             mask: Some(mask),
-            ..look
+            ..self.drawing.look()
         });
     }
 
@@ -118,8 +115,10 @@ impl TextArea<'_> {
     pub fn clear_mask_char(&mut self)
         ensures { self.new ≡ with_look_set self.old (record self.old.drawing.look { mask = None }) }
     {
-        let look = self.drawing.look();
-        self.drawing.set_look(Look { mask: None, ..look });
+        self.drawing.set_look(Look {
+            mask: None,
+            ..self.drawing.look()
+        });
     }
 
     /// Returns the character that is shown instead of each character of the text, if one is set.
@@ -135,10 +134,9 @@ impl TextArea<'_> {
         ensures { self.new
             ≡ with_look_set self.old (record self.old.drawing.look { cursor_render_mode = mode }) }
     {
-        let look = self.drawing.look();
         self.drawing.set_look(Look {
             cursor_render_mode: mode,
-            ..look
+            ..self.drawing.look()
         });
     }
 

@@ -92,8 +92,7 @@ impl TextArea<'_> {
         let Some(place) = found else {
             return false;
         };
-        let anchor = self.document.anchor();
-        self.document.move_to(place, anchor);
+        self.document.move_to(place, self.document.anchor());
         true
     }
 }

@@ -15,8 +15,7 @@ impl TextArea<'_> {
     pub fn start_selection(&mut self)
         ensures { self.new ≡ selection_started self.old }
     {
-        let cursor = self.document.cursor();
-        self.document.set_anchor(Some(cursor));
+        self.document.set_anchor(Some(self.document.cursor()));
     }
 
     /// Drops the selection, if there is one; the text stays.
