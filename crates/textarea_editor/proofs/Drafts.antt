@@ -237,10 +237,6 @@ call_keeps old call.RemoveLineNumber answer new is after = ap text after
 call_keeps old (call.SetUndoCoalescing joins) answer new is after = ap text after
 call_keeps old (call.SetMaxHistories maximum) answer new is after = ap text after
 call_keeps old (call.SetHardTabIndent hard) answer new is after = ap text after
-call_keeps old (call.SetCursorRenderMode mode) answer new is after = ap text after
-call_keeps old (call.SetCursorLineStyle style) answer new is after = ap text after
-call_keeps old (call.SetSearchStyle style) answer new is after = ap text after
-call_keeps old (call.SetSelectionStyle style) answer new is after = ap text after
 call_keeps old other answer new is after = let no : false ≡ true = is in cc
 
 leads_keep : (old new : State) (buffer displayed : Buffer) (calls : List Call) (answers : List CallResult) → list_all leaves_text calls ≡ true → Leads old buffer calls answers new displayed → SameText old new

@@ -3,7 +3,7 @@ use Rattle.std.specs.Prelude.{◌≡◌, ◌⊎◌, ◌≤◌, ℕ, Bool, true, 
 use Rattle.textarea_calls.specs.CallGroups.{draws}
 use Rattle.textarea_calls.specs.FlagRule.{FlagRule, flag_rule_of, unchanged}
 use Rattle.textarea_calls.specs.declared.call.Call.{Call}
-use Rattle.textarea_calls.specs.declared.call.Call.TheVariants.{CancelSelection, ClearAtomicRanges, Copy, Cut, GoTo, Input, InsertPasted, Move, Paste, Redo, RemoveLineNumber, Scroll, SearchBack, SearchForward, SelectAll, SetCursorLineStyle, SetCursorRenderMode, SetHardTabIndent, SetLineNumberStyle, SetMaxHistories, SetNow, SetSearchPattern, SetSearchStyle, SetSelectionStyle, SetUndoCoalescing, SetWrapMode, StartSelection, Undo}
+use Rattle.textarea_calls.specs.declared.call.Call.TheVariants.{CancelSelection, ClearAtomicRanges, Copy, Cut, GoTo, Input, InsertPasted, Move, Paste, Redo, RemoveLineNumber, Scroll, SearchBack, SearchForward, SelectAll, SetHardTabIndent, SetLineNumberStyle, SetMaxHistories, SetNow, SetSearchPattern, SetUndoCoalescing, SetWrapMode, StartSelection, Undo}
 use Rattle.textarea_calls.specs.declared.kind.Write.TheVariants as write
 use Rattle.textarea_editor.specs.declared.draft.Draft.{Draft}
 use Rattle.textarea_modal.specs.Runs.{AllMade, RunsOutAt}
@@ -19,7 +19,8 @@ abbrev pub is_unchanged : FlagRule → Bool
 is_unchanged unchanged = true
 is_unchanged other = false
 
--- whether the call leaves the text as it is; of these calls only those that the editor makes
+-- whether the call leaves the text as it is; of these calls only settings and those that the editor
+-- makes
 abbrev pub leaves_text : Call → Bool
 leaves_text (Input input) = is_unchanged (flag_rule_of (asked_by input.now))
 leaves_text (Move cursor_move) = true
@@ -40,10 +41,6 @@ leaves_text RemoveLineNumber = true
 leaves_text (SetUndoCoalescing joins) = true
 leaves_text (SetMaxHistories maximum) = true
 leaves_text (SetHardTabIndent hard) = true
-leaves_text (SetCursorRenderMode mode) = true
-leaves_text (SetCursorLineStyle style) = true
-leaves_text (SetSearchStyle style) = true
-leaves_text (SetSelectionStyle style) = true
 leaves_text call = false
 
 -- whether the call may edit the text; of these calls only those that the editor makes

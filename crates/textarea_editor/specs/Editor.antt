@@ -1,6 +1,6 @@
 -- What clauses see of an editor.
 use Rattle.textarea_editor.specs.declared.draft.Draft.{Draft}
-use Rattle.std.specs.Prelude.{◌≡◌, ◌⊎◌, false, ℕ}
+use Rattle.std.specs.Prelude.{◌≡◌, ◌⊎◌, Bool, false, ℕ}
 use Rattle.textarea_editor.specs.declared.editor.Editor.{Editor}
 use Rattle.textarea_editor.specs.declared.file_text.LineEnd.{LineEnd}
 use Rattle.textarea_editor.specs.declared.focus.Focus.TheVariants as focus
@@ -13,6 +13,10 @@ draft_of editor = editor.draft
 -- the line end of the file
 abbrev pub end_of : Editor → LineEnd
 end_of editor = editor.line_end
+
+-- long lines are wrapped
+abbrev pub wraps_of : Editor → Bool
+wraps_of editor = editor.controls.wraps
 
 -- the size of the screen
 abbrev pub columns_of : Editor → ℕ

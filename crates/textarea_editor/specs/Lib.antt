@@ -9,4 +9,5 @@ pub mod LineNumber
 pub mod Patterns
 pub mod PromptKeys
 pub mod Screen
+pub mod SetUp
 pub mod Steps

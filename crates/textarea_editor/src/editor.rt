@@ -1,8 +1,9 @@
 //! The editor's state, and its step from an event to an effect.
 
-ghost use Rattle.std.specs.Prelude.{◌≡◌, ◌≢◌, [], false, IfOk, IfSome, OnErr, OnOk, string_bytes};
-ghost use Rattle.textarea_editor.specs.Editor.{draft_of, end_of};
+ghost use Rattle.std.specs.Prelude.{◌≡◌, ◌≢◌, [], false, true, IfOk, IfSome, OnErr, OnOk, string_bytes};
+ghost use Rattle.textarea_editor.specs.Editor.{draft_of, end_of, wraps_of};
 ghost use Rattle.textarea_editor.specs.Effects.{IsWritten};
+ghost use Rattle.textarea_editor.specs.SetUp.{IsOpened, opened};
 ghost use Rattle.textarea_editor.specs.Steps.{IsStep};
 
 mod answers;
@@ -60,7 +61,7 @@ impl Editor {
     /// Returns an editor of an empty text without a name, on a screen of this size.
     pub fn new(alloc: Global, columns: u16, rows: u16, is_modal: bool) -> Result<Editor, AllocError>
         ensures unchanged { IfOk result (λ editor. (draft_of editor).is_changed ≡ false) }
-        ensures empty { IfOk result (λ editor. (draft_of editor).area.document.text ≡ []) }
+        ensures area { IfOk result (λ editor. (draft_of editor).area ≡ opened [] true) }
     {
         let draft = opened(alloc, Vec::new(alloc), true)?;
         let (field, help) = match fields(alloc, is_modal) {
@@ -91,12 +92,15 @@ impl Editor {
     }
 
     /// Replaces the text by that of a file with this name. A name without a text is that of a new
-    /// file. Until it is edited, the text is saved as it was.
+    /// file. The cursor is then at the text's start, nothing is selected, and no edit can be undone.
+    /// Until it is edited, the text is saved as it was.
     ///
     /// If memory runs out, the editor is as before.
     pub fn open(&mut self, name: &str, text: Option<String>) -> Result<(), AllocError>
         ensures written { OnOk result (IfSome text (λ text.
             IsWritten (draft_of self.new).area (end_of self.new) (string_bytes text))) }
+        ensures opened { OnOk result (IfSome text (λ text.
+            IsOpened (draft_of self.new).area (wraps_of self.new))) }
         ensures unchanged { OnOk result (IfSome text (λ text.
             (draft_of self.new).is_changed ≡ false)) }
         ensures err { OnErr result (self.new ≡ self.old) }
@@ -115,6 +119,7 @@ impl Editor {
     fn take_text(&mut self, text: String) -> Result<(), AllocError>
         ensures written { OnOk result
             (IsWritten (draft_of self.new).area (end_of self.new) (string_bytes text)) }
+        ensures opened { OnOk result (IsOpened (draft_of self.new).area (wraps_of self.new)) }
         ensures unchanged { OnOk result ((draft_of self.new).is_changed ≡ false) }
         ensures err { OnErr result (self.new ≡ self.old) }
     {

@@ -2,7 +2,10 @@
 ghost use Rattle.std.specs.Prelude.{◌≡◌, [], false, IfOk, OnOk, string_bytes};
 ghost use Rattle.textarea_editor.specs.Effects.{IsWritten};
 ghost use Rattle.textarea_editor.specs.EventCalls.{wrap_mode};
+ghost use Rattle.textarea_editor.specs.SetUp.{IsOpened, IsShown, opened, set_up, with_hidden_cursor};
 ghost use Rattle.textarea_text.specs.Text.{text_of};
+ghost use Rattle.tui_textarea.specs.LayoutCalls.{with_wrap_mode};
+ghost use Rattle.tui_textarea.specs.State.{new_state};
 
 use crate::draft::Draft;
 use crate::file_text::{LineEnd, line_end_of, lines_of};
@@ -29,7 +32,7 @@ pub fn wrap_mode(wraps: bool) -> WrapMode
 
 /// Returns a draft of these lines, which is not changed.
 pub fn opened(alloc: Global, lines: Vec<String>, wraps: bool) -> Result<Draft, AllocError>
-    ensures text { IfOk result (λ draft. draft.area.document.text ≡ text_of lines.items) }
+    ensures area { IfOk result (λ draft. draft.area ≡ opened (text_of lines.items) wraps) }
     ensures unchanged { IfOk result (λ draft. draft.is_changed ≡ false) }
 {
     let mut area = TextArea::new(lines)?;
@@ -39,7 +42,7 @@ pub fn opened(alloc: Global, lines: Vec<String>, wraps: bool) -> Result<Draft, A
 
 // Sets up a new text area.
 fn set_up(area: &mut TextArea<'_>, wraps: bool) -> Result<(), AllocError>
-    ensures { OnOk result (area.new.document.text ≡ area.old.document.text) }
+    ensures { OnOk result (area.new ≡ with_wrap_mode (set_up area.old) (wrap_mode wraps)) }
 {
     area.set_undo_coalescing(true);
     area.set_max_histories(UNDOS);
@@ -53,6 +56,7 @@ fn set_up(area: &mut TextArea<'_>, wraps: bool) -> Result<(), AllocError>
 /// Returns the draft of a file's text, and its line end.
 pub fn file_draft(alloc: Global, text: String, wraps: bool) -> Result<(Draft, LineEnd), AllocError>
     ensures written { IfOk result (λ made. IsWritten made.0.area made.1 (string_bytes text)) }
+    ensures opened { IfOk result (λ made. IsOpened made.0.area wraps) }
     ensures unchanged { IfOk result (λ made. made.0.is_changed ≡ false) }
 {
     let line_end = line_end_of(text.as_str());
@@ -68,12 +72,13 @@ pub fn replace(draft: &mut Draft, by: Draft)
     *draft = by;
 }
 
-/// Returns the text areas of the prompt, which is empty, and of the help.
+/// Returns the text areas of the prompt, which is empty, and of the help, a new text.
 pub fn fields(
     alloc: Global,
     is_modal: bool,
 ) -> Result<(TextArea<'static>, TextArea<'static>), AllocError>
-    ensures { IfOk result (λ made. made.0.document.text ≡ []) }
+    ensures field { IfOk result (λ made. made.0 ≡ with_hidden_cursor (new_state [])) }
+    ensures help { IfOk result (λ made. IsShown made.1) }
 {
     let field = plain_field(alloc)?;
     help_area(alloc, is_modal).map(|help| (field, help))
@@ -81,7 +86,7 @@ pub fn fields(
 
 // Returns an empty field, as the prompt has it.
 fn plain_field(alloc: Global) -> Result<TextArea<'static>, AllocError>
-    ensures { IfOk result (λ field. field.document.text ≡ []) }
+    ensures { IfOk result (λ field. field ≡ with_hidden_cursor (new_state [])) }
 {
     let mut field = TextArea::try_default(alloc)?;
     hide_cursor(&mut field);
@@ -89,14 +94,16 @@ fn plain_field(alloc: Global) -> Result<TextArea<'static>, AllocError>
 }
 
 // Returns the text area of the help.
-fn help_area(alloc: Global, is_modal: bool) -> Result<TextArea<'static>, AllocError> {
+fn help_area(alloc: Global, is_modal: bool) -> Result<TextArea<'static>, AllocError>
+    ensures { IfOk result IsShown }
+{
     let mut help = TextArea::new(help_lines(alloc, is_modal)?)?;
     hide_cursor(&mut help);
     Ok(help)
 }
 
 fn hide_cursor(area: &mut TextArea<'_>)
-    ensures { area.new.document ≡ area.old.document }
+    ensures { area.new ≡ with_hidden_cursor area.old }
 {
     area.set_cursor_render_mode(CursorRenderMode::Hidden);
     area.set_cursor_line_style(Style::default());

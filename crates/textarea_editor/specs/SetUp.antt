@@ -1,0 +1,45 @@
+-- The text areas of an editor, as they are set up.
+use Rattle.std.specs.Prelude.{◌≡◌, Bool, true, List, Some}
+use Rattle.textarea_data.specs.declared.cursor.CursorRenderMode.TheVariants.{Hidden}
+use Rattle.textarea_document.specs.Prelude.{empty_log}
+use Rattle.textarea_editor.specs.EventCalls.{wrap_mode}
+use Rattle.textarea_editor.specs.declared.editor.parts.TheConstants.{UNDOS}
+use Rattle.textarea_screen.specs.Style.{empty_style, with_modifier}
+use Rattle.textarea_screen.specs.declared.screen.color.Color.TheVariants.{Black, Yellow}
+use Rattle.textarea_screen.specs.declared.screen.style.Style.{Style}
+use Rattle.textarea_text.specs.Text.{Symbol}
+use Rattle.tui_textarea.specs.Drawing.{with_look_set}
+use Rattle.tui_textarea.specs.LayoutCalls.{with_wrap_mode}
+use Rattle.tui_textarea.specs.State.{State, new_state}
+
+-- the style of matches
+abbrev pub match_style : Style
+match_style = record empty_style { fg = Some Black; bg = Some Yellow }
+
+-- the style of selected text: reversed, which is the modifier 64
+abbrev pub selected_style : Style
+selected_style = with_modifier empty_style (record { 0 = 64 })
+
+-- no style shows the cursor, since the terminal's own cursor is there
+abbrev pub with_hidden_cursor : State → State
+with_hidden_cursor area = with_look_set area (record area.drawing.look { cursor_render_mode = Hidden; cursor_line_style = empty_style })
+
+-- a new text that is just shown
+abbrev pub IsShown : State → Type 0
+IsShown area = area ≡ with_hidden_cursor (new_state area.document.text)
+
+-- an undo takes back a run of typing, and all undos this many edits; a tab is a character
+abbrev pub set_up : State → State
+set_up area = with_hidden_cursor (record area {
+  document = record area.document { log = empty_log UNDOS };
+  settings = record area.settings { undo_coalescing = true; hard_tab_indent = true };
+  drawing = record area.drawing { look = record area.drawing.look { search_style = match_style; selection_style = selected_style } };
+})
+
+-- the text area of a text that is opened, whose long lines are wrapped or not
+abbrev pub opened : List Symbol → Bool → State
+opened text wraps = with_wrap_mode (set_up (new_state text)) (wrap_mode wraps)
+
+-- nothing was done since the text was opened
+abbrev pub IsOpened : State → Bool → Type 0
+IsOpened area wraps = area ≡ opened area.document.text wraps
