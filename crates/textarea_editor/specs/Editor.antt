@@ -18,6 +18,10 @@ end_of editor = editor.line_end
 abbrev pub wraps_of : Editor → Bool
 wraps_of editor = editor.controls.wraps
 
+-- lines are numbered
+abbrev pub numbers_of : Editor → Bool
+numbers_of editor = editor.controls.numbers
+
 -- the size of the screen
 abbrev pub columns_of : Editor → ℕ
 columns_of editor = editor.columns

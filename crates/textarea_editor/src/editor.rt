@@ -1,7 +1,7 @@
 //! The editor's state, and its step from an event to an effect.
 
 ghost use Rattle.std.specs.Prelude.{◌≡◌, ◌≢◌, [], false, true, IfOk, IfSome, OnErr, OnOk, string_bytes};
-ghost use Rattle.textarea_editor.specs.Editor.{draft_of, end_of, wraps_of};
+ghost use Rattle.textarea_editor.specs.Editor.{draft_of, end_of, numbers_of, wraps_of};
 ghost use Rattle.textarea_editor.specs.Effects.{IsWritten};
 ghost use Rattle.textarea_editor.specs.SetUp.{IsOpened, opened};
 ghost use Rattle.textarea_editor.specs.Steps.{IsStep};
@@ -92,8 +92,8 @@ impl Editor {
     }
 
     /// Replaces the text by that of a file with this name. A name without a text is that of a new
-    /// file. The cursor is then at the text's start, nothing is selected, and no edit can be undone.
-    /// Until it is edited, the text is saved as it was.
+    /// file. The cursor is then at the text's start, nothing is selected, no edit can be undone, and
+    /// lines have no numbers. Until it is edited, the text is saved as it was.
     ///
     /// If memory runs out, the editor is as before.
     pub fn open(&mut self, name: &str, text: Option<String>) -> Result<(), AllocError>
@@ -101,6 +101,7 @@ impl Editor {
             IsWritten (draft_of self.new).area (end_of self.new) (string_bytes text))) }
         ensures opened { OnOk result (IfSome text (λ text.
             IsOpened (draft_of self.new).area (wraps_of self.new))) }
+        ensures unnumbered { OnOk result (IfSome text (λ text. numbers_of self.new ≡ false)) }
         ensures unchanged { OnOk result (IfSome text (λ text.
             (draft_of self.new).is_changed ≡ false)) }
         ensures err { OnErr result (self.new ≡ self.old) }
@@ -120,6 +121,7 @@ impl Editor {
         ensures written { OnOk result
             (IsWritten (draft_of self.new).area (end_of self.new) (string_bytes text)) }
         ensures opened { OnOk result (IsOpened (draft_of self.new).area (wraps_of self.new)) }
+        ensures unnumbered { OnOk result (numbers_of self.new ≡ false) }
         ensures unchanged { OnOk result ((draft_of self.new).is_changed ≡ false) }
         ensures err { OnErr result (self.new ≡ self.old) }
     {
@@ -128,6 +130,7 @@ impl Editor {
         replace(&mut self.draft, draft);
         self.line_end = line_end;
         self.controls.wraps = wraps;
+        self.controls.numbers = false;
         Ok(())
     }
 
