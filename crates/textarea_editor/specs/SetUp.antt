@@ -28,7 +28,7 @@ with_hidden_cursor area = with_look_set area (record area.drawing.look { cursor_
 abbrev pub IsShown : State → Type 0
 IsShown area = area ≡ with_hidden_cursor (new_state area.document.text)
 
--- an undo takes back a run of typing, and all undos this many edits; a tab is a character
+-- one undo takes back a run of typing, and all undos at most `UNDOS` edits; Tab inserts a tab
 abbrev pub set_up : State → State
 set_up area = with_hidden_cursor (record area {
   document = record area.document { log = empty_log UNDOS };

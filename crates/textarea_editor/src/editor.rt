@@ -1,6 +1,6 @@
 //! The editor's state, and its step from an event to an effect.
 
-ghost use Rattle.std.specs.Prelude.{◌≡◌, ◌≢◌, [], false, true, IfOk, IfSome, OnErr, OnOk, string_bytes};
+ghost use Rattle.std.specs.Prelude.{◌≡◌, ◌≢◌, ◌≤◌, ◌↔◌, [], false, true, IfOk, IfSome, IsTrue, None, OnErr, OnOk, length, string_bytes};
 ghost use Rattle.textarea_editor.specs.Editor.{draft_of, end_of, numbers_of, wraps_of};
 ghost use Rattle.textarea_editor.specs.Effects.{IsWritten};
 ghost use Rattle.textarea_editor.specs.SetUp.{IsOpened, opened};
@@ -91,9 +91,10 @@ impl Editor {
         })
     }
 
-    /// Replaces the text by that of a file with this name. A name without a text is that of a new
-    /// file. The cursor is then at the text's start, nothing is selected, no edit can be undone, and
-    /// lines have no numbers. Until it is edited, the text is saved as it was.
+    /// Replaces the text by that of a file with this name. The cursor is then at the text's start,
+    /// nothing is selected, no edit can be undone, lines have no numbers, and long ones are wrapped
+    /// if the text has at most 2^20 bytes. Until it is edited, the text is saved as it was. A name
+    /// without a text is that of a new file; the text stays.
     ///
     /// If memory runs out, the editor is as before.
     pub fn open(&mut self, name: &str, text: Option<String>) -> Result<(), AllocError>
@@ -101,9 +102,13 @@ impl Editor {
             IsWritten (draft_of self.new).area (end_of self.new) (string_bytes text))) }
         ensures opened { OnOk result (IfSome text (λ text.
             IsOpened (draft_of self.new).area (wraps_of self.new))) }
+        ensures wraps { OnOk result (IfSome text (λ text.
+            IsTrue (wraps_of self.new) ↔ (length (string_bytes text) ≤ WRAPPED_BYTES))) }
         ensures unnumbered { OnOk result (IfSome text (λ text. numbers_of self.new ≡ false)) }
         ensures unchanged { OnOk result (IfSome text (λ text.
             (draft_of self.new).is_changed ≡ false)) }
+        ensures new_file { OnOk result (text ≡ None →
+            (draft_of self.new ≡ draft_of self.old) × (end_of self.new ≡ end_of self.old)) }
         ensures err { OnErr result (self.new ≡ self.old) }
     {
         let alloc = self.allocator();
@@ -121,6 +126,8 @@ impl Editor {
         ensures written { OnOk result
             (IsWritten (draft_of self.new).area (end_of self.new) (string_bytes text)) }
         ensures opened { OnOk result (IsOpened (draft_of self.new).area (wraps_of self.new)) }
+        ensures wraps { OnOk result
+            (IsTrue (wraps_of self.new) ↔ (length (string_bytes text) ≤ WRAPPED_BYTES)) }
         ensures unnumbered { OnOk result (numbers_of self.new ≡ false) }
         ensures unchanged { OnOk result ((draft_of self.new).is_changed ≡ false) }
         ensures err { OnErr result (self.new ≡ self.old) }
