@@ -418,40 +418,50 @@ uint32_t ta_paste(ta_handle_t *handle);
 
 /* Removals. If text is selected, each of them but `ta_clear` removes only that. */
 
-/** Removes the atomic range that ends at the cursor or strictly contains it, or else the
- * character before the cursor, or at column 0 the line break.
+/** Removes the atomic range that ends at the cursor or strictly contains it, or else the character
+ * before the cursor, or at column 0 the line break. Returns whether it removed text.
  *
- * Statuses: ok (text was removed), false, out of memory, empty handle. */
+ * Statuses: ok (true), false, out of memory, empty handle. */
 uint32_t ta_delete_char(ta_handle_t *handle);
 
 /** Removes the atomic range that starts at the cursor or strictly contains it, or else the
- * character after the cursor, or at a line's end the line break.
+ * character after the cursor, or at a line's end the line break. Returns whether it removed text.
  *
- * Statuses: ok (text was removed), false, out of memory, empty handle. */
+ * Statuses: ok (true), false, out of memory, empty handle. */
 uint32_t ta_delete_next_char(ta_handle_t *handle);
 
-/** Removes the line break before the cursor's line.
+/** Removes the line break before the cursor's line. Returns whether it removed text.
  *
- * Statuses: ok (text was removed), false, out of memory, empty handle. */
+ * Statuses: ok (true), false, out of memory, empty handle. */
 uint32_t ta_delete_newline(ta_handle_t *handle);
 
-/** Removes and yanks the next `count` characters after the cursor, or all if there are fewer;
- * each line break counts as one.
+/** Removes and yanks the next characters after the cursor, at most this number; each line break
+ * counts as one. Returns whether it removed text.
  *
- * Statuses: ok (text was removed), false, out of memory, empty handle. */
+ * Statuses: ok (true), false, out of memory, empty handle. */
 uint32_t ta_delete_str(ta_handle_t *handle, size_t count);
 
 /** Removes and yanks the text from the cursor to its line's end; at the line's end it does what
- * `ta_delete_next_char` does.
+ * `ta_delete_next_char` does. Returns whether it removed text.
  *
- * Statuses: ok (text was removed), false, out of memory, empty handle. */
+ * Statuses: ok (true), false, out of memory, empty handle. */
 uint32_t ta_delete_line_by_end(ta_handle_t *handle);
 
-/** Removes and yanks the text from the line's start to the cursor; at the line's start it does
- * what `ta_delete_newline` does.
+/** Removes and yanks the text from the line's start to the cursor; at the line's start it does what
+ * `ta_delete_newline` does. Returns whether it removed text.
  *
- * Statuses: ok (text was removed), false, out of memory, empty handle. */
+ * Statuses: ok (true), false, out of memory, empty handle. */
 uint32_t ta_delete_line_by_head(ta_handle_t *handle);
+
+/** Removes and yanks the whole text, as one edit, and returns whether there was any.
+ *
+ * Statuses: ok (true), false, out of memory, empty handle. */
+uint32_t ta_clear(ta_handle_t *handle);
+
+/** Yanks and removes the selected text, returns whether there was any, and drops the selection.
+ *
+ * Statuses: ok (true), false, out of memory, empty handle. */
+uint32_t ta_cut(ta_handle_t *handle);
 
 /** Removes the atomic range that ends at the cursor or strictly contains it. Otherwise removes
  * and yanks the text from the start of the word before the cursor, or from the line's start, to
@@ -466,11 +476,6 @@ uint32_t ta_delete_word(ta_handle_t *handle);
  *
  * Statuses: ok (text was removed), false, out of memory, empty handle. */
 uint32_t ta_delete_next_word(ta_handle_t *handle);
-
-/** Removes and yanks the whole text, as one edit. An empty text area stays unchanged.
- *
- * Statuses: ok, false (there was no text), out of memory, empty handle. */
-uint32_t ta_clear(ta_handle_t *handle);
 
 /* Keys: each input asks for one of the calls, by one of two key tables. */
 
@@ -493,36 +498,36 @@ uint32_t ta_input_without_shortcuts(ta_handle_t *handle, const ta_input_t *input
 
 /* Undo and redo. */
 
-/** Undoes the newest edit. The cursor is then after the restored text, or where the removed text
- * began, and nothing is selected.
+/** Undoes the newest edit, and returns whether there was one. The cursor is then after the restored
+ * text, or where the removed text began, and nothing is selected.
  *
- * Statuses: ok, false (there was no edit), out of memory, empty handle. */
+ * Statuses: ok (true), false, out of memory, empty handle. */
 uint32_t ta_undo(ta_handle_t *handle);
 
-/** Redoes the edit that was undone last. The cursor is then where that edit left it, and nothing is
- * selected.
+/** Redoes the edit that was undone last, and returns whether there was one. The cursor is then
+ * where that edit left it, and nothing is selected.
  *
- * Statuses: ok, false (there was no edit), out of memory, empty handle. */
+ * Statuses: ok (true), false, out of memory, empty handle. */
 uint32_t ta_redo(ta_handle_t *handle);
 
 /** Forgets all edits, and remembers at most this number from now on, done and undone together.
  *
  * Statuses: ok, empty handle. */
-uint32_t ta_set_max_histories(ta_handle_t *handle, size_t max_histories);
+uint32_t ta_set_max_histories(ta_handle_t *handle, size_t maximum);
+
+/** Sets whether typed edits join into one edit, which is undone at once. A run of typing ends.
+ *
+ * Statuses: ok, empty handle. */
+uint32_t ta_set_undo_coalescing(ta_handle_t *handle, bool joins);
 
 /** Returns the greatest number of edits that are remembered, done and undone together.
  *
  * Statuses: ok, empty handle. */
 uint32_t ta_max_histories(ta_handle_t *handle, size_t *max_histories);
 
-/** Sets whether typed edits join into one edit, which is undone at once. A run of typing ends.
- *
- * Statuses: ok, empty handle. */
-uint32_t ta_set_undo_coalescing(ta_handle_t *handle, bool undo_coalescing);
-
 /** Returns whether typed edits join into one.
  *
- * Statuses: ok (they do), false, empty handle. */
+ * Statuses: ok (true), false, empty handle. */
 uint32_t ta_undo_coalescing(ta_handle_t *handle);
 
 /** Sets the time of the edits that follow, in nanoseconds from any fixed time. A time before the
@@ -572,7 +577,7 @@ uint32_t ta_scroll(ta_handle_t *handle, int16_t rows, int16_t columns);
  * Statuses: ok, invalid argument (there is no such scroll), empty handle. */
 uint32_t ta_scroll_page(ta_handle_t *handle, uint32_t page);
 
-/* The selection, copying and cutting, and the yanked text. */
+/* The selection, copying, and the yanked text. */
 
 /** Begins an empty selection at the cursor.
  *
@@ -589,6 +594,11 @@ uint32_t ta_cancel_selection(ta_handle_t *handle);
  * Statuses: ok, empty handle. */
 uint32_t ta_select_all(ta_handle_t *handle);
 
+/** Yanks the selected text, if there is any, and drops the selection.
+ *
+ * Statuses: ok, out of memory, empty handle. */
+uint32_t ta_copy(ta_handle_t *handle);
+
 /** Returns whether a selection is open, even an empty one.
  *
  * Statuses: ok (it is), false, empty handle. */
@@ -598,16 +608,6 @@ uint32_t ta_is_selecting(ta_handle_t *handle);
  *
  * Statuses: ok, false (no selection is open), empty handle. */
 uint32_t ta_selection_range(ta_handle_t *handle, size_t *start_row, size_t *start_column, size_t *end_row, size_t *end_column);
-
-/** Yanks the selected text, if there is any, and drops the selection.
- *
- * Statuses: ok, out of memory, empty handle. */
-uint32_t ta_copy(ta_handle_t *handle);
-
-/** Yanks and removes the selected text, and drops the selection.
- *
- * Statuses: ok, false (no text was selected), out of memory, empty handle. */
-uint32_t ta_cut(ta_handle_t *handle);
 
 /** Returns the text that was yanked last, with a line feed for each line break; empty at first.
  * `out` gets the first of its bytes, as many as there is room for, and `needed` the number of all.
@@ -658,6 +658,11 @@ uint32_t ta_search_back(ta_handle_t *handle, bool match_cursor);
 
 /* Atomic ranges: spans of characters in a line that are edited as a whole. */
 
+/** Drops all atomic ranges.
+ *
+ * Statuses: ok, empty handle. */
+uint32_t ta_clear_atomic_ranges(ta_handle_t *handle);
+
 /** Replaces the atomic ranges; they are sorted by row and start. Each has at least one character,
  * within one line, and no two share a character. A cursor strictly inside a range moves to its
  * end, a selection's beginning to its start, and a selection that is empty after that is dropped.
@@ -673,11 +678,6 @@ uint32_t ta_set_atomic_ranges(ta_handle_t *handle, const ta_range_t *ranges, siz
  *
  * Statuses: ok, empty handle. */
 uint32_t ta_rejected_ranges(ta_handle_t *handle, ta_rejected_t *out, size_t out_len, size_t *needed);
-
-/** Drops all atomic ranges.
- *
- * Statuses: ok, empty handle. */
-uint32_t ta_clear_atomic_ranges(ta_handle_t *handle);
 
 /** Returns the atomic ranges, sorted by row and start. `out` gets the first of them, as many as
  * there is room for, and `needed` their number.
@@ -705,27 +705,54 @@ uint32_t ta_atomic_range_at_cursor(ta_handle_t *handle, uint32_t direction, ta_r
  * empty handle. */
 uint32_t ta_delete_atomic_range_at_cursor(ta_handle_t *handle, uint32_t direction, ta_range_t *range);
 
-/* Tabs. */
+/* Options of tabs, line numbers and heights. */
 
 /** Sets the distance of tab stops, in columns; at 0 a tab inserts nothing.
  *
  * Statuses: ok, out of memory, empty handle. */
-uint32_t ta_set_tab_length(ta_handle_t *handle, uint8_t tab_length);
-
-/** Returns the distance of tab stops, in columns.
- *
- * Statuses: ok, empty handle. */
-uint32_t ta_tab_length(ta_handle_t *handle, uint8_t *columns);
+uint32_t ta_set_tab_length(ta_handle_t *handle, uint8_t columns);
 
 /** Sets whether a tab is inserted as a tab character, and not as spaces.
  *
  * Statuses: ok, empty handle. */
-uint32_t ta_set_hard_tab_indent(ta_handle_t *handle, bool hard_tab_indent);
+uint32_t ta_set_hard_tab_indent(ta_handle_t *handle, bool hard);
+
+/** Hides the line numbers.
+ *
+ * Statuses: ok, out of memory, empty handle. */
+uint32_t ta_remove_line_number(ta_handle_t *handle);
+
+/** Sets the least height of the whole area, in screen rows; 0 counts as 1. The greatest height is
+ * raised to it if it is less.
+ *
+ * Statuses: ok, empty handle. */
+uint32_t ta_set_min_rows(ta_handle_t *handle, uint16_t rows);
+
+/** Sets the greatest height of the whole area, in screen rows; 0 counts as 1, and less than the
+ * least height as that height.
+ *
+ * Statuses: ok, empty handle. */
+uint32_t ta_set_max_rows(ta_handle_t *handle, uint16_t rows);
+
+/** Returns the distance of tab stops, in columns.
+ *
+ * Statuses: ok, empty handle. */
+uint32_t ta_tab_length(ta_handle_t *handle, uint8_t *tab_length);
 
 /** Returns whether a tab is inserted as a tab character.
  *
- * Statuses: ok (it is), false, empty handle. */
+ * Statuses: ok (true), false, empty handle. */
 uint32_t ta_hard_tab_indent(ta_handle_t *handle);
+
+/** Returns the least height of the whole area, in screen rows, from 1 to the greatest height.
+ *
+ * Statuses: ok, empty handle. */
+uint32_t ta_min_rows(ta_handle_t *handle, uint16_t *min_rows);
+
+/** Returns the greatest height of the whole area, in screen rows: at least the least height.
+ *
+ * Statuses: ok, empty handle. */
+uint32_t ta_max_rows(ta_handle_t *handle, uint16_t *max_rows);
 
 /** Returns a tab at a line's start: a tab character, or a space for each column of its length.
  * `out` gets the first of its bytes, as many as there is room for, and `needed` the number of all.
@@ -750,11 +777,6 @@ uint32_t ta_wrap_mode(ta_handle_t *handle, uint32_t *mode);
  *
  * Statuses: ok, out of memory, invalid argument (a colour's kind does not exist), empty handle. */
 uint32_t ta_set_line_number_style(ta_handle_t *handle, const ta_style_t *style);
-
-/** Hides the line numbers.
- *
- * Statuses: ok, out of memory, empty handle. */
-uint32_t ta_remove_line_number(ta_handle_t *handle);
 
 /** Returns the style of the line numbers.
  *
@@ -785,45 +807,45 @@ uint32_t ta_measure(ta_handle_t *handle, uint16_t width, ta_measure_t *measure);
  * Statuses: ok, invalid argument (a colour's kind does not exist), empty handle. */
 uint32_t ta_set_style(ta_handle_t *handle, const ta_style_t *style);
 
-/** Returns the style of each cell of the inner area, under all other styles.
- *
- * Statuses: ok, empty handle. */
-uint32_t ta_style(ta_handle_t *handle, ta_style_t *style);
-
 /** Sets the style of the cell at the cursor.
  *
  * Statuses: ok, invalid argument (a colour's kind does not exist), empty handle. */
 uint32_t ta_set_cursor_style(ta_handle_t *handle, const ta_style_t *style);
-
-/** Returns the style of the cell at the cursor.
- *
- * Statuses: ok, empty handle. */
-uint32_t ta_cursor_style(ta_handle_t *handle, ta_style_t *style);
 
 /** Sets the style of the cursor's line, in all its visual rows, where no highlight is.
  *
  * Statuses: ok, invalid argument (a colour's kind does not exist), empty handle. */
 uint32_t ta_set_cursor_line_style(ta_handle_t *handle, const ta_style_t *style);
 
-/** Returns the style of the cursor's line, where no highlight is.
- *
- * Statuses: ok, empty handle. */
-uint32_t ta_cursor_line_style(ta_handle_t *handle, ta_style_t *style);
-
 /** Sets the style of selected text.
  *
  * Statuses: ok, invalid argument (a colour's kind does not exist), empty handle. */
 uint32_t ta_set_selection_style(ta_handle_t *handle, const ta_style_t *style);
 
-/** Returns the style of selected text.
- *
- * Statuses: ok, empty handle. */
-uint32_t ta_selection_style(ta_handle_t *handle, ta_style_t *style);
-
 /** Sets the style of the search pattern's matches.
  *
  * Statuses: ok, invalid argument (a colour's kind does not exist), empty handle. */
 uint32_t ta_set_search_style(ta_handle_t *handle, const ta_style_t *style);
+
+/** Returns the style of each cell of the inner area, under all others.
+ *
+ * Statuses: ok, empty handle. */
+uint32_t ta_style(ta_handle_t *handle, ta_style_t *style);
+
+/** Returns the style of the cell at the cursor.
+ *
+ * Statuses: ok, empty handle. */
+uint32_t ta_cursor_style(ta_handle_t *handle, ta_style_t *style);
+
+/** Returns the style of the cursor's line, where no highlight is.
+ *
+ * Statuses: ok, empty handle. */
+uint32_t ta_cursor_line_style(ta_handle_t *handle, ta_style_t *style);
+
+/** Returns the style of selected text.
+ *
+ * Statuses: ok, empty handle. */
+uint32_t ta_selection_style(ta_handle_t *handle, ta_style_t *style);
 
 /** Returns the style of the search pattern's matches.
  *
@@ -832,16 +854,21 @@ uint32_t ta_search_style(ta_handle_t *handle, ta_style_t *style);
 
 /* The mask, the cursor's cell, and custom highlights. */
 
+/** Shows the text itself again.
+ *
+ * Statuses: ok, empty handle. */
+uint32_t ta_clear_mask_char(ta_handle_t *handle);
+
+/** Removes all custom highlights.
+ *
+ * Statuses: ok, empty handle. */
+uint32_t ta_clear_custom_highlight(ta_handle_t *handle);
+
 /** Shows the character with this number instead of each character of the text. The cursor's cell
  * and `ta_cursor_at_position` still follow the columns of the text itself.
  *
  * Statuses: ok, invalid argument (no character has this number), empty handle. */
 uint32_t ta_set_mask_char(ta_handle_t *handle, uint32_t mask);
-
-/** Shows the text itself again.
- *
- * Statuses: ok, empty handle. */
-uint32_t ta_clear_mask_char(ta_handle_t *handle);
 
 /** Returns the number of the character that is shown instead of each character of the text.
  *
@@ -867,11 +894,6 @@ uint32_t ta_cursor_render_mode(ta_handle_t *handle, uint32_t *mode);
  *
  * Statuses: ok, out of memory, invalid argument (a colour's kind does not exist), empty handle. */
 uint32_t ta_custom_highlight(ta_handle_t *handle, size_t start_row, size_t start_byte, size_t end_row, size_t end_byte, const ta_style_t *style, uint8_t priority);
-
-/** Removes all custom highlights.
- *
- * Statuses: ok, empty handle. */
-uint32_t ta_clear_custom_highlight(ta_handle_t *handle);
 
 /* The surround: a block around the text, a placeholder for an empty text, and height limits. */
 
@@ -930,28 +952,6 @@ uint32_t ta_placeholder_text(ta_handle_t *handle, uint8_t *out, size_t out_len, 
  *
  * Statuses: ok, false (it has no line), empty handle. */
 uint32_t ta_placeholder_style(ta_handle_t *handle, ta_style_t *style);
-
-/** Sets the least height of the whole area, in screen rows; 0 counts as 1. The greatest height is
- * raised to it if it is less.
- *
- * Statuses: ok, empty handle. */
-uint32_t ta_set_min_rows(ta_handle_t *handle, uint16_t rows);
-
-/** Returns the least height of the whole area, in screen rows, from 1 to the greatest height.
- *
- * Statuses: ok, empty handle. */
-uint32_t ta_min_rows(ta_handle_t *handle, uint16_t *rows);
-
-/** Sets the greatest height of the whole area, in screen rows; 0 counts as 1, and less than the
- * least height as that height.
- *
- * Statuses: ok, empty handle. */
-uint32_t ta_set_max_rows(ta_handle_t *handle, uint16_t rows);
-
-/** Returns the greatest height of the whole area, in screen rows: at least the least height.
- *
- * Statuses: ok, empty handle. */
-uint32_t ta_max_rows(ta_handle_t *handle, uint16_t *rows);
 
 /* The screen of a text area, and drawing on it. */
 

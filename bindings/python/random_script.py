@@ -1,13 +1,20 @@
-"""Prints a script of random calls: python3 random_script.py SEED COUNT"""
+"""Prints a script of random calls: python3 random_script.py SEED COUNT [plain]
+
+With `plain` it has only the commands that the replayers in C and Rust know.
+"""
 
 import random
 import sys
 
+from script_calls import METHODS, SETTERS
+
 TEXTS = ["one", "two words", "a\\nb", "\\n", "", "犬", "é", "e\\u{301}", "\\t", "x\\r\\ny", "long_word_that_wraps", " ", "a.b, c", "👩‍👩‍👧", "\\\\", "1\\n2\\n3"]
 CHARS = ["a", "b", " ", "\\n", "\\t", "犬", "é", "\\u{301}", "_", ".", "\\\\", "Z", "\\r"]
-EDITS = """insert_tab insert_newline delete_newline delete_char delete_next_char delete_line_by_end delete_line_by_head
-delete_word delete_next_word cut copy paste undo undo undo redo start_selection cancel_selection select_all yank_text
-clear_mask_char""".split()
+BARE = [name for name, (kind, _) in METHODS.items() if not kind] + "undo undo yank_text clear_mask_char".split()
+WITH_ARGUMENTS = {name: kind for name, (kind, _) in METHODS.items() if kind} | {name: kind for name, (_, kind) in SETTERS.items()}
+VALUES = {"bool": ["true", "false"], "u8": range(8), "u16": range(8), "usize": range(8)}
+# Where the values of the type would leave too little to try.
+OWN_VALUES = {"set_tab_length": [0, 1, 2, 4, 8], "set_undo_coalescing": ["true", "true", "false"], "set_max_histories": [0, 3, 50, 50]}
 MOVES = """Forward Back Up Down Head End Top Bottom WordForward WordEnd WordBack ParagraphForward ParagraphBack
 InViewport""".split()
 PATTERNS = ["o", "a+", "^", "[a-z]+", "(", "", "\\\\s", "犬", "b$"]
@@ -24,22 +31,19 @@ def command(r):
     if kind < 8:
         return "insert_str " + pick(TEXTS)
     if kind < 12:
-        return pick(EDITS)
+        return pick(BARE)
     if kind < 15:
         return "move " + pick(MOVES)
     if kind < 17:
         key = pick([pick(KEYS), "Char " + pick(list("abefhkjwdnpury<>]v")), f"F {small()}"])
         return f"input {pick(['-', '-', 'c', 'a', 's', 'ca', 'cs', 'as', 'cas'])} {key}"
     return pick([
-        lambda: f"delete_str {small()}",
         lambda: f"jump {small()} {small()}",
         lambda: f"go_to {small()} {small()}",
         lambda: f"insert_pasted {pick(TEXTS)}",
         lambda: "text",
         lambda: f"scroll {r.randrange(-4, 5)} {r.randrange(-2, 3)}",
         lambda: f"page {pick(['PageDown', 'PageUp', 'HalfPageDown', 'HalfPageUp'])}",
-        lambda: f"search_forward {pick(['true', 'false'])}",
-        lambda: f"search_back {pick(['true', 'false'])}",
         lambda: f"set_search_pattern {pick(PATTERNS)}",
         lambda: f"set_yank_text {pick(TEXTS)}",
         lambda: "ranges " + " ".join(f"{small()} {small()} {small()}" for _ in range(r.randrange(1, 3))),
@@ -49,20 +53,34 @@ def command(r):
         lambda: f"render {r.randrange(90)} {r.randrange(30)} {r.randrange(30)} {r.randrange(8)}",
         lambda: f"render {small()} {small()} {r.randrange(5, 30)} {r.randrange(1, 8)}",
         lambda: f"hit {r.randrange(30)} {r.randrange(12)}",
-        lambda: f"set_tab_length {pick([0, 1, 2, 4, 8])}",
-        lambda: f"set_hard_tab_indent {pick(['true', 'false'])}",
-        lambda: f"set_undo_coalescing {pick(['true', 'true', 'false'])}",
         lambda: f"set_wrap_mode {pick(['None', 'Word', 'Glyph', 'WordOrGlyph'])}",
         lambda: f"set_mask_char {pick(CHARS[:2] + ['•'])}",
         lambda: f"line_numbers {pick(['true', 'false'])}",
         lambda: f"now {r.randrange(5000)}",
-        lambda: f"set_max_histories {pick([0, 3, 50, 50])}",
+        *[lambda name=name, kind=kind: f"{name} {pick(OWN_VALUES.get(name, VALUES[kind]))}" for name, kind in WITH_ARGUMENTS.items()],
     ])()
 
 
+def plain_command(r):
+    """A random command whose call passes a character, a text, a move, a truth value or a number at most."""
+    pick, kind = r.choice, r.randrange(12)
+    if kind < 4:
+        return "insert_char " + pick([c for c in CHARS if c.isascii() and "u{" not in c])
+    if kind < 6:
+        return "insert_str " + pick([text for text in TEXTS if "u{" not in text])
+    if kind < 9:
+        return pick([name for name, (argument, _) in METHODS.items() if not argument])
+    if kind < 10:
+        return "move " + pick(MOVES)
+    if kind < 11:
+        name = pick(list(WITH_ARGUMENTS))
+        return f"{name} {pick(OWN_VALUES.get(name, VALUES[WITH_ARGUMENTS[name]]))}"
+    return "set_search_pattern " + pick(PATTERNS)
+
+
 def main():
-    r = random.Random(int(sys.argv[1]))
-    sys.stdout.buffer.write("".join(command(r) + "\n" for _ in range(int(sys.argv[2]))).encode())
+    r, random_command = random.Random(int(sys.argv[1])), plain_command if sys.argv[3:] else command
+    sys.stdout.buffer.write("".join(random_command(r) + "\n" for _ in range(int(sys.argv[2]))).encode())
 
 
 main()

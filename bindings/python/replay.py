@@ -8,14 +8,12 @@ A script has one command a line (docs/RULES.md); every command here is one that 
 import re
 import sys
 
+from script_calls import METHODS, SETTERS
 from textarea import (
     Area, Input, Key, Move, Page, PatternRejected, Range, RangesRejected, Style, TextArea, WrapMode,
 )
 
 ESCAPES = {"\\": "\\\\", "\n": "\\n", "\r": "\\r", "\t": "\\t"}
-EDITS = """insert_tab delete_newline delete_char delete_next_char delete_line_by_end
-delete_line_by_head delete_word delete_next_word clear cut paste undo redo""".split()
-CALLS = "insert_newline copy start_selection cancel_selection select_all clear_atomic_ranges".split()
 
 
 def escaped(text):
@@ -49,6 +47,11 @@ def truth(value):
     return "true" if value else "false"
 
 
+def value_of(words, kind):
+    """The value of this type of Rust that the words of a command write."""
+    return words == "true" if kind == "bool" else int(words)
+
+
 class Replay:
     def __init__(self):
         self.area = TextArea()
@@ -60,18 +63,17 @@ class Replay:
         """Makes the call of a command, and returns its result in words."""
         area, (name, _, words) = self.area, line.partition(" ")
         numbers = [int(w) for w in words.split()] if re.fullmatch(r"-?\d+( -?\d+)*", words) else []
-        if name in EDITS:
-            return truth(getattr(area, name)())
-        if name in CALLS:
-            getattr(area, name)()
+        if name in METHODS:
+            kind, has_result = METHODS[name]
+            result = getattr(area, name)(*[value_of(words, kind)] if kind else [])
+            return truth(result) if has_result else "ok"
+        if name in SETTERS:
+            what, kind = SETTERS[name]
+            setattr(area, what, value_of(words, kind))
         elif name == "insert_char":
             area.insert_char(unescaped(words))
         elif name in ("insert_str", "insert_pasted"):
             return truth(getattr(area, name)(unescaped(words)))
-        elif name == "delete_str":
-            return truth(area.delete_str(numbers[0]))
-        elif name in ("search_forward", "search_back"):
-            return truth(getattr(area, name)(words == "true"))
         elif name == "input":
             return truth(area.input(input_of(words)))
         elif name == "text":
@@ -114,14 +116,6 @@ class Replay:
             area.scroll(*numbers)
         elif name == "page":
             area.scroll_page(Page[constant(words)])
-        elif name == "set_tab_length":
-            area.tab_length = numbers[0]
-        elif name == "set_hard_tab_indent":
-            area.hard_tab_indent = words == "true"
-        elif name == "set_max_histories":
-            area.max_histories = numbers[0]
-        elif name == "set_undo_coalescing":
-            area.undo_coalescing = words == "true"
         elif name == "set_wrap_mode":
             area.wrap_mode = WrapMode[constant(words)]
         elif name == "set_mask_char":

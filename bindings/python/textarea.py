@@ -19,24 +19,20 @@ Rows and columns count from 0, columns in characters. A call that runs out of me
 text. An argument that the core doesn't take raises `ValueError`.
 
 A text area stays on the thread that made it. The module loads the library that the environment
-variable TEXTAREA_LIBRARY names, or else libtextarea.so beside this file.
+variable TEXTAREA_LIBRARY names, or else libtextarea.so beside it.
 """
 
 from __future__ import annotations
 
 import ctypes
 import enum
-import os
-import pathlib
 import time
 from dataclasses import dataclass
 from typing import Callable, Iterable, NamedTuple, Optional
 
 import textarea_sys as sys_
-
-_PATH = os.environ.get("TEXTAREA_LIBRARY") or str(pathlib.Path(__file__).parent / "libtextarea.so")
-_lib = ctypes.CDLL(_PATH)
-sys_.declare(_lib)
+from textarea_calls import Calls
+from textarea_library import lib as _lib
 
 
 def _numbers(name: str, prefix: str) -> type:
@@ -295,7 +291,7 @@ def _lines(data: bytes, spans: list, lines: list) -> tuple[Line, ...]:
     return tuple(found)
 
 
-class TextArea:
+class TextArea(Calls):
     """A multi-line text editor. `TextArea(text)` begins with the text's lines and the cursor at the
     start; `TextArea.from_lines(lines)` with lines, in which a line feed stays a character."""
 
@@ -424,20 +420,11 @@ class TextArea:
         out = (ctypes.c_uint8 * max(1, len(whole))).from_buffer_copy(whole or b"\0")
         self._call(_lib.ta_set_lines, out, len(whole), *_array(ctypes.c_size_t, ends), *cursor)
 
-    @property
-    def is_empty(self) -> bool:
-        """Whether the text is one empty line."""
-        return self._call(_lib.ta_is_empty)
-
     # ---- Edits
 
     def insert_char(self, character: str) -> None:
         """Inserts the character at the cursor; a line feed and a carriage return break the line."""
         self._edit(_lib.ta_insert_char, ord(character))
-
-    def insert_newline(self) -> None:
-        """Breaks the line at the cursor."""
-        self._edit(_lib.ta_insert_newline)
 
     def insert_str(self, text: str) -> bool:
         """Inserts the text at the cursor. Returns whether it inserted something or removed a
@@ -450,51 +437,6 @@ class TextArea:
         selection."""
         return self._edit(_lib.ta_insert_pasted, *_bytes(text))
 
-    def insert_tab(self) -> bool:
-        """Inserts a tab, or spaces up to the next tab stop. Returns whether it did something."""
-        return self._edit(_lib.ta_insert_tab)
-
-    def delete_char(self) -> bool:
-        """Removes the atomic range or the character before the cursor, or the line break. Returns
-        whether it removed text."""
-        return self._edit(_lib.ta_delete_char)
-
-    def delete_next_char(self) -> bool:
-        """Removes the atomic range or the character after the cursor, or the line break. Returns
-        whether it removed text."""
-        return self._edit(_lib.ta_delete_next_char)
-
-    def delete_newline(self) -> bool:
-        """Removes the line break before the cursor's line. Returns whether there was one."""
-        return self._edit(_lib.ta_delete_newline)
-
-    def delete_str(self, count: int) -> bool:
-        """Removes and yanks the next `count` characters; a line break counts as one. Returns whether
-        it removed text."""
-        return self._edit(_lib.ta_delete_str, count)
-
-    def delete_line_by_end(self) -> bool:
-        """Removes and yanks the text up to the line's end; at the end does what `delete_next_char`
-        does. Returns whether it removed text."""
-        return self._edit(_lib.ta_delete_line_by_end)
-
-    def delete_line_by_head(self) -> bool:
-        """Removes and yanks the text from the line's start; at the start does what `delete_newline`
-        does. Returns whether it removed text."""
-        return self._edit(_lib.ta_delete_line_by_head)
-
-    def delete_word(self) -> bool:
-        """Removes the atomic range or the word before the cursor. Returns whether it removed text."""
-        return self._edit(_lib.ta_delete_word)
-
-    def delete_next_word(self) -> bool:
-        """Removes the atomic range or the word after the cursor. Returns whether it removed text."""
-        return self._edit(_lib.ta_delete_next_word)
-
-    def clear(self) -> bool:
-        """Removes and yanks the whole text. Returns whether there was any."""
-        return self._edit(_lib.ta_clear)
-
     def input(self, input: Input) -> bool:
         """Makes the call that the key table with shortcuts has for the input. Returns whether the
         text changed."""
@@ -505,32 +447,6 @@ class TextArea:
         return self._edit(_lib.ta_input_without_shortcuts, _input(input))
 
     # ---- History
-
-    def undo(self) -> bool:
-        """Undoes the newest edit. Returns whether there was one."""
-        return self._edit(_lib.ta_undo)
-
-    def redo(self) -> bool:
-        """Redoes the edit that was undone last. Returns whether there was one."""
-        return self._edit(_lib.ta_redo)
-
-    @property
-    def max_histories(self) -> int:
-        """The greatest number of edits that are remembered. Setting it forgets all edits."""
-        return self._numbers(ctypes.c_size_t, 1, _lib.ta_max_histories)[0]
-
-    @max_histories.setter
-    def max_histories(self, maximum: int) -> None:
-        self._call(_lib.ta_set_max_histories, maximum)
-
-    @property
-    def undo_coalescing(self) -> bool:
-        """Whether typed edits join into one edit, which is undone at once."""
-        return self._call(_lib.ta_undo_coalescing)
-
-    @undo_coalescing.setter
-    def undo_coalescing(self, joins: bool) -> None:
-        self._call(_lib.ta_set_undo_coalescing, joins)
 
     def set_now(self, nanoseconds: int) -> None:
         """Sets the time of the edits that follow, from any fixed time, instead of a clock's."""
@@ -564,40 +480,11 @@ class TextArea:
         """Scrolls by a page or half a page."""
         self._call(_lib.ta_scroll_page, page)
 
-    def start_selection(self) -> None:
-        """Begins an empty selection at the cursor."""
-        self._call(_lib.ta_start_selection)
-
-    def cancel_selection(self) -> None:
-        """Drops the selection; the text stays."""
-        self._call(_lib.ta_cancel_selection)
-
-    def select_all(self) -> None:
-        """Selects the whole text, and moves the cursor to its end."""
-        self._call(_lib.ta_select_all)
-
-    @property
-    def is_selecting(self) -> bool:
-        """Whether a selection is open, even an empty one."""
-        return self._call(_lib.ta_is_selecting)
-
     @property
     def selection_range(self) -> Optional[tuple[tuple[int, int], tuple[int, int]]]:
         """The two ends of the selection, the first one first."""
         ends = self._numbers(ctypes.c_size_t, 4, _lib.ta_selection_range)
         return ends and (ends[:2], ends[2:])
-
-    def copy(self) -> None:
-        """Yanks the selected text, if there is any, and drops the selection."""
-        self._call(_lib.ta_copy)
-
-    def cut(self) -> bool:
-        """Yanks and removes the selected text. Returns whether there was any."""
-        return self._edit(_lib.ta_cut)
-
-    def paste(self) -> bool:
-        """Inserts the yanked text. Returns whether there was any."""
-        return self._edit(_lib.ta_paste)
 
     @property
     def yank_text(self) -> str:
@@ -620,14 +507,6 @@ class TextArea:
     def search_pattern(self, pattern: Optional[str]) -> None:
         self._call(_lib.ta_set_search_pattern, *_bytes(pattern or ""))
 
-    def search_forward(self, match_cursor: bool = False) -> bool:
-        """Moves the cursor to the next start of a match. Returns whether there was one."""
-        return self._call(_lib.ta_search_forward, match_cursor)
-
-    def search_back(self, match_cursor: bool = False) -> bool:
-        """Moves the cursor to the last start of a match before it. Returns whether there was one."""
-        return self._call(_lib.ta_search_back, match_cursor)
-
     # ---- Atomic ranges
 
     @property
@@ -639,10 +518,6 @@ class TextArea:
     @atomic_ranges.setter
     def atomic_ranges(self, ranges: Iterable[Range]) -> None:
         self._call(_lib.ta_set_atomic_ranges, *_array(sys_.Range, [sys_.Range(*r) for r in ranges]))
-
-    def clear_atomic_ranges(self) -> None:
-        """Drops all atomic ranges."""
-        self._call(_lib.ta_clear_atomic_ranges)
 
     def normalize_cursor_around_atomic_ranges(self, side: Side) -> bool:
         """Moves a cursor strictly inside an atomic range to one of its ends. Returns whether it
@@ -660,24 +535,6 @@ class TextArea:
         return _range(found) if self._edit(_lib.ta_delete_atomic_range_at_cursor, side, found) else None
 
     # ---- Settings
-
-    @property
-    def tab_length(self) -> int:
-        """The distance of tab stops, in columns; at 0 a tab inserts nothing."""
-        return self._numbers(ctypes.c_uint8, 1, _lib.ta_tab_length)[0]
-
-    @tab_length.setter
-    def tab_length(self, columns: int) -> None:
-        self._call(_lib.ta_set_tab_length, columns)
-
-    @property
-    def hard_tab_indent(self) -> bool:
-        """Whether a tab is inserted as a tab character, and not as spaces."""
-        return self._call(_lib.ta_hard_tab_indent)
-
-    @hard_tab_indent.setter
-    def hard_tab_indent(self, hard: bool) -> None:
-        self._call(_lib.ta_set_hard_tab_indent, hard)
 
     @property
     def indent(self) -> str:
@@ -714,24 +571,6 @@ class TextArea:
     def alignment(self, alignment: Alignment) -> None:
         self._call(_lib.ta_set_alignment, alignment)
 
-    @property
-    def min_rows(self) -> int:
-        """The least height of the whole area, in screen rows."""
-        return self._numbers(ctypes.c_uint16, 1, _lib.ta_min_rows)[0]
-
-    @min_rows.setter
-    def min_rows(self, rows: int) -> None:
-        self._call(_lib.ta_set_min_rows, rows)
-
-    @property
-    def max_rows(self) -> int:
-        """The greatest height of the whole area, in screen rows."""
-        return self._numbers(ctypes.c_uint16, 1, _lib.ta_max_rows)[0]
-
-    @max_rows.setter
-    def max_rows(self, rows: int) -> None:
-        self._call(_lib.ta_set_max_rows, rows)
-
     def measure(self, width: int) -> Measure:
         """The height that an area of this width needs."""
         found = sys_.Measure()
@@ -766,10 +605,6 @@ class TextArea:
         """Highlights the text between two positions, each a row and a byte offset in it. The cursor
         has priority 30, a match 20, a selection 10."""
         self._call(_lib.ta_custom_highlight, *start, *end, style._core(), priority)
-
-    def clear_custom_highlight(self) -> None:
-        """Removes all custom highlights."""
-        self._call(_lib.ta_clear_custom_highlight)
 
     @property
     def block(self) -> Optional[Block]:
@@ -909,25 +744,6 @@ class TextArea:
     def viewport(self) -> Viewport:
         """What is visible of the text."""
         return Viewport(*self._numbers(ctypes.c_size_t, 4, _lib.ta_viewport))
-
-
-def _style_property(name: str, what: str) -> property:
-    getter, setter = getattr(_lib, f"ta_{name}"), getattr(_lib, f"ta_set_{name}")
-    return property(
-        lambda self: self._style(getter),
-        lambda self, style: self._call(setter, style._core()) and None,
-        doc=f"The style of {what}.",
-    )
-
-
-for _name, _what in (
-    ("style", "each cell of the inner area, under all others"),
-    ("cursor_style", "the cell at the cursor"),
-    ("cursor_line_style", "the cursor's line, where no highlight is"),
-    ("selection_style", "selected text"),
-    ("search_style", "the search pattern's matches"),
-):
-    setattr(TextArea, _name, _style_property(_name, _what))
 
 
 def _range(range: sys_.Range) -> Range:

@@ -39,7 +39,7 @@ pub enum Key {
 }
 
 /// A key with the modifiers that are pressed. The default is [`Key::Null`] without any.
-#[derive(Clone, Copy, Debug, Default, PartialEq, Eq, Hash)]
+#[derive(Clone, Debug, Default, PartialEq, Eq, Hash)]
 pub struct Input {
     pub key: Key,
     pub ctrl: bool,

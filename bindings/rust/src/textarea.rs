@@ -1,5 +1,6 @@
 //! The text area.
 
+mod calls;
 mod edits;
 mod looks;
 mod settings;

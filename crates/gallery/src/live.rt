@@ -58,13 +58,14 @@ impl Session {
             let asked = Instant::now(rt)?;
             let count = rt.stdin().read(&mut bytes)?;
             let now = Instant::now(rt)?;
-            let is_there = count > 0 || now.duration_since(asked) > Duration::from_millis(5);
+            let waited = now.duration_since(asked);
+            let is_there = count > 0 || waited > Duration::from_millis(5);
             empty_reads = if is_there {
                 0
             } else {
                 empty_reads.saturating_add(1)
             };
-            let goes_on = self.take(rt, &bytes[..count], now.duration_since(begin))?;
+            let goes_on = self.take(rt, &bytes[..count], waited, now.duration_since(begin))?;
             if !goes_on || empty_reads > MOST_EMPTY_READS {
                 break;
             }
@@ -72,11 +73,19 @@ impl Session {
         Ok(())
     }
 
-    // Takes bytes of the terminal, or none after a while, and returns whether the program goes on.
-    fn take(&mut self, rt: &HostRuntime, bytes: &[u8], now: Duration) -> Result<bool> {
+    // Takes bytes of the terminal, or that none came in this time, and returns whether the program
+    // goes on.
+    fn take(
+        &mut self,
+        rt: &HostRuntime,
+        bytes: &[u8],
+        waited: Duration,
+        now: Duration,
+    ) -> Result<bool> {
         let mut events = Vec::new(self.alloc);
         if bytes.is_empty() {
-            self.decoder.idle(&mut events)?;
+            let milliseconds = u32::try_from(waited.as_millis()).unwrap_or(u32::MAX);
+            self.decoder.idle(milliseconds, &mut events)?;
         } else {
             self.decoder.feed(bytes, &mut events)?;
         }

@@ -55,7 +55,7 @@ impl Program {
     /// Takes an event that came at this time, and returns whether the program goes on.
     pub fn take(&mut self, event: &Event, now: Duration) -> Result<bool> {
         match event {
-            Event::Input(input) => self.take_input(*input, now),
+            Event::Input(input) => self.take_input(Input { ..*input }, now),
             Event::Paste(text) => self.paste(text.as_str()),
             _ => Ok(true),
         }

@@ -35,8 +35,8 @@ alike InsertNewline InsertNewline e = record { symbols = refl; inserts = refl; f
 alike DeleteNewline DeleteNewline e = record { symbols = refl; inserts = refl; fragment_lines = refl }
 alike (InsertStr s) (InsertStr t) e = record { symbols = ap characters e; inserts = refl; fragment_lines = refl }
 alike (DeleteStr s) (DeleteStr t) e = record { symbols = ap characters e; inserts = refl; fragment_lines = refl }
-alike (InsertChunk p) (InsertChunk q) e = record { symbols = ap joined e; inserts = refl; fragment_lines = ap Some (sym (length-map q.value.items characters_of) ∙ ap length e ∙ length-map p.value.items characters_of) }
-alike (DeleteChunk p) (DeleteChunk q) e = record { symbols = ap joined e; inserts = refl; fragment_lines = ap Some (sym (length-map q.value.items characters_of) ∙ ap length e ∙ length-map p.value.items characters_of) }
+alike (InsertChunk p) (InsertChunk q) e = record { symbols = ap joined e; inserts = refl; fragment_lines = ap Some (sym (length-map q.items characters_of) ∙ ap length e ∙ length-map p.items characters_of) }
+alike (DeleteChunk p) (DeleteChunk q) e = record { symbols = ap joined e; inserts = refl; fragment_lines = ap Some (sym (length-map q.items characters_of) ∙ ap length e ∙ length-map p.items characters_of) }
 alike kind copy h = absurd h
 
 -- the copy has the same splice, the same end and the same number of lines

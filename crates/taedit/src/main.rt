@@ -2,11 +2,46 @@
 #![tactic(auto)]
 
 use anyhow::{Result, bail};
-use std::env;
 use std::io::{Read, Write};
 use std::time::{Duration, Instant};
+use std::{env, fs};
 use textarea_editor::message::Message;
-use textarea_editor::{Arguments, DiskFile, Editor, Effect, Screen};
+use textarea_editor::{Arguments, DiskFile, Editor, Effect, Event, Screen};
+
+// The file that `bin/taedit` writes the terminal's size to when it may have changed: the rows, the
+// columns, and a number that differs from the one before.
+#[derive(Drop)]
+struct SizeFile {
+    name: Option<String>,
+    text: String,
+}
+
+impl SizeFile {
+    fn new(rt: &HostRuntime) -> SizeFile {
+        SizeFile {
+            name: env::var(rt, "TAEDIT_SIZE").ok(),
+            text: String::new(rt.alloc()),
+        }
+    }
+
+    // Returns the size if the file has been written since the last call.
+    fn news(&mut self, rt: &HostRuntime) -> Option<Event> {
+        let text = fs::read_to_string(rt, self.name.as_ref()?.as_str()).ok()?;
+        if text.as_str() == self.text.as_str() {
+            return None;
+        }
+        let size = size_of(text.as_str());
+        self.text = text;
+        size
+    }
+}
+
+fn size_of(text: &str) -> Option<Event> {
+    let mut words = text.split(' ');
+    let rows = words.next()?.parse::<u16>().ok()?;
+    let columns = words.next()?.parse::<u16>().ok()?;
+    Some(Event::Size { columns, rows })
+}
 
 fn main(rt: HostRuntime) -> Result<()> {
     let words: Vec<String> = env::args(&rt)?.skip(1).collect(rt.alloc())?;
@@ -32,12 +67,21 @@ fn size_in(rt: &HostRuntime, variable: &str, other: u16) -> u16 {
     }
 }
 
+// Whether the terminal is the Linux console.
+fn is_console(rt: &HostRuntime) -> bool {
+    match env::var(rt, "TERM") {
+        Ok(name) => name.as_str() == "linux",
+        Err(_) => false,
+    }
+}
+
 fn edit_with(rt: &HostRuntime, editor: &mut Editor, name: Option<&str>) -> Result<()> {
     let mut file = DiskFile::default();
     if let Some(name) = name {
         open(rt, editor, &mut file, name)?;
     }
     let mut screen = Screen::new(rt.alloc(), editor.screen_area())?;
+    screen.set_console(is_console(rt));
     let outcome = run(rt, editor, &mut screen, &mut file);
     drop(screen);
     outcome
@@ -59,31 +103,54 @@ fn run(
     file: &mut DiskFile,
 ) -> Result<()> {
     let begin = Instant::now(rt)?;
+    let mut sizes = SizeFile::new(rt);
     show(rt, editor, screen)?;
     for _ in 0..u64::MAX {
         let mut bytes = [0u8; 4096];
         let asked = Instant::now(rt)?;
         let count = rt.stdin().read(&mut bytes)?;
         let now = Instant::now(rt)?;
-        let is_gone = screen.is_gone(count, now.duration_since(asked));
+        let waited = now.duration_since(asked);
+        let is_gone = screen.is_gone(count, waited);
         let time = now.duration_since(begin);
-        if is_gone || !take(rt, editor, screen, file, time, &bytes[..count])? {
+        if count == 0 {
+            take_size(rt, editor, screen, time, &mut sizes)?;
+        }
+        if is_gone || !take(rt, editor, screen, file, time, waited, &bytes[..count])? {
             break;
         }
     }
     Ok(())
 }
 
-// Takes bytes of the terminal, and returns whether the program goes on.
+// Takes a new size of the terminal, and draws all again.
+fn take_size(
+    rt: &HostRuntime,
+    editor: &mut Editor,
+    screen: &mut Screen,
+    time: Duration,
+    sizes: &mut SizeFile,
+) -> Result<()> {
+    if let Some(size) = sizes.news(rt) {
+        let _ = editor.step(time, &size);
+        screen.forget();
+        show(rt, editor, screen)?;
+    }
+    Ok(())
+}
+
+// Takes bytes of the terminal, or that none came in this time, and returns whether the program goes
+// on.
 fn take(
     rt: &HostRuntime,
     editor: &mut Editor,
     screen: &mut Screen,
     file: &mut DiskFile,
     time: Duration,
+    waited: Duration,
     bytes: &[u8],
 ) -> Result<bool> {
-    let Ok(events) = screen.read(bytes) else {
+    let Ok(events) = screen.read(bytes, waited) else {
         editor.show_message(Message::Memory);
         show(rt, editor, screen)?;
         return Ok(true);

@@ -30,37 +30,60 @@ fn bytes_of_hex(alloc: Global, text: &str) -> Result<Option<Vec<u8>>, AllocError
     Ok(Some(bytes))
 }
 
+// The milliseconds of a short and of a long pause.
+const SHORT_PAUSE: u32 = 100;
+
+const LONG_PAUSE: u32 = 5000;
+
 /// Returns the events of all bytes at once, with a call of `idle` at the end.
 pub fn events_at_once(alloc: Global, bytes: &[u8]) -> Result<Vec<Event>, AllocError> {
     let mut decoder = Decoder::new(alloc);
     let mut events = Vec::new(alloc);
     decoder.feed(bytes, &mut events)?;
-    decoder.idle(&mut events)?;
+    decoder.idle(SHORT_PAUSE, &mut events)?;
     Ok(events)
 }
 
-/// Returns the events of slices of bytes that are fed one by one, with a call of `idle` at the end;
-/// `None` if the text is unparsed. A call that runs out of memory is repeated once, and counted.
+/// Returns the events of slices of bytes that are fed one by one, and of what is told between them,
+/// with a call of `idle` at the end; `None` if the text is unparsed. A call that runs out of memory
+/// is repeated once, and counted.
 pub fn events_in_order(
     alloc: Global,
-    hex: &str,
+    text: &str,
     out_of_memory_count: &mut usize,
 ) -> Result<Option<Vec<Event>>, AllocError> {
     let mut decoder = Decoder::new(alloc);
     let mut events = Vec::new(alloc);
-    for segment in hex.split(' ') {
-        match bytes_of_hex(alloc, segment)? {
-            Some(bytes) => feed(
-                &mut decoder,
-                bytes.as_slice(),
-                &mut events,
-                out_of_memory_count,
-            )?,
-            None => return Ok(None),
+    for word in text.split(' ') {
+        if !serve_word(alloc, &mut decoder, word, &mut events, out_of_memory_count)? {
+            return Ok(None);
         }
     }
-    idle(&mut decoder, &mut events, out_of_memory_count)?;
+    idle(&mut decoder, SHORT_PAUSE, &mut events, out_of_memory_count)?;
     Ok(Some(events))
+}
+
+// Tells the decoder what a word says, or feeds it the bytes that it is. Returns `false` if it is
+// neither.
+fn serve_word(
+    alloc: Global,
+    decoder: &mut Decoder,
+    word: &str,
+    events: &mut Vec<Event>,
+    out_of_memory_count: &mut usize,
+) -> Result<bool, AllocError> {
+    match word {
+        "asked" => decoder.asked(),
+        "resizes" => decoder.set_resizes(true),
+        "console" => decoder.set_console(true),
+        "idle" => idle(decoder, SHORT_PAUSE, events, out_of_memory_count)?,
+        "pause" => idle(decoder, LONG_PAUSE, events, out_of_memory_count)?,
+        _ => match bytes_of_hex(alloc, word)? {
+            Some(bytes) => feed(decoder, bytes.as_slice(), events, out_of_memory_count)?,
+            None => return Ok(false),
+        },
+    }
+    Ok(true)
 }
 
 fn feed(
@@ -78,12 +101,13 @@ fn feed(
 
 fn idle(
     decoder: &mut Decoder,
+    milliseconds: u32,
     events: &mut Vec<Event>,
     out_of_memory_count: &mut usize,
 ) -> Result<(), AllocError> {
-    if decoder.idle(events).is_err() {
+    if decoder.idle(milliseconds, events).is_err() {
         *out_of_memory_count = out_of_memory_count.saturating_add(1);
-        decoder.idle(events)?;
+        decoder.idle(milliseconds, events)?;
     }
     Ok(())
 }

@@ -3,10 +3,14 @@
 //! Each line of standard input is one of these, which are served in order:
 //!
 //! - A case of the decoder: its name (which may contain blanks), a tab, and bytes as hexadecimal
-//!   digits, with a blank between the slices that are fed one by one. Prints the name, and each
-//!   event after a semicolon and a blank; `idle` is called after the last slice.
+//!   digits, with a blank between the slices that are fed one by one. Between them the words
+//!   `asked`, `resizes`, `console`, `idle` (a short pause) and `pause` (a long one) are calls of the
+//!   decoder. Prints the name, and each event after a semicolon and a blank; `idle` is called after
+//!   the last slice.
 //! - `random N`: decodes N random byte strings at once, in slices of random lengths and byte by
 //!   byte, and prints whether the events are the same.
+//! - `stream SEED N`: decodes N blocks of 64 KiB, half of them what terminals send, in one piece and
+//!   in slices of random lengths, and prints whether the events are the same.
 //! - A command of the painter (see `painting`), such as `paint`, which prints the painted bytes.
 //! - A comment, which begins with `# ` and is printed unchanged.
 //!

@@ -3,15 +3,17 @@
 //! `size W H` makes a buffer and a painter of W columns and H rows.
 //! `cell X Y FG BG MODIFIER SYMBOL` sets a cell of the buffer; the bits of MODIFIER are the
 //! modifiers, and the rest of the line is the text. `paint X Y` paints the buffer with the caret in
-//! that cell, and `paint` without a caret. `reset` and `resize W H` are calls of the painter. A
-//! colour is 0 for the terminal's own, 1 to 16 for a named one, 256 + N for the indexed colour N,
-//! and 16777216 + 0xRRGGBB for RGB.
+//! that cell, and `paint` without a caret. `reset` and `resize W H` are calls of the painter, as is
+//! `colors N` with N colours: 0, 16, 256 or all for any other number. `shape N` gives the cursor
+//! the shape N of DECSCUSR, and `title TEXT` the window a title. A colour is 0 for the terminal's
+//! own, 1 to 16 for a named one, 256 + N for the indexed colour N, and 16777216 + 0xRRGGBB for RGB.
 //!
-//! Each paint prints a line `frame N`, and then N bytes and a line feed.
+//! Each paint, shape and title prints a line `frame N`, and then N bytes and a line feed.
 
 use std::alloc::{AllocError, Global};
 use textarea_screen::screen::{Buffer, Color, Modifier, Position, Rect, Style};
-use textarea_terminal::output::Painter;
+use textarea_terminal::output::title::{set_cursor_shape, set_title};
+use textarea_terminal::output::{Colors, CursorShape, Painter};
 
 /// A buffer and a painter.
 #[derive(Drop)]
@@ -45,6 +47,12 @@ impl Painting {
             "cell" => self.cell(rest),
             "paint" => self.paint(alloc, rest, printed, out_of_memory_count),
             "resize" => self.resize(alloc, rest, out_of_memory_count),
+            "colors" => {
+                self.painter.set_colors(colors(rest));
+                Ok(true)
+            }
+            "shape" => print_shape(alloc, rest, printed),
+            "title" => print_title(alloc, rest, printed),
             "reset" => {
                 self.painter.reset();
                 Ok(true)
@@ -108,12 +116,51 @@ impl Painting {
             *out_of_memory_count = out_of_memory_count.saturating_add(1);
             self.painter.paint(&self.buffer, caret, &mut frame)?;
         }
-        let count = frame.len();
-        let head = format!(in alloc; "frame {count}\n")?;
-        printed.extend_from_slice(head.as_bytes())?;
-        printed.extend_from_slice(frame.as_slice())?;
-        printed.extend_from_slice(b"\n")?;
-        Ok(true)
+        print_frame(alloc, frame.as_slice(), printed)
+    }
+}
+
+fn print_frame(alloc: Global, frame: &[u8], printed: &mut Vec<u8>) -> Result<bool, AllocError> {
+    let count = frame.len();
+    let head = format!(in alloc; "frame {count}\n")?;
+    printed.extend_from_slice(head.as_bytes())?;
+    printed.extend_from_slice(frame)?;
+    printed.extend_from_slice(b"\n")?;
+    Ok(true)
+}
+
+fn print_shape(alloc: Global, rest: &str, printed: &mut Vec<u8>) -> Result<bool, AllocError> {
+    let mut bytes = Vec::new(alloc);
+    set_cursor_shape(shape(rest), &mut bytes)?;
+    print_frame(alloc, bytes.as_slice(), printed)
+}
+
+fn print_title(alloc: Global, rest: &str, printed: &mut Vec<u8>) -> Result<bool, AllocError> {
+    let mut bytes = Vec::new(alloc);
+    set_title(alloc, rest, &mut bytes)?;
+    print_frame(alloc, bytes.as_slice(), printed)
+}
+
+/// The colours of their number.
+fn colors(number: &str) -> Colors {
+    match number {
+        "0" => Colors::None,
+        "16" => Colors::Sixteen,
+        "256" => Colors::Indexed,
+        _ => Colors::True,
+    }
+}
+
+/// The shape of its number.
+fn shape(number: &str) -> CursorShape {
+    match number {
+        "1" => CursorShape::BlinkingBlock,
+        "2" => CursorShape::Block,
+        "3" => CursorShape::BlinkingUnderline,
+        "4" => CursorShape::Underline,
+        "5" => CursorShape::BlinkingBar,
+        "6" => CursorShape::Bar,
+        _ => CursorShape::Default,
     }
 }
 

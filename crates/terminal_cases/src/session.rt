@@ -2,7 +2,7 @@
 
 use crate::decode::events_in_order;
 use crate::painting::Painting;
-use crate::random::first_differing;
+use crate::random::{first_differing, first_differing_block};
 use crate::text::push_events;
 use std::alloc::{AllocError, Global};
 
@@ -70,6 +70,7 @@ impl Session {
     fn serve_command(&mut self, alloc: Global, line: &str) -> Result<bool, AllocError> {
         match line.split_once(' ') {
             Some(("random", count)) => self.serve_random(alloc, count),
+            Some(("stream", rest)) => self.serve_stream(alloc, rest),
             _ => {
                 let (painting, printed) = (&mut self.painting, &mut self.printed);
                 painting.serve(alloc, line, printed, &mut self.out_of_memory_count)
@@ -91,9 +92,29 @@ impl Session {
         }
     }
 
+    fn serve_stream(&mut self, alloc: Global, rest: &str) -> Result<bool, AllocError> {
+        let Some((seed, count)) = seed_and_count(rest) else {
+            return Ok(false);
+        };
+        match first_differing_block(alloc, seed, count)? {
+            None => self.print("a stream; the same in any pieces"),
+            Some(number) => {
+                self.is_right = false;
+                let reported = format!(in alloc; "block {number} differs in pieces")?;
+                self.print(reported.as_str())
+            }
+        }
+    }
+
     fn print(&mut self, line: &str) -> Result<bool, AllocError> {
         self.printed.extend_from_slice(line.as_bytes())?;
         self.printed.extend_from_slice(b"\n")?;
         Ok(true)
     }
+}
+
+// The two numbers of a stream.
+fn seed_and_count(text: &str) -> Option<(u64, u32)> {
+    let (seed, count) = text.split_once(' ')?;
+    Some((seed.parse::<u64>().ok()?, count.parse::<u32>().ok()?))
 }

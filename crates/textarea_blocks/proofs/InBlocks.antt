@@ -1,7 +1,7 @@
 -- Rows in blocks: totals before a block, the block of a line, and all rows after one block changed.
 use Rattle.std.proofs.lemmas.Grind.{common_steps}
 use Rattle.std.proofs.Common.{◌≡◌, ℕ, zero, suc, ◌+◌, ◌-◌, ◌<◌, ◌≤◌, inl, inr, List, Result, Ok, Err, cond, [], ◌∷◌, ◌++◌, Vec, length, take, drop, get_or, set, vec_len, vec_capacity, sym, ap, refl, ◌∙◌, arith}
-use Rattle.textarea_blocks.specs.Prelude.{IsOk, is_ok, RowsView, replaced, IsBlockOf, IsEdge, all_rows, lines_before, rows_of_each, spare_of_each, marks_at, ranges_at, row_total}
+use Rattle.textarea_blocks.specs.Prelude.{IsOk, is_ok, BlocksView, RowsView, replaced, IsBlockOf, IsEdge, all_rows, lines_before, rows_of_each, spare_of_each, marks_at, ranges_at, row_total}
 use Rattle.std.proofs.lemmas.Bool.{cases_lt}
 use Rattle.std.proofs.lemmas.List.{append-nil, append_assoc, drop-append-le, drop_all, drop_at, drop-drop, drop_more, get_or-append-add, get_or_append_left, get_or-map, get_or-set_same, length-append, length-drop, length-map, map-append, length-set, map-set, set_split, take_all, take-append-drop, take-append-le, take-map, take_more, take_more_set, take-set-le, drop-map, drop-set-lt}
 use Rattle.std.proofs.Math.Seq.{take-add, take-append-add}
@@ -229,9 +229,23 @@ block_count {A} items = length-map items (λ (b : Vec RowsView A). b.items)
 pub blocks_set : {A : Type 0} (items : List (Vec RowsView A)) (block : ℕ) (rows : Vec RowsView A) → rows_of_each (set items block rows) ≡ set (rows_of_each items) block rows.items
 blocks_set {A} items block rows = map-set (λ (b : Vec RowsView A). b.items) items block rows
 
+pub spare_count : {A : Type 0} (items : List (Vec RowsView A)) → length (spare_of_each items) ≡ length items
+spare_count {A} items = length-map items (λ (b : Vec RowsView A). vec_capacity b - vec_len b)
+
+-- blocks and their room are the same if each part is
+pub view_same : (one other : BlocksView) → one.blocks ≡ other.blocks → one.spare ≡ other.spare → one.more ≡ other.more → one ≡ other
+view_same one other blocks spare more =
+    ap (λ t. record one { blocks = t }) blocks ∙ ap (λ t. record other { spare = t; more = one.more }) spare ∙ ap (λ t. record other { more = t }) more
+
+pub spare_set : {A : Type 0} (items : List (Vec RowsView A)) (block : ℕ) (rows : Vec RowsView A) → spare_of_each (set items block rows) ≡ set (spare_of_each items) block (vec_capacity rows - vec_len rows)
+spare_set {A} items block rows = map-set (λ (b : Vec RowsView A). vec_capacity b - vec_len b) items block rows
+
 pub blocks_pushed : {A : Type 0} (items now : List (Vec RowsView A)) (rows : Vec RowsView A) → now ≡ items ++ rows ∷ [] → rows_of_each now ≡ rows_of_each items ++ rows.items ∷ []
 blocks_pushed {A} items now rows is =
     ap rows_of_each is ∙ map-append (λ (b : Vec RowsView A). b.items) items (rows ∷ [])
 
 pub blocks_exchanged : {A : Type 0} (items new : List (Vec RowsView A)) (start count : ℕ) → rows_of_each (replaced items start count new) ≡ replaced (rows_of_each items) start count (rows_of_each new)
 blocks_exchanged {A} items new start count = grind (arith, common_steps, map-append, take-map, drop-map)
+
+pub spare_exchanged : {A : Type 0} (items new : List (Vec RowsView A)) (start count : ℕ) → spare_of_each (replaced items start count new) ≡ replaced (spare_of_each items) start count (spare_of_each new)
+spare_exchanged {A} items new start count = grind (arith, common_steps, map-append, take-map, drop-map)

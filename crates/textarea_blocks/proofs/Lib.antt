@@ -4,3 +4,4 @@ pub mod LineSums
 pub mod Numbers
 mod Totals
 mod Shifting
+mod Splits

@@ -1,5 +1,6 @@
 -- The visual rows of lines in blocks of consecutive lines.
-use Rattle.std.specs.Prelude.{◌≡◌, ℕ, ◌+◌, ◌-◌, ◌<◌, ◌≤◌, min, List, [], ◌∷◌, ◌++◌, Vec, length, map, take, get_or, vec_len, vec_capacity}
+use Rattle.std.specs.Prelude.{◌≡◌, ℕ, ◌+◌, ◌-◌, ◌<◌, ◌≤◌, min, List, [], ◌∷◌, ◌++◌, Vec, length, map, take, drop, get_or, set, vec_len, vec_capacity}
+use Rattle.textarea_util.specs.Replaced.{replaced}
 use Rattle.textarea_wrap.specs.RowsView.{RowsView}
 
 -- the rows of each block's lines, and, without allocation, the number of lines that each block can
@@ -40,3 +41,10 @@ IsEdge blocks line = (block : ℕ) × (block ≤ length blocks) × (lines_before
 abbrev pub FitsInBlock : BlocksView → ℕ → ℕ → ℕ → Type 0
 FitsInBlock view row count come =
     (block : ℕ) → IsBlockOf view.blocks row block → come ≤ get_or view.spare block 0 + min count (lines_before view.blocks (block + 1) - row)
+
+-- A block is split in two, of which the first has `at` lines. The room of the lines that left it is
+-- still there, and the second has room for `extra` lines.
+pub record IsSplit (old now : BlocksView) (block at extra : ℕ) : Type 0 where
+  pub blocks : now.blocks ≡ replaced (set old.blocks block (take at (get_or old.blocks block []))) (block + 1) 0 (drop at (get_or old.blocks block []) ∷ [])
+  pub first : get_or now.spare block 0 ≡ get_or old.spare block 0 + (length (get_or old.blocks block []) - at)
+  pub second : extra ≤ get_or now.spare (block + 1) 0

@@ -2,7 +2,7 @@
 //! rows before each block. A replacement moves only the rows after it in one block, or whole
 //! blocks. Of the later blocks only these two numbers change, and not even they while successive
 //! changes are in one block.
-ghost use Rattle.std.specs.Prelude.{◌≡◌, ◌+◌, ◌≤◌, ◌++◌, ◌∷◌, [], length, OnOk};
+ghost use Rattle.std.specs.Prelude.{◌≡◌, ◌+◌, ◌≤◌, ◌++◌, ◌∷◌, [], length, OnErr, OnOk};
 ghost use Rattle.textarea_blocks.specs.Prelude.{all_rows, row_total};
 
 use self::numbers::Numbers;
@@ -15,6 +15,7 @@ use textarea_wrap::rows::Rows;
 mod change;
 mod look_up;
 mod numbers;
+mod room;
 
 /// The visual rows of lines, in blocks of consecutive lines.
 #[derive(Drop)]
@@ -81,14 +82,33 @@ impl RowBlocks {
         Ok(())
     }
 
-    /// Reserves room for `more` blocks.
+    /// Reserves room for `more` blocks. Out of memory, all stays, the room too: what has the least
+    /// room grows last.
     pub fn reserve(&mut self, more: usize) -> Result<(), AllocError>
         ensures same { self.new.blocks ≡ self.old.blocks }
+        ensures spare { self.new.spare ≡ self.old.spare }
         ensures room { OnOk result (more ≤ self.new.more) }
+        ensures err { OnErr result (self.new ≡ self.old) }
     {
+        let room = self.blocks.capacity() - self.blocks.len();
+        let (lines, rows) = (self.lines.spare(), self.rows.spare());
+        if room <= lines && room <= rows {
+            self.lines.reserve(more)?;
+            self.rows.reserve(more)?;
+            return self.blocks.reserve(more);
+        }
         self.blocks.reserve(more)?;
+        if lines <= rows {
+            self.rows.reserve(more)?;
+            return self.lines.reserve(more);
+        }
         self.lines.reserve(more)?;
         self.rows.reserve(more)
+    }
+
+    /// Returns the allocator of the blocks.
+    pub fn allocator(&self) -> Global {
+        *self.blocks.allocator()
     }
 
     /// Returns the number of blocks.

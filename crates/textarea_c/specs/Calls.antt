@@ -6,6 +6,12 @@ use Rattle.textarea_data.specs.declared.range.AtomicRange.{AtomicRange}
 use Rattle.textarea_ranges.specs.Rejected.{AreRejected}
 use Rattle.textarea_ranges.specs.Valid.{AreValid}
 use Rattle.textarea_text.specs.Text.{lines}
+use Rattle.textarea_calls.specs.declared.call.Call.{Call}
+use Rattle.textarea_screen.specs.declared.screen.style.Style.{Style}
+use Rattle.tui_textarea.specs.CallResults as reported
+use Rattle.tui_textarea.specs.CallResults.{CallResult}
+use Rattle.tui_textarea.specs.Calls.{result_of_call, state_after}
+use Rattle.tui_textarea.specs.Input.{flag_of}
 use Rattle.tui_textarea.specs.Patterns.{MayRejectPattern}
 use Rattle.tui_textarea.specs.Ranges.{ranges_accepted}
 use Rattle.tui_textarea.specs.Search.{with_pattern}
@@ -92,6 +98,30 @@ Tries found area status a b = (status < 2 → b ≡ with_area a area) × (2 ≤ 
 -- the same with an argument that may be invalid
 abbrev pub TriesBy : {A : Type 0} → Option A → (A → Bool) → (A → State) → ℕ → Editor → Editor → Type 0
 TriesBy argument found area status a b = MatchOption argument ((status ≡ 6) × (b ≡ a)) (λ x. Tries (found x) (area x) status a b)
+
+-- exports that only make a call: one that returns whether there was something to do, one without a
+-- result, and one that needs no memory
+abbrev pub MakesAttempt : Call → ℕ → Editor → Editor → Type 0
+MakesAttempt call status a b = Tries (flag_of (result_of_call a.area call)) (state_after a.area call) status a b
+
+abbrev pub MakesChange : Call → ℕ → Editor → Editor → Type 0
+MakesChange call status a b = Changes (state_after a.area call) status a b
+
+abbrev pub MakesSetting : Call → ℕ → Editor → Editor → Type 0
+MakesSetting call status a b = Sets (state_after a.area call) status a b
+
+-- one with an argument that may be invalid
+abbrev pub MakesSettingBy : {A : Type 0} → Option A → (A → Call) → ℕ → Editor → Editor → Type 0
+MakesSettingBy argument call status a b = SetsBy argument (λ x. state_after a.area (call x)) status a b
+
+-- the number, and the style, that a call returns
+abbrev pub number_in : CallResult → ℕ
+number_in (reported.Number number) = number
+number_in result = 0
+
+abbrev pub style_in : CallResult → Option Style
+style_in (reported.Style style) = Some style
+style_in result = None
 
 -- an insertion; out of memory the selected text may have been removed
 abbrev pub Inserts : State → ℕ → Editor → Editor → Type 0

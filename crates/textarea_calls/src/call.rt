@@ -1,6 +1,5 @@
+// Written by tools/calls from crates/textarea_calls/calls.txt.
 //! The calls of a text area, as data.
-ghost use Rattle.std.specs.Prelude.{◌↔◌, IsTrue};
-ghost use Rattle.textarea_calls.specs.Possible.{CanBeMade};
 
 use std::time::Duration;
 use textarea_data::cursor::{CursorMove, CursorRenderMode};
@@ -15,22 +14,31 @@ use textarea_wrap::wrap::WrapMode;
 pub enum Call<'a> {
     /// `TextArea::insert_char`
     InsertChar(char),
+    /// `TextArea::insert_newline`
+    InsertNewline,
     /// `TextArea::insert_str`
     InsertStr(&'a str),
     /// `TextArea::insert_pasted`
     InsertPasted(&'a str),
     /// `TextArea::insert_tab`
     InsertTab,
-    /// `TextArea::insert_newline`
-    InsertNewline,
-    /// `TextArea::delete_str`
-    DeleteStr(usize),
-    /// `TextArea::delete_newline`
-    DeleteNewline,
+    /// `TextArea::paste`
+    Paste,
+    /// `TextArea::set_lines`, with a copy of these lines; there is at least one
+    SetLines {
+        /// The lines that are copied.
+        lines: &'a [String],
+        /// The cursor's new position (row, column); it moves to the nearest one in the lines.
+        cursor: (usize, usize),
+    },
     /// `TextArea::delete_char`
     DeleteChar,
     /// `TextArea::delete_next_char`
     DeleteNextChar,
+    /// `TextArea::delete_newline`
+    DeleteNewline,
+    /// `TextArea::delete_str`
+    DeleteStr(usize),
     /// `TextArea::delete_line_by_end`
     DeleteLineByEnd,
     /// `TextArea::delete_line_by_head`
@@ -43,38 +51,38 @@ pub enum Call<'a> {
     Clear,
     /// `TextArea::cut`
     Cut,
-    /// `TextArea::copy`
-    Copy,
-    /// `TextArea::paste`
-    Paste,
     /// `TextArea::undo`
     Undo,
     /// `TextArea::redo`
     Redo,
-    /// `TextArea::start_selection`
-    StartSelection,
-    /// `TextArea::cancel_selection`
-    CancelSelection,
-    /// `TextArea::select_all`
-    SelectAll,
-    /// `TextArea::set_yank_text`
-    SetYankText(&'a str),
-    /// `TextArea::yank_text`
-    YankText,
-    /// `TextArea::set_tab_length`
-    SetTabLength(u8),
-    /// `TextArea::set_hard_tab_indent`
-    SetHardTabIndent(bool),
     /// `TextArea::set_max_histories`
     SetMaxHistories(usize),
     /// `TextArea::set_undo_coalescing`
     SetUndoCoalescing(bool),
     /// `TextArea::set_now`
     SetNow(Duration),
+    /// `TextArea::start_selection`
+    StartSelection,
+    /// `TextArea::cancel_selection`
+    CancelSelection,
+    /// `TextArea::select_all`
+    SelectAll,
+    /// `TextArea::copy`
+    Copy,
+    /// `TextArea::set_yank_text`
+    SetYankText(&'a str),
     /// `TextArea::move_cursor`
     Move(CursorMove),
     /// `TextArea::go_to`
     GoTo((usize, usize)),
+    /// `TextArea::scroll`
+    Scroll(Scrolling),
+    /// `TextArea::set_search_pattern`
+    SetSearchPattern(&'a str),
+    /// `TextArea::search_forward`
+    SearchForward(bool),
+    /// `TextArea::search_back`
+    SearchBack(bool),
     /// `TextArea::try_set_atomic_ranges`, with a copy of these ranges
     TrySetAtomicRanges(&'a [AtomicRange]),
     /// `TextArea::clear_atomic_ranges`
@@ -85,27 +93,22 @@ pub enum Call<'a> {
     AtomicRangeAtCursor(AtomicDeleteDirection),
     /// `TextArea::delete_atomic_range_at_cursor`
     DeleteAtomicRangeAtCursor(AtomicDeleteDirection),
-    /// `TextArea::set_lines`, with a copy of these lines; there is at least one
-    SetLines {
-        /// The lines that are copied.
-        lines: &'a [String],
-        /// The cursor's new position (row, column); it moves to the nearest one in the lines.
-        cursor: (usize, usize),
-    },
-    /// `TextArea::set_search_pattern`
-    SetSearchPattern(&'a str),
-    /// `TextArea::search_forward`
-    SearchForward(bool),
-    /// `TextArea::search_back`
-    SearchBack(bool),
+    /// `TextArea::set_tab_length`
+    SetTabLength(u8),
+    /// `TextArea::set_hard_tab_indent`
+    SetHardTabIndent(bool),
     /// `TextArea::set_wrap_mode`
     SetWrapMode(WrapMode),
     /// `TextArea::set_line_number_style`
     SetLineNumberStyle(Style),
     /// `TextArea::remove_line_number`
     RemoveLineNumber,
-    /// `TextArea::measure`
-    Measure(u16),
+    /// `TextArea::set_alignment`
+    SetAlignment(Alignment),
+    /// `TextArea::set_min_rows`
+    SetMinRows(u16),
+    /// `TextArea::set_max_rows`
+    SetMaxRows(u16),
     /// `TextArea::set_block`, with a copy of this block
     SetBlock(&'a Block<'static>),
     /// `TextArea::remove_block`
@@ -116,44 +119,22 @@ pub enum Call<'a> {
     SetStyledPlaceholder(&'a Text<'static>),
     /// `TextArea::set_placeholder_style`
     SetPlaceholderStyle(Style),
-    /// `TextArea::set_min_rows`
-    SetMinRows(u16),
-    /// `TextArea::set_max_rows`
-    SetMaxRows(u16),
     /// `TextArea::set_style`
     SetStyle(Style),
-    /// `TextArea::style`
-    Style,
     /// `TextArea::set_cursor_style`
     SetCursorStyle(Style),
-    /// `TextArea::cursor_style`
-    CursorStyle,
     /// `TextArea::set_cursor_line_style`
     SetCursorLineStyle(Style),
-    /// `TextArea::cursor_line_style`
-    CursorLineStyle,
     /// `TextArea::set_selection_style`
     SetSelectionStyle(Style),
-    /// `TextArea::selection_style`
-    SelectionStyle,
     /// `TextArea::set_search_style`
     SetSearchStyle(Style),
-    /// `TextArea::search_style`
-    SearchStyle,
     /// `TextArea::set_mask_char`
     SetMaskChar(char),
     /// `TextArea::clear_mask_char`
     ClearMaskChar,
-    /// `TextArea::mask_char`
-    MaskChar,
     /// `TextArea::set_cursor_render_mode`
     SetCursorRenderMode(CursorRenderMode),
-    /// `TextArea::cursor_render_mode`
-    CursorRenderMode,
-    /// `TextArea::set_alignment`
-    SetAlignment(Alignment),
-    /// `TextArea::alignment`
-    Alignment,
     /// `TextArea::custom_highlight`
     CustomHighlight {
         /// The start and the end, each as a row and a byte of it.
@@ -167,12 +148,6 @@ pub enum Call<'a> {
     ClearCustomHighlight,
     /// `TextArea::render`, into the buffer of the run
     Render(Rect),
-    /// `TextArea::rendered_cursor_position`
-    RenderedCursorPosition,
-    /// `TextArea::cursor_at_position`
-    CursorAtPosition(Position),
-    /// `TextArea::scroll`
-    Scroll(Scrolling),
     /// `TextArea::input`, of an input like this one
     Input(&'a Input),
     /// `TextArea::input_without_shortcuts`, of an input like this one
@@ -187,34 +162,46 @@ pub enum Call<'a> {
     IsSelecting,
     /// `TextArea::selection_range`
     SelectionRange,
-    /// `TextArea::tab_length`
-    TabLength,
-    /// `TextArea::hard_tab_indent`
-    HardTabIndent,
+    /// `TextArea::yank_text`
+    YankText,
     /// `TextArea::max_histories`
     MaxHistories,
     /// `TextArea::undo_coalescing`
     UndoCoalescing,
+    /// `TextArea::tab_length`
+    TabLength,
+    /// `TextArea::hard_tab_indent`
+    HardTabIndent,
     /// `TextArea::wrap_mode`
     WrapMode,
     /// `TextArea::line_number_style`
     LineNumberStyle,
-    /// `TextArea::placeholder_style`
-    PlaceholderStyle,
+    /// `TextArea::alignment`
+    Alignment,
     /// `TextArea::min_rows`
     MinRows,
     /// `TextArea::max_rows`
     MaxRows,
-}
-
-impl Call<'_> {
-    /// Returns whether the call can be made: `TextArea::set_lines` needs at least one line.
-    pub fn can_be_made(&self) -> bool
-        ensures { IsTrue result ↔ CanBeMade self.now }
-    {
-        match self {
-            Call::SetLines { lines, .. } => !lines.is_empty(),
-            _ => true,
-        }
-    }
+    /// `TextArea::measure`
+    Measure(u16),
+    /// `TextArea::placeholder_style`
+    PlaceholderStyle,
+    /// `TextArea::style`
+    Style,
+    /// `TextArea::cursor_style`
+    CursorStyle,
+    /// `TextArea::cursor_line_style`
+    CursorLineStyle,
+    /// `TextArea::selection_style`
+    SelectionStyle,
+    /// `TextArea::search_style`
+    SearchStyle,
+    /// `TextArea::mask_char`
+    MaskChar,
+    /// `TextArea::cursor_render_mode`
+    CursorRenderMode,
+    /// `TextArea::rendered_cursor_position`
+    RenderedCursorPosition,
+    /// `TextArea::cursor_at_position`
+    CursorAtPosition(Position),
 }

@@ -7,6 +7,7 @@ pub mod call;
 pub mod keys;
 pub mod kind;
 pub mod laws;
+mod possible;
 pub mod printing;
 
 pub use action::Action;

@@ -9,7 +9,8 @@ use Rattle.std.proofs.lemmas.Bool.{false_from_ne_true}
 use Rattle.std.proofs.lemmas.Bool.Decides.{nat_tests}
 use Rattle.textarea_commands.proofs.Scripts.{IsTurn}
 use Rattle.std.proofs.lemmas.Str.{IsUtf8-from_is_utf8, is_utf8-from_IsUtf8}
-use Rattle.textarea_commands.specs.Commands.{Meaning, line_meaning}
+use Rattle.textarea_commands.specs.Commands.{line_meaning}
+use Rattle.textarea_commands.specs.Meaning.{Meaning}
 use Rattle.textarea_commands.specs.Script.{is_filled_line, meaning_of_line, meanings_of_lines}
 
 pub meaning_of_line-utf8 : (line : List ℕ) → IsUtf8 line → meaning_of_line line ≡ line_meaning line

@@ -1,4 +1,6 @@
 pub mod Arguments
+pub mod Meaning
+pub mod CallCommands
 pub mod Commands
 pub mod Escapes
 pub mod FirstLine

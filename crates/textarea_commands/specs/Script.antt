@@ -9,8 +9,9 @@ use Rattle.textarea_calls.specs.declared.call.Call.{Call}
 use Rattle.textarea_calls.specs.declared.call.Call.TheVariants as call
 use Rattle.textarea_commands.specs.declared.commands.CommandContent.{CommandContent}
 use Rattle.textarea_commands.specs.Arguments.{sides_of_area}
-use Rattle.textarea_commands.specs.Commands as meaning
-use Rattle.textarea_commands.specs.Commands.{Meaning, line_meaning}
+use Rattle.textarea_commands.specs.Commands.{line_meaning}
+use Rattle.textarea_commands.specs.Meaning as meaning
+use Rattle.textarea_commands.specs.Meaning.{Meaning}
 use Rattle.textarea_commands.specs.declared.commands.CommandContent.TheVariants.{Plain, InsertStr, InsertPasted, SetYankText, TrySetAtomicRanges, SetLines, SetSearchPattern, Input}
 use Rattle.textarea_commands.specs.declared.commands.ReadError.{ReadError}
 use Rattle.textarea_commands.specs.declared.commands.ReadError.TheVariants.{Line, Memory}

@@ -2,17 +2,18 @@
 ghost use Rattle.std.specs.Prelude.{◌≡◌, ◌+◌, All, IfOk, IfErr, IfSome, map, option_and_then, option_copied, option_map, string_bytes, vec_len};
 ghost use Rattle.textarea_commands.specs.Arguments.{IsReadAs};
 ghost use Rattle.textarea_calls.specs.Possible.{CanBeMade};
-ghost use Rattle.textarea_commands.specs.Commands.{argument_text, line_meaning, line_numbers, command_meaning, plain_meaning, set_lines_meaning};
+ghost use Rattle.textarea_commands.specs.Commands.{line_meaning, line_numbers, command_meaning, plain_meaning, set_lines_meaning};
 ghost use Rattle.textarea_commands.specs.Inputs.{input_named};
+ghost use Rattle.textarea_commands.specs.Meaning.{argument_text};
 ghost use Rattle.textarea_commands.specs.Ranges.{ranges_after_space};
 ghost use Rattle.textarea_commands.specs.Script.{lines_of_script, filled_lines, meaning_of, meaning_of_line, meanings_of_lines, AreCallsOf, IsAtLine, IsCallOf, IsCommandOf, IsCallReady, IsReady-prop, NamesLine};
 ghost use Rattle.textarea_commands.specs.declared.commands.CommandContent.TheVariants.{Plain};
 
 use crate::arguments::{
-    Unparsed, area, byte_number, input_named, mode_named, move_named, number, one_character,
-    page_named, ranges, scroll_amounts, short_number, size, split_first, truth, two_numbers,
+    Unparsed, area, input_named, number, page_named, ranges, size, split_first, truth,
     two_short_numbers, unescape, unescaped_lines,
 };
+use crate::call_commands::{call_with_arguments, call_without_arguments};
 use std::alloc::{AllocError, AllocFailed, Global};
 use std::str::from_utf8;
 use std::time::Duration;
@@ -223,74 +224,27 @@ fn plain(name: &str, arguments: Option<&str>) -> Option<Call<'static>>
     }
 }
 
-// The call of this name without arguments.
-#[tactic(auto, unfolding(crate::specs::Commands::plain_meaning))]
-fn call_without_arguments(name: &str) -> Option<Call<'static>>
-    ensures ready { IfSome result CanBeMade }
-    ensures means { option_map (λ call. meaning_of (Plain call)) result
-        ≡ plain_meaning name.now None }
-{
-    match name {
-        "insert_tab" => Some(Call::InsertTab),
-        "insert_newline" => Some(Call::InsertNewline),
-        "delete_newline" => Some(Call::DeleteNewline),
-        "delete_char" => Some(Call::DeleteChar),
-        "delete_next_char" => Some(Call::DeleteNextChar),
-        "delete_line_by_end" => Some(Call::DeleteLineByEnd),
-        "delete_line_by_head" => Some(Call::DeleteLineByHead),
-        "delete_word" => Some(Call::DeleteWord),
-        "delete_next_word" => Some(Call::DeleteNextWord),
-        "clear" => Some(Call::Clear),
-        "cut" => Some(Call::Cut),
-        "copy" => Some(Call::Copy),
-        "paste" => Some(Call::Paste),
-        "undo" => Some(Call::Undo),
-        "redo" => Some(Call::Redo),
-        "start_selection" => Some(Call::StartSelection),
-        "cancel_selection" => Some(Call::CancelSelection),
-        "select_all" => Some(Call::SelectAll),
-        "text" => Some(Call::Text),
-        "yank_text" => Some(Call::YankText),
-        "clear_mask_char" => Some(Call::ClearMaskChar),
-        _ => None,
-    }
-}
-
 // The call of this name and these arguments. None of the arguments is a text.
-#[tactic(auto, unfolding(crate::specs::Commands::plain_meaning))]
+#[tactic(auto, unfolding(crate::specs::CallCommands::call_meaning, crate::specs::Commands::plain_meaning))]
 fn call_with(name: &str, arguments: &str) -> Option<Call<'static>>
     ensures ready { IfSome result CanBeMade }
     ensures means { option_map (λ call. meaning_of (Plain call)) result
         ≡ plain_meaning name.now (Some arguments.now) }
 {
     match name {
-        "insert_char" => Some(Call::InsertChar(one_character(arguments)?)),
-        "delete_str" => Some(Call::DeleteStr(size(arguments)?)),
-        "search_forward" => Some(Call::SearchForward(truth(arguments)?)),
-        "search_back" => Some(Call::SearchBack(truth(arguments)?)),
-        "measure" => Some(Call::Measure(short_number(arguments)?)),
         "render" => Some(Call::Render(area(arguments)?)),
         "hit" => {
             let (x, y) = two_short_numbers(arguments)?;
             Some(Call::CursorAtPosition(Position { x, y }))
         }
-        "move" => Some(Call::Move(move_named(arguments)?)),
         "jump" => {
             let (row, column) = two_short_numbers(arguments)?;
             Some(Call::Move(CursorMove::Jump(row, column)))
         }
-        "go_to" => Some(Call::GoTo(two_numbers(arguments)?)),
-        "scroll" => Some(Call::Scroll(scroll_amounts(arguments)?)),
         "page" => Some(Call::Scroll(page_named(arguments)?)),
-        "set_tab_length" => Some(Call::SetTabLength(byte_number(arguments)?)),
-        "set_hard_tab_indent" => Some(Call::SetHardTabIndent(truth(arguments)?)),
-        "set_max_histories" => Some(Call::SetMaxHistories(size(arguments)?)),
-        "set_undo_coalescing" => Some(Call::SetUndoCoalescing(truth(arguments)?)),
-        "set_wrap_mode" => Some(Call::SetWrapMode(mode_named(arguments)?)),
-        "set_mask_char" => Some(Call::SetMaskChar(one_character(arguments)?)),
         "line_numbers" => Some(line_numbers(truth(arguments)?)),
         "now" => Some(Call::SetNow(Duration::from_millis(number(arguments)?))),
-        _ => None,
+        _ => call_with_arguments(name, arguments),
     }
 }
 

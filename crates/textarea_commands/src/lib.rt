@@ -3,4 +3,5 @@
 #![tactic(auto)]
 
 mod arguments;
+mod call_commands;
 pub mod commands;

@@ -54,7 +54,7 @@ pub enum Key {
 }
 
 /// A key with the modifiers that are pressed. The default is [`Key::Null`] without any.
-#[derive(Clone, Copy, Debug, Default, PartialEq, Eq, Hash, Serialize, Deserialize)]
+#[derive(Clone, Debug, Default, Drop, PartialEq, Eq, Hash, Serialize, Deserialize)]
 pub struct Input {
     /// The key.
     pub key: Key,

@@ -43,7 +43,7 @@ pub enum Command {
 }
 
 /// A row of the table: an input, and what it does.
-#[derive(Clone, Copy)]
+#[derive(Drop)]
 pub struct Binding {
     /// The key with its modifiers.
     pub input: Input,

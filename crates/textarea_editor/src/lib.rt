@@ -26,3 +26,4 @@ pub use disk::DiskFile;
 pub use editor::Editor;
 pub use effect::{Effect, SaveEnd};
 pub use screen::Screen;
+pub use textarea_terminal::input::Event;

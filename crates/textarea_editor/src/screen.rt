@@ -8,7 +8,7 @@ use std::alloc::{AllocError, Global};
 use std::time::Duration;
 use textarea_screen::screen::Rect;
 use textarea_terminal::input::{Decoder, Event};
-use textarea_terminal::output::Painter;
+use textarea_terminal::output::{Colors, Painter};
 
 /// A terminal that shows frames of an editor.
 #[derive(Drop)]
@@ -17,6 +17,8 @@ pub struct Screen {
     decoder: Decoder,
     painter: Painter,
     area: Rect,
+    /// The next frame draws all cells.
+    is_stale: bool,
     /// The number of reads without bytes or time, one after another.
     empty_reads: u32,
 }
@@ -35,6 +37,7 @@ impl Screen {
             decoder: Decoder::new(alloc),
             painter: Painter::new(alloc, area)?,
             area,
+            is_stale: false,
             empty_reads: 0,
         })
     }
@@ -50,16 +53,36 @@ impl Screen {
         self.empty_reads > MOST_EMPTY_READS
     }
 
-    /// Returns the events of the next bytes, or, if none came for a while, those of bytes that wait
+    /// Tells whether the terminal is the Linux console.
+    pub fn set_console(&mut self, console: bool) {
+        self.decoder.set_console(console);
+    }
+
+    /// Returns the events of the next bytes, or, if none came in this time, those of bytes that wait
     /// for more.
-    pub fn read(&mut self, bytes: &[u8]) -> Result<Vec<Event>, AllocError> {
+    pub fn read(&mut self, bytes: &[u8], waited: Duration) -> Result<Vec<Event>, AllocError> {
         let mut events = Vec::new(self.alloc);
         if bytes.is_empty() {
-            self.decoder.idle(&mut events)?;
+            let milliseconds = u32::try_from(waited.as_millis()).unwrap_or(u32::MAX);
+            self.decoder.idle(milliseconds, &mut events)?;
         } else {
             self.decoder.feed(bytes, &mut events)?;
         }
+        if events.iter().any(|event| is_size(event)) {
+            self.forget();
+        }
         Ok(events)
+    }
+
+    /// Has the next frame draw all cells, as after each report of a size: also if it is the one from
+    /// before, rows may be lost in between.
+    pub fn forget(&mut self) {
+        self.is_stale = true;
+    }
+
+    /// Changes the colours that the terminal has, which are all at first.
+    pub fn set_colors(&mut self, colors: Colors) {
+        self.painter.set_colors(colors);
     }
 
     /// Adds the bytes that show the editor's frame. If memory runs out, it adds none.
@@ -67,9 +90,10 @@ impl Screen {
         ensures { OnErr result (out.new.items ≡ out.old.items) }
     {
         let area = editor.screen_area();
-        if area != self.area {
+        if self.is_stale || area != self.area {
             self.painter.resize(area)?;
             self.area = area;
+            self.is_stale = false;
         }
         let frame = editor.draw()?;
         self.painter.paint(&frame.buffer, frame.caret, out)
@@ -84,4 +108,9 @@ impl Screen {
         let sequence = format!(in self.alloc; "\x1b]52;c;{encoded}\x07")?;
         out.extend_from_slice(sequence.as_bytes())
     }
+}
+
+// Whether the terminal reports its size, or the cursor in its last cell.
+fn is_size(event: &Event) -> bool {
+    matches!(event, Event::Size { .. } | Event::Cursor { .. })
 }

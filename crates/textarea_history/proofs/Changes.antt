@@ -1,12 +1,11 @@
 -- The symbols of a change, from the content of its edit; and the replacements that make it.
-use Rattle.std.proofs.Common.{◌≡◌, ℕ, ◌+◌, ◌<◌, ◌≤◌, Bool, false, cond, List, [], ◌∷◌, length, sym, ap, ◌∙◌, arith, subst, inl, inr, ◌⊎◌, String, encode_utf8, Vec}
+use Rattle.std.proofs.Common.{◌≡◌, ℕ, ◌+◌, ◌<◌, ◌≤◌, Bool, false, cond, List, [], ◌∷◌, length, sym, ap, ◌∙◌, arith, subst, inl, inr, ◌⊎◌, Some, String, encode_utf8, Vec}
 use Rattle.std.proofs.lemmas.List.{append-nil, length-map}
-use Rattle.textarea_history.specs.Prelude.{Global, IfSome, chars, IsUtf8, Symbol, characters, characters_of, lines_of, text_of, Place, IsPlace, IsPlaceOf, OccursAt, changed, end, inserted, removed, Splice, Allows, Fits, applied, IsReplacementFor, ReplacesBetween, breaks_of, new_line_count, replaced_line_count, Replacement, Stored, IsWellFormed, directed, stored_of, symbols_in, Content}
+use Rattle.textarea_history.specs.Prelude.{Global, IfSome, chars, IsUtf8, Symbol, characters, characters_of, joined, lines_of, text_of, Place, IsPlace, IsPlaceOf, OccursAt, changed, end, inserted, removed, Splice, Allows, Fits, applied, IsReplacementFor, ReplacesBetween, breaks_of, new_line_count, replaced_line_count, Replacement, Stored, IsWellFormed, directed, line_count_in, stored_of, symbols_in, Content}
 use Rattle.textarea_text.proofs.Columns.{chars_from_bytes}
 use Rattle.textarea_text.proofs.StringRows.{changed_by_none, columns_ordered, rows_ordered, rows_place, occurs_until}
 use Rattle.textarea_text.proofs.Touching.{breaks_of-joined, end_row}
 use Rattle.std.specs.declared.sync.Arc.{Arc}
-use Rattle.textarea_history.proofs.Runs.{line_count_as}
 use Rattle.textarea_history.specs.declared.edit.Content.TheVariants as content
 
 -- ---- symbols
@@ -19,15 +18,21 @@ symbols_of_change stored_content inserts reported start to edit now view view' =
 pub characters_of_one : (bs : List ℕ) (c : ℕ) → IsUtf8 bs → bs ≡ encode_utf8 c → characters (chars bs) ≡ characters (c ∷ [])
 characters_of_one bs c text e = ap characters (chars_from_bytes bs (c ∷ []) text (e ∙ sym (append-nil (encode_utf8 c))))
 
+-- a fragment of at least two lines is not within a line
+has_breaks : (stored_content : Content) (inserts reported : Bool) (start to : Place) (edit : Stored) (now : Splice) (fragment_lines : List (String Global)) → stored_of stored_content inserts start to ≡ edit → directed edit.splice reported ≡ now → IsWellFormed edit → breaks_of now.symbols ≡ 0 → line_count_in stored_content ≡ Some (length fragment_lines) → symbols_in inserts stored_content ≡ joined (lines_of fragment_lines) → ⊥
+has_breaks stored_content inserts reported start to edit now fragment_lines view view' h none count is =
+    let many : 2 ≤ length fragment_lines = subst (λ o. IfSome o (λ n. 2 ≤ n)) count (subst (λ (s : Stored). IfSome s.fragment_lines (λ n. 2 ≤ n)) (sym view) h.fragment_lines) in
+    let long = length-map fragment_lines characters_of in
+    omega (arith, none, many, long, ap breaks_of (symbols_of_change stored_content inserts reported start to edit now view view'), ap breaks_of is, breaks_of-joined (lines_of fragment_lines) (omega (arith, many, long)))
+
 -- a break, or a fragment of at least two lines, is not within a line
-pub has_break : (stored_content : Content) (inserts reported : Bool) (start to : Place) (edit : Stored) (now : Splice) → stored_of stored_content inserts start to ≡ edit → directed edit.splice reported ≡ now → IsWellFormed edit → breaks_of now.symbols ≡ 0 → (stored_content ≡ content.Break) ⊎ ((fragment_lines : Arc (Vec (String Global) Global) Global) × stored_content ≡ content.Chunk fragment_lines) → ⊥
+pub has_break : (stored_content : Content) (inserts reported : Bool) (start to : Place) (edit : Stored) (now : Splice) → stored_of stored_content inserts start to ≡ edit → directed edit.splice reported ≡ now → IsWellFormed edit → breaks_of now.symbols ≡ 0 → (stored_content ≡ content.Break) ⊎ (((fragment_lines : Vec (String Global) Global) × stored_content ≡ content.Lines fragment_lines) ⊎ ((fragment_lines : Arc (Vec (String Global) Global) Global) × stored_content ≡ content.Shared fragment_lines)) → ⊥
 has_break stored_content inserts reported start to edit now view view' h none (inl is) =
     omega (arith, none, ap breaks_of (symbols_of_change stored_content inserts reported start to edit now view view'), ap (λ k. breaks_of (symbols_in inserts k)) is)
-has_break stored_content inserts reported start to edit now view view' h none (inr found) =
-    let fragment_lines = found.0.value.items in
-    let many : 2 ≤ length fragment_lines = line_count_as found.1 (subst (λ (s : Stored). IfSome s.fragment_lines (λ n. 2 ≤ n)) (sym view) h.fragment_lines) in
-    let long = length-map fragment_lines characters_of in
-    omega (arith, none, many, long, ap breaks_of (symbols_of_change stored_content inserts reported start to edit now view view'), ap (λ k. breaks_of (symbols_in inserts k)) found.1, breaks_of-joined (lines_of fragment_lines) (omega (arith, many, long)))
+has_break stored_content inserts reported start to edit now view view' h none (inr (inl found)) =
+    has_breaks stored_content inserts reported start to edit now found.0.items view view' h none (ap line_count_in found.1) (ap (symbols_in inserts) found.1)
+has_break stored_content inserts reported start to edit now view view' h none (inr (inr found)) =
+    has_breaks stored_content inserts reported start to edit now found.0.value.items view view' h none (ap line_count_in found.1) (ap (symbols_in inserts) found.1)
 
 -- ---- removals
 

@@ -18,8 +18,8 @@ symbols_of InsertNewline = Break ∷ []
 symbols_of DeleteNewline = Break ∷ []
 symbols_of (InsertStr s) = characters (characters_of s)
 symbols_of (DeleteStr s) = characters (characters_of s)
-symbols_of (InsertChunk fragment_lines) = joined (lines_of (arc_value fragment_lines).items)
-symbols_of (DeleteChunk fragment_lines) = joined (lines_of (arc_value fragment_lines).items)
+symbols_of (InsertChunk fragment_lines) = joined (lines_of fragment_lines.items)
+symbols_of (DeleteChunk fragment_lines) = joined (lines_of fragment_lines.items)
 
 abbrev pub inserts_of : EditKind → Bool
 inserts_of (InsertChar c) = true
@@ -33,8 +33,8 @@ inserts_of (DeleteChunk fragment_lines) = false
 
 -- the number of lines of a fragment
 abbrev pub line_count_of : EditKind → Option ℕ
-line_count_of (InsertChunk fragment_lines) = Some (length (arc_value fragment_lines).items)
-line_count_of (DeleteChunk fragment_lines) = Some (length (arc_value fragment_lines).items)
+line_count_of (InsertChunk fragment_lines) = Some (length fragment_lines.items)
+line_count_of (DeleteChunk fragment_lines) = Some (length fragment_lines.items)
 line_count_of kind = None
 
 -- a copy of a kind is of the same variant, with the same character, or the same characters in its
@@ -46,8 +46,8 @@ IsCopyOfKind InsertNewline InsertNewline = Unit {0}
 IsCopyOfKind DeleteNewline DeleteNewline = Unit {0}
 IsCopyOfKind (InsertStr s) (InsertStr copy) = characters_of copy ≡ characters_of s
 IsCopyOfKind (DeleteStr s) (DeleteStr copy) = characters_of copy ≡ characters_of s
-IsCopyOfKind (InsertChunk fragment_lines) (InsertChunk copy) = lines_of (arc_value copy).items ≡ lines_of (arc_value fragment_lines).items
-IsCopyOfKind (DeleteChunk fragment_lines) (DeleteChunk copy) = lines_of (arc_value copy).items ≡ lines_of (arc_value fragment_lines).items
+IsCopyOfKind (InsertChunk fragment_lines) (InsertChunk copy) = lines_of copy.items ≡ lines_of fragment_lines.items
+IsCopyOfKind (DeleteChunk fragment_lines) (DeleteChunk copy) = lines_of copy.items ≡ lines_of fragment_lines.items
 IsCopyOfKind kind copy = ⊥
 
 -- the splice, from the cursor's positions before and after it: an insertion is at the first one, a
@@ -105,10 +105,12 @@ symbols_in inserts (content.Character c) = Character c ∷ []
 symbols_in inserts (content.Text s) = characters (characters_of s)
 symbols_in inserts (content.Typed s) = characters (cond inserts (characters_of s) (reverse (characters_of s)))
 symbols_in inserts content.Break = Break ∷ []
-symbols_in inserts (content.Chunk fragment_lines) = joined (lines_of (arc_value fragment_lines).items)
+symbols_in inserts (content.Lines fragment_lines) = joined (lines_of fragment_lines.items)
+symbols_in inserts (content.Shared fragment_lines) = joined (lines_of (arc_value fragment_lines).items)
 
 abbrev pub line_count_in : Content → Option ℕ
-line_count_in (content.Chunk fragment_lines) = Some (length (arc_value fragment_lines).items)
+line_count_in (content.Lines fragment_lines) = Some (length fragment_lines.items)
+line_count_in (content.Shared fragment_lines) = Some (length (arc_value fragment_lines).items)
 line_count_in other = None
 
 -- whether it can grow as a run

@@ -1,5 +1,6 @@
 //! Edits of lines, each between two positions, and the changes that make or undo them.
 mod change;
+mod fragment;
 mod run;
 
 ghost use Rattle.std.specs.Prelude.{◌≡◌, ◌<◌, ◌∷◌, [], IsOk, None, OnOk, OnErr, vec_len, true, false};
@@ -12,7 +13,7 @@ use std::sync::Arc;
 use textarea_text::util::Pos;
 
 /// What an edit inserts or removes: a character, a line break, a text within a line, or a fragment
-/// of at least two lines, which the yank and other edits may share.
+/// of at least two lines.
 #[derive(Drop)]
 pub enum EditKind {
     InsertChar(char),
@@ -21,8 +22,8 @@ pub enum EditKind {
     DeleteNewline,
     InsertStr(String),
     DeleteStr(String),
-    InsertChunk(Arc<Vec<String>>),
-    DeleteChunk(Arc<Vec<String>>),
+    InsertChunk(Vec<String>),
+    DeleteChunk(Vec<String>),
 }
 
 impl Clone for EditKind {
@@ -58,14 +59,16 @@ pub fn deletion_of(character: Option<char>) -> EditKind
 }
 
 /// What an edit inserts or removes. `Typed` has the characters in the order of typing, which for
-/// Backspace is the reverse of the text's, so that a run of either direction grows at the end.
+/// Backspace is the reverse of the text's, so that a run of either direction grows at the end. The
+/// lines of a fragment are the edit's own, or `Shared` by the yank and other edits.
 #[derive(Drop)]
 enum Content {
     Character(char),
     Text(String),
     Typed(String),
     Break,
-    Chunk(Arc<Vec<String>>),
+    Lines(Vec<String>),
+    Shared(Arc<Vec<String>>),
 }
 
 impl Clone for Content {
@@ -79,7 +82,8 @@ impl Clone for Content {
             Content::Text(text) => Ok(Content::Text(text.clone()?)),
             Content::Typed(text) => Ok(Content::Typed(text.clone()?)),
             Content::Break => Ok(Content::Break),
-            Content::Chunk(fragment_lines) => Ok(Content::Chunk(fragment_lines.clone()?)),
+            Content::Lines(lines) => Ok(Content::Lines(lines.clone()?)),
+            Content::Shared(lines) => Ok(Content::Shared(lines.clone()?)),
         }
     }
 }
@@ -97,8 +101,8 @@ fn content_of(kind: EditKind) -> (Content, bool)
         EditKind::DeleteNewline => (Content::Break, false),
         EditKind::InsertStr(s) => (Content::Text(s), true),
         EditKind::DeleteStr(s) => (Content::Text(s), false),
-        EditKind::InsertChunk(fragment_lines) => (Content::Chunk(fragment_lines), true),
-        EditKind::DeleteChunk(fragment_lines) => (Content::Chunk(fragment_lines), false),
+        EditKind::InsertChunk(lines) => (Content::Lines(lines), true),
+        EditKind::DeleteChunk(lines) => (Content::Lines(lines), false),
     }
 }
 

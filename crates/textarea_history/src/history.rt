@@ -88,13 +88,15 @@ impl History {
         self.run = None;
     }
 
-    /// Records the edit. With `coalesce` one of a single character is typed, and can join a run.
+    /// Records the edit, in a form whose copies share its fragment, if it has one. With `coalesce`
+    /// one of a single character is typed, and can join a run. Out of memory changes nothing.
     pub fn push(&mut self, edit: Edit, coalesce: bool, now: Duration) -> Result<(), AllocError>
         requires { IsWellFormed edit }
         ensures ok { OnOk result (self.new.log
             ≡ recorded self.old.log edit.splice coalesce (as_nanos now)) }
         ensures err { OnErr result (self.new.log ≡ self.old.log) }
     {
+        let edit = edit.share(*self.items.allocator())?;
         self.reserve()?;
         self.put(edit, coalesce, now);
         Ok(())

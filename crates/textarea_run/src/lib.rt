@@ -1,6 +1,7 @@
 //! Runs of calls on a text area: one call, or a list of calls, and the buffer that they draw into.
 #![tactic(auto)]
 
+pub mod inputs;
 mod memory;
 pub mod perform;
 pub mod printing;

@@ -5,6 +5,7 @@ ghost use Rattle.textarea_calls.specs.Possible.{CanBeMade};
 ghost use Rattle.tui_textarea.specs.Outcomes.{IsResultOf, IsAfterCall, IsBufferAfter, IsBufferOutOfMemory, RanOutOfMemory};
 ghost use Rattle.tui_textarea.specs.CallResults.{call_result, Done, Flag};
 
+use crate::inputs::copied;
 use crate::questions::ask;
 use crate::settings::{change, set, set_appearance};
 use crate::special::perform_special;
@@ -76,7 +77,7 @@ fn attempt(area: &mut TextArea<'_>, call: Attempt<'_>) -> Result<bool, AllocErro
         Attempt::DeleteStr(count) => area.delete_str(count),
         Attempt::SearchForward(match_cursor) => area.search_forward(match_cursor),
         Attempt::SearchBack(match_cursor) => area.search_back(match_cursor),
-        Attempt::Input(input) => area.input(*input),
-        Attempt::InputWithoutShortcuts(input) => area.input_without_shortcuts(*input),
+        Attempt::Input(input) => area.input(copied(input)),
+        Attempt::InputWithoutShortcuts(input) => area.input_without_shortcuts(copied(input)),
     }
 }

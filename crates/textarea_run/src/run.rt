@@ -1,22 +1,16 @@
 // Makes a list of calls, one after another.
-ghost use Rattle.std.specs.Prelude.{◌≡◌, ◌≤◌, [], length, vec_capacity, All, IfOk, OnErr};
-ghost use Rattle.textarea_document.specs.RangesOverSplices.{RangesStayWhole};
-ghost use Rattle.textarea_document.specs.Sound.{IsSound};
+ghost use Rattle.std.specs.Prelude.{◌≡◌, ◌≤◌, [], length, vec_capacity, All};
 ghost use Rattle.textarea_calls.specs.Possible.{CanBeMade};
-ghost use Rattle.tui_textarea.specs.RangesOverCalls.{RangesFollowCall, RangesOfRun};
-ghost use Rattle.tui_textarea.specs.Outcomes.{IsBufferOutOfMemory, RanOutOfMemory};
-ghost use Rattle.tui_textarea.specs.Run.{CallLeads, Run};
-ghost use Rattle.tui_textarea.specs.CallResults.{call_result};
-ghost use Rattle.tui_textarea.specs.CallSplices.{OfSplicesOutOfMemory};
+ghost use Rattle.tui_textarea.specs.RangesOverCalls.{RangesOfRun};
+ghost use Rattle.tui_textarea.specs.Run.{Run};
 
 use crate::memory::allocator;
 use crate::perform::perform;
-use std::alloc::AllocError;
 use textarea_calls::{Answer, Call};
 use textarea_screen::screen::Buffer;
 use tui_textarea::TextArea;
 use tui_textarea::laws::is_sound;
-use tui_textarea::outcomes::laws::ranges_follow_each_call;
+use tui_textarea::outcomes::laws::ranges_follow_each_run;
 
 /// The end of a run of calls.
 #[derive(Drop)]
@@ -29,17 +23,19 @@ pub struct RunEnd {
 
 /// Makes the calls one after another, until one runs out of memory. A call may be an input. Calls
 /// that draw do so into the buffer; other calls don't change it. The calls and their results
-/// determine the state after them (`laws::one_end`).
+/// determine the state after them (`tui_textarea::outcomes::laws::one_end`).
 ///
 /// After any list of calls and inputs, the text, cursor, selection, yank, ranges and both history
-/// lists are those of one flat list of characters and breaks that nonempty splices change. The
+/// lists are those of one flat list of characters and breaks changed by nonempty splices, and the
 /// visual rows, measured height, drawn cells, caret and hit tests are those of a layout computed
-/// from scratch from text, cursor, highlights, settings, viewport and last area.
+/// anew from text, cursor, highlights, settings, viewport and last area.
 ///
-/// The ranges are those that a call of the list set last, or else those at the start. They follow
-/// the text through the splices of later calls: each stored range stems from one of these and
-/// covers the same characters as then, all in one line. Each of these is still stored, unless a
-/// splice inserted strictly inside of it or removed one of its characters.
+/// Each range comes from those that a call of the list set last, or else from those at the start,
+/// and covers the same characters as then, all in one line. Outside undo, redo and `set_lines` each
+/// splice takes a range completely or not at all, and no insertion is strictly inside one. A range
+/// is dropped only by a removal that takes it completely, by an undo or a redo whose splice
+/// overlaps it or is strictly inside it, by `set_lines`, by `clear_atomic_ranges`, and by ranges
+/// that a call sets.
 ///
 /// Each `Call::SetLines` needs at least one line. Memory for the results is reserved first. If that
 /// fails, no call is made and the index of the failed call is 0.
@@ -50,6 +46,7 @@ pub fn run(area: &mut TextArea<'_>, calls: &[Call<'_>], buffer: &mut Buffer) -> 
     ensures ranges { RangesOfRun area.old buffer.old calls.now result.answers.items area.new }
 {
     is_sound(area);
+    ranges_follow_each_run();
     let mut answers = Vec::new(allocator(area));
     if answers.try_reserve(calls.len()).is_err() {
         return RunEnd {
@@ -70,13 +67,11 @@ fn make_all(
     requires each { All CanBeMade calls.now }
     requires none { answers.items ≡ [] }
     requires room { length calls.now ≤ vec_capacity answers }
-    requires sound { IsSound area.old.document }
-    ensures led { Run area.old buffer.old calls.now result.answers.items result.refused area.new
+    ensures { Run area.old buffer.old calls.now result.answers.items result.refused area.new
         buffer.new }
-    ensures ranges { RangesOfRun area.old buffer.old calls.now result.answers.items area.new }
 {
     for (index, call) in calls.iter().enumerate() {
-        match make(area, *call, buffer) {
+        match perform(area, *call, buffer) {
             Ok(answer) => {
                 let _ = answers.push(answer);
             }
@@ -92,25 +87,4 @@ fn make_all(
         answers,
         refused: None,
     }
-}
-
-// Makes one call. The ranges follow the text through it.
-fn make(area: &mut TextArea<'_>, call: Call<'_>, buffer: &mut Buffer) -> Result<Answer, AllocError>
-    requires { CanBeMade call }
-    ensures made { IfOk result (λ answer.
-        CallLeads area.old buffer.old call.entry (call_result answer) area.new buffer.new) }
-    ensures ranges_follow { IfOk result (λ answer.
-        RangesFollowCall area.old call.entry (call_result answer) area.new) }
-    ensures err { OnErr result (RanOutOfMemory area.old call.entry area.new) }
-    ensures buffer_left { OnErr result (IsBufferOutOfMemory call.entry buffer.old buffer.new) }
-    ensures left { OnErr result (OfSplicesOutOfMemory area.old (λ splices.
-        RangesStayWhole area.old.document splices area.new.document)) }
-    ensures before { IsSound area.old.document }
-    ensures after { IsSound area.new.document }
-{
-    is_sound(area);
-    let outcome = perform(area, call, buffer);
-    is_sound(area);
-    ranges_follow_each_call();
-    outcome
 }

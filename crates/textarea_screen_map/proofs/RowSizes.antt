@@ -12,7 +12,10 @@ use Rattle.textarea_wrap.specs.RowsView.{RowsView}
 use Rattle.textarea_wrap.specs.WrapResult.{AreRowTexts, IsRowRange, IsWrapped}
 use Rattle.textarea_wrap.specs.declared.wrap.WrapMode.{WrapMode}
 use Rattle.textarea_screen_map.specs.declared.layout.Wrapping.{Wrapping}
+use Rattle.textarea_util.specs.Limit.{size_limit}
+use Rattle.textarea_screen_map.specs.BorrowedLines.{AreRowsRight}
 use Rattle.textarea_screen_map.specs.LineRows.{AreRowsOf}
+use Rattle.textarea_screen_map.specs.Map.{MapView}
 use Rattle.textarea_blocks.specs.Sums.{line_bytes, row_total, size_total}
 use Rattle.textarea_wrap.proofs.FewestRowLemmas.{length-ranges_from}
 use Rattle.textarea_screen_map.proofs.Holding.{last_range, some_rows}
@@ -62,3 +65,14 @@ some_row w [] rows h some = absurd (omega (arith, some))
 some_row w (line ∷ lines) [] h some = absurd h
 some_row w (line ∷ lines) (r ∷ rest) h some =
     omega (arith, some_rows w.mode w.tab_len (max w.width 1) (encode_utf8_all line) r.ranges h.0.wrapped)
+
+-- and if there is a row, there is a line
+pub some_line : (w : Wrapping) (lines : List (List ℕ)) (rows : List RowsView) → AreRowsOf w lines rows → 0 < row_total rows → 0 < length lines
+some_line w [] [] h some = absurd (omega (arith, some))
+some_line w [] (r ∷ rest) h some = absurd h
+some_line w (line ∷ lines) rows h some = omega arith
+
+-- the lines of a map, if there is one, can be borrowed with it
+pub lent_rows : {Z : Type 0} (items : List (String Z)) (map : MapView) → AreRowsOf map.wrapping (lines_of items) map.rows → size_total map.rows ≤ size_limit → 0 < length items → AreRowsRight items map
+lent_rows items map right few some =
+    record { some = some; limit = omega (arith, few, (size_of_items map.wrapping items map.rows right).0); right = right }

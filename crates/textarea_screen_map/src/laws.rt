@@ -5,7 +5,8 @@ ghost use Rattle.textarea_wrap.specs.declared.wrap.WrapMode.TheVariants as mode;
 
 use textarea_wrap::laws::one_wrapping;
 
-/// A position's visual row and column lead back to it, if the row has no zero-width characters.
+/// A position's visual row and column lead back to it, if the row has no zero-width characters. So
+/// `ScreenMap::place_at` returns the position for what `ScreenMap::visual_position` returns.
 pub fn visual_round_trip()
     ensures { (tab_len : ℕ) (lines : List (List ℕ)) (rows : List RowsView)
         (place : Place) (visual : VisualPosition) (found : Place) →

@@ -1,5 +1,5 @@
 //! The visual rows of each line of a text, in blocks of lines. They count from 0 over all lines.
-ghost use Rattle.std.specs.Prelude.{◌≡◌, ◌+◌, ◌*◌, ◌<◌, ◌≤◌, ◌↔◌, ◌∷◌, [], ℕ, List, length, min, take, IfOk, IsOk, OnOk};
+ghost use Rattle.std.specs.Prelude.{◌≡◌, ◌+◌, ◌*◌, ◌<◌, ◌≤◌, ◌↔◌, ◌∷◌, [], ℕ, List, length, min, take, IfOk, IsOk, OnErr, OnOk};
 ghost use Rattle.textarea_screen_map.specs.Prelude.{size_limit, replaced, size_of, lines_of, AreRowsOf, ticks_after, ticks_of, with_tab_len, IsEdge, all_rows, IsWithinLimit, marks_at, ranges_at, row_total, size_total, HasRoom, CanPutRows, IsPreparedFor, rows_in, rows_with};
 ghost use Rattle.textarea_wrap.specs.declared.wrap.WrapMode.TheVariants as mode;
 
@@ -169,6 +169,7 @@ impl ScreenMap {
 
     /// Wraps the lines that will replace the `count` lines from `row` on, and reserves room for
     /// their rows. The map's rows don't change. Out of memory if the map would exceed the limit.
+    /// Out of memory, all of the map stays, its room too: rows prepared before can still be put in.
     pub fn prepare(
         &mut self,
         alloc: Global,
@@ -181,6 +182,7 @@ impl ScreenMap {
         requires { row + count ≤ length self.old.rows }
         ensures same { self.new.rows ≡ self.old.rows }
         ensures same_wrapping { self.new.wrapping ≡ self.old.wrapping }
+        ensures err { OnErr result (self.new ≡ self.old) }
         ensures prepared { IfOk result (IsPreparedFor self.new row count wrapping) }
         ensures rows { IfOk result (λ prepared.
             AreRowsOf wrapping (lines_of lines.now) (rows_in prepared.rows)) }
@@ -194,7 +196,8 @@ impl ScreenMap {
     }
 
     /// Reserves room for rows, of this wrapping, that will replace those of the `count` lines from
-    /// `row` on. The map's rows don't change. Out of memory if the map would exceed the limit.
+    /// `row` on. The map's rows don't change. Out of memory if the map would exceed the limit, and
+    /// then all of the map stays, its room too.
     pub fn make_room(
         &mut self,
         row: usize,
@@ -205,6 +208,7 @@ impl ScreenMap {
         requires { row + count ≤ length self.old.rows }
         ensures same { self.new.rows ≡ self.old.rows }
         ensures same_wrapping { self.new.wrapping ≡ self.old.wrapping }
+        ensures err { OnErr result (self.new ≡ self.old) }
         ensures prepared { IfOk result (IsPreparedFor self.new row count wrapping) }
         ensures rows { IfOk result (λ prepared. rows_in prepared.rows ≡ rows_in rows) }
     {
@@ -226,13 +230,14 @@ impl ScreenMap {
         requires { row + count ≤ length self.old.rows }
         ensures same { self.new.rows ≡ self.old.rows }
         ensures same_wrapping { self.new.wrapping ≡ self.old.wrapping }
+        ensures err { OnErr result (self.new ≡ self.old) }
         ensures room { IfOk result (HasRoom self.new.rows self.new.room row count) }
         ensures rows { IfOk result (λ same. rows_in same ≡ rows_in rows) }
     {
         match rows {
             NewRows::Few(rows) => self.reserve_few(row, count, rows),
             NewRows::Many(blocks) => {
-                self.reserve_edge(row, blocks.block_count())?;
+                self.blocks.make_edge(row, blocks.block_count())?;
                 Ok(NewRows::Many(blocks))
             }
         }
@@ -248,6 +253,7 @@ impl ScreenMap {
         requires { row + count ≤ length self.old.rows }
         ensures same { self.new.rows ≡ self.old.rows }
         ensures same_wrapping { self.new.wrapping ≡ self.old.wrapping }
+        ensures err { OnErr result (self.new ≡ self.old) }
         ensures room { IfOk result (HasRoom self.new.rows self.new.room row count) }
         ensures rows { IfOk result (λ same. rows_in same ≡ rows.items) }
     {
@@ -256,20 +262,8 @@ impl ScreenMap {
             return Ok(NewRows::Few(rows));
         }
         let blocks = block_of(rows)?;
-        self.reserve_edge(row, blocks.block_count())?;
+        self.blocks.make_edge(row, blocks.block_count())?;
         Ok(NewRows::Many(blocks))
-    }
-
-    // Makes a block begin at the line, if it is not after all others, and room for `more` blocks.
-    fn reserve_edge(&mut self, line: usize, more: usize) -> Result<(), AllocError>
-        requires { line ≤ length self.old.rows }
-        ensures same { self.new.rows ≡ self.old.rows }
-        ensures same_wrapping { self.new.wrapping ≡ self.old.wrapping }
-        ensures edge { OnOk result (IsEdge self.new.room.blocks line) }
-        ensures room { OnOk result (more ≤ self.new.room.more) }
-    {
-        self.blocks.make_edge(line)?;
-        self.blocks.reserve(more)
     }
 
     // Returns the number of all rows and the size of all lines once these rows replace those of the

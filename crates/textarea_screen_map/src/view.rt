@@ -11,7 +11,6 @@ use crate::line_marks::{LINE_START, LineMarks, Mark};
 use crate::marks::{columns_of_front, offset_of_column};
 use crate::screen_map::{RowText, ScreenMap};
 use std::marker::Model;
-use textarea_wrap::wrap::columns::display_column_after_text;
 
 /// A borrow of lines and of their visual rows: those of the current text, or those at a prepared
 /// width. Visual rows count from 0 over all lines.
@@ -96,7 +95,7 @@ impl<'a> TextLayoutView<'a> {
         ensures { result
             ≡ row_width self.now.wrapping.tab_len (row_at self.now.lines self.now.rows row) }
     {
-        display_column_after_text(self.row_at(row).text, 0, self.tab_len())
+        self.map.row_width(self.lines, row)
     }
 
     /// Returns the greatest display column of a visual row at which a cursor can be: the row's
@@ -106,9 +105,7 @@ impl<'a> TextLayoutView<'a> {
         ensures { result ≡ greatest_column self.now.wrapping.tab_len
             (row_at self.now.lines self.now.rows row) }
     {
-        let displayed = self.row_at(row);
-        let reachable = reachable_text(displayed.text, displayed.is_last);
-        display_column_after_text(reachable, 0, self.tab_len())
+        self.map.greatest_column(self.lines, row)
     }
 
     /// Returns the visual position of a position: the visual row and the display column. Only the

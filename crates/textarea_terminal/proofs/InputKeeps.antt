@@ -2,6 +2,7 @@
 use Rattle.std.proofs.Common.{◌≡◌, ℕ, Bool, true, false, cond, List, [], ◌∷◌, ◌++◌, take, drop, Option, Some, None, refl, sym, ap, ◌∙◌, subst}
 use Rattle.std.proofs.lemmas.List.{take-append-drop, append_assoc}
 use Rattle.std.specs.Prelude.{option_map}
+use Rattle.textarea_terminal.specs.InputReading.{bound}
 
 -- what was read ends before the rest of the bytes, and with more bytes it is the same, and these
 -- are at the end of the rest
@@ -53,3 +54,16 @@ unchanged_from n bytes x f g e h = record {
   whole = sym (take-append-drop n bytes) ∙ ap (λ xs. take n bytes ++ xs) h.whole ∙ sym (append_assoc (take n bytes) h.front x.1);
   same = λ more. e more ∙ h.same more;
 }
+
+-- something after something else
+pub keeps_bound : {A B : Type 0} (g : A × List ℕ → Option (B × List ℕ)) (bytes : List ℕ) (o : Option (A × List ℕ)) (f : List ℕ → Option (A × List ℕ)) → Keeps bytes o f → ((a : A) (rest : List ℕ) → Keeps rest (g (a, rest)) (λ more. g (a, rest ++ more))) → Keeps bytes (bound g o) (λ more. bound g (f more))
+keeps_bound g bytes None f h k = keeps_none bytes _
+keeps_bound {A} {B} g bytes (Some (a, rest)) f h k =
+    let before = h.unchanged (a, rest) refl in
+    record {
+      unchanged = λ y e. let after = (k a rest).unchanged y e in record {
+        front = before.front ++ after.front;
+        whole = before.whole ∙ ap (λ xs. before.front ++ xs) after.whole ∙ sym (append_assoc before.front after.front y.1);
+        same = λ more. ap (λ (o : Option (A × List ℕ)). bound g o) (before.same more) ∙ after.same more;
+      };
+    }

@@ -96,7 +96,7 @@ index_of-nowhere mark (b ∷ bytes) nowhere =
     let here = true_or_false (is_some (after_mark mark (b ∷ bytes))) (λ h. nowhere 0 (IsAt-from_begins mark (b ∷ bytes) h)) in
     rw here (ap (option_map suc) (index_of-nowhere mark bytes (λ i a. nowhere (suc i) (IsAt-cons b bytes mark i a))))
 
-no_place : (t : Bool) (o : Option ℕ) → cond t (Some 0) (option_map suc o) ≡ None → (t ≡ false) × (o ≡ None)
+pub no_place : (t : Bool) (o : Option ℕ) → cond t (Some 0) (option_map suc o) ≡ None → (t ≡ false) × (o ≡ None)
 no_place true o h = (cc)
 no_place false None h = (refl, refl)
 no_place false (Some k) h = (cc)
@@ -218,7 +218,7 @@ index_of-fits mark (b ∷ bytes) k e = ⊎_elim
     (λ (later : (is_some (after_mark mark (b ∷ bytes)) ≡ false) × ((j : ℕ) × (k ≡ suc j) × (mark_index mark bytes ≡ Some j))). let fits = index_of-fits mark bytes later.1.0 later.1.2 in omega (arith, later.1.1))
     (placed (is_some (after_mark mark (b ∷ bytes))) (mark_index mark bytes) k e)
 
-still_none : (mark bytes more : List ℕ) → length mark ≤ length bytes → is_some (after_mark mark bytes) ≡ false → is_some (after_mark mark (bytes ++ more)) ≡ false
+pub still_none : (mark bytes more : List ℕ) → length mark ≤ length bytes → is_some (after_mark mark bytes) ≡ false → is_some (after_mark mark (bytes ++ more)) ≡ false
 unfolding after_mark
 still_none [] bytes more fits e = (cc)
 still_none (m ∷ mark) [] more fits e = absurd (omega arith)

@@ -1,17 +1,16 @@
 -- Each row is read back.
-use Rattle.std.proofs.Common.{◌==◌, ◌≡◌, ◌≢◌, ℕ, zero, suc, ◌+◌, ◌-◌, ◌/◌, ◌%◌, ◌<◌, ◌≤◌, true, false, List, [], ◌∷◌, ◌++◌, length, get_or, drop, map, Some, None, refl, sym, ap, ◌∙◌, arith, inl, inr, ⊎_elim, subst}
+use Rattle.std.proofs.Common.{◌==◌, ◌≡◌, ◌≢◌, ℕ, zero, suc, ◌+◌, ◌-◌, ◌/◌, ◌%◌, ◌<◌, ◌≤◌, Bool, true, false, cond, List, [], ◌∷◌, ◌++◌, length, get_or, drop, map, Some, None, refl, sym, ap, ◌∙◌, arith, inl, inr, ⊎_elim, subst}
 use Rattle.std.specs.Prelude.{Contains}
 use Rattle.std.proofs.lemmas.List.{get_or-map, map-append, length-append, append_assoc, get_or-append-add, get_or_append_left}
 use Rattle.std.proofs.Math.Seq.{take-append_seam, drop-append-add}
 use lib.Utf8.{scalar_cases}
-use Rattle.std.specs.Str.Lossy.{utf8_lossy}
 use Rattle.std.specs.List.{AllByRecursion}
 use Rattle.textarea_terminal.proofs.InputMarks.{IsAt, index_of-first, nowhere-index_of, after_mark-written}
 use Rattle.textarea_terminal.proofs.InputUnits.{unit_at-key, unit-paste_at, unit_at-consumed, unit_at-nil}
 use Rattle.textarea_terminal.proofs.InputReports.{mouse-read, wheel_up-read, wheel_down-read, size-read, cursor-read}
 use Rattle.textarea_terminal.proofs.InputStreams.{decoding-none, decoding-some}
 use Rattle.textarea_terminal.specs.InputStream.{decoding, with_event}
-use Rattle.textarea_terminal.specs.InputEvent.{EventValue, EventAndRest, input, paste, focus_gained, focus_lost}
+use Rattle.textarea_terminal.specs.InputEvent.{EventValue, EventAndRest, input, paste, focus_gained, focus_lost, unknown}
 use Rattle.textarea_data.specs.declared.input.Key.TheVariants as key
 use Rattle.std.specs.Prelude.{option_map}
 use Rattle.std.specs.Char.{IsScalar, encode_utf8}
@@ -20,12 +19,12 @@ use Rattle.std.proofs.lemmas.Bool.Decides.{nat_tests}
 use Rattle.std.proofs.lemmas.Bool.{lt-ltb, le-ltb, ne_eqb, cases_lt, cases_Bool, cond-true, cond-false, eqb-true}
 use Rattle.textarea_terminal.specs.InputCharacter.{utf8_character, is_second, code_of_two, code_of_three, code_of_four}
 use Rattle.std.specs.Prelude.{◌⊎◌}
-use Rattle.textarea_terminal.specs.InputKey.{with_alt, input_of_key, byte_input, entry, letter_keys}
+use Rattle.textarea_terminal.specs.InputKey.{with_alt, input_of_key, byte_input, entry, letter_keys, coded_event}
 use Rattle.textarea_data.specs.declared.input.Key.{Key}
-use Rattle.textarea_terminal.specs.InputUnit.{unit_at, paste_start, paste_end, mark_index, paste_at, paste_before, after_mark, key_or_sequence, escape_at, second_escape_at, single_at, key_at}
-use Rattle.textarea_terminal.specs.InputSequence.{bracket_at, shift_key_at, shift_key_after_one, shift_key_after_two, control_at, count_front, after_inner, final_at, console_at, sequence_event, event_of_one, event_of_two}
-use Rattle.textarea_terminal.specs.InputParameter.{parameters_of, number_from}
-use Rattle.textarea_terminal.specs.InputRow.{KeyRow, byte_rows, letter_rows, numbered_rows, other_rows, key_rows, IsSentFor, key_row, alt_key_row, character_row, alt_character_row, paste_row, mouse_row, wheel_up_row, wheel_down_row, size_row, cursor_row, focus_gained_row, focus_lost_row, bytes_of_rows}
+use Rattle.textarea_terminal.specs.InputUnit.{unit_at, paste_start, paste_end, mark_index, paste_at, paste_before, after_mark, key_or_sequence, escape_at, second_escape_at, single_at, key_at, alt_event, begins_string}
+use Rattle.textarea_terminal.specs.InputSequence.{bracket_at, shift_key_at, shift_key_after_one, shift_key_after_two, control_at, count_front, after_inner, final_at, console_at, sequence_event, event_of, event_of_one, event_of_two, event_of_three}
+use Rattle.textarea_terminal.specs.InputParameter.{parameters_of, number_from, number_after, count_of}
+use Rattle.textarea_terminal.specs.InputRow.{KeyRow, byte_rows, letter_rows, numbered_rows, other_rows, older_rows, keypad_rows, coded_rows, key_rows, IsSentFor, key_row, alt_key_row, character_row, alt_character_row, paste_row, mouse_row, wheel_up_row, wheel_down_row, size_row, cursor_row, focus_gained_row, focus_lost_row, bytes_of_rows}
 
 -- what is read of a row's bytes, and of them after one ESC more; and what they are
 abbrev read_row : KeyRow → EventAndRest
@@ -45,37 +44,64 @@ unfolding byte_rows unit_at after_mark key_or_sequence key_at
 byte_rows-read = refl
 
 letter_rows-read : map read_row letter_rows ≡ map row_value letter_rows
-unfolding letter_rows unit_at after_mark key_or_sequence escape_at single_at bracket_at shift_key_at shift_key_after_one shift_key_after_two control_at count_front after_inner final_at sequence_event event_of_one event_of_two parameters_of number_from
+unfolding letter_rows unit_at after_mark key_or_sequence escape_at single_at bracket_at shift_key_at shift_key_after_one shift_key_after_two control_at count_front after_inner final_at sequence_event event_of event_of_one event_of_two event_of_three parameters_of number_from number_after count_of
 letter_rows-read = refl
 
 numbered_rows-read : map read_row numbered_rows ≡ map row_value numbered_rows
-unfolding numbered_rows unit_at after_mark key_or_sequence escape_at single_at bracket_at shift_key_at shift_key_after_one shift_key_after_two control_at count_front after_inner final_at sequence_event event_of_one event_of_two parameters_of number_from
+unfolding numbered_rows unit_at after_mark key_or_sequence escape_at single_at bracket_at shift_key_at shift_key_after_one shift_key_after_two control_at count_front after_inner final_at sequence_event event_of event_of_one event_of_two event_of_three parameters_of number_from number_after count_of
 numbered_rows-read = refl
 
 other_rows-read : map read_row other_rows ≡ map row_value other_rows
-unfolding other_rows unit_at after_mark key_or_sequence escape_at single_at bracket_at shift_key_at shift_key_after_one shift_key_after_two control_at count_front after_inner final_at console_at sequence_event event_of_one event_of_two parameters_of number_from
+unfolding other_rows unit_at after_mark key_or_sequence escape_at single_at bracket_at shift_key_at shift_key_after_one shift_key_after_two control_at count_front after_inner final_at console_at sequence_event event_of event_of_one event_of_two event_of_three parameters_of number_from number_after count_of
 other_rows-read = refl
+
+older_rows-read : map read_row older_rows ≡ map row_value older_rows
+unfolding older_rows unit_at after_mark key_or_sequence escape_at single_at bracket_at shift_key_at shift_key_after_one shift_key_after_two control_at count_front after_inner final_at sequence_event event_of event_of_one event_of_two event_of_three parameters_of number_from number_after count_of
+older_rows-read = refl
+
+keypad_rows-read : map read_row keypad_rows ≡ map row_value keypad_rows
+unfolding keypad_rows unit_at after_mark key_or_sequence escape_at single_at bracket_at shift_key_at shift_key_after_one shift_key_after_two control_at count_front after_inner final_at sequence_event event_of event_of_one event_of_two event_of_three parameters_of number_from number_after count_of
+keypad_rows-read = refl
+
+coded_rows-read : map read_row coded_rows ≡ map row_value coded_rows
+unfolding coded_rows unit_at after_mark key_or_sequence escape_at single_at bracket_at shift_key_at shift_key_after_one shift_key_after_two control_at count_front after_inner final_at sequence_event event_of event_of_one event_of_two event_of_three parameters_of number_from number_after count_of coded_event
+coded_rows-read = refl
 
 byte_rows-read_alt : map read_alt_row byte_rows ≡ map alt_row_value byte_rows
 unfolding byte_rows unit_at after_mark key_or_sequence escape_at key_at
 byte_rows-read_alt = refl
 
 letter_rows-read_alt : map read_alt_row letter_rows ≡ map alt_row_value letter_rows
-unfolding letter_rows unit_at after_mark key_or_sequence escape_at second_escape_at single_at bracket_at shift_key_at shift_key_after_one shift_key_after_two control_at count_front after_inner final_at sequence_event event_of_one event_of_two parameters_of number_from
+unfolding letter_rows unit_at after_mark key_or_sequence escape_at second_escape_at single_at bracket_at shift_key_at shift_key_after_one shift_key_after_two control_at count_front after_inner final_at sequence_event event_of event_of_one event_of_two event_of_three parameters_of number_from number_after count_of
 letter_rows-read_alt = refl
 
 numbered_rows-read_alt : map read_alt_row numbered_rows ≡ map alt_row_value numbered_rows
-unfolding numbered_rows unit_at after_mark key_or_sequence escape_at second_escape_at single_at bracket_at shift_key_at shift_key_after_one shift_key_after_two control_at count_front after_inner final_at sequence_event event_of_one event_of_two parameters_of number_from
+unfolding numbered_rows unit_at after_mark key_or_sequence escape_at second_escape_at single_at bracket_at shift_key_at shift_key_after_one shift_key_after_two control_at count_front after_inner final_at sequence_event event_of event_of_one event_of_two event_of_three parameters_of number_from number_after count_of
 numbered_rows-read_alt = refl
 
 other_rows-read_alt : map read_alt_row other_rows ≡ map alt_row_value other_rows
-unfolding other_rows unit_at after_mark key_or_sequence escape_at second_escape_at single_at bracket_at shift_key_at shift_key_after_one shift_key_after_two control_at count_front after_inner final_at console_at sequence_event event_of_one event_of_two parameters_of number_from
+unfolding other_rows unit_at after_mark key_or_sequence escape_at second_escape_at single_at bracket_at shift_key_at shift_key_after_one shift_key_after_two control_at count_front after_inner final_at console_at sequence_event event_of event_of_one event_of_two event_of_three parameters_of number_from number_after count_of
 other_rows-read_alt = refl
 
-map-four : {A B : Type 0} (f g : A → B) (a b c d : List A) → map f a ≡ map g a → map f b ≡ map g b → map f c ≡ map g c → map f d ≡ map g d → map f (a ++ b ++ c ++ d) ≡ map g (a ++ b ++ c ++ d)
-map-four f g a b c d p q r s =
-    map-append f (a ++ b ++ c) d ∙ ap (λ xs. xs ++ map f d) (map-append f (a ++ b) c) ∙ ap (λ xs. xs ++ map f c ++ map f d) (map-append f a b)
-    ∙ rw (p, q, r, s) (sym (map-append g (a ++ b ++ c) d ∙ ap (λ xs. xs ++ map g d) (map-append g (a ++ b) c) ∙ ap (λ xs. xs ++ map g c ++ map g d) (map-append g a b)))
+older_rows-read_alt : map read_alt_row older_rows ≡ map alt_row_value older_rows
+unfolding older_rows unit_at after_mark key_or_sequence escape_at second_escape_at single_at bracket_at shift_key_at shift_key_after_one shift_key_after_two control_at count_front after_inner final_at sequence_event event_of event_of_one event_of_two event_of_three parameters_of number_from number_after count_of
+older_rows-read_alt = refl
+
+keypad_rows-read_alt : map read_alt_row keypad_rows ≡ map alt_row_value keypad_rows
+unfolding keypad_rows unit_at after_mark key_or_sequence escape_at second_escape_at single_at bracket_at shift_key_at shift_key_after_one shift_key_after_two control_at count_front after_inner final_at sequence_event event_of event_of_one event_of_two event_of_three parameters_of number_from number_after count_of
+keypad_rows-read_alt = refl
+
+coded_rows-read_alt : map read_alt_row coded_rows ≡ map alt_row_value coded_rows
+unfolding coded_rows unit_at after_mark key_or_sequence escape_at second_escape_at single_at bracket_at shift_key_at shift_key_after_one shift_key_after_two control_at count_front after_inner final_at sequence_event event_of event_of_one event_of_two event_of_three parameters_of number_from number_after count_of coded_event
+coded_rows-read_alt = refl
+
+map-two : {A B : Type 0} (f g : A → B) (a b : List A) → map f a ≡ map g a → map f b ≡ map g b → map f (a ++ b) ≡ map g (a ++ b)
+map-two f g a b p q = map-append f a b ∙ ap (λ xs. xs ++ map f b) p ∙ ap (λ xs. map g a ++ xs) q ∙ sym (map-append g a b)
+
+map-seven : {A B : Type 0} (f g : A → B) (a b c d e h i : List A) → map f a ≡ map g a → map f b ≡ map g b → map f c ≡ map g c → map f d ≡ map g d → map f e ≡ map g e → map f h ≡ map g h → map f i ≡ map g i
+    → map f (a ++ b ++ c ++ d ++ e ++ h ++ i) ≡ map g (a ++ b ++ c ++ d ++ e ++ h ++ i)
+map-seven f g a b c d e h i p q r s t u v =
+    map-two f g _ i (map-two f g _ h (map-two f g _ e (map-two f g _ d (map-two f g _ c (map-two f g a b p q) r) s) t) u) v
 
 -- functions that are the same on a list are so at each of its elements
 same_at : {A B : Type 0} (f g : A → B) (xs : List A) (x : A) → map f xs ≡ map g xs → Contains xs x → f x ≡ g x
@@ -83,25 +109,25 @@ same_at f g xs x e h =
     sym (get_or-map f xs h.0 x (f x) h.1 ∙ ap f h.2) ∙ ap (λ ys. get_or ys h.0 (f x)) e ∙ get_or-map g xs h.0 x (f x) h.1 ∙ ap g h.2
 
 pub key_row-read : (row : KeyRow) → Contains key_rows row → unit_at row.0 ≡ Some (input row.1, [])
-key_row-read row h = same_at read_row row_value key_rows row (map-four read_row row_value byte_rows letter_rows numbered_rows other_rows byte_rows-read letter_rows-read numbered_rows-read other_rows-read) h
+key_row-read row h = same_at read_row row_value key_rows row (map-seven read_row row_value byte_rows letter_rows numbered_rows other_rows older_rows keypad_rows coded_rows byte_rows-read letter_rows-read numbered_rows-read other_rows-read older_rows-read keypad_rows-read coded_rows-read) h
 
 pub alt_key_row-read : (row : KeyRow) → Contains key_rows row → unit_at (27 ∷ row.0) ≡ Some (input (with_alt row.1), [])
-alt_key_row-read row h = same_at read_alt_row alt_row_value key_rows row (map-four read_alt_row alt_row_value byte_rows letter_rows numbered_rows other_rows byte_rows-read_alt letter_rows-read_alt numbered_rows-read_alt other_rows-read_alt) h
+alt_key_row-read row h = same_at read_alt_row alt_row_value key_rows row (map-seven read_alt_row alt_row_value byte_rows letter_rows numbered_rows other_rows older_rows keypad_rows coded_rows byte_rows-read_alt letter_rows-read_alt numbered_rows-read_alt other_rows-read_alt older_rows-read_alt keypad_rows-read_alt coded_rows-read_alt) h
 
 -- ---- characters
 
 byte_input-character : (c : ℕ) → 32 ≤ c → c ≢ 127 → byte_input c ≡ input_of_key (key.Char c)
 byte_input-character c h k = grind (arith, nat_tests)
 
-after_escape : (a : ℕ) (bytes : List ℕ) → 27 < a → a ≢ 91 → a ≢ 79 → unit_at (27 ∷ a ∷ bytes) ≡ option_map (λ x. (input (with_alt x.0), x.1)) (key_at a bytes)
+after_escape : (a : ℕ) (bytes : List ℕ) → 27 < a → a ≢ 91 → a ≢ 79 → begins_string a ≡ false → unit_at (27 ∷ a ∷ bytes) ≡ option_map (λ x. (alt_event x.0, x.1)) (key_at a bytes)
 unfolding unit_at after_mark key_or_sequence escape_at
-after_escape a bytes h k l =
+after_escape a bytes h k l m =
     let no : eqb a 27 ≡ false = ne_eqb a 27 (omega arith) in
     let no_bracket : eqb a 91 ≡ false = ne_eqb a 91 k in
     let no_o : eqb a 79 ≡ false = ne_eqb a 79 l in
-    rw (no, no_bracket, no_o) refl
+    rw (no, no_bracket, no_o, m) refl
 
-key_at-byte : (c : ℕ) (bytes : List ℕ) → 32 ≤ c → c < 128 → c ≢ 127 → key_at c bytes ≡ Some (input_of_key (key.Char c), bytes)
+key_at-byte : (c : ℕ) (bytes : List ℕ) → 32 ≤ c → c < 128 → c ≢ 127 → key_at c bytes ≡ Some (input (input_of_key (key.Char c)), bytes)
 unfolding key_at
 key_at-byte c bytes h k l =
     let small : ltb c 128 ≡ true = lt-ltb c 128 k in
@@ -110,7 +136,7 @@ key_at-byte c bytes h k l =
 -- a letter, or another character from a space to ~
 pub unit_at-letter : (bytes rest : List ℕ) (c : ℕ) → bytes ≡ c ∷ rest → 32 ≤ c → c ≤ 126 → unit_at bytes ≡ Some (input (input_of_key (key.Char c)), rest)
 unit_at-letter bytes rest c e h k =
-    ap unit_at e ∙ unit_at-key c rest (λ e. omega arith) ∙ ap (option_map (λ x. (input x.0, x.1))) (key_at-byte c rest h (omega arith) (λ e. omega arith))
+    ap unit_at e ∙ unit_at-key c rest (λ e. omega arith) ∙ key_at-byte c rest h (omega arith) (λ e. omega arith)
 
 -- a property of each entry of a table is one of the entry for a number
 pub entry-each : {A : Type 0} (P : ℕ → A → Type 0) (rows : List (ℕ × A)) → AllByRecursion (λ r. P r.0 r.1) rows → (n : ℕ) (x : A) → entry rows n ≡ Some x → P n x
@@ -127,17 +153,18 @@ entry-each P (row ∷ rows) all n x e =
 
 -- a key whose sequence is a letter after ESC [
 pub unit_at-letter_key : (bytes rest : List ℕ) (letter : ℕ) (k : Key) → bytes ≡ 27 ∷ 91 ∷ letter ∷ rest → entry letter_keys letter ≡ Some k → unit_at bytes ≡ Some (input (input_of_key k), rest)
-unfolding unit_at after_mark key_or_sequence escape_at single_at bracket_at shift_key_at shift_key_after_one shift_key_after_two control_at count_front after_inner final_at sequence_event event_of_one event_of_two parameters_of number_from
+unfolding unit_at after_mark key_or_sequence escape_at single_at bracket_at shift_key_at shift_key_after_one shift_key_after_two control_at count_front after_inner final_at sequence_event event_of event_of_one event_of_two event_of_three parameters_of number_from number_after count_of
 unit_at-letter_key bytes rest letter k e found =
     ap unit_at e
     ∙ entry-each (λ n x. unit_at (27 ∷ 91 ∷ n ∷ rest) ≡ Some (input (input_of_key x), rest)) letter_keys
     (refl, (refl, (refl, (refl, (refl, (refl, (refl, (refl, (refl, (refl, tt)))))))))) letter k found
 
-key_at-character : (a c : ℕ) (bytes rest : List ℕ) → 128 ≤ a → utf8_character a bytes ≡ Some (c, rest) → key_at a bytes ≡ Some (input_of_key (key.Char c), rest)
+key_at-character : (a c : ℕ) (bytes rest : List ℕ) → 160 ≤ a → 160 ≤ c → utf8_character a bytes ≡ Some (c, rest) → key_at a bytes ≡ Some (input (input_of_key (key.Char c)), rest)
 unfolding key_at
-key_at-character a c bytes rest h e =
-    let great : ltb a 128 ≡ false = le-ltb a 128 h in
-    rw (great, e) refl
+key_at-character a c bytes rest h k e =
+    let great : ltb a 128 ≡ false = le-ltb a 128 (omega arith) in
+    let greater : ltb a 160 ≡ false = le-ltb a 160 h in
+    rw (great, greater, e) (ap (λ (t : Bool). Some (cond t unknown (input (input_of_key (key.Char c))), rest)) (le-ltb c 160 k))
 
 two-read : (a b : ℕ) (rest : List ℕ) → 0xC2 ≤ a → a < 0xE0 → 0x80 ≤ b → b ≤ 0xBF → utf8_character a (b ∷ rest) ≡ Some (code_of_two a b, rest)
 two-read a b rest h k l m = grind (arith, nat_tests)
@@ -148,19 +175,21 @@ three-read a b c rest h k l m n = grind (arith, nat_tests)
 four-read : (a b c d : ℕ) (rest : List ℕ) → 0xF0 ≤ a → a ≤ 0xF4 → is_second a b ≡ true → 0x80 ≤ c → c ≤ 0xBF → 0x80 ≤ d → d ≤ 0xBF → utf8_character a (b ∷ c ∷ d ∷ rest) ≡ Some (code_of_four a b c d, rest)
 four-read a b c d rest h k l m n o p = grind (arith, nat_tests)
 
--- a first byte from 128 on
-character_first : (a c : ℕ) (bytes : List ℕ) → 128 ≤ a → utf8_character a bytes ≡ Some (c, []) → unit_at (a ∷ bytes) ≡ Some (input (input_of_key (key.Char c)), [])
-character_first a c bytes h e = unit_at-key a bytes (λ e. omega arith) ∙ ap (option_map (λ x. (input x.0, x.1))) (key_at-character a c bytes [] h e)
+-- a first byte from 160 on
+character_first : (a c : ℕ) (bytes : List ℕ) → 160 ≤ a → 160 ≤ c → utf8_character a bytes ≡ Some (c, []) → unit_at (a ∷ bytes) ≡ Some (input (input_of_key (key.Char c)), [])
+character_first a c bytes h k e = unit_at-key a bytes (λ e. omega arith) ∙ key_at-character a c bytes [] h k e
 
-character_after_escape : (a c : ℕ) (bytes : List ℕ) → 128 ≤ a → utf8_character a bytes ≡ Some (c, []) → unit_at (27 ∷ a ∷ bytes) ≡ Some (input (with_alt (input_of_key (key.Char c))), [])
-character_after_escape a c bytes h e = after_escape a bytes (omega arith) (λ k. omega arith) (λ k. omega arith) ∙ ap (option_map (λ x. (input (with_alt x.0), x.1))) (key_at-character a c bytes [] h e)
+character_after_escape : (a c : ℕ) (bytes : List ℕ) → 160 ≤ a → 160 ≤ c → utf8_character a bytes ≡ Some (c, []) → unit_at (27 ∷ a ∷ bytes) ≡ Some (input (with_alt (input_of_key (key.Char c))), [])
+character_after_escape a c bytes h k e =
+    let no_string : begins_string a ≡ false = grind (arith, nat_tests) in
+    after_escape a bytes (omega arith) (λ k. omega arith) (λ k. omega arith) no_string ∙ ap (option_map (λ x. (alt_event x.0, x.1))) (key_at-character a c bytes [] h k e)
 
--- a first byte of at least 128 and those after it, that are a character
+-- a first byte of at least 160 and those after it, that are a character
 pub record IsLong (c : ℕ) (bytes : List ℕ) : Type 0 where
   pub first : ℕ
   pub others : List ℕ
   pub whole : bytes ≡ first ∷ others
-  pub high : 128 ≤ first
+  pub high : 160 ≤ first
   pub read : utf8_character first others ≡ Some (c, [])
 
 long_two : (c : ℕ) → 128 ≤ c → c < 2048 → IsLong c ((192 + c / 64) ∷ (128 + c % 64) ∷ [])
@@ -222,17 +251,17 @@ encoded_long c h s = ⊎_elim
     (cases_lt c 65536))
     (cases_lt c 2048)
 
-pub character-read : (c : ℕ) → IsScalar c → 32 ≤ c → c ≢ 127 → unit_at (encode_utf8 c) ≡ Some (input (input_of_key (key.Char c)), [])
+pub character-read : (c : ℕ) → IsScalar c → 32 ≤ c → (c < 127) ⊎ (160 ≤ c) → unit_at (encode_utf8 c) ≡ Some (input (input_of_key (key.Char c)), [])
 character-read c s h k = ⊎_elim
-    (λ (short : c < 128). ap unit_at (encoded_short c short) ∙ unit_at-key c [] (λ e. omega arith) ∙ ap (option_map (λ x. (input x.0, x.1))) (key_at-byte c [] h short k))
-    (λ (long : 128 ≤ c). let e = encoded_long c long s in ap unit_at e.whole ∙ character_first e.first c e.others e.high e.read)
-    (cases_lt c 128)
+    (λ (short : c < 127). ap unit_at (encoded_short c (omega arith)) ∙ unit_at-key c [] (λ e. omega arith) ∙ key_at-byte c [] h (omega arith) (λ e. omega arith))
+    (λ (long : 160 ≤ c). let e = encoded_long c (omega arith) s in ap unit_at e.whole ∙ character_first e.first c e.others e.high long e.read)
+    k
 
-pub alt_character-read : (c : ℕ) → IsScalar c → 32 ≤ c → c ≢ 127 → c ≢ 91 → c ≢ 79 → unit_at (27 ∷ encode_utf8 c) ≡ Some (input (with_alt (input_of_key (key.Char c))), [])
-alt_character-read c s h k l m = ⊎_elim
-    (λ (short : c < 128). ap (λ xs. unit_at (27 ∷ xs)) (encoded_short c short) ∙ after_escape c [] (omega arith) l m ∙ ap (option_map (λ x. (input (with_alt x.0), x.1))) (key_at-byte c [] h short k))
-    (λ (long : 128 ≤ c). let e = encoded_long c long s in ap (λ xs. unit_at (27 ∷ xs)) e.whole ∙ character_after_escape e.first c e.others e.high e.read)
-    (cases_lt c 128)
+pub alt_character-read : (c : ℕ) → IsScalar c → 32 ≤ c → (c < 127) ⊎ (160 ≤ c) → c ≢ 91 → c ≢ 79 → begins_string c ≡ false → unit_at (27 ∷ encode_utf8 c) ≡ Some (input (with_alt (input_of_key (key.Char c))), [])
+alt_character-read c s h k l m n = ⊎_elim
+    (λ (short : c < 127). ap (λ xs. unit_at (27 ∷ xs)) (encoded_short c (omega arith)) ∙ after_escape c [] (omega arith) l m n ∙ ap (option_map (λ x. (alt_event x.0, x.1))) (key_at-byte c [] h (omega arith) (λ e. omega arith)))
+    (λ (long : 160 ≤ c). let e = encoded_long c (omega arith) s in ap (λ xs. unit_at (27 ∷ xs)) e.whole ∙ character_after_escape e.first c e.others e.high long e.read)
+    k
 
 -- ---- pasted texts and the focus
 
@@ -268,22 +297,22 @@ index_of-written text none = index_of-first paste_end (text ++ paste_end) (lengt
         }))
         (cases_lt (length text) (i + 6))
 
-paste_at-written : (text : List ℕ) → mark_index paste_end text ≡ None → paste_at (text ++ paste_end) ≡ Some (paste (utf8_lossy text), [])
+paste_at-written : (text : List ℕ) → mark_index paste_end text ≡ None → paste_at (text ++ paste_end) ≡ Some (paste text, [])
 unfolding paste_at
 paste_at-written text none =
     ap (option_map (paste_before (text ++ paste_end))) (index_of-written text none)
-    ∙ ap (λ (xs : List ℕ). Some (paste (utf8_lossy xs), drop (length text + 6) (text ++ paste_end))) (take-append_seam text paste_end)
-    ∙ ap (λ (xs : List ℕ). Some (paste (utf8_lossy text), xs)) (drop-append-add text paste_end 6)
+    ∙ ap (λ (xs : List ℕ). Some (paste xs, drop (length text + 6) (text ++ paste_end))) (take-append_seam text paste_end)
+    ∙ ap (λ (xs : List ℕ). Some (paste text, xs)) (drop-append-add text paste_end 6)
 
-pub paste-read : (text : List ℕ) → mark_index paste_end text ≡ None → unit_at (paste_start ++ text ++ paste_end) ≡ Some (paste (utf8_lossy text), [])
+pub paste-read : (text : List ℕ) → mark_index paste_end text ≡ None → unit_at (paste_start ++ text ++ paste_end) ≡ Some (paste text, [])
 paste-read text none = ap unit_at (append_assoc paste_start text paste_end) ∙ unit-paste_at (paste_start ++ (text ++ paste_end)) (text ++ paste_end) (after_mark-written paste_start (text ++ paste_end)) ∙ paste_at-written text none
 
 focus_gained-read : unit_at (27 ∷ 91 ∷ 73 ∷ []) ≡ Some (focus_gained, [])
-unfolding unit_at after_mark key_or_sequence escape_at bracket_at shift_key_at control_at count_front after_inner final_at sequence_event event_of_one parameters_of number_from
+unfolding unit_at after_mark key_or_sequence escape_at bracket_at shift_key_at control_at count_front after_inner final_at sequence_event event_of event_of_one parameters_of number_from number_after count_of
 focus_gained-read = refl
 
 focus_lost-read : unit_at (27 ∷ 91 ∷ 79 ∷ []) ≡ Some (focus_lost, [])
-unfolding unit_at after_mark key_or_sequence escape_at bracket_at shift_key_at control_at count_front after_inner final_at sequence_event event_of_one parameters_of number_from
+unfolding unit_at after_mark key_or_sequence escape_at bracket_at shift_key_at control_at count_front after_inner final_at sequence_event event_of event_of_one parameters_of number_from number_after count_of
 focus_lost-read = refl
 
 -- ---- all rows
@@ -292,13 +321,13 @@ pub written-read : (bytes : List ℕ) (value : EventValue) → IsSentFor bytes v
 written-read bytes value (key_row row h) = key_row-read row h
 written-read bytes value (alt_key_row row h) = alt_key_row-read row h
 written-read bytes value (character_row c s h k) = character-read c s h k
-written-read bytes value (alt_character_row c s h k l m) = alt_character-read c s h k l m
+written-read bytes value (alt_character_row c s h k l m n) = alt_character-read c s h k l m n
 written-read bytes value (paste_row text none) = paste-read text none
-written-read bytes value (mouse_row m h k) = mouse-read m h k
+written-read bytes value (mouse_row m is h k) = mouse-read m is h k
 written-read bytes value (wheel_up_row column row ctrl alt shift h k) = wheel_up-read column row ctrl alt shift h k
 written-read bytes value (wheel_down_row column row ctrl alt shift h k) = wheel_down-read column row ctrl alt shift h k
 written-read bytes value (size_row columns rows h k) = size-read columns rows h k
-written-read bytes value (cursor_row column row h k no_f3) = cursor-read column row h k no_f3
+written-read bytes value (cursor_row column row h k) = cursor-read column row h k
 written-read bytes value focus_gained_row = focus_gained-read
 written-read bytes value focus_lost_row = focus_lost-read
 

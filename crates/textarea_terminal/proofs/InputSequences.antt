@@ -1,18 +1,18 @@
 -- Control sequences of the general form, and decimal numbers in them.
-use Rattle.std.proofs.Common.{◌≡◌, ◌≢◌, ℕ, zero, suc, ◌+◌, ◌-◌, ◌*◌, ◌/◌, ◌%◌, ◌<◌, ◌≤◌, Bool, true, false, cond, ltb, List, [], ◌∷◌, ◌++◌, length, take, drop, min, Option, Some, None, refl, sym, ap, ◌∙◌, arith, ⊎_elim}
+use Rattle.std.proofs.Common.{◌≡◌, ◌≢◌, ℕ, zero, suc, ◌+◌, ◌-◌, ◌*◌, ◌/◌, ◌%◌, ◌<◌, ◌≤◌, Bool, true, false, cond, eqb, ltb, List, [], ◌∷◌, ◌++◌, length, take, drop, min, Option, Some, None, refl, sym, ap, ◌∙◌, arith, ⊎_elim}
 use Rattle.std.proofs.lemmas.List.{length-append, append-nil}
 use Rattle.std.proofs.Math.Seq.{drop-append_seam, take-append_seam}
 use Rattle.std.proofs.lemmas.Bool.{eq-eqb, ne_eqb, lt-ltb, le-ltb, cases_lt}
 use Rattle.std.proofs.lemmas.Bool.Decides.{nat_tests}
 use Rattle.textarea_terminal.specs.InputEvent.{EventAndRest, unknown}
-use Rattle.textarea_terminal.specs.InputParameter.{is_digit, digit_at, number_from, number_at, parameters_of, after_first, after_second, after_third}
-use Rattle.textarea_terminal.specs.declared.input.parameter.Parameters.TheVariants as parameters
-use Rattle.textarea_terminal.specs.InputSequence.{is_inner, is_final, count_front, inner_limit, final_at, after_inner, control_at, shift_key_at, shift_key_after_one, shift_key_after_two, bracket_at, or_else, sequence_event}
-use Rattle.textarea_terminal.specs.InputUnit.{unit_at, after_mark, paste_start, key_or_sequence, escape_at}
-use Rattle.textarea_terminal.specs.InputRow.{AreInner, IsGeneral, digit, decimal, bracket}
+use Rattle.textarea_terminal.specs.InputParameter.{is_digit, number_limit, digit_at, number_from, number_at, number_after, count_of, parameters_of, after_first, after_shifted, after_base, after_second, after_kind, after_third}
+use Rattle.textarea_terminal.specs.declared.input.parameter.Parameters.{Parameters}
+use Rattle.textarea_terminal.specs.InputSequence.{is_text, text_limit, string_at, after_text, after_text_escape, is_inner, is_final, count_front, inner_limit, final_at, after_inner, control_at, shift_key_at, shift_key_after_one, shift_key_after_two, bracket_at, or_else, sequence_event}
+use Rattle.textarea_terminal.specs.InputUnit.{unit_at, after_mark, paste_start, key_or_sequence, escape_at, begins_string}
+use Rattle.textarea_terminal.specs.InputRow.{AreInner, AreText, IsGeneral, digit, decimal, bracket}
 use Rattle.textarea_terminal.proofs.InputPrefixes.{number_from-end, count_front-zero, count_front-cons, count_front-cons_end}
 use Rattle.textarea_terminal.proofs.InputMarks.{after_mark-whole}
-use Rattle.textarea_terminal.proofs.InputUnits.{control_after_count, control_at-counted, unit-other}
+use Rattle.textarea_terminal.proofs.InputUnits.{control_after_count, control_at-counted, string_after_count, string_at-counted, escape-string, unit-other}
 
 -- ---- where a sequence ends
 
@@ -70,16 +70,16 @@ control-written inner last more h k f =
     ∙ ap (λ (xs : List ℕ). control_after_count (length inner) inner xs) (drop-append_seam inner (last ∷ more))
     ∙ control_after_count-last (length inner) inner last more k f
 
-final_at-general : (inner : List ℕ) (last : ℕ) (more : List ℕ) → (last ≡ 91 → inner ≢ []) → final_at inner last more ≡ Some (sequence_event inner last, more)
+final_at-general : (inner : List ℕ) (last : ℕ) (more : List ℕ) → (last ≡ 91 → inner ≢ []) → (last ≡ 77 → inner ≢ []) → final_at inner last more ≡ Some (sequence_event inner last, more)
 unfolding final_at
-final_at-general [] last more h = let no = ne_eqb last 91 (λ e. h e refl) in rw no refl
-final_at-general (b ∷ inner) last more h = refl
+final_at-general [] last more h k = let no = ne_eqb last 91 (λ e. h e refl) in let no_mouse = ne_eqb last 77 (λ e. k e refl) in rw (no, no_mouse) refl
+final_at-general (b ∷ inner) last more h k = refl
 
 bracket-general : (inner : List ℕ) (last : ℕ) (more : List ℕ) → IsGeneral inner last → bracket_at (inner ++ last ∷ more) ≡ Some (sequence_event inner last, more)
 unfolding bracket_at
 bracket-general inner last more g =
     ap (λ (o : EventAndRest). or_else o (control_at (inner ++ last ∷ more))) (no_shifted_at inner last more g.inner_bytes g.last_byte)
-    ∙ control-written inner last more g.inner_bytes g.short g.last_byte ∙ final_at-general inner last more g.no_console
+    ∙ control-written inner last more g.inner_bytes g.short g.last_byte ∙ final_at-general inner last more g.no_console g.no_mouse
 
 -- ---- what begins no pasted text
 
@@ -193,7 +193,7 @@ digit-more : (m d : ℕ) (rest : List ℕ) → d < 10 → 10 * m + d ≤ 65535 �
 unfolding number_from
 digit-more m d rest h k =
     let is : is_digit (48 + d) ≡ true = grind (arith, nat_tests) in
-    let sum : min 65535 (10 * m + (48 + d - 48)) ≡ 10 * m + d = omega arith in
+    let sum : min number_limit (10 * m + (48 + d - 48)) ≡ 10 * m + d = omega arith in
     rw (is, sum) refl
 
 -- the number that digits make
@@ -290,13 +290,100 @@ no_digit_semicolon bytes = refl
 number-last : (n : ℕ) → n < 65536 → number_at (decimal n) ≡ (n, [])
 number-last n h = ap number_at (sym (append-nil (decimal n))) ∙ number-decimal n [] h no_digit_nil
 
-pub parameters-two : (a b : ℕ) → a < 65536 → b < 65536 → parameters_of (two_numbers a b) ≡ parameters.Two a b
+other_separator : (separator : ℕ) (bytes : List ℕ) → eqb 59 separator ≡ false → number_after separator (59 ∷ bytes) ≡ (0, 59 ∷ bytes)
+unfolding number_after
+other_separator separator bytes e = rw e refl
+
+this_separator : (bytes : List ℕ) → number_after 59 (59 ∷ bytes) ≡ number_at bytes
+unfolding number_after
+this_separator bytes = refl
+
+no_separator : (separator : ℕ) → number_after separator [] ≡ (0, [])
+unfolding number_after
+no_separator separator = refl
+
+count-two : (b : ℕ) (bytes third : List ℕ) → b ≡ 59 → count_of (b ∷ bytes) [] third ≡ 2
+unfolding count_of
+count-two b bytes third e = rw e refl
+
+count-three : (bytes more : List ℕ) → count_of (59 ∷ bytes) (59 ∷ more) [] ≡ 3
+unfolding count_of
+count-three bytes more = refl
+
+-- two and three numbers, as parameters
+abbrev pub two_parameters : ℕ → ℕ → Parameters
+two_parameters a b = record { count = 2; first = a; shifted = 0; second = b; kind = 0; third = 0 }
+
+abbrev pub three_parameters : ℕ → ℕ → ℕ → Parameters
+three_parameters a b c = record { count = 3; first = a; shifted = 0; second = b; kind = 0; third = c }
+
+pub parameters-two : (a b : ℕ) → a < 65536 → b < 65536 → parameters_of (two_numbers a b) ≡ two_parameters a b
 unfolding parameters_of
 parameters-two a b h k =
-    ap after_first (number-decimal a (59 ∷ decimal b) h (no_digit_semicolon (decimal b))) ∙ ap (after_second a) (number-last b k)
+    let more = 59 ∷ decimal b in
+    ap after_first (number-decimal a more h (no_digit_semicolon (decimal b)))
+    ∙ ap (after_shifted a) (other_separator 58 (decimal b) refl) ∙ ap (after_base a 0) (other_separator 58 (decimal b) refl)
+    ∙ ap (after_second a 0 more) (this_separator (decimal b) ∙ number-last b k)
+    ∙ ap (after_kind a 0 b more) (no_separator 58) ∙ ap (after_third a 0 b 0 more []) (no_separator 59)
+    ∙ ap (λ (n : ℕ). record { count = n; first = a; shifted = 0; second = b; kind = 0; third = 0 }) (count-two 59 (decimal b) [] refl)
 
-pub parameters-three : (a b c : ℕ) → a < 65536 → b < 65536 → c < 65536 → parameters_of (numbers_of_three a b c) ≡ parameters.Three a b c
+pub parameters-three : (a b c : ℕ) → a < 65536 → b < 65536 → c < 65536 → parameters_of (numbers_of_three a b c) ≡ three_parameters a b c
 unfolding parameters_of
 parameters-three a b c h k l =
-    ap after_first (number-decimal a (59 ∷ two_numbers b c) h (no_digit_semicolon (two_numbers b c)))
-    ∙ ap (after_second a) (number-decimal b (59 ∷ decimal c) k (no_digit_semicolon (decimal c))) ∙ ap (after_third a b) (number-last c l)
+    let more = 59 ∷ two_numbers b c in
+    let last = 59 ∷ decimal c in
+    ap after_first (number-decimal a more h (no_digit_semicolon (two_numbers b c)))
+    ∙ ap (after_shifted a) (other_separator 58 (two_numbers b c) refl) ∙ ap (after_base a 0) (other_separator 58 (two_numbers b c) refl)
+    ∙ ap (after_second a 0 more) (this_separator (two_numbers b c) ∙ number-decimal b last k (no_digit_semicolon (decimal c)))
+    ∙ ap (after_kind a 0 b more) (other_separator 58 (decimal c) refl) ∙ ap (after_third a 0 b 0 more last) (this_separator (decimal c) ∙ number-last c l)
+    ∙ ap (λ (n : ℕ). record { count = n; first = a; shifted = 0; second = b; kind = 0; third = c }) (count-three (two_numbers b c) (decimal c))
+
+-- ---- strings
+
+string-count : (most : ℕ) (text : List ℕ) (last : ℕ) (more : List ℕ) → AreText text → length text < most → is_text last ≡ false → count_front is_text most (text ++ last ∷ more) ≡ length text
+string-count most [] last more h k f = count_front-cons_end is_text most last more f
+string-count zero (b ∷ text) last more h k f = absurd (omega arith)
+string-count (suc most) (b ∷ text) last more h k f =
+    count_front-cons is_text most b (text ++ last ∷ more) h.0 ∙ ap suc (string-count most text last more h.1 (omega arith) f)
+
+string_after_count-last : (n : ℕ) (bytes : List ℕ) → n < text_limit → string_after_count n bytes ≡ after_text bytes
+unfolding string_after_count
+string_after_count-last n bytes h = let below = ne_eqb n text_limit (λ e. omega arith) in rw below refl
+
+string-written : (text : List ℕ) (last : ℕ) (more : List ℕ) → AreText text → length text < text_limit → is_text last ≡ false → string_at (text ++ last ∷ more) ≡ after_text (last ∷ more)
+string-written text last more h k f =
+    let all = text ++ last ∷ more in
+    string_at-counted all ∙ ap (λ (n : ℕ). string_after_count n (drop n all)) (string-count text_limit text last more h k f)
+    ∙ ap (λ (xs : List ℕ). string_after_count (length text) xs) (drop-append_seam text (last ∷ more))
+    ∙ string_after_count-last (length text) (last ∷ more) k
+
+no_start_string : (b : ℕ) (bytes : List ℕ) (o : Option (List ℕ)) → begins_string b ≡ true → after_mark paste_start (27 ∷ b ∷ bytes) ≡ o → after_mark paste_start (27 ∷ b ∷ bytes) ≡ None
+no_start_string b bytes None is e = e
+no_start_string b bytes (Some rest) is e =
+    let whole : 27 ∷ b ∷ bytes ≡ 27 ∷ 91 ∷ 50 ∷ 48 ∷ 48 ∷ 126 ∷ rest = after_mark-whole paste_start (27 ∷ b ∷ bytes) rest e in
+    let same : b ≡ 91 = (cc) in
+    let both : true ≡ false = sym is ∙ ap begins_string same in (cc)
+
+key_or_sequence-escape : (bytes : List ℕ) → key_or_sequence (27 ∷ bytes) ≡ escape_at bytes
+unfolding key_or_sequence
+key_or_sequence-escape bytes = refl
+
+unit_at-string : (b : ℕ) (bytes : List ℕ) → begins_string b ≡ true → unit_at (27 ∷ b ∷ bytes) ≡ string_at bytes
+unit_at-string b bytes is =
+    unit-other (27 ∷ b ∷ bytes) (no_start_string b bytes (after_mark paste_start (27 ∷ b ∷ bytes)) is refl)
+    ∙ key_or_sequence-escape (b ∷ bytes) ∙ escape-string b bytes is
+
+ends_bell : (more : List ℕ) → after_text (7 ∷ more) ≡ Some (unknown, more)
+unfolding after_text
+ends_bell more = refl
+
+ends_terminator : (more : List ℕ) → after_text (27 ∷ 92 ∷ more) ≡ Some (unknown, more)
+unfolding after_text after_text_escape
+ends_terminator more = refl
+
+-- a string is one event, up to BEL or ESC \
+pub string_bell-read : (b : ℕ) (text more : List ℕ) → begins_string b ≡ true → AreText text → length text < text_limit → unit_at (27 ∷ b ∷ (text ++ 7 ∷ more)) ≡ Some (unknown, more)
+string_bell-read b text more is h k = unit_at-string b (text ++ 7 ∷ more) is ∙ string-written text 7 more h k refl ∙ ends_bell more
+
+pub string_terminator-read : (b : ℕ) (text more : List ℕ) → begins_string b ≡ true → AreText text → length text < text_limit → unit_at (27 ∷ b ∷ (text ++ 27 ∷ 92 ∷ more)) ≡ Some (unknown, more)
+string_terminator-read b text more is h k = unit_at-string b (text ++ 27 ∷ 92 ∷ more) is ∙ string-written text 27 (92 ∷ more) h k refl ∙ ends_terminator more

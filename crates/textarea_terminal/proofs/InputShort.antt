@@ -1,17 +1,15 @@
 -- Keys whose sequences are short are read.
 use Rattle.std.proofs.Common.{◌≡◌, ◌≢◌, ℕ, ◌+◌, ◌-◌, ◌*◌, ◌≤◌, true, false, eqb, List, [], ◌∷◌, ◌++◌, length, min, Some, refl, sym, ap, ◌∙◌, arith}
 use Rattle.std.proofs.lemmas.List.{append_assoc, length-append}
-use Rattle.std.proofs.lemmas.Bool.{ne_eqb}
+use Rattle.std.proofs.lemmas.Bool.{ne_eqb, eqb-false}
 use Rattle.std.proofs.lemmas.Bool.Decides.{nat_tests}
-use Rattle.std.proofs.Math.Bool.{and-false}
-use Rattle.std.specs.Int.{is_in_range}
 use Rattle.textarea_data.specs.declared.input.Input.{Input}
 use Rattle.textarea_data.specs.declared.input.Key.{Key}
 use Rattle.textarea_terminal.specs.InputEvent.{EventValue, input}
 use Rattle.textarea_terminal.specs.InputKey.{entry, input_of_key, input_with, letter_keys, numbered_keys}
-use Rattle.textarea_terminal.specs.InputParameter.{is_digit, number_from, parameters_of}
+use Rattle.textarea_terminal.specs.InputParameter.{is_digit, number_limit, number_from, number_after, count_of, parameters_of}
 use Rattle.textarea_terminal.specs.InputRow.{IsGeneral}
-use Rattle.textarea_terminal.specs.InputSequence.{event_of_one, event_of_two, is_final, is_inner, sequence_event}
+use Rattle.textarea_terminal.specs.InputSequence.{event_of, event_of_one, event_of_two, is_final, is_inner, sequence_event}
 use Rattle.textarea_terminal.specs.InputShort.{AreDigits}
 use Rattle.textarea_terminal.specs.InputUnit.{unit_at, after_mark, key_or_sequence, escape_at, single_at}
 use Rattle.textarea_terminal.proofs.InputRows.{entry-each}
@@ -34,29 +32,32 @@ digit-not_dollar d h e = let range = digit-range d h in omega (arith, range.0, e
 digit-not_mouse : (d : ℕ) → is_digit d ≡ true → eqb d 60 ≡ false
 digit-not_mouse d h = let range = digit-range d h in ne_eqb d 60 (λ e. omega (arith, range.1, e))
 
-digit-first : (d : ℕ) → is_digit d ≡ true → min 65535 (10 * 0 + (d - 48)) ≡ d - 48
+digit-not_reply : (d : ℕ) → is_digit d ≡ true → eqb d 63 ≡ false
+digit-not_reply d h = let range = digit-range d h in ne_eqb d 63 (λ e. omega (arith, range.1, e))
+
+digit-first : (d : ℕ) → is_digit d ≡ true → min number_limit (10 * 0 + (d - 48)) ≡ d - 48
 digit-first d h = let range = digit-range d h in omega (arith, range.1)
 
 pub digits-one : (a : ℕ) → is_digit a ≡ true → AreDigits (a ∷ []) (a - 48)
-unfolding sequence_event parameters_of number_from
+unfolding sequence_event event_of parameters_of number_from number_after count_of
 digits-one a h = record {
   inner = ((digit-inner a h, digit-not_dollar a h), tt);
   few = omega arith;
-  one = λ last. rw (digit-not_mouse a h, h, digit-first a h) refl;
-  two = λ d last is. rw (digit-not_mouse a h, h, digit-first a h, is, digit-first d is) refl;
+  one = λ last other. rw (digit-not_mouse a h, digit-not_reply a h, h, digit-first a h, ne_eqb last 117 other) refl;
+  two = λ d last is other. rw (digit-not_mouse a h, digit-not_reply a h, h, digit-first a h, is, digit-first d is, ne_eqb last 117 other) refl;
 }
 
 pub digits-two : (a b : ℕ) → is_digit a ≡ true → is_digit b ≡ true → AreDigits (a ∷ b ∷ []) (10 * (a - 48) + (b - 48))
-unfolding sequence_event parameters_of number_from
+unfolding sequence_event event_of parameters_of number_from number_after count_of
 digits-two a b h k =
     let low = digit-range a h in
     let high = digit-range b k in
-    let sum : min 65535 (10 * (a - 48) + (b - 48)) ≡ 10 * (a - 48) + (b - 48) = omega (arith, low.1, high.1) in
+    let sum : min number_limit (10 * (a - 48) + (b - 48)) ≡ 10 * (a - 48) + (b - 48) = omega (arith, low.1, high.1) in
     record {
       inner = ((digit-inner a h, digit-not_dollar a h), ((digit-inner b k, digit-not_dollar b k), tt));
       few = omega arith;
-      one = λ last. rw (digit-not_mouse a h, h, k, digit-first a h, sum) refl;
-      two = λ d last is. rw (digit-not_mouse a h, h, k, digit-first a h, sum, is, digit-first d is) refl;
+      one = λ last other. rw (digit-not_mouse a h, digit-not_reply a h, h, k, digit-first a h, sum, ne_eqb last 117 other) refl;
+      two = λ d last is other. rw (digit-not_mouse a h, digit-not_reply a h, h, k, digit-first a h, sum, is, digit-first d is, ne_eqb last 117 other) refl;
     }
 
 -- ---- a number before ~
@@ -76,19 +77,15 @@ tilde-read digits rest n k are found =
       last_byte = refl;
       no_paste = λ e. no_paste_one digits are.few;
       no_console = λ e. absurd (omega (arith, e));
+      no_mouse = λ e. absurd (omega (arith, e));
     } in
-    general-read digits 126 rest general ∙ ap (λ (v : EventValue). Some (v, rest)) (are.one 126 ∙ one-tilde n k found)
+    general-read digits 126 rest general ∙ ap (λ (v : EventValue). Some (v, rest)) (are.one 126 (λ e. omega (arith, e)) ∙ one-tilde n k found)
 
 -- ---- a number, a parameter of modifiers and a final byte
 
-in_range : (low high n : ℕ) → low ≤ n → n ≤ high → is_in_range low high n ≡ true
-in_range low high n h k = grind (arith, nat_tests)
-
-pub two-tilde : (n m last : ℕ) (k : Key) → last ≡ 126 → 2 ≤ m → m ≤ 8 → entry numbered_keys n ≡ Some k → event_of_two n m last ≡ input (input_with k m)
+pub two-tilde : (n m last : ℕ) (k : Key) → last ≡ 126 → entry numbered_keys n ≡ Some k → event_of_two n m last ≡ input (input_with k m)
 unfolding event_of_two
-two-tilde n m last k e low high found =
-    let within = in_range 1 8 m (omega (arith, low)) high in
-    rw e (rw (found, within) refl)
+two-tilde n m last k e found = rw e (rw found refl)
 
 letter-not_tilde : (last : ℕ) (k : Key) → entry letter_keys last ≡ Some k → eqb last 126 ≡ false
 letter-not_tilde last k found =
@@ -98,12 +95,18 @@ pub letter-final : (last : ℕ) (k : Key) → entry letter_keys last ≡ Some k 
 letter-final last k found =
     entry-each (λ n x. is_final n ≡ true) letter_keys (refl, (refl, (refl, (refl, (refl, (refl, (refl, (refl, (refl, (refl, tt)))))))))) last k found
 
-pub two-letter : (n m last : ℕ) (k : Key) → n ≡ 1 → 2 ≤ m → m ≤ 8 → entry letter_keys last ≡ Some k → event_of_two n m last ≡ input (input_with k m)
+letter-not_tab : (last : ℕ) (k : Key) → entry letter_keys last ≡ Some k → eqb last 90 ≡ false
+letter-not_tab last k found =
+    entry-each (λ n x. eqb n 90 ≡ false) letter_keys (refl, (refl, (refl, (refl, (refl, (refl, (refl, (refl, (refl, (refl, tt)))))))))) last k found
+
+pub letter-not_code : (last : ℕ) (k : Key) → entry letter_keys last ≡ Some k → last ≢ 117
+letter-not_code last k found =
+    let no = entry-each (λ n x. eqb n 117 ≡ false) letter_keys (refl, (refl, (refl, (refl, (refl, (refl, (refl, (refl, (refl, (refl, tt)))))))))) last k found in
+    eqb-false last 117 no
+
+pub two-letter : (n m last : ℕ) (k : Key) → n ≡ 1 → entry letter_keys last ≡ Some k → event_of_two n m last ≡ input (input_with k m)
 unfolding event_of_two
-two-letter n m last k e low high found =
-    let within = in_range 1 8 m (omega (arith, low)) high in
-    let modified = in_range 2 8 m low high in
-    rw e (rw (letter-not_tilde last k found, modified, and-false (eqb last 82), found, within) refl)
+two-letter n m last k e found = rw e (rw (letter-not_tilde last k found, letter-not_tab last k found, found) refl)
 
 no_paste_two : (digits : List ℕ) (d : ℕ) → length digits ≤ 2 → digits ++ 59 ∷ d ∷ [] ≢ 50 ∷ 48 ∷ 48 ∷ []
 no_paste_two [] d few e = omega (arith, ap length e)
@@ -111,9 +114,9 @@ no_paste_two (a ∷ []) d few e = let n : ℕ = 59 in let same : n ≡ 48 = (cc)
 no_paste_two (a ∷ b ∷ []) d few e = omega (arith, ap length e)
 no_paste_two (a ∷ b ∷ c ∷ digits) d few e = omega (arith, few)
 
-pub modified-read : (digits rest : List ℕ) (n d last : ℕ) (i : Input) → AreDigits digits n → is_digit d ≡ true → is_final last ≡ true → event_of_two n (d - 48) last ≡ input i →
+pub modified-read : (digits rest : List ℕ) (n d last : ℕ) (i : Input) → AreDigits digits n → is_digit d ≡ true → is_final last ≡ true → last ≢ 117 → event_of_two n (d - 48) last ≡ input i →
     unit_at (27 ∷ 91 ∷ (digits ++ 59 ∷ d ∷ last ∷ rest)) ≡ Some (input i, rest)
-modified-read digits rest n d last i are is final event =
+modified-read digits rest n d last i are is final other event =
     let inner = digits ++ 59 ∷ d ∷ [] in
     let long = length-append digits (59 ∷ d ∷ []) in
     let general : IsGeneral inner last = record {
@@ -122,9 +125,10 @@ modified-read digits rest n d last i are is final event =
       last_byte = final;
       no_paste = λ e. no_paste_two digits d are.few;
       no_console = λ e empty. omega (arith, long, ap length empty);
+      no_mouse = λ e empty. omega (arith, long, ap length empty);
     } in
     ap (λ (xs : List ℕ). unit_at (27 ∷ 91 ∷ xs)) (sym (append_assoc digits (59 ∷ d ∷ []) (last ∷ rest)))
-    ∙ general-read inner last rest general ∙ ap (λ (v : EventValue). Some (v, rest)) (are.two d last is ∙ event)
+    ∙ general-read inner last rest general ∙ ap (λ (v : EventValue). Some (v, rest)) (are.two d last is other ∙ event)
 
 -- ---- a letter after ESC O
 

@@ -1,14 +1,15 @@
 -- The decoding of bytes, event by event, and slice by slice.
-use Rattle.std.proofs.Common.{◌≡◌, ℕ, zero, suc, ◌-◌, ◌<◌, ◌≤◌, List, [], ◌∷◌, ◌++◌, length, take, drop, map, Some, None, refl, sym, ap, ◌∙◌, subst, arith}
-use Rattle.std.proofs.lemmas.List.{length-append, append_assoc, append-nil, map-append, take-append-drop, take-append-le}
+use Rattle.std.proofs.Common.{◌≡◌, ℕ, zero, suc, ◌-◌, ◌<◌, ◌≤◌, List, [], ◌∷◌, ◌++◌, length, take, drop, map, false, Some, None, refl, sym, ap, ◌∙◌, subst, arith}
+use Rattle.std.proofs.lemmas.List.{length-append, length-drop, append_assoc, append-nil, map-append, take-append-drop, take-append-le}
 use Rattle.std.proofs.Math.Seq.{drop-append_seam, take-append_seam}
 use Rattle.textarea_terminal.specs.declared.input.event.Event.{Event}
-use Rattle.textarea_terminal.specs.InputEvent.{EventValue, EventAndRest, value_of}
+use Rattle.textarea_terminal.specs.InputEvent.{EventValue, EventAndRest, input, value_of}
 use Rattle.textarea_terminal.specs.InputUnit.{unit_at}
-use Rattle.std.specs.List.{concat}
-use Rattle.textarea_terminal.specs.InputRow.{feeding}
-use Rattle.textarea_terminal.specs.InputStream.{Adds, AddsUpTo, EndsIn, Decoding, with_event, decoding_within, decoding, events_of, begun_bytes}
-use Rattle.textarea_terminal.proofs.InputUnits.{unit_at-consumed, unit_at-nil}
+use Rattle.textarea_data.specs.declared.input.Input.{Input}
+use Rattle.textarea_terminal.specs.declared.input.reply.Expected.{Expected}
+use Rattle.textarea_terminal.specs.InputReply.{refined, refining, made}
+use Rattle.textarea_terminal.specs.InputStream.{Adds, AddsUpTo, EndsIn, Decoding, with_event, decoding_within, decoding, values_in, begun_bytes}
+use Rattle.textarea_terminal.proofs.InputUnits.{unit_at-consumed, unit_at-nil, take_whole}
 
 -- an event takes a byte at least
 pub unit_at-shorter : (bytes : List ℕ) (x : EventValue × List ℕ) → unit_at bytes ≡ Some x → length x.1 < length bytes
@@ -97,8 +98,8 @@ rest_of-le bytes = let ends = rest_of-ends bytes in omega (arith, ap length ends
 abbrev joined : List EventValue → Decoding → Decoding
 joined values d = (values ++ d.0, d.1)
 
-pub decoding-append : (bytes more : List ℕ) → decoding (bytes ++ more) ≡ (events_of bytes ++ events_of (begun_bytes bytes ++ more), begun_bytes (begun_bytes bytes ++ more))
-decoding-append bytes more = by_units (λ bytes. decoding (bytes ++ more) ≡ joined (events_of bytes) (decoding (begun_bytes bytes ++ more)))
+pub decoding-append : (bytes more : List ℕ) → decoding (bytes ++ more) ≡ (values_in bytes ++ values_in (begun_bytes bytes ++ more), begun_bytes (begun_bytes bytes ++ more))
+decoding-append bytes more = by_units (λ bytes. decoding (bytes ++ more) ≡ joined (values_in bytes) (decoding (begun_bytes bytes ++ more)))
     (λ bytes e. sym (ap (λ (d : Decoding). joined d.0 (decoding (d.1 ++ more))) (decoding-none bytes e)))
     (λ bytes x e h.
     decoding-some (bytes ++ more) (x.0, x.1 ++ more) ((unit_at-consumed bytes x e).same more) ∙ ap (with_event x.0) h
@@ -135,17 +136,40 @@ AddsUpTo-all old new all h = record { added = h.added; whole = h.whole; values_a
 pub AddsUpTo-front : (old new : List Event) (more all : List EventValue) → AddsUpTo old new more all → take (length old) new ≡ old
 AddsUpTo-front old new more all h = ap (take (length old)) h.whole ∙ take-append_seam old h.added
 
--- the next event is the first of those to come
-pub AddsUpTo-unit : (old new : List Event) (all : List EventValue) (bytes : List ℕ) (x : EventValue × List ℕ) → unit_at bytes ≡ Some x → AddsUpTo old new (events_of bytes) all → AddsUpTo old new (x.0 ∷ events_of x.1) all
-AddsUpTo-unit old new all bytes x e h =
-    let P : List EventValue → Type 0 = λ values. AddsUpTo old new values all in
-    subst P (ap (λ (d : Decoding). d.0) (decoding-some bytes x e)) h
+-- some events, and then those to come
+pub AddsUpTo-adds : (old mid new : List Event) (values more all : List EventValue) → AddsUpTo old mid (values ++ more) all → Adds mid new values → AddsUpTo old new more all
+AddsUpTo-adds old mid new values more all h k =
+    AddsUpTo-trans old mid new (values ++ more) more all h (record { added = k.added; whole = k.whole; values_are = ap (λ xs. xs ++ more) k.values_are })
 
--- where an event is begun, none is to come
-pub AddsUpTo-begun : (old new : List Event) (all : List EventValue) (bytes : List ℕ) → unit_at bytes ≡ None → AddsUpTo old new (events_of bytes) all → Adds old new all
-AddsUpTo-begun old new all bytes e h =
+-- what is made of a value and what is after it
+pub made-some : (e : Expected) (bytes : List ℕ) (x : EventValue × List ℕ) → unit_at bytes ≡ Some x → made e bytes ≡ ((refined e x.0).0 ++ (made (refined e x.0).1 x.1).0, (made (refined e x.0).1 x.1).1)
+unfolding refining
+made-some e bytes x is = ap (λ (d : Decoding). refining e d.0) (decoding-some bytes x is)
+
+pub made-none : (e : Expected) (bytes : List ℕ) → unit_at bytes ≡ None → made e bytes ≡ ([], e)
+unfolding refining
+made-none e bytes is = ap (λ (d : Decoding). refining e d.0) (decoding-none bytes is)
+
+-- where something is begun, no event is to come
+pub AddsUpTo-begun : (e : Expected) (old new : List Event) (all : List EventValue) (bytes : List ℕ) → unit_at bytes ≡ None → AddsUpTo old new (made e bytes).0 all → Adds old new all
+AddsUpTo-begun e old new all bytes is h =
     let P : List EventValue → Type 0 = λ values. AddsUpTo old new values all in
-    AddsUpTo-all old new all (subst P (ap (λ (d : Decoding). d.0) (decoding-none bytes e)) h)
+    AddsUpTo-all old new all (subst P (ap (λ (d : List EventValue × Expected). d.0) (made-none e bytes is)) h)
+
+-- the events of what was found are added
+pub AddsUpTo-found : (e : Expected) (old mid new : List Event) (all : List EventValue) (bytes : List ℕ) (x : EventValue × List ℕ) → unit_at bytes ≡ Some x → AddsUpTo old mid (made e bytes).0 all → Adds mid new (refined e x.0).0 → AddsUpTo old new (made (refined e x.0).1 x.1).0 all
+AddsUpTo-found e old mid new all bytes x is h k =
+    let P : List EventValue → Type 0 = λ values. AddsUpTo old mid values all in
+    AddsUpTo-adds old mid new (refined e x.0).0 (made (refined e x.0).1 x.1).0 all (subst P (ap (λ (d : List EventValue × Expected). d.0) (made-some e bytes x is)) h) k
+
+refined-input : (e : Expected) (i : Input) → e.console ≡ false → refined e (input i) ≡ (input i ∷ [], e)
+unfolding refined
+refined-input e i off = rw off refl
+
+-- a key, on a terminal that is not the Linux console
+pub made-input : (e : Expected) (i : Input) (bytes rest : List ℕ) → e.console ≡ false → unit_at bytes ≡ Some (input i, rest) → made e bytes ≡ (input i ∷ (made e rest).0, (made e rest).1)
+made-input e i bytes rest off is =
+    made-some e bytes (input i, rest) is ∙ ap (λ (d : List EventValue × Expected). (d.0 ++ (made d.1 rest).0, (made d.1 rest).1)) (refined-input e i off)
 
 -- what is left after the front is removed
 pub rest_of-removed : (items all new rest : List ℕ) (n left : ℕ) → items ≡ all → new ≡ drop (n - left) items → n ≡ length items → left ≡ length rest → rest ≡ begun_bytes items → new ≡ begun_bytes all
@@ -153,13 +177,19 @@ rest_of-removed items all new rest n left same removed count unchanged is =
     let cut : n - left ≡ length items - length (begun_bytes items) = omega (arith, ap length is) in
     removed ∙ ap (λ (k : ℕ). drop k items) cut ∙ rest_of-drop items ∙ ap (λ (xs : List ℕ). begun_bytes xs) same
 
--- ---- slices
+-- a slice from an index on
+pub sliced : (k : ℕ) (items : List ℕ) → take (length items - k) (drop k items) ≡ drop k items
+sliced k items = ap (λ (n : ℕ). take n (drop k items)) (sym (length-drop k items)) ∙ take_whole (drop k items)
 
-pub feeding-concat : (pending : List ℕ) (segments : List (List ℕ)) → unit_at pending ≡ None → feeding pending segments ≡ decoding (pending ++ concat segments)
-feeding-concat pending [] begun = sym (ap decoding (append-nil pending) ∙ decoding-none pending begun)
-feeding-concat pending (segment ∷ segments) begun =
-    ap (λ (d : Decoding). (events_of (pending ++ segment) ++ d.0, d.1)) (feeding-concat (begun_bytes (pending ++ segment)) segments (rest_of-begun (pending ++ segment)))
-    ∙ sym (decoding-append (pending ++ segment) (concat segments)) ∙ ap decoding (append_assoc pending segment (concat segments))
+-- the same, where bytes at the front aren't read
+pub rest_of-dropped : (items : List ℕ) (k n left : ℕ) (rest : List ℕ) → n ≡ length items → left ≡ length rest → rest ≡ begun_bytes (drop k items) → drop (n - left) items ≡ begun_bytes (drop k items)
+rest_of-dropped items k n left rest count short is =
+    let begun = begun_bytes (drop k items) in
+    let ends = rest_of-ends (drop k items) in
+    let front = take k items ++ ends.front in
+    let whole : items ≡ front ++ begun = sym (take-append-drop k items) ∙ ap (λ xs. take k items ++ xs) ends.whole ∙ sym (append_assoc (take k items) ends.front begun) in
+    let cut : n - left ≡ length items - length begun = omega (arith, ap length is) in
+    ap (λ (m : ℕ). drop m items) cut ∙ ap (λ (xs : List ℕ). drop (length xs - length begun) xs) whole ∙ drop_front front begun
 
 -- what stays at the front of some events, and of those that are added to them
 pub AddsUpTo-front_of_more : (n m : ℕ) (old mid new : List Event) (to_come all : List EventValue) → n ≡ length old → m ≡ length mid → AddsUpTo old mid to_come all → take m new ≡ mid → take n new ≡ old

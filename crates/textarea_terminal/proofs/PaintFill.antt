@@ -1,18 +1,24 @@
 -- The cells of a buffer as a terminal shows them, from one cell to the next; and that they are
 -- whole clusters.
 use Rattle.std.proofs.Common.{◌≡◌, ℕ, zero, suc, ◌+◌, ◌-◌, ◌*◌, ◌/◌, ◌%◌, ◌<◌, ◌≤◌, true, false, ◌&&◌, ◌⊎◌, inl, inr, ⊎_elim, List, [], ◌∷◌, ◌++◌, length, map, take, replicate, refl, sym, ap, ◌∙◌, arith, ltb, leb}
-use Rattle.std.proofs.Common.{set, append_assoc}
+use Rattle.std.proofs.Common.{set, append_assoc, cond, ◌==◌, Bool, subst}
+use Rattle.std.specs.Prelude.{chars}
+use Rattle.std.specs.Int.RustNames.{bit_and}
 use Rattle.std.proofs.Math.Nat.{mod-lt, div-lt_iff_lt-mul, mul-le-mul_left}
 use Rattle.std.proofs.Math.Seq.{take-length}
 use Rattle.std.proofs.lemmas.List.{append-nil, take_more_set, map-append, replicate_more}
-use Rattle.std.proofs.lemmas.Bool.{cases_Bool, cond-true, cond-false, and_parts, lt-ltb, le-leb}
+use Rattle.std.proofs.lemmas.Bool.{cases_Bool, cond-true, cond-false, and_parts, lt-ltb, le-leb, ltb-true, leb-true}
+use Rattle.std.proofs.lemmas.Bool.Decides.{nat_tests}
 use Rattle.std.proofs.lemmas.Nat.{and_le_r}
 use Rattle.textarea_screen.specs.Cell.{CellView, fresh_cell, cell_view}
 use Rattle.textarea_screen.specs.declared.screen.cell.Cell.{Cell}
 use Rattle.textarea_screen.specs.declared.screen.buffer.Buffer.{Buffer}
 use Rattle.textarea_screen.specs.declared.screen.rect.Rect.{Rect}
-use Rattle.textarea_terminal.specs.Pen.{look_of}
-use Rattle.textarea_terminal.specs.PaintCells.{cluster_columns, half, is_half, nine_of, displayed_alike, blanked, begins_empty, fits_in_row, displayed, cell_in, cells_from, frame_of_buffer, can_begin, are_whole}
+use Rattle.textarea_terminal.specs.Disputed.{can_widen, before_selector}
+use Rattle.textarea_terminal.specs.Pen.{look_of, in_look}
+use Rattle.textarea_terminal.specs.declared.output.look.Look.{Look}
+use Rattle.textarea_terminal.specs.declared.output.colors.Colors.{Colors}
+use Rattle.textarea_terminal.specs.PaintCells.{cluster_columns, part_or_blank, shown_text, half, is_half, one_intensity, shown_look, displayed_alike, blanked, begins_empty, fits_in_row, displayed, cell_in, cells_from, frame_of_buffer, can_begin, are_whole}
 use Rattle.textarea_terminal.proofs.ScreenPlain.{cluster_columns-blank}
 
 -- ---- from one cell to the next
@@ -33,37 +39,119 @@ begins_empty-next area buffer place end size within fit =
 
 -- ---- one cell
 
-pub displayed-half : (area : Rect) (buffer : Buffer) (place halves size : ℕ) → place < size → 0 < halves →
-    displayed area.width place halves (cells_from area buffer place (size - place))
-    ≡ half ∷ displayed area.width (place + 1) (halves - 1) (cells_from area buffer (place + 1) (size - (place + 1)))
-displayed-half area buffer place halves size within some =
+pub displayed-half : (colors : Colors) (area : Rect) (buffer : Buffer) (place halves size : ℕ) → place < size → 0 < halves →
+    displayed colors area.width place halves (cells_from area buffer place (size - place))
+    ≡ half ∷ displayed colors area.width (place + 1) (halves - 1) (cells_from area buffer (place + 1) (size - (place + 1)))
+displayed-half colors area buffer place halves size within some =
     let more : halves ≡ suc (halves - 1) = omega arith in
-    ap (displayed area.width place halves) (cells_from-next area buffer place size within)
-    ∙ ap (λ count. displayed area.width place count (cell_in area buffer place ∷ cells_from area buffer (place + 1) (size - (place + 1)))) more
+    ap (displayed colors area.width place halves) (cells_from-next area buffer place size within)
+    ∙ ap (λ count. displayed colors area.width place count (cell_in area buffer place ∷ cells_from area buffer (place + 1) (size - (place + 1)))) more
 
-pub displayed-visible : (area : Rect) (buffer : Buffer) (place halves size : ℕ) → place < size → halves ≡ 0 →
+pub displayed-visible : (colors : Colors) (area : Rect) (buffer : Buffer) (place halves size : ℕ) → place < size → halves ≡ 0 →
     fits_in_row area.width place (cell_in area buffer place) (cells_from area buffer (place + 1) (size - (place + 1))) ≡ true →
-    displayed area.width place halves (cells_from area buffer place (size - place))
-    ≡ displayed_alike (cell_in area buffer place) ∷ displayed area.width (place + 1) (cluster_columns (cell_in area buffer place).symbol - 1) (cells_from area buffer (place + 1) (size - (place + 1)))
-displayed-visible area buffer place halves size within none fit =
+    displayed colors area.width place halves (cells_from area buffer place (size - place))
+    ≡ displayed_alike colors (cell_in area buffer place) ∷ displayed colors area.width (place + 1) (cluster_columns (shown_text (cell_in area buffer place).symbol) - 1) (cells_from area buffer (place + 1) (size - (place + 1)))
+displayed-visible colors area buffer place halves size within none fit =
     let cell = cell_in area buffer place in
     let cells = cells_from area buffer (place + 1) (size - (place + 1)) in
-    ap (displayed area.width place halves) (cells_from-next area buffer place size within)
-    ∙ ap (λ count. displayed area.width place count (cell ∷ cells)) none
-    ∙ cond-true (fits_in_row area.width place cell cells) (displayed_alike cell ∷ displayed area.width (place + 1) (cluster_columns cell.symbol - 1) cells)
-    (blanked cell ∷ displayed area.width (place + 1) 0 cells) fit
+    ap (displayed colors area.width place halves) (cells_from-next area buffer place size within)
+    ∙ ap (λ count. displayed colors area.width place count (cell ∷ cells)) none
+    ∙ cond-true (fits_in_row area.width place cell cells) (displayed_alike colors cell ∷ displayed colors area.width (place + 1) (cluster_columns (shown_text cell.symbol) - 1) cells)
+    (blanked colors cell ∷ displayed colors area.width (place + 1) 0 cells) fit
 
-pub displayed-blank : (area : Rect) (buffer : Buffer) (place halves size : ℕ) → place < size → halves ≡ 0 →
+pub displayed-blank : (colors : Colors) (area : Rect) (buffer : Buffer) (place halves size : ℕ) → place < size → halves ≡ 0 →
     fits_in_row area.width place (cell_in area buffer place) (cells_from area buffer (place + 1) (size - (place + 1))) ≡ false →
-    displayed area.width place halves (cells_from area buffer place (size - place))
-    ≡ blanked (cell_in area buffer place) ∷ displayed area.width (place + 1) 0 (cells_from area buffer (place + 1) (size - (place + 1)))
-displayed-blank area buffer place halves size within none fit =
+    displayed colors area.width place halves (cells_from area buffer place (size - place))
+    ≡ blanked colors (cell_in area buffer place) ∷ displayed colors area.width (place + 1) 0 (cells_from area buffer (place + 1) (size - (place + 1)))
+displayed-blank colors area buffer place halves size within none fit =
     let cell = cell_in area buffer place in
     let cells = cells_from area buffer (place + 1) (size - (place + 1)) in
-    ap (displayed area.width place halves) (cells_from-next area buffer place size within)
-    ∙ ap (λ count. displayed area.width place count (cell ∷ cells)) none
-    ∙ cond-false (fits_in_row area.width place cell cells) (displayed_alike cell ∷ displayed area.width (place + 1) (cluster_columns cell.symbol - 1) cells)
-    (blanked cell ∷ displayed area.width (place + 1) 0 cells) fit
+    ap (displayed colors area.width place halves) (cells_from-next area buffer place size within)
+    ∙ ap (λ count. displayed colors area.width place count (cell ∷ cells)) none
+    ∙ cond-false (fits_in_row area.width place cell cells) (displayed_alike colors cell ∷ displayed colors area.width (place + 1) (cluster_columns (shown_text cell.symbol) - 1) cells)
+    (blanked colors cell ∷ displayed colors area.width (place + 1) 0 cells) fit
+
+-- the cell of a source, with what is shown of its cluster
+pub fill-visible : (colors : Colors) (area : Rect) (buffer : Buffer) (place halves size : ℕ) (source look : Look) (symbol : List ℕ) (columns left : ℕ) (view : CellView) → place < size →
+    halves ≡ 0 → in_look source symbol ≡ cell_in area buffer place → look ≡ shown_look colors source → columns ≡ cluster_columns symbol → view ≡ in_look look (shown_text symbol) →
+    left ≡ cluster_columns (shown_text symbol) - 1 →
+    (ltb 0 columns && leb (place % area.width + columns) area.width && begins_empty (columns - 1) (cells_from area buffer (place + 1) (size - (place + 1)))) ≡ true →
+    displayed colors area.width place halves (cells_from area buffer place (size - place))
+    ≡ view ∷ displayed colors area.width (place + 1) left (cells_from area buffer (place + 1) (size - (place + 1)))
+fill-visible colors area buffer place halves size source look symbol columns left view within none is look_is columns_is view_is left_is fit =
+    let cells = cells_from area buffer (place + 1) (size - (place + 1)) in
+    let fit_symbol : fits_in_row area.width place (in_look source symbol) cells ≡ true =
+    subst (λ n. (ltb 0 n && leb (place % area.width + n) area.width && begins_empty (n - 1) cells) ≡ true) columns_is fit in
+    let fit_cell : fits_in_row area.width place (cell_in area buffer place) cells ≡ true = subst (λ (cell : CellView). fits_in_row area.width place cell cells ≡ true) is fit_symbol in
+    displayed-visible colors area buffer place halves size within none fit_cell
+    ∙ ap (λ (cell : CellView). displayed_alike colors cell ∷ displayed colors area.width (place + 1) (cluster_columns (shown_text cell.symbol) - 1) cells) (sym is)
+    ∙ ap (λ (first : CellView). first ∷ displayed colors area.width (place + 1) (cluster_columns (shown_text symbol) - 1) cells)
+    (sym (view_is ∙ ap (λ (l : Look). in_look l (shown_text symbol)) look_is))
+    ∙ ap (λ n. view ∷ displayed colors area.width (place + 1) n cells) (sym left_is)
+
+-- the cell of a source whose cluster can't be shown
+pub fill-blank : (colors : Colors) (area : Rect) (buffer : Buffer) (place halves size : ℕ) (source look : Look) (symbol : List ℕ) (columns : ℕ) (view : CellView) → place < size →
+    halves ≡ 0 → in_look source symbol ≡ cell_in area buffer place → look ≡ shown_look colors source → columns ≡ cluster_columns symbol → view ≡ in_look look (32 ∷ []) →
+    (ltb 0 columns && leb (place % area.width + columns) area.width && begins_empty (columns - 1) (cells_from area buffer (place + 1) (size - (place + 1)))) ≡ false →
+    displayed colors area.width place halves (cells_from area buffer place (size - place))
+    ≡ view ∷ displayed colors area.width (place + 1) 0 (cells_from area buffer (place + 1) (size - (place + 1)))
+fill-blank colors area buffer place halves size source look symbol columns view within none is look_is columns_is view_is other =
+    let cells = cells_from area buffer (place + 1) (size - (place + 1)) in
+    let other_symbol : fits_in_row area.width place (in_look source symbol) cells ≡ false =
+    subst (λ n. (ltb 0 n && leb (place % area.width + n) area.width && begins_empty (n - 1) cells) ≡ false) columns_is other in
+    let other_cell : fits_in_row area.width place (cell_in area buffer place) cells ≡ false = subst (λ (cell : CellView). fits_in_row area.width place cell cells ≡ false) is other_symbol in
+    displayed-blank colors area buffer place halves size within none other_cell
+    ∙ ap (λ (cell : CellView). blanked colors cell ∷ displayed colors area.width (place + 1) 0 cells) (sym is)
+    ∙ ap (λ (first : CellView). first ∷ displayed colors area.width (place + 1) 0 cells) (sym (view_is ∙ ap (λ (l : Look). in_look l (32 ∷ [])) look_is))
+
+and-false : (b : Bool) → (b && false) ≡ false
+and-false true = refl
+and-false false = refl
+
+-- what is shown of a cluster has some columns, and at most those of the whole
+pub shown-columns : (text : List ℕ) → 0 < cluster_columns text → (0 < cluster_columns (shown_text text)) × (cluster_columns (shown_text text) ≤ cluster_columns text)
+unfolding shown_text
+shown-columns text some =
+    let part = before_selector (chars text) in
+    let test = ltb 0 (cluster_columns part) && leb (cluster_columns part) (cluster_columns text) in
+    ⊎_elim
+    (λ widens.
+    rw widens
+    (⊎_elim
+    (λ fits.
+    let components = and_parts (ltb 0 (cluster_columns part)) (leb (cluster_columns part) (cluster_columns text)) fits in
+    rw fits (ltb-true 0 (cluster_columns part) components.0, leb-true (cluster_columns part) (cluster_columns text) components.1))
+    (λ other. rw other (omega (arith, cluster_columns-blank), omega (arith, cluster_columns-blank)))
+    (cases_Bool test)))
+    (λ settled. rw settled (some, omega arith))
+    (cases_Bool (can_widen text))
+
+pub shown-whole : (text : List ℕ) → can_widen text ≡ false → shown_text text ≡ text
+unfolding shown_text
+shown-whole text settled = cond-false (can_widen text) (part_or_blank (before_selector (chars text)) text) text settled
+
+pub shown-part : (text part : List ℕ) (columns whole : ℕ) → can_widen text ≡ true → part ≡ before_selector (chars text) → columns ≡ cluster_columns part → whole ≡ cluster_columns text →
+    0 < columns → columns ≤ whole → shown_text text ≡ part
+unfolding shown_text
+shown-part text part columns whole widens is columns_is whole_is some fits =
+    let first : ltb 0 (cluster_columns part) ≡ true = lt-ltb 0 (cluster_columns part) (omega arith) in
+    let second : leb (cluster_columns part) (cluster_columns text) ≡ true = le-leb (cluster_columns part) (cluster_columns text) (omega arith) in
+    cond-true (can_widen text) (part_or_blank (before_selector (chars text)) text) text widens
+    ∙ ap (λ p. part_or_blank p text) (sym is)
+    ∙ cond-true (ltb 0 (cluster_columns part) && leb (cluster_columns part) (cluster_columns text)) part (32 ∷ []) (rw (first, second) refl)
+
+pub shown-blank : (text part : List ℕ) (columns whole : ℕ) → can_widen text ≡ true → part ≡ before_selector (chars text) → columns ≡ cluster_columns part → whole ≡ cluster_columns text →
+    (columns ≡ 0) ⊎ (whole < columns) → shown_text text ≡ 32 ∷ []
+unfolding shown_text
+shown-blank text part columns whole widens is columns_is whole_is other =
+    let test : (ltb 0 (cluster_columns part) && leb (cluster_columns part) (cluster_columns text)) ≡ false =
+    ⊎_elim
+    (λ none. let first : ltb 0 (cluster_columns part) ≡ false = grind (arith, nat_tests) in rw first refl)
+    (λ past. let second : leb (cluster_columns part) (cluster_columns text) ≡ false = grind (arith, nat_tests) in rw second (and-false (ltb 0 (cluster_columns part))))
+    other in
+    cond-true (can_widen text) (part_or_blank (before_selector (chars text)) text) text widens
+    ∙ ap (λ p. part_or_blank p text) (sym is)
+    ∙ cond-false (ltb 0 (cluster_columns part) && leb (cluster_columns part) (cluster_columns text)) part (32 ∷ []) test
 
 -- ---- whole clusters
 
@@ -72,32 +160,42 @@ begins_empty-long zero cells empty = omega arith
 begins_empty-long (suc count) [] empty = cc empty
 begins_empty-long (suc count) (cell ∷ cells) empty = omega (arith, begins_empty-long count cells (and_parts (is_half cell) (begins_empty count cells) empty).1)
 
-visible-bits : (cell : CellView) → ltb (nine_of (look_of cell)).modifier.0 512 ≡ true
-visible-bits cell = lt-ltb _ _ (omega (arith, and_le_r cell.modifier.0 511))
+one_intensity-most : (bits : ℕ) → one_intensity bits ≤ bits
+one_intensity-most bits = elim (bit_and bits 3 == 3) as (λ b. cond b (bits - 2) bits ≤ bits) [ true ↦ omega arith | false ↦ omega arith ]
 
-visible-begins : (columns place : ℕ) (cell : CellView) (cells : List CellView) → fits_in_row columns place cell cells ≡ true → can_begin columns place (displayed_alike cell) ≡ true
-visible-begins columns place cell cells fit =
+visible-bits : (colors : Colors) (cell : CellView) → ltb (shown_look colors (look_of cell)).modifier.0 512 ≡ true
+visible-bits colors cell = lt-ltb _ _ (omega (arith, one_intensity-most (bit_and cell.modifier.0 511), and_le_r cell.modifier.0 511))
+
+visible-begins : (colors : Colors) (columns place : ℕ) (cell : CellView) (cells : List CellView) → fits_in_row columns place cell cells ≡ true → can_begin columns place (displayed_alike colors cell) ≡ true
+visible-begins colors columns place cell cells fit =
     let width = cluster_columns cell.symbol in
     let room = (and_parts (ltb 0 width && leb (place % columns + width) columns) (begins_empty (width - 1) cells) fit).0 in
-    rw room (visible-bits cell)
+    let components = and_parts (ltb 0 width) (leb (place % columns + width) columns) room in
+    let shown = shown-columns cell.symbol (ltb-true 0 width components.0) in
+    let first : ltb 0 (cluster_columns (shown_text cell.symbol)) ≡ true = lt-ltb 0 (cluster_columns (shown_text cell.symbol)) shown.0 in
+    let second : leb (place % columns + cluster_columns (shown_text cell.symbol)) columns ≡ true =
+    le-leb (place % columns + cluster_columns (shown_text cell.symbol)) columns (omega (arith, shown.1, leb-true (place % columns + width) columns components.1)) in
+    rw (first, second) (visible-bits colors cell)
 
-blank-begins : (columns place : ℕ) (cell : CellView) → 0 < columns → can_begin columns place (blanked cell) ≡ true
-blank-begins columns place cell some =
+blank-begins : (colors : Colors) (columns place : ℕ) (cell : CellView) → 0 < columns → can_begin columns place (blanked colors cell) ≡ true
+blank-begins colors columns place cell some =
     let room : place % columns + 1 ≤ columns = omega (arith, mod-lt place some) in
-    rw (cluster_columns-blank, visible-bits cell, le-leb (place % columns + 1) columns room) refl
+    rw (cluster_columns-blank, visible-bits colors cell, le-leb (place % columns + 1) columns room) refl
 
-pub displayed-whole : (columns place halves : ℕ) (cells : List CellView) → 0 < columns → halves ≤ length cells → are_whole columns place halves (displayed columns place halves cells) ≡ true
-displayed-whole columns place zero [] some long = refl
-displayed-whole columns place (suc halves) [] some long = absurd (omega arith)
-displayed-whole columns place (suc halves) (cell ∷ cells) some long = displayed-whole columns (place + 1) halves cells some (omega arith)
-displayed-whole columns place zero (cell ∷ cells) some long =
+pub displayed-whole : (colors : Colors) (columns place halves : ℕ) (cells : List CellView) → 0 < columns → halves ≤ length cells → are_whole columns place halves (displayed colors columns place halves cells) ≡ true
+displayed-whole colors columns place zero [] some long = refl
+displayed-whole colors columns place (suc halves) [] some long = absurd (omega arith)
+displayed-whole colors columns place (suc halves) (cell ∷ cells) some long = displayed-whole colors columns (place + 1) halves cells some (omega arith)
+displayed-whole colors columns place zero (cell ∷ cells) some long =
     ⊎_elim
     (λ fit.
     let width = cluster_columns cell.symbol in
-    let empty = (and_parts (ltb 0 width && leb (place % columns + width) columns) (begins_empty (width - 1) cells) fit).1 in
-    rw fit (rw (visible-begins columns place cell cells fit) (displayed-whole columns (place + 1) (width - 1) cells some (begins_empty-long (width - 1) cells empty))))
+    let parts = and_parts (ltb 0 width && leb (place % columns + width) columns) (begins_empty (width - 1) cells) fit in
+    let shown = shown-columns cell.symbol (ltb-true 0 width (and_parts (ltb 0 width) (leb (place % columns + width) columns) parts.0).0) in
+    rw fit (rw (visible-begins colors columns place cell cells fit)
+    (displayed-whole colors columns (place + 1) (cluster_columns (shown_text cell.symbol) - 1) cells some (omega (arith, shown.1, begins_empty-long (width - 1) cells parts.1)))))
     (λ other.
-    rw other (rw (blank-begins columns place cell some, cluster_columns-blank) (displayed-whole columns (place + 1) 0 cells some (omega arith))))
+    rw other (rw (blank-begins colors columns place cell some, cluster_columns-blank) (displayed-whole colors columns (place + 1) 0 cells some (omega arith))))
     (cases_Bool (fits_in_row columns place cell cells))
 
 -- the cells of an erased terminal
@@ -120,30 +218,30 @@ row-fits place columns height (suc less) within some fit =
 
 -- ---- all cells
 
-pub fill-start : (area : Rect) (buffer : Buffer) → displayed area.width 0 0 (cells_from area buffer 0 (area.height * area.width - 0)) ≡ frame_of_buffer area buffer
-fill-start area buffer =
+pub fill-start : (colors : Colors) (area : Rect) (buffer : Buffer) → displayed colors area.width 0 0 (cells_from area buffer 0 (area.height * area.width - 0)) ≡ frame_of_buffer colors area buffer
+fill-start colors area buffer =
     let all : area.height * area.width - 0 ≡ area.height * area.width = omega arith in
-    ap (λ count. displayed area.width 0 0 (cells_from area buffer 0 count)) all
+    ap (λ count. displayed colors area.width 0 0 (cells_from area buffer 0 count)) all
 
-pub fill-step : (area : Rect) (buffer : Buffer) (cells : List Cell) (place halves left : ℕ) (cell : Cell) (after frame : List CellView) → place < length cells →
-    displayed area.width place halves (cells_from area buffer place (area.height * area.width - place)) ≡ cell_view cell ∷ after →
-    map cell_view (take place cells) ++ displayed area.width place halves (cells_from area buffer place (area.height * area.width - place)) ≡ frame →
+pub fill-step : (colors : Colors) (area : Rect) (buffer : Buffer) (cells : List Cell) (place halves left : ℕ) (cell : Cell) (after frame : List CellView) → place < length cells →
+    displayed colors area.width place halves (cells_from area buffer place (area.height * area.width - place)) ≡ cell_view cell ∷ after →
+    map cell_view (take place cells) ++ displayed colors area.width place halves (cells_from area buffer place (area.height * area.width - place)) ≡ frame →
     map cell_view (take (place + 1) (set cells place cell)) ++ after ≡ frame
-fill-step area buffer cells place halves left cell after frame within next before =
+fill-step colors area buffer cells place halves left cell after frame within next before =
     ap (λ items. map cell_view items ++ after) (take_more_set cells place cell within)
     ∙ ap (λ visible. visible ++ after) (map-append cell_view (take place cells) (cell ∷ []))
     ∙ append_assoc (map cell_view (take place cells)) (cell_view cell ∷ []) after
     ∙ ap (λ more. map cell_view (take place cells) ++ more) (sym next)
     ∙ before
 
-pub fill-end : (area : Rect) (buffer : Buffer) (cells : List Cell) (place halves : ℕ) (frame : List CellView) → place ≡ length cells → length cells ≡ area.height * area.width →
-    map cell_view (take place cells) ++ displayed area.width place halves (cells_from area buffer place (area.height * area.width - place)) ≡ frame → map cell_view cells ≡ frame
-fill-end area buffer cells place halves frame at full before =
+pub fill-end : (colors : Colors) (area : Rect) (buffer : Buffer) (cells : List Cell) (place halves : ℕ) (frame : List CellView) → place ≡ length cells → length cells ≡ area.height * area.width →
+    map cell_view (take place cells) ++ displayed colors area.width place halves (cells_from area buffer place (area.height * area.width - place)) ≡ frame → map cell_view cells ≡ frame
+fill-end colors area buffer cells place halves frame at full before =
     let none : area.height * area.width - place ≡ 0 = omega arith in
     let all : take place cells ≡ cells = ap (λ k. take k cells) at ∙ take-length cells in
     sym (append-nil (map cell_view cells))
     ∙ ap (λ items. map cell_view items ++ []) (sym all)
-    ∙ ap (λ count. map cell_view (take place cells) ++ displayed area.width place halves (cells_from area buffer place count)) (sym none)
+    ∙ ap (λ count. map cell_view (take place cells) ++ displayed colors area.width place halves (cells_from area buffer place count)) (sym none)
     ∙ before
 
 -- ---- fresh cells
@@ -159,13 +257,13 @@ zero_or : (n : ℕ) → (n ≡ 0) ⊎ (0 < n)
 zero_or zero = inl refl
 zero_or (suc n) = inr (omega arith)
 
-pub frame-whole : (area : Rect) (buffer : Buffer) → are_whole area.width 0 0 (frame_of_buffer area buffer) ≡ true
-frame-whole area buffer =
+pub frame-whole : (colors : Colors) (area : Rect) (buffer : Buffer) → are_whole area.width 0 0 (frame_of_buffer colors area buffer) ≡ true
+frame-whole colors area buffer =
     ⊎_elim
     (λ none.
     let empty : area.height * area.width ≡ 0 = rw none (omega arith) in
-    ap (λ count. are_whole area.width 0 0 (displayed area.width 0 0 (cells_from area buffer 0 count))) empty)
-    (λ some. displayed-whole area.width 0 0 (cells_from area buffer 0 (area.height * area.width)) some (omega arith))
+    ap (λ count. are_whole area.width 0 0 (displayed colors area.width 0 0 (cells_from area buffer 0 count))) empty)
+    (λ some. displayed-whole colors area.width 0 0 (cells_from area buffer 0 (area.height * area.width)) some (omega arith))
     (zero_or area.width)
 
 pub erased-whole : (height width : ℕ) → are_whole width 0 0 (replicate (height * width) fresh_cell) ≡ true

@@ -8,7 +8,7 @@ use Rattle.textarea_terminal.specs.PaintSpot.{IsSpot}
 use Rattle.textarea_screen.specs.Cell.{CellView}
 use Rattle.textarea_terminal.specs.Control.Control.{MoveTo}
 use Rattle.textarea_terminal.specs.PaintCells.{cluster_columns, can_begin}
-use Rattle.textarea_terminal.specs.Screen.{Terminal, apply_control, cursor_after}
+use Rattle.textarea_terminal.specs.Screen.{Terminal, apply_control, cursor_after, is_plain}
 use Rattle.textarea_terminal.proofs.ScreenMoves.{move-there}
 use Rattle.textarea_terminal.specs.declared.output.spot.Spot.{Spot}
 
@@ -28,12 +28,12 @@ row-below height width spot within is =
     let below : spot.place / width < height = (div-lt_iff_lt-mul {k = width} {x = spot.place} {y = height} some).1 within in
     omega (arith, below, row-of width spot some is)
 
-pub move-to-spot : (terminal : Terminal) (columns : ℕ) (spot : Spot) → 0 < columns → IsSpot columns spot → terminal.columns ≡ columns → spot.place < length terminal.cells →
+pub move-to-spot : (terminal : Terminal) (columns : ℕ) (spot : Spot) → 0 < columns → IsSpot columns spot → terminal.columns ≡ columns → is_plain terminal.modes ≡ true → spot.place < length terminal.cells →
     apply_control (MoveTo spot.row spot.column) terminal ≡ record terminal { cursor = Some spot.place }
-move-to-spot terminal columns spot some is same within =
+move-to-spot terminal columns spot some is same modes within =
     let M : ℕ → Type 0 = λ row. apply_control (MoveTo row spot.column) terminal ≡ record terminal { cursor = Some spot.place } in
     let N : ℕ → Type 0 = λ column. apply_control (MoveTo (spot.place / columns) column) terminal ≡ record terminal { cursor = Some spot.place } in
-    subst M (row-of columns spot some is) (subst N (column-of columns spot some is) (move-there terminal columns spot.place some same within))
+    subst M (row-of columns spot some is) (subst N (column-of columns spot some is) (move-there terminal columns spot.place some same modes within))
 
 pub cursor-at-end : (columns : ℕ) (spot : Spot) (width : ℕ) → 0 < width → IsSpot columns spot → spot.column + width ≡ columns → cursor_after columns (spot.place + width) ≡ None
 cursor-at-end columns spot width some is end =

@@ -1,19 +1,23 @@
 -- The steps from one cell of a frame to the next.
-use Rattle.std.proofs.Common.{zero, cond, not, ◌==◌, true≢false, None, Some, Option, ◌≡◌, ℕ, suc, ◌+◌, ◌-◌, ◌%◌, ◌<◌, ◌≤◌, Bool, true, false, ◌&&◌, ◌⊎◌, inl, inr, ⊎_elim, List, [], ◌∷◌, ◌++◌, length, get_or, map, take, drop, replicate, IfSome, refl, sym, ap, subst, ◌∙◌, arith, ltb, leb, append_assoc, add-one, length-append}
-use Rattle.std.proofs.lemmas.Bool.{cases_Bool, cond-false, and_parts, ltb-true}
+use Rattle.std.proofs.Common.{zero, cond, not, ◌==◌, true≢false, None, Some, Option, ◌≡◌, ℕ, suc, ◌+◌, ◌-◌, ◌%◌, ◌<◌, ◌≤◌, Bool, true, false, ◌&&◌, ◌⊎◌, inl, inr, ⊎_elim, List, [], ◌∷◌, ◌++◌, length, get_or, map, take, drop, replicate, IfSome, refl, sym, ap, subst, ◌∙◌, arith, append_assoc, add-one, length-append}
+use Rattle.std.proofs.lemmas.Bool.{cases_Bool, cond-false, and_parts}
 use Rattle.std.specs.Bool.{MatchBool}
-use Rattle.std.proofs.lemmas.List.{take_more, get_or-map, drop-map, length-map, length-take-le, length-drop, append-nil, drop-replicate, take-replicate, replicate_more}
-use Rattle.std.proofs.Math.Seq.{drop-cons, take-append_seam, drop-append_seam, take-length, drop-length}
+use Rattle.std.proofs.lemmas.List.{take_more, get_or-map, drop-map, drop_more, drop_all, drop_at, take_at, take_all, length-map, length-take-le, length-drop, append-nil, drop-replicate, take-replicate, replicate_more}
+use Rattle.std.proofs.Math.Seq.{drop-cons, drop-length}
 use Rattle.textarea_screen.specs.Cell.{CellView, cell_view}
 use Rattle.textarea_screen.specs.declared.screen.cell.Cell.{Cell}
 use Rattle.textarea_terminal.specs.Control.{Control}
-use Rattle.textarea_terminal.specs.Paint.{prints_of, moves_of, pens_of, AreChanges, HasRuns, HasLooks, Knows, Shows, Repaints, KeepsCell, ChangesCell, IsStep, with_cell}
+use Rattle.textarea_terminal.specs.Disputed.{is_disputed}
+use Rattle.textarea_terminal.specs.Paint.{prints_of, moves_of, pens_of, AreChanges, HasRuns, HasLooks, Knows, Shows, Repaints, KeepsCell, ChangesCell, IsStep, with_cell, texts_of, inner_moves}
 use Rattle.textarea_terminal.specs.PaintCells.{cluster_columns, half, is_half, is_plain_half, can_begin, are_whole}
-use Rattle.textarea_terminal.specs.Pen.{look_of}
-use Rattle.textarea_terminal.specs.Screen.{Terminal, run, mended, printed, rest_of, cursor_after}
+use Rattle.textarea_terminal.specs.Pen.{in_look, look_of}
+use Rattle.textarea_terminal.specs.Screen.{Terminal, IsOfFamily, run, begins_half, mended, printed, rest_of, cursor_after, cluster_cells, first_of, settled_cells, settled}
 use Rattle.textarea_terminal.specs.declared.output.brush.Brush.{Brush}
 use Rattle.textarea_terminal.proofs.ControlLemmas.{run-append, prints_of-append, moves_of-append, pens_of-append}
-use Rattle.textarea_terminal.proofs.PaintFrames.{begins-whole, plain_half-half, Damaged, Damaged-first, Damaged-rest, Ahead, Ahead-printed, Ahead-same, whole-unit, whole-drop, first-same}
+use Rattle.textarea_terminal.proofs.DisputedBlank.{false-from_not}
+use Rattle.textarea_terminal.proofs.PaintFrames.{begins-whole, plain_half-half, whole-unit, whole-drop, columns-some}
+use Rattle.textarea_terminal.proofs.PaintLeft.{Damaged, Damaged-first, Damaged-rest, Ahead, Ahead-printed, Ahead-same, first-same, rest-same}
+use Rattle.textarea_terminal.proofs.SettledLemmas.{Shown, agreed-length, settled_cells-length, settled-first, settled-length, rest-whole, settled-drop}
 
 -- ---- one cell of a list
 
@@ -46,74 +50,64 @@ Split-replicate count place cell within =
       done = take-replicate (place + 1) count cell (omega arith) ∙ sym (ap (λ cells. cells ++ cell ∷ []) (take-replicate place count cell (omega arith)) ∙ replicate_more place cell);
     }
 
+-- the same of any list
+Split-any : (cells : List CellView) (place : ℕ) → place < length cells → (cell : CellView) × ((after : List CellView) × Split place cells cell after)
+Split-any cells place within =
+    let cell = get_or cells place half in (
+      cell,
+      (drop (place + 1) cells, record { here = drop_more cells place half within; next = refl; done = take_more cells place half within }),
+    )
+
 -- ---- the cells of the terminal
 
--- they are the new ones up to an index, and then those ahead
-pub record Between (place : ℕ) (old new cells : List CellView) : Type 0 where
+-- they are the new ones up to an index, as the terminal shows them, and then those ahead
+pub record Between (shown_as : Shown) (place : ℕ) (old new cells : List CellView) : Type 0 where
   pub rest : List CellView
-  pub cells_are : cells ≡ take place new ++ rest
-  pub ahead : Ahead rest (drop place old) (drop place new)
+  pub cells_are : cells ≡ take place (settled shown_as [] new) ++ rest
+  pub ahead : Ahead rest (drop place (settled shown_as [] old)) (drop place new) (drop place (settled shown_as [] new))
 
-Ahead-nil : (rest : List CellView) → Ahead rest [] [] → rest ≡ []
+Ahead-nil : (rest : List CellView) → Ahead rest [] [] [] → rest ≡ []
 Ahead-nil [] ahead = refl
 Ahead-nil (cell ∷ rest) ahead = absurd ahead
 
-Ahead-some : (rest : List CellView) (o n : CellView) (os ns : List CellView) → Ahead rest (o ∷ os) (n ∷ ns) → 0 < length rest
-Ahead-some [] o n os ns ahead = absurd ahead
-Ahead-some (t ∷ ts) o n os ns ahead = omega arith
+Ahead-some : (rest : List CellView) (o n s : CellView) (os ns ss : List CellView) → Ahead rest (o ∷ os) (n ∷ ns) (s ∷ ss) → 0 < length rest
+Ahead-some [] o n s os ns ss ahead = absurd ahead
+Ahead-some (t ∷ ts) o n s os ns ss ahead = omega arith
 
-pub Between-start : (columns : ℕ) (old new : List CellView) → are_whole columns 0 0 old ≡ true → are_whole columns 0 0 new ≡ true → length old ≡ length new → Between 0 old new old
-Between-start columns old new old_whole new_whole long = record { rest = old; cells_are = refl; ahead = Ahead-same columns 0 0 old new old_whole new_whole long }
-
-pub Between-end : (place : ℕ) (old new cells : List CellView) → place ≡ length new → length old ≡ length new → Between place old new cells → cells ≡ new
-Between-end place old new cells at long between =
-    let no_old : drop place old ≡ [] = ap (λ p. drop p old) (at ∙ sym long) ∙ drop-length old in
-    let no_new : drop place new ≡ [] = ap (λ p. drop p new) at ∙ drop-length new in
-    let none = Ahead-nil between.rest (rw (no_old, no_new) at between.ahead) in
-    between.cells_are ∙ ap (λ rest. take place new ++ rest) none ∙ append-nil (take place new) ∙ ap (λ p. take p new) at ∙ take-length new
-
-Between-next : (place : ℕ) (old new cells ts : List CellView) (o n : CellView) (os ns : List CellView) → Split place old o os → Split place new n ns →
-    cells ≡ take place new ++ n ∷ ts → Ahead ts os ns → Between (place + 1) old new cells
-Between-next place old new cells ts o n os ns old_at new_at is ahead = record {
-  rest = ts;
-  cells_are = is ∙ sym (append_assoc (take place new) (n ∷ []) ts) ∙ ap (λ front. front ++ ts) (sym new_at.done);
-  ahead = rw (old_at.next, new_at.next) ahead;
+pub Between-start : (shown_as : Shown) → IsOfFamily shown_as → (columns : ℕ) (old new : List CellView) → are_whole columns 0 0 old ≡ true → are_whole columns 0 0 new ≡ true →
+    length old ≡ length new → Between shown_as 0 old new (settled shown_as [] old)
+Between-start shown_as family columns old new old_whole new_whole long = record {
+  rest = settled shown_as [] old;
+  cells_are = refl;
+  ahead = Ahead-same shown_as family columns 0 [] old new old_whole new_whole long;
 }
 
--- the cell is shown already
-unchanged : (rest : List CellView) (o n : CellView) (os ns : List CellView) → Ahead rest (o ∷ os) (n ∷ ns) → (is_half n ≡ true) ⊎ (o ≡ n) →
-    (is_half n ≡ false → Ahead os os ns) → (ts : List CellView) × (rest ≡ n ∷ ts) × Ahead ts os ns
-unchanged [] o n os ns ahead same like = absurd ahead
-unchanged (t ∷ ts) o n os ns ahead same like =
-    ⊎_elim
-    (λ is. let components = rw is at ahead in (ts, ap (λ cell. cell ∷ ts) components.0, components.1))
-    (λ is.
-    let as_old : o ≡ n = ⊎_elim (λ other. absurd (cc (other, is))) (λ e. e) same in
-    let not_half : is_half o ≡ false = ap is_half as_old ∙ is in
-    let left : (t ∷ ts) ≡ (o ∷ os) = rw not_half at (rw is at ahead) in
-    (os, left ∙ ap (λ cell. cell ∷ os) as_old, like is))
-    (cases_Bool (is_half n))
+pub Between-end : (shown_as : Shown) (place : ℕ) (old new cells : List CellView) → place ≡ length new → length old ≡ length new → Between shown_as place old new cells →
+    cells ≡ settled shown_as [] new
+Between-end shown_as place old new cells at long between =
+    let no_old : drop place (settled shown_as [] old) ≡ [] = drop_all place (settled shown_as [] old) (omega (arith, settled-length shown_as [] old)) in
+    let no_new : drop place new ≡ [] = drop_all place new (omega arith) in
+    let no_shown : drop place (settled shown_as [] new) ≡ [] = drop_all place (settled shown_as [] new) (omega (arith, settled-length shown_as [] new)) in
+    let none = Ahead-nil between.rest (rw (no_old, no_new, no_shown) at between.ahead) in
+    between.cells_are ∙ ap (λ rest. take place (settled shown_as [] new) ++ rest) none ∙ append-nil (take place (settled shown_as [] new))
+    ∙ take_all place (settled shown_as [] new) (omega (arith, settled-length shown_as [] new))
 
--- its cluster is printed
-covered : (rest : CellView → CellView) → ((cell : CellView) → is_half (rest cell) ≡ false) → (columns place : ℕ) (front left : List CellView) (o n : CellView) (os ns : List CellView) →
-    Ahead left (o ∷ os) (n ∷ ns) → is_half n ≡ false → 0 < cluster_columns n.symbol → are_whole columns place (cluster_columns n.symbol - 1) ns ≡ true → length os ≡ length ns →
-    (ts : List CellView) × (printed rest n (cluster_columns n.symbol) front left ≡ front ++ n ∷ ts) × Ahead ts os ns
-covered rest blank columns place front [] o n os ns ahead is some whole long = absurd ahead
-covered rest blank columns place front (t ∷ ts) o n os ns ahead is some whole long =
-    let width = cluster_columns n.symbol in
-    let damaged : Damaged (t ∷ ts) (o ∷ os) = rw is at ahead in
-    let unbroken = Damaged-first rest blank t o ts os damaged in
-    let halves = replicate (width - 1) half in
-    let more : width ≡ suc (width - 1) = omega arith in
-    let rest_after : drop width (t ∷ ts) ≡ drop (width - 1) ts = ap (λ k. drop k (t ∷ ts)) more in (
-      halves ++ mended rest (drop (width - 1) ts),
-      rw (unbroken, rest_after) (append_assoc front (n ∷ halves) (mended rest (drop (width - 1) ts))),
-      Ahead-printed rest blank columns place (width - 1) ts os ns whole long (Damaged-rest rest blank t o ts os damaged),
-    )
+Between-next : (shown_as : Shown) (place : ℕ) (old new cells ts : List CellView) (o n s : CellView) (os ns ss : List CellView) → Split place (settled shown_as [] old) o os →
+    Split place new n ns → Split place (settled shown_as [] new) s ss → cells ≡ take place (settled shown_as [] new) ++ s ∷ ts → Ahead ts os ns ss →
+    Between shown_as (place + 1) old new cells
+Between-next shown_as place old new cells ts o n s os ns ss old_at new_at shown_at is ahead = record {
+  rest = ts;
+  cells_are = is ∙ sym (append_assoc (take place (settled shown_as [] new)) (s ∷ []) ts) ∙ ap (λ front. front ++ ts) (sym shown_at.done);
+  ahead = rw (old_at.next, new_at.next, shown_at.next) ahead;
+}
 
-lengths : (place : ℕ) (old new : List CellView) (o n : CellView) (os ns : List CellView) → Split place old o os → Split place new n ns → length old ≡ length new → length os ≡ length ns
-lengths place old new o n os ns old_at new_at long =
-    ap length (sym old_at.next) ∙ length-drop (place + 1) old ∙ ap (λ k. k - (place + 1)) long ∙ sym (length-drop (place + 1) new) ∙ ap length new_at.next
+-- the cells from an index on where a cluster begins
+first-none : (columns place : ℕ) (first : List CellView) (cell : CellView) (after : List CellView) → is_half cell ≡ false →
+    are_whole columns place (length first) (cell ∷ after) ≡ true → first ≡ []
+first-none columns place [] cell after is whole = refl
+first-none columns place (shown ∷ first) cell after is whole =
+    let components = and_parts (is_plain_half cell) (are_whole columns (place + 1) (length first) after) whole in
+    absurd (cc (plain_half-half cell components.0, is))
 
 pub whole-at : (columns place : ℕ) (cells : List CellView) (cell : CellView) (after : List CellView) → Split place cells cell after → are_whole columns 0 0 cells ≡ true → place ≤ length cells →
     is_half cell ≡ false → (can_begin columns place cell ≡ true) × (are_whole columns (place + 1) (cluster_columns cell.symbol - 1) after ≡ true)
@@ -123,54 +117,131 @@ whole-at columns place cells cell after at whole within is =
     let here : are_whole columns place dropped.0 (cell ∷ after) ≡ true = rw at.here at (subst (λ p. are_whole columns p dropped.0 (drop place cells) ≡ true) from dropped.1) in
     whole-unit columns place dropped.0 cell after is here
 
-columns-some : (columns place : ℕ) (cell : CellView) → can_begin columns place cell ≡ true → 0 < cluster_columns cell.symbol
-columns-some columns place cell begins =
-    let width = cluster_columns cell.symbol in
-    let room = (and_parts (ltb 0 width && leb (place % columns + width) columns) (ltb cell.modifier.0 512) begins).0 in
-    ltb-true 0 width (and_parts (ltb 0 width) (leb (place % columns + width) columns) room).0
+pub settled-at : (shown_as : Shown) → IsOfFamily shown_as → (columns place : ℕ) (cells : List CellView) (cell : CellView) (after : List CellView) → Split place cells cell after →
+    are_whole columns 0 0 cells ≡ true → place ≤ length cells → is_half cell ≡ false →
+    (can_begin columns place cell ≡ true) × (are_whole columns (place + 1) (cluster_columns cell.symbol - 1) after ≡ true)
+    × (drop place (settled shown_as [] cells) ≡ first_of cell (settled_cells shown_as cell) ∷ settled shown_as (drop 1 (settled_cells shown_as cell)) after)
+settled-at shown_as family columns place cells cell after at whole within is =
+    let dropped = settled-drop shown_as family columns place 0 [] cells whole within in
+    let from : 0 + place ≡ place = omega arith in
+    let here : are_whole columns place (length dropped.0) (cell ∷ after) ≡ true = rw at.here at (subst (λ p. are_whole columns p (length dropped.0) (drop place cells) ≡ true) from dropped.1) in
+    let none = first-none columns place dropped.0 cell after is here in
+    let unit = whole-unit columns place (length dropped.0) cell after is here in
+    (unit.0, unit.1, dropped.2 ∙ ap (λ first. settled shown_as first (drop place cells)) none ∙ ap (settled shown_as []) at.here)
 
--- there is a cell at the index
-on-screen : (place : ℕ) (old new cells : List CellView) (o n : CellView) (os ns : List CellView) → Split place old o os → Split place new n ns → place < length new →
-    Between place old new cells → place < length cells
-on-screen place old new cells o n os ns old_at new_at within between =
-    let ahead : Ahead between.rest (o ∷ os) (n ∷ ns) = rw (old_at.here, new_at.here) at between.ahead in
-    let some = Ahead-some between.rest o n os ns ahead in
-    let full : length (take place new) ≡ place = length-take-le place new (omega arith) in
-    omega (arith, some, full, ap length between.cells_are, length-append (take place new) between.rest)
+lengths : (place : ℕ) (old new : List CellView) (o n : CellView) (os ns : List CellView) → Split place old o os → Split place new n ns → length old ≡ length new → length os ≡ length ns
+lengths place old new o n os ns old_at new_at long =
+    ap length (sym old_at.next) ∙ length-drop (place + 1) old ∙ ap (λ k. k - (place + 1)) long ∙ sym (length-drop (place + 1) new) ∙ ap length new_at.next
+
+-- the cell is shown already: half of a cluster, whose beginning was printed
+half-shown : (rest : List CellView) (o n s : CellView) (os ns ss : List CellView) → Ahead rest (o ∷ os) (n ∷ ns) (s ∷ ss) → is_half n ≡ true →
+    (ts : List CellView) × (rest ≡ s ∷ ts) × Ahead ts os ns ss
+half-shown [] o n s os ns ss ahead is = absurd ahead
+half-shown (t ∷ ts) o n s os ns ss ahead is =
+    let components = rw is at ahead in (ts, ap (λ cell. cell ∷ ts) components.0, components.1)
+
+-- or a cluster that is as it was
+same-shown : (rest : List CellView) (o n s : CellView) (os ns ss : List CellView) → Ahead rest (o ∷ os) (n ∷ ns) (s ∷ ss) → is_half n ≡ false → is_half o ≡ false → o ≡ s →
+    Ahead os os ns ss → (ts : List CellView) × (rest ≡ s ∷ ts) × Ahead ts os ns ss
+same-shown [] o n s os ns ss ahead is whole same like = absurd ahead
+same-shown (t ∷ ts) o n s os ns ss ahead is whole same like =
+    let left : (t ∷ ts) ≡ (o ∷ os) = rw whole at (rw is at ahead) in
+    (os, left ∙ ap (λ cell. cell ∷ os) same, like)
+
+-- its cluster is printed
+covered : (shown_as : Shown) (rest : CellView → CellView) → ((cell : CellView) → is_half (rest cell) ≡ false) → (columns place : ℕ) (front left unit : List CellView) (o n s : CellView)
+    (os ns : List CellView) → Ahead left (o ∷ os) (n ∷ ns) (s ∷ settled shown_as (drop 1 unit) ns) → is_half n ≡ false → s ≡ first_of n unit → 0 < length unit →
+    are_whole columns place (length (drop 1 unit)) ns ≡ true → length os ≡ length ns →
+    (ts : List CellView) × (printed rest unit front left ≡ front ++ s ∷ ts) × Ahead ts os ns (settled shown_as (drop 1 unit) ns)
+covered shown_as rest blank columns place front [] unit o n s os ns ahead is first some whole long = absurd ahead
+covered shown_as rest blank columns place front (t ∷ ts) [] o n s os ns ahead is first some whole long = absurd (omega arith)
+covered shown_as rest blank columns place front (t ∷ ts) (u ∷ us) o n s os ns ahead is first some whole long =
+    let damaged : Damaged (t ∷ ts) (o ∷ os) = rw is at ahead in
+    let unbroken = Damaged-first rest blank t o ts os damaged in (
+      us ++ mended rest (drop (length us) ts),
+      rw (unbroken, first) (append_assoc front (u ∷ us) (mended rest (drop (length us) ts))),
+      Ahead-printed rest blank shown_as columns place us ts os ns whole long (Damaged-rest rest blank t o ts os damaged),
+    )
+
+whole-ahead : (rest : List CellView) (o n s : CellView) (os ns ss : List CellView) → Ahead rest (o ∷ os) (n ∷ ns) (s ∷ ss) → is_half n ≡ false → begins_half rest ≡ false
+whole-ahead [] o n s os ns ss ahead is = absurd ahead
+whole-ahead (t ∷ ts) o n s os ns ss ahead is =
+    let damaged : Damaged (t ∷ ts) (o ∷ os) = rw is at ahead in
+    Damaged-first (λ cell. in_look (look_of cell) (32 ∷ [])) (λ cell. refl) t o ts os damaged
+
+-- there is a cell at the index, which is no half if a cluster begins there
+on-screen : (shown_as : Shown) (place : ℕ) (old new cells : List CellView) (n : CellView) (ns : List CellView) → Split place new n ns → place < length new → length old ≡ length new →
+    Between shown_as place old new cells → (place < length cells) × (is_half n ≡ false → begins_half (drop place cells) ≡ false)
+on-screen shown_as place old new cells n ns new_at within long between =
+    let So = Split-any (settled shown_as [] old) place (omega (arith, settled-length shown_as [] old)) in
+    let Sn = Split-any (settled shown_as [] new) place (omega (arith, settled-length shown_as [] new)) in
+    let ahead : Ahead between.rest (So.0 ∷ So.1.0) (n ∷ ns) (Sn.0 ∷ Sn.1.0) = rw (So.1.1.here, new_at.here, Sn.1.1.here) at between.ahead in
+    let some = Ahead-some between.rest So.0 n Sn.0 So.1.0 ns Sn.1.0 ahead in
+    let full : length (take place (settled shown_as [] new)) ≡ place = length-take-le place (settled shown_as [] new) (omega (arith, settled-length shown_as [] new)) in
+    let back : drop place cells ≡ between.rest = ap (drop place) between.cells_are ∙ drop_at (take place (settled shown_as [] new)) between.rest place full in (
+      omega (arith, some, full, ap length between.cells_are, length-append (take place (settled shown_as [] new)) between.rest),
+      λ is. ap begins_half back ∙ whole-ahead between.rest So.0 n Sn.0 So.1.0 ns Sn.1.0 ahead is,
+    )
 
 -- the cells after a cell that is as it was
-Between-unchanged : (columns place : ℕ) (old new cells : List CellView) (o n : CellView) (os ns : List CellView) → Split place old o os → Split place new n ns →
+Between-unchanged : (shown_as : Shown) → IsOfFamily shown_as → (columns place : ℕ) (old new cells : List CellView) (o n : CellView) (os ns : List CellView) → Split place old o os → Split place new n ns →
     are_whole columns 0 0 old ≡ true → are_whole columns 0 0 new ≡ true → length old ≡ length new → place < length new → (is_half n ≡ true) ⊎ (o ≡ n) →
-    Between place old new cells → Between (place + 1) old new cells
-Between-unchanged columns place old new cells o n os ns old_at new_at old_whole new_whole long within same between =
-    let ahead : Ahead between.rest (o ∷ os) (n ∷ ns) = rw (old_at.here, new_at.here) at between.ahead in
-    let long' : length os ≡ length ns = lengths place old new o n os ns old_at new_at long in
-    let like : is_half n ≡ false → Ahead os os ns = λ whole.
+    Between shown_as place old new cells → Between shown_as (place + 1) old new cells
+Between-unchanged shown_as family columns place old new cells o n os ns old_at new_at old_whole new_whole long within same between =
+    let So = Split-any (settled shown_as [] old) place (omega (arith, settled-length shown_as [] old)) in
+    let Sn = Split-any (settled shown_as [] new) place (omega (arith, settled-length shown_as [] new)) in
+    let ahead : Ahead between.rest (So.0 ∷ So.1.0) (n ∷ ns) (Sn.0 ∷ Sn.1.0) = rw (So.1.1.here, new_at.here, Sn.1.1.here) at between.ahead in
+    let step : (ts : List CellView) × (between.rest ≡ Sn.0 ∷ ts) × Ahead ts So.1.0 ns Sn.1.0 =
+    ⊎_elim
+    (λ half. half-shown between.rest So.0 n Sn.0 So.1.0 ns Sn.1.0 ahead half)
+    (λ whole.
     let as_old : o ≡ n = ⊎_elim (λ other. absurd (cc (other, whole))) (λ e. e) same in
-    let olds = whole-at columns place old o os old_at old_whole (omega arith) (ap is_half as_old ∙ whole) in
-    let news = whole-at columns place new n ns new_at new_whole (omega arith) whole in
-    let olds' : are_whole columns (place + 1) (cluster_columns n.symbol - 1) os ≡ true = subst (λ (cell : CellView). are_whole columns (place + 1) (cluster_columns cell.symbol - 1) os ≡ true) as_old olds.1 in
-    Ahead-same columns (place + 1) (cluster_columns n.symbol - 1) os ns olds' news.1 long' in
-    let step = unchanged between.rest o n os ns ahead same like in
-    Between-next place old new cells step.0 o n os ns old_at new_at (between.cells_are ∙ ap (λ rest. take place new ++ rest) step.1) step.2
+    let old_is : is_half o ≡ false = ap is_half as_old ∙ whole in
+    let olds = settled-at shown_as family columns place old o os old_at old_whole (omega arith) old_is in
+    let news = settled-at shown_as family columns place new n ns new_at new_whole (omega arith) whole in
+    let o_cells : (So.0 ∷ So.1.0) ≡ first_of o (settled_cells shown_as o) ∷ settled shown_as (drop 1 (settled_cells shown_as o)) os = sym So.1.1.here ∙ olds.2 in
+    let n_cells : (Sn.0 ∷ Sn.1.0) ≡ first_of n (settled_cells shown_as n) ∷ settled shown_as (drop 1 (settled_cells shown_as n)) ns = sym Sn.1.1.here ∙ news.2 in
+    let o_first = first-same o_cells in
+    let n_first = first-same n_cells in
+    let o_rest : So.1.0 ≡ settled shown_as (drop 1 (settled_cells shown_as n)) os =
+    rest-same o_cells ∙ ap (λ (cell : CellView). settled shown_as (drop 1 (settled_cells shown_as cell)) os) as_old in
+    let some = columns-some columns place n news.0 in
+    let first_whole : is_half So.0 ≡ false = ap is_half o_first ∙ settled-first shown_as o family (columns-some columns place o olds.0) old_is in
+    let alike : So.0 ≡ Sn.0 = o_first ∙ ap (λ (cell : CellView). first_of cell (settled_cells shown_as cell)) as_old ∙ sym n_first in
+    let olds_whole : are_whole columns (place + 1) (cluster_columns n.symbol - 1) os ≡ true =
+    subst (λ (cell : CellView). are_whole columns (place + 1) (cluster_columns cell.symbol - 1) os ≡ true) as_old olds.1 in
+    let like : Ahead So.1.0 So.1.0 ns Sn.1.0 =
+    rw (o_rest, rest-same n_cells)
+    (Ahead-same shown_as family columns (place + 1) (drop 1 (settled_cells shown_as n)) os ns (rest-whole shown_as columns (place + 1) n os family some olds_whole)
+    (rest-whole shown_as columns (place + 1) n ns family some news.1) (lengths place old new o n os ns old_at new_at long)) in
+    same-shown between.rest So.0 n Sn.0 So.1.0 ns Sn.1.0 ahead whole first_whole alike like)
+    (cases_Bool (is_half n)) in
+    Between-next shown_as place old new cells step.0 So.0 n Sn.0 So.1.0 ns Sn.1.0 So.1.1 new_at Sn.1.1 (between.cells_are ∙ ap (λ rest. take place (settled shown_as [] new) ++ rest) step.1) step.2
 
 -- the cells after a cell whose cluster is printed
-Between-changed : (columns place : ℕ) (old new cells : List CellView) (o n : CellView) (os ns : List CellView) (rest : CellView → CellView) →
+Between-changed : (shown_as : Shown) → IsOfFamily shown_as → (columns place : ℕ) (old new cells : List CellView) (o n : CellView) (os ns : List CellView) (rest : CellView → CellView) →
     ((cell : CellView) → is_half (rest cell) ≡ false) → Split place old o os → Split place new n ns →
     are_whole columns 0 0 new ≡ true → length old ≡ length new → place < length new → is_half n ≡ false →
-    Between place old new cells → Between (place + 1) old new (printed rest n (cluster_columns n.symbol) (take place cells) (drop place cells))
-Between-changed columns place old new cells o n os ns rest blank old_at new_at new_whole long within whole between =
-    let ahead : Ahead between.rest (o ∷ os) (n ∷ ns) = rw (old_at.here, new_at.here) at between.ahead in
-    let long' : length os ≡ length ns = lengths place old new o n os ns old_at new_at long in
-    let news = whole-at columns place new n ns new_at new_whole (omega arith) whole in
+    Between shown_as place old new cells → Between shown_as (place + 1) old new (printed rest (settled_cells shown_as n) (take place cells) (drop place cells))
+Between-changed shown_as family columns place old new cells o n os ns rest blank old_at new_at new_whole long within whole between =
+    let So = Split-any (settled shown_as [] old) place (omega (arith, settled-length shown_as [] old)) in
+    let Sn = Split-any (settled shown_as [] new) place (omega (arith, settled-length shown_as [] new)) in
+    let news = settled-at shown_as family columns place new n ns new_at new_whole (omega arith) whole in
+    let n_cells : (Sn.0 ∷ Sn.1.0) ≡ first_of n (settled_cells shown_as n) ∷ settled shown_as (drop 1 (settled_cells shown_as n)) ns = sym Sn.1.1.here ∙ news.2 in
+    let ahead : Ahead between.rest (So.0 ∷ So.1.0) (n ∷ ns) (Sn.0 ∷ settled shown_as (drop 1 (settled_cells shown_as n)) ns) =
+    rw (rest-same n_cells) at (rw (So.1.1.here, new_at.here, Sn.1.1.here) at between.ahead) in
     let some = columns-some columns place n news.0 in
-    let step = covered rest blank columns (place + 1) (take place new) between.rest o n os ns ahead whole some news.1 long' in
-    let full : length (take place new) ≡ place = length-take-le place new (omega arith) in
-    let front : take place cells ≡ take place new =
-    ap (take place) between.cells_are ∙ ap (λ k. take k (take place new ++ between.rest)) (sym full) ∙ take-append_seam (take place new) between.rest in
-    let back : drop place cells ≡ between.rest =
-    ap (drop place) between.cells_are ∙ ap (λ k. drop k (take place new ++ between.rest)) (sym full) ∙ drop-append_seam (take place new) between.rest in
-    Between-next place old new _ step.0 o n os ns old_at new_at (rw (front, back) step.1) step.2
+    let wide : 0 < length (settled_cells shown_as n) = omega (arith, settled_cells-length shown_as n family some) in
+    let old_long : length So.1.0 ≡ length ns =
+    lengths place (settled shown_as [] old) new So.0 n So.1.0 ns So.1.1 new_at (settled-length shown_as [] old ∙ long) in
+    let step = covered shown_as rest blank columns (place + 1) (take place (settled shown_as [] new)) between.rest (settled_cells shown_as n) So.0 n Sn.0 So.1.0 ns ahead whole (first-same n_cells) wide
+    (rest-whole shown_as columns (place + 1) n ns family some news.1) old_long in
+    let full : length (take place (settled shown_as [] new)) ≡ place = length-take-le place (settled shown_as [] new) (omega (arith, settled-length shown_as [] new)) in
+    let front : take place cells ≡ take place (settled shown_as [] new) =
+    ap (take place) between.cells_are ∙ take_at (take place (settled shown_as [] new)) between.rest place full in
+    let back : drop place cells ≡ between.rest = ap (drop place) between.cells_are ∙ drop_at (take place (settled shown_as [] new)) between.rest place full in
+    Between-next shown_as place old new _ step.0 So.0 n Sn.0 So.1.0 ns Sn.1.0 So.1.1 new_at Sn.1.1 (rw (front, back) step.1)
+    (subst (λ (shown : List CellView). Ahead step.0 So.1.0 ns shown) (sym (rest-same n_cells)) step.2)
 
 -- ---- the terminal
 
@@ -178,7 +249,7 @@ pub record Midway (brush : Brush) (width place : ℕ) (old new : List CellView) 
   pub knows : Knows brush terminal
   pub columns : terminal.columns ≡ width
   pub caret : terminal.has_visible_cursor ≡ is_caret_visible
-  pub between : Between place old new terminal.cells
+  pub between : Between terminal.shown_as place old new terminal.cells
 
 -- the cursor is known to be at the cell where the next cluster begins, unless that is the first of
 -- a row
@@ -215,7 +286,7 @@ Reaches-start start columns old new old_whole new_whole long = record {
     knows = shows.knows;
     columns = shows.columns;
     caret = shows.caret;
-    between = subst (Between 0 old new) (sym shows.cells) (Between-start columns old new old_whole new_whole long);
+    between = subst (Between terminal.shown_as 0 old new) (sym shows.cells) (Between-start terminal.shown_as shows.knows.family columns old new old_whole new_whole long);
   };
   prints = λ later changes. changes;
   follows = false;
@@ -233,7 +304,7 @@ pub Reaches-end : (start brush : Brush) (columns place : ℕ) (old new : List Ce
 Reaches-end start brush columns place old new controls at long reaches = record {
   brings = λ terminal is_caret_visible shows.
       let midway = reaches.brings terminal is_caret_visible shows in
-      record { knows = midway.knows; columns = midway.columns; caret = midway.caret; cells = Between-end place old new _ at long midway.between };
+      record { knows = midway.knows; columns = midway.columns; caret = midway.caret; cells = Between-end (run controls terminal).shown_as place old new _ at long midway.between };
   prints =
       let no_old : drop place old ≡ [] = ap (λ p. drop p old) (at ∙ sym long) ∙ drop-length old in
       let no_new : drop place new ≡ [] = ap (λ p. drop p new) at ∙ drop-length new in
@@ -247,9 +318,22 @@ Reaches-end start brush columns place old new controls at long reaches = record 
   still = reaches.still;
 }
 
-cursor-known : (at : Option ℕ) → IfSome at (λ place. at ≡ Some place)
-cursor-known None = tt
-cursor-known (Some place) = refl
+known-itself : (at : Option ℕ) → IfSome at (λ place. at ≡ Some place)
+known-itself None = tt
+known-itself (Some place) = refl
+
+known-if : (disputed : Bool) (a b : Option ℕ) → (disputed ≡ false → b ≡ a) → IfSome (cond disputed None a) (λ at. b ≡ Some at)
+known-if true a b same = tt
+known-if false a b same = subst (λ (x : Option ℕ). IfSome a (λ at. x ≡ Some at)) (sym (same refl)) (known-itself a)
+
+-- the cursor after a cluster is where the brush knows it to be
+cursor-known : (shown_as : Shown) (columns place : ℕ) (cell : CellView) → 0 < cluster_columns cell.symbol →
+    IfSome (cond (is_disputed cell.symbol) None (cursor_after columns (place + cluster_columns cell.symbol)))
+    (λ at. cursor_after columns (place + length (cluster_cells shown_as (look_of cell) cell.symbol)) ≡ Some at)
+cursor-known shown_as columns place cell some =
+    known-if (is_disputed cell.symbol) (cursor_after columns (place + cluster_columns cell.symbol))
+    (cursor_after columns (place + length (cluster_cells shown_as (look_of cell) cell.symbol)))
+    (λ agreed. ap (λ n. cursor_after columns (place + n)) (agreed-length shown_as (look_of cell) cell.symbol some agreed))
 
 -- what is known of runs after a cell
 record Moved (columns place : ℕ) (old new : List CellView) (at : Option ℕ) (count : ℕ) : Type 0 where
@@ -293,7 +377,7 @@ Reaches-unchanged start before after columns place old new o n os ns xs ys old_a
             knows = midway.knows;
             columns = midway.columns;
             caret = midway.caret;
-            between = Between-unchanged columns place old new _ o n os ns old_at new_at old_whole new_whole long within same midway.between;
+            between = Between-unchanged (run xs terminal).shown_as midway.knows.family columns place old new _ o n os ns old_at new_at old_whole new_whole long within same midway.between;
           });
       prints = λ later changes.
           rw all (reaches.prints later (rw (old_at.here, new_at.here) (inl (same, rw (old_at.next, new_at.next) at changes))));
@@ -305,10 +389,11 @@ Reaches-unchanged start before after columns place old new o n os ns xs ys old_a
       still = λ as_new. let before_still = reaches.still as_new in (all ∙ before_still.0, keeps.brush ∙ before_still.1);
     }
 
-moved-once : (follows first : Bool) (moves later : ℕ) → moves ≤ 1 → (follows ≡ true → first ≡ false → moves ≡ 0) → moves + later ≤ cond (follows && not first) later (later + 1)
-moved-once true false moves later most none = omega (arith, none refl refl)
-moved-once true true moves later most none = omega (arith, most)
-moved-once false first moves later most none = omega (arith, most)
+moved-once : (follows first : Bool) (moves later inner : ℕ) → moves ≤ 1 + inner → (follows ≡ true → first ≡ false → moves ≡ inner) →
+    moves + later ≤ cond (follows && not first) later (later + 1) + inner
+moved-once true false moves later inner most none = omega (arith, none refl refl)
+moved-once true true moves later inner most none = omega (arith, most)
+moved-once false first moves later inner most none = omega (arith, most)
 
 pub Reaches-changed : (start before after : Brush) (columns place : ℕ) (old new : List CellView) (o n : CellView) (os ns : List CellView) (xs ys : List Control) →
     Split place old o os → Split place new n ns → are_whole columns 0 0 old ≡ true → are_whole columns 0 0 new ≡ true → length old ≡ length new → place < length new →
@@ -317,31 +402,40 @@ Reaches-changed start before after columns place old new o n os ns xs ys old_at 
   brings = λ terminal is_caret_visible shows.
       let one = run xs terminal in
       let midway = reaches.brings terminal is_caret_visible shows in
-      let there : place < length one.cells = on-screen place old new one.cells o n os ns old_at new_at within midway.between in
-      let ran : run (xs ++ ys) terminal ≡ with_cell columns place n one = run-append xs ys terminal ∙ changes.prints.1 one midway.knows midway.columns there in
+      let there = on-screen one.shown_as place old new one.cells n ns new_at within long midway.between in
+      let ran : run (xs ++ ys) terminal ≡ with_cell columns place n one = run-append xs ys terminal ∙ changes.prints.1 one midway.knows midway.columns there.0 (there.1 changes.whole) in
+      let news = whole-at columns place new n ns new_at new_whole (omega arith) changes.whole in
       rw (ran, changes.brush) (record {
-        knows = record { cursor = cursor-known (cursor_after columns (place + cluster_columns n.symbol)); pen = refl; updating = refl };
+        knows = record {
+          cursor = cursor-known one.shown_as columns place n (columns-some columns place n news.0);
+          pen = refl;
+          updating = refl;
+          modes = midway.knows.modes;
+          family = midway.knows.family;
+        };
         columns = midway.columns;
         caret = midway.caret;
-        between = Between-changed columns place old new one.cells o n os ns (rest_of one.rest_look (look_of n)) (λ cell. refl) old_at new_at new_whole long within changes.whole midway.between;
+        between = Between-changed one.shown_as midway.knows.family columns place old new one.cells o n os ns (rest_of one.rest_look (look_of n)) (λ cell. refl) old_at new_at new_whole long within changes.whole midway.between;
       });
   prints = λ later more.
       rw (prints_of-append xs ys, changes.prints.0, append_assoc)
-      (reaches.prints (n.symbol ∷ later) (rw (old_at.here, new_at.here) (inr (changes.whole, changes.changed, (later, refl, rw (old_at.next, new_at.next) at more)))));
-  follows = true;
+      (reaches.prints (texts_of n ++ later) (rw (old_at.here, new_at.here) (inr (changes.whole, changes.changed, (later, refl, rw (old_at.next, new_at.next) at more)))));
+  follows = not (is_disputed n.symbol);
   tracks = λ yes.
+      let agreed : is_disputed n.symbol ≡ false = false-from_not (is_disputed n.symbol) yes in
       let width = cluster_columns n.symbol in
       let news = whole-at columns place new n ns new_at new_whole (omega arith) changes.whole in
       let some = columns-some columns place n news.0 in
       let end : place + width ≡ place + 1 + (width - 1) = omega arith in
-      let known : cursor_after columns (place + width) ≡ after.at = ap (λ (b : Brush). b.at) (sym changes.brush) in
+      let known : cursor_after columns (place + width) ≡ after.at =
+      sym (cond-false (is_disputed n.symbol) None (cursor_after columns (place + width)) agreed) ∙ ap (λ (b : Brush). b.at) (sym changes.brush) in
       subst (λ at. Tracks columns (place + 1) at (drop (place + 1) new)) known (rw new_at.next (Tracks-after columns (place + 1) (width - 1) (place + width) ns news.1 end));
   moves = λ later runs.
       let inside = reaches.follows && not (place % columns == 0) in
-      let more = cond inside later (later + 1) in
+      let more = cond inside later (later + 1) + inner_moves n in
       let done = reaches.moves more (rw (old_at.here, new_at.here) (inr (inr (changes.whole, changes.changed, (later, refl, rw (old_at.next, new_at.next) at runs))))) in
       let tracks : reaches.follows ≡ true → (place % columns == 0) ≡ false → before.at ≡ Some place = λ yes. rw changes.whole at (rw new_at.here at (reaches.tracks yes)) in
-      let one : moves_of ys + later ≤ more = moved-once reaches.follows (place % columns == 0) (moves_of ys) later changes.prints.2 (λ yes no. changes.prints.3 (tracks yes no)) in
+      let one : moves_of ys + later ≤ more = moved-once reaches.follows (place % columns == 0) (moves_of ys) later (inner_moves n) changes.prints.2 (λ yes no. changes.prints.3 (tracks yes no)) in
       (done.0, (done.1.0, omega (arith, done.1.1, one, moves_of-append xs ys)));
   pens = λ later looks.
       let pen' : after.pen ≡ Some (look_of n) = ap (λ (b : Brush). b.pen) changes.brush in

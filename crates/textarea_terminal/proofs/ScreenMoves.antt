@@ -1,96 +1,146 @@
 -- The steps of painting a cell, one after another.
-use Rattle.std.proofs.Common.{inl, inr, ◌≡◌, ℕ, ◌+◌, ◌*◌, ◌/◌, ◌%◌, ◌<◌, true, Bool, ◌&&◌, length, List, [], ◌∷◌, ◌++◌, Option, Some, None, ap, subst, sym, ◌∙◌, refl, arith, ltb, leb}
-use Rattle.std.proofs.Common.{append_assoc}
-use Rattle.std.proofs.lemmas.List.{append-nil}
-use Rattle.textarea_terminal.specs.Control.{bytes_of}
-use Rattle.std.proofs.Common.{false, not, eqb, eq-eqb, true≢false}
+use Rattle.std.proofs.Common.{inl, inr, ◌≡◌, ℕ, ◌+◌, ◌-◌, ◌*◌, ◌/◌, ◌%◌, ◌<◌, ◌≤◌, true, false, not, Bool, ◌&&◌, eqb, eq-eqb, true≢false, length, take, drop, replicate, List, [], ◌∷◌, ◌++◌, Option, Some, None, ap, subst, sym, ◌∙◌, refl, arith, ltb, leb, append_assoc}
 use Rattle.std.specs.Option.{option_eq}
 use mathlib.Core.Bool.{beq}
-use Rattle.std.proofs.lemmas.Bool.{cond-true, and_parts}
+use Rattle.std.proofs.lemmas.Bool.{cond-true, and_parts, leb-true, lt-ltb, le-leb}
 use Rattle.std.proofs.lemmas.Bool.Decides.{nat_tests}
+use Rattle.std.proofs.lemmas.List.{append-nil}
 use Rattle.textarea_screen.specs.Cell.{CellView}
-use Rattle.textarea_terminal.specs.Control.{Control}
+use Rattle.textarea_terminal.specs.Control.{Control, bytes_of}
 use Rattle.textarea_terminal.specs.Control.Control.{MoveTo, Print}
-use Rattle.textarea_terminal.specs.Paint.{Wrote, IsNeeded, moves_of, pens_of, BeginsUpdate, MovesTo, TakesLook, PrintsCell, with_cell}
+use Rattle.textarea_terminal.specs.Disputed.{is_disputed}
+use Rattle.textarea_terminal.specs.Paint.{Wrote, IsNeeded, moves_of, pens_of, BeginsUpdate, MovesTo, TakesLook, PrintsLast, PrintsCell, with_cell}
 use Rattle.textarea_terminal.specs.PaintCells.{can_begin, cluster_columns}
-use Rattle.textarea_terminal.specs.Pen.{look_of}
-use Rattle.textarea_terminal.specs.Screen.{Terminal, apply_control, run, unknown}
+use Rattle.textarea_terminal.specs.Pen.{in_look, look_of}
+use Rattle.textarea_terminal.specs.Screen.{Terminal, is_plain, apply_control, run, unknown, printed, print_at, rest_of, cursor_after, cluster_cells, settled_cells}
 use Rattle.textarea_terminal.specs.declared.output.brush.Brush.{Brush}
 use Rattle.textarea_terminal.specs.declared.output.look.Look.{Look}
 use Rattle.textarea_terminal.proofs.ControlLemmas.{run-append, bytes_of-append, prints_of-append, moves_of-append, pens_of-append}
+use Rattle.textarea_terminal.proofs.PaintFrames.{columns-some}
+use Rattle.textarea_terminal.proofs.SettledLemmas.{Shown, agreed-length}
 
-pub move-there : (terminal : Terminal) (columns place : ℕ) → 0 < columns → terminal.columns ≡ columns → place < length terminal.cells →
+pub move-there : (terminal : Terminal) (columns place : ℕ) → 0 < columns → terminal.columns ≡ columns → is_plain terminal.modes ≡ true → place < length terminal.cells →
     apply_control (MoveTo (place / columns) (place % columns)) terminal ≡ record terminal { cursor = Some place }
-move-there terminal columns place some same within =
+move-there terminal columns place some same modes within =
     let there : place / columns * terminal.columns + place % columns ≡ place = rw same (omega arith) in
     let in_row : place % columns < terminal.columns = rw same (omega arith) in
     let on_screen : place / columns * terminal.columns + place % columns < length terminal.cells = rw there within in
     ap (λ (cursor : Option ℕ). record terminal { cursor = cursor })
-    (cond-true (ltb (place % columns) terminal.columns && ltb (place / columns * terminal.columns + place % columns) (length terminal.cells))
-    (Some (place / columns * terminal.columns + place % columns)) None (grind (arith, nat_tests, in_row, on_screen))
+    (cond-true (is_plain terminal.modes && ltb (place % columns) terminal.columns && ltb (place / columns * terminal.columns + place % columns) (length terminal.cells))
+    (Some (place / columns * terminal.columns + place % columns)) None (rw modes (grind (arith, nat_tests, in_row, on_screen)))
     ∙ ap Some there)
 
-print-there : (terminal : Terminal) (columns place : ℕ) (cell : CellView) → terminal.columns ≡ columns → can_begin columns place cell ≡ true →
-    apply_control (Print cell.symbol) (record terminal { is_updating = true; cursor = Some place; pen = look_of cell }) ≡ with_cell columns place cell terminal
-print-there terminal columns place cell same begins =
-    let C : ℕ → Type 0 = λ n. can_begin n place cell ≡ true →
-    apply_control (Print cell.symbol) (record terminal { is_updating = true; cursor = Some place; pen = look_of cell }) ≡ with_cell n place cell terminal in
+-- a cluster's cells are printed at the cursor, if they end in the row
+pub print-fits : (terminal : Terminal) (place : ℕ) (text : List ℕ) (cells : List CellView) → terminal.cursor ≡ Some place → cluster_cells terminal.shown_as terminal.pen text ≡ cells →
+    is_plain terminal.modes ≡ true → 0 < cluster_columns text → place % terminal.columns + length cells ≤ terminal.columns →
+    apply_control (Print text) terminal ≡ record terminal {
+      cells = printed (rest_of terminal.rest_look terminal.pen) cells (take place terminal.cells) (drop place terminal.cells);
+      cursor = cursor_after terminal.columns (place + length cells);
+    }
+print-fits terminal place text cells at are modes some fits =
+    let done : Terminal = record terminal {
+      cells = printed (rest_of terminal.rest_look terminal.pen) cells (take place terminal.cells) (drop place terminal.cells);
+      cursor = cursor_after terminal.columns (place + length cells);
+    } in
+    let test : (is_plain terminal.modes && ltb 0 (cluster_columns text) && leb (place % terminal.columns + length cells) terminal.columns) ≡ true =
+    rw (modes, lt-ltb 0 (cluster_columns text) some, le-leb (place % terminal.columns + length cells) terminal.columns fits) refl in
+    ap (λ unit. print_at unit (ltb 0 (cluster_columns text)) terminal.cursor terminal) are
+    ∙ ap (λ at. print_at cells (ltb 0 (cluster_columns text)) at terminal) at
+    ∙ cond-true (is_plain terminal.modes && ltb 0 (cluster_columns text) && leb (place % terminal.columns + length cells) terminal.columns) done (unknown terminal) test
+
+pub columns-fit : (columns place : ℕ) (cell : CellView) → can_begin columns place cell ≡ true → place % columns + cluster_columns cell.symbol ≤ columns
+columns-fit columns place cell begins =
     let width = cluster_columns cell.symbol in
-    let room = ltb 0 width && leb (place % terminal.columns + width) terminal.columns in
+    let room = (and_parts (ltb 0 width && leb (place % columns + width) columns) (ltb cell.modifier.0 512) begins).0 in
+    leb-true (place % columns + width) columns (and_parts (ltb 0 width) (leb (place % columns + width) columns) room).1
+
+agreed-settled : (shown_as : Shown) (cell : CellView) → 0 < cluster_columns cell.symbol → is_disputed cell.symbol ≡ false →
+    settled_cells shown_as cell ≡ cluster_cells shown_as (look_of cell) cell.symbol
+agreed-settled shown_as cell some agreed =
+    let cells = cluster_cells shown_as (look_of cell) cell.symbol in
+    let none : cluster_columns cell.symbol - length cells ≡ 0 = omega (arith, agreed-length shown_as (look_of cell) cell.symbol some agreed) in
+    ap (λ n. cells ++ replicate n (in_look (look_of cell) (32 ∷ []))) none ∙ append-nil cells
+
+-- a cluster that isn't disputed is printed at the cursor
+print-there : (terminal : Terminal) (columns place : ℕ) (cell : CellView) → terminal.columns ≡ columns → is_plain terminal.modes ≡ true → can_begin columns place cell ≡ true →
+    is_disputed cell.symbol ≡ false →
+    apply_control (Print cell.symbol) (record terminal { is_updating = true; cursor = Some place; pen = look_of cell }) ≡ with_cell columns place cell terminal
+print-there terminal columns place cell same modes begins agreed =
     let three : Terminal = record terminal { is_updating = true; cursor = Some place; pen = look_of cell } in
-    subst C same (λ fits. cond-true room (with_cell terminal.columns place cell terminal) (unknown three) (and_parts room (ltb cell.modifier.0 512) fits).0) begins
+    let some = columns-some columns place cell begins in
+    let cells = cluster_cells terminal.shown_as (look_of cell) cell.symbol in
+    let long : length cells ≡ cluster_columns cell.symbol = agreed-length terminal.shown_as (look_of cell) cell.symbol some agreed in
+    let whole : settled_cells terminal.shown_as cell ≡ cells = agreed-settled terminal.shown_as cell some agreed in
+    let fits : place % terminal.columns + length cells ≤ terminal.columns = rw (same, long) (columns-fit columns place cell begins) in
+    print-fits three place cell.symbol cells refl refl modes some fits
+    ∙ ap (λ (unit : List CellView). record terminal {
+      cells = printed (rest_of terminal.rest_look (look_of cell)) unit (take place terminal.cells) (drop place terminal.cells);
+      cursor = cursor_after terminal.columns (place + length cells);
+      pen = look_of cell;
+      is_updating = true;
+    }) (sym whole)
+    ∙ ap (λ (n : ℕ). record terminal {
+      cells = printed (rest_of terminal.rest_look (look_of cell)) (settled_cells terminal.shown_as cell) (take place terminal.cells) (drop place terminal.cells);
+      cursor = cursor_after n (place + length cells);
+      pen = look_of cell;
+      is_updating = true;
+    }) same
 
 needed-once : (pen : Option Look) (look : Look) (one all : ℕ) → IsNeeded pen look one → all ≡ one → IsNeeded pen look all
 needed-once pen look one all (inl known) same = inl (known.0, same ∙ known.1)
 needed-once pen look one all (inr other) same = inr (other.0, same ∙ other.1)
 
+pub agreed-last : (columns place : ℕ) (cell : CellView) → can_begin columns place cell ≡ true → is_disputed cell.symbol ≡ false → PrintsLast columns place cell (Print cell.symbol ∷ [])
+agreed-last columns place cell begins agreed = record {
+  prints = rw agreed refl;
+  brings = λ terminal modes family same within whole. print-there terminal columns place cell same modes begins agreed;
+  moves = rw agreed refl;
+  pens = refl;
+}
+
 -- an update is begun, the cursor is moved, the pen is changed, and the cluster is printed
-pub prints-cell : (brush : Brush) (columns place : ℕ) (cell : CellView) → can_begin columns place cell ≡ true → (begin move take : List Control) →
+pub prints-cell : (brush : Brush) (columns place : ℕ) (cell : CellView) (begin move take last : List Control) → PrintsLast columns place cell last →
     BeginsUpdate brush.is_updating begin → MovesTo brush.at columns place move → TakesLook brush.pen (look_of cell) take →
-    PrintsCell brush columns place cell (begin ++ (move ++ (take ++ Print cell.symbol ∷ [])))
-prints-cell brush columns place cell begins begin move take begun moved consumed = (
+    PrintsCell brush columns place cell (begin ++ (move ++ (take ++ last)))
+prints-cell brush columns place cell begin move take last done begun moved consumed = (
   rw (
-    prints_of-append begin (move ++ (take ++ Print cell.symbol ∷ [])),
-    prints_of-append move (take ++ Print cell.symbol ∷ []),
-    prints_of-append take (Print cell.symbol ∷ []),
+    prints_of-append begin (move ++ (take ++ last)),
+    prints_of-append move (take ++ last),
+    prints_of-append take last,
     begun.0,
     moved.0,
     consumed.0,
-  ) refl,
-  λ terminal knows same within.
+  ) done.prints,
+  λ terminal knows same within whole.
       let one : Terminal = record terminal { is_updating = true } in
       let two : Terminal = record one { cursor = Some place } in
-      let three : Terminal = record two { pen = look_of cell } in
-      let last = Print cell.symbol ∷ [] in
       run-append begin (move ++ (take ++ last)) terminal
       ∙ ap (run (move ++ (take ++ last))) (begun.1 terminal knows.updating)
       ∙ run-append move (take ++ last) one
-      ∙ ap (run (take ++ last)) (moved.1 one knows.cursor same within)
+      ∙ ap (run (take ++ last)) (moved.1 one knows.cursor same knows.modes within)
       ∙ run-append take last two
       ∙ ap (run last) (consumed.1 two knows.pen)
-      ∙ print-there terminal columns place cell same begins,
-  omega (arith, moves_of-append begin (move ++ (take ++ Print cell.symbol ∷ [])), moves_of-append move (take ++ Print cell.symbol ∷ []), moves_of-append take (Print cell.symbol ∷ []), begun.2, moved.3, consumed.2),
-  λ here. omega (arith, moves_of-append begin (move ++ (take ++ Print cell.symbol ∷ [])), moves_of-append move (take ++ Print cell.symbol ∷ []), moves_of-append take (Print cell.symbol ∷ []), begun.2, ap moves_of (moved.2 here), consumed.2),
-  needed-once brush.pen (look_of cell) (pens_of take) (pens_of (begin ++ (move ++ (take ++ Print cell.symbol ∷ [])))) consumed.3
-      (omega (arith, pens_of-append begin (move ++ (take ++ Print cell.symbol ∷ [])), pens_of-append move (take ++ Print cell.symbol ∷ []), pens_of-append take (Print cell.symbol ∷ []), begun.3, moved.4)),
+      ∙ done.brings terminal knows.modes knows.family same within whole,
+  omega (arith, moves_of-append begin (move ++ (take ++ last)), moves_of-append move (take ++ last), moves_of-append take last, begun.2, moved.3, consumed.2, done.moves),
+  λ here. omega (arith, moves_of-append begin (move ++ (take ++ last)), moves_of-append move (take ++ last), moves_of-append take last, begun.2, ap moves_of (moved.2 here), consumed.2, done.moves),
+  needed-once brush.pen (look_of cell) (pens_of take) (pens_of (begin ++ (move ++ (take ++ last)))) consumed.3
+      (omega (arith, pens_of-append begin (move ++ (take ++ last)), pens_of-append move (take ++ last), pens_of-append take last, begun.3, moved.4, done.pens)),
 )
 
-written-four : (a b c d e : List ℕ) (xs ys zs : List Control) (symbol : List ℕ) → b ≡ a ++ bytes_of xs → c ≡ b ++ bytes_of ys → d ≡ c ++ bytes_of zs →
-    e ≡ d ++ symbol → e ≡ a ++ bytes_of (xs ++ (ys ++ (zs ++ Print symbol ∷ [])))
-written-four a b c d e xs ys zs symbol first second third fourth =
-    rw (fourth, third, second, first) (simp (bytes_of-append, append_assoc, append-nil))
+written-four : (a b c d e : List ℕ) (xs ys zs last : List Control) → b ≡ a ++ bytes_of xs → c ≡ b ++ bytes_of ys → d ≡ c ++ bytes_of zs →
+    e ≡ d ++ bytes_of last → e ≡ a ++ bytes_of (xs ++ (ys ++ (zs ++ last)))
+written-four a b c d e xs ys zs last first second third fourth =
+    rw (fourth, third, second, first) (simp (bytes_of-append, append_assoc))
 
 -- the same as bytes
-pub Wrote-cell : (brush : Brush) (columns place : ℕ) (cell : CellView) (look : Look) → can_begin columns place cell ≡ true → look ≡ look_of cell →
-    {a b c d e : List ℕ} → Wrote a b (BeginsUpdate brush.is_updating) → Wrote b c (MovesTo brush.at columns place) → Wrote c d (TakesLook brush.pen look) →
-    e ≡ d ++ cell.symbol → Wrote a e (PrintsCell brush columns place cell)
-Wrote-cell brush columns place cell look begins is_look {a} {b} {c} {d} {e} begun moved consumed printed =
-    let last = Print cell.symbol ∷ [] in
+pub Wrote-cell : (brush : Brush) (columns place : ℕ) (cell : CellView) (look : Look) → look ≡ look_of cell → {a b c d e : List ℕ} → Wrote a b (BeginsUpdate brush.is_updating) →
+    Wrote b c (MovesTo brush.at columns place) → Wrote c d (TakesLook brush.pen look) → Wrote d e (PrintsLast columns place cell) → Wrote a e (PrintsCell brush columns place cell)
+Wrote-cell brush columns place cell look is_look {a} {b} {c} {d} {e} begun moved consumed done =
     let Takes : Look → Type 0 = λ l. TakesLook brush.pen l consumed.controls in
     record {
-      controls = begun.controls ++ (moved.controls ++ (consumed.controls ++ last));
-      bytes = written-four a b c d e begun.controls moved.controls consumed.controls cell.symbol begun.bytes moved.bytes consumed.bytes printed;
-      with_ranges = prints-cell brush columns place cell begins begun.controls moved.controls consumed.controls begun.with_ranges moved.with_ranges (subst Takes is_look consumed.with_ranges);
+      controls = begun.controls ++ (moved.controls ++ (consumed.controls ++ done.controls));
+      bytes = written-four a b c d e begun.controls moved.controls consumed.controls done.controls begun.bytes moved.bytes consumed.bytes done.bytes;
+      with_ranges = prints-cell brush columns place cell begun.controls moved.controls consumed.controls done.controls done.with_ranges begun.with_ranges moved.with_ranges (subst Takes is_look consumed.with_ranges);
     }
 
 -- ---- tests of what is known

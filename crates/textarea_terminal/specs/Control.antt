@@ -1,6 +1,6 @@
 -- The controls of a terminal, and their bytes: ECMA-48's forms, and xterm's private modes.
 use Rattle.std.specs.Prelude.{ℕ, ◌+◌, List, [], ◌∷◌, ◌++◌, codes, decimal}
-use Rattle.textarea_terminal.specs.Pen.{Rendition, renditions_bytes}
+use Rattle.textarea_terminal.specs.Pen.{Rendition, rendition_bytes, renditions_bytes}
 
 pub data Control : Type 0 where
   -- a grapheme cluster, by its bytes
@@ -9,7 +9,20 @@ pub data Control : Type 0 where
   MoveTo : ℕ → ℕ → Control
   -- the pen is reset, and then these renditions change it
   SetPen : List Rendition → Control
+  -- this rendition changes the pen
+  ChangePen : Rendition → Control
   EraseAll : Control
+  -- the characters that are printed are those of the bytes, as in ASCII
+  SelectAscii : Control
+  -- rows and columns count from the screen's first ones
+  ResetOrigin : Control
+  -- no columns, and no rows, are margins
+  ResetColumnMargins : Control
+  ResetRowMargins : Control
+  -- what is printed replaces what was there
+  ResetInsertion : Control
+  -- what is printed after the last column goes to the next row
+  SetWrapping : Control
   ShowCursor : Control
   HideCursor : Control
   -- what follows is shown only when the update ends
@@ -24,7 +37,14 @@ abbrev pub control_bytes : Control → List ℕ
 control_bytes (Print text) = text
 control_bytes (MoveTo row column) = introducer ++ decimal (row + 1) ++ codes ";" ++ decimal (column + 1) ++ codes "H"
 control_bytes (SetPen renditions) = introducer ++ codes "0" ++ renditions_bytes renditions ++ codes "m"
+control_bytes (ChangePen rendition) = introducer ++ rendition_bytes rendition ++ codes "m"
 control_bytes EraseAll = introducer ++ codes "2J"
+control_bytes SelectAscii = 27 ∷ codes "(B" ++ 15 ∷ []
+control_bytes ResetOrigin = introducer ++ codes "?6l"
+control_bytes ResetColumnMargins = introducer ++ codes "?69l"
+control_bytes ResetRowMargins = introducer ++ codes "r"
+control_bytes ResetInsertion = introducer ++ codes "4l"
+control_bytes SetWrapping = introducer ++ codes "?7h"
 control_bytes ShowCursor = introducer ++ codes "?25h"
 control_bytes HideCursor = introducer ++ codes "?25l"
 control_bytes BeginUpdate = introducer ++ codes "?2026h"

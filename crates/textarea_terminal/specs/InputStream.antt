@@ -1,32 +1,39 @@
--- The events of bytes, and the bytes of an incomplete event after them.
-use Rattle.std.specs.Prelude.{◌≡◌, ◌<◌, ℕ, zero, suc, Bool, true, false, List, [], ◌∷◌, ◌++◌, ◌==◌, length, map, option_map, Option, Some, None, if◌then◌else◌}
+-- What is in bytes, one after another, and the bytes of what is incomplete after them.
+use Rattle.std.specs.Prelude.{◌≡◌, ◌<◌, ℕ, zero, suc, Bool, true, false, List, [], ◌∷◌, ◌++◌, ◌==◌, ◌||◌, length, map, option_map, Option, Some, None, if◌then◌else◌}
 use Rattle.textarea_data.specs.declared.input.Input.{Input}
 use Rattle.textarea_data.specs.declared.input.Key.TheVariants as key
 use Rattle.textarea_terminal.specs.declared.input.event.Event.{Event}
-use Rattle.textarea_terminal.specs.InputEvent.{EventValue, input, value_of}
+use Rattle.textarea_terminal.specs.InputEvent.{EventValue, input, paste, value_of, unit_value}
 use Rattle.textarea_terminal.specs.InputKey.{input_of_key, with_alt}
-use Rattle.textarea_terminal.specs.InputUnit.{unit_at}
+use Rattle.textarea_terminal.specs.declared.input.unit.Found.{Found}
+use Rattle.textarea_terminal.specs.declared.input.unit.Found.TheVariants as found
+use Rattle.textarea_terminal.specs.InputUnit.{unit_at, begins_string}
 
--- events, and the rest of the bytes
+-- what was found, as a value
+abbrev pub found_value : Found → EventValue
+found_value (found.Paste text) = paste text.now
+found_value (found.Unit u) = unit_value u
+
+-- values, and the rest of the bytes
 abbrev pub Decoding : Type 0
 Decoding = List EventValue × List ℕ
 
 abbrev pub with_event : EventValue → Decoding → Decoding
 with_event value decoding = (value ∷ decoding.0, decoding.1)
 
--- the events at the front of the bytes, at most a limit
+-- the values at the front of the bytes, at most a limit
 unfoldable pub decoding_within : ℕ → List ℕ → Decoding
 decoding_within zero bytes = ([], bytes)
 decoding_within (suc most) bytes = elim (unit_at bytes) [ None ↦ ([], bytes) | Some x ↦ with_event x.0 (decoding_within most x.1) ]
 
--- all events, since each takes at least one byte
+-- all values, since each takes at least one byte
 unfoldable pub decoding : List ℕ → Decoding
 decoding bytes = decoding_within (length bytes) bytes
 
-abbrev pub events_of : List ℕ → List EventValue
-events_of bytes = (decoding bytes).0
+abbrev pub values_in : List ℕ → List EventValue
+values_in bytes = (decoding bytes).0
 
--- the bytes of an incomplete event
+-- the bytes of what is incomplete
 abbrev pub begun_bytes : List ℕ → List ℕ
 begun_bytes bytes = (decoding bytes).1
 
@@ -35,7 +42,7 @@ pub record EndsIn (bytes rest : List ℕ) : Type 0 where
   pub front : List ℕ
   pub whole : bytes ≡ front ++ rest
 
--- the event takes at least one byte from the front, and is the same if more bytes come after the rest
+-- a value takes at least one byte from the front, and is the same if more bytes come after the rest
 pub record Takes (bytes : List ℕ) (x : EventValue × List ℕ) : Type 0 where
   pub front : List ℕ
   pub some : 0 < length front
@@ -59,8 +66,7 @@ pub record AddsUpTo (old new : List Event) (to_come all : List EventValue) : Typ
 -- the key that an incomplete sequence is, by the bytes after its ESC
 unfoldable pub leading_key : List ℕ → Option Input
 leading_key [] = Some (input_of_key key.Esc)
-leading_key (b ∷ []) =
-    if b == 91 then Some (with_alt (input_of_key (key.Char 91))) else (if b == 79 then Some (with_alt (input_of_key (key.Char 79))) else None)
+leading_key (b ∷ []) = if b == 91 || b == 79 || begins_string b then Some (with_alt (input_of_key (key.Char b))) else None
 leading_key (b ∷ c ∷ bytes) = None
 
 -- the same after one more ESC, which is the key Esc

@@ -4,10 +4,11 @@ use Rattle.std.specs.List.{filter, filter_map}
 use Rattle.std.specs.Option.{option_or}
 use Rattle.textarea_screen.specs.Cell.{CellView, fresh_cell}
 use Rattle.textarea_terminal.specs.Control.{Control, bytes_of}
-use Rattle.textarea_terminal.specs.Control.Control.{Print, MoveTo, SetPen}
+use Rattle.textarea_terminal.specs.Control.Control.{Print, MoveTo, SetPen, ChangePen}
 use Rattle.textarea_terminal.specs.PaintCells.{cluster_columns, is_half}
-use Rattle.textarea_terminal.specs.Pen.{look_of, plain_look}
-use Rattle.textarea_terminal.specs.Screen.{Terminal, run, printed, rest_of, cursor_after}
+use Rattle.textarea_terminal.specs.Pen.{look_of, plain_look, pen_count}
+use Rattle.textarea_terminal.specs.Disputed.{is_disputed}
+use Rattle.textarea_terminal.specs.Screen.{Terminal, IsOfFamily, CountsAlike, first_modes, is_plain, run, begins_half, printed, cluster_cells, settled_cells, settled, rest_of, cursor_after}
 use Rattle.textarea_terminal.specs.declared.output.brush.Brush.{Brush}
 use Rattle.textarea_terminal.specs.declared.output.look.Look.{Look}
 
@@ -38,6 +39,7 @@ moves_of controls = length (filter is_move controls)
 -- whether a control changes the pen
 abbrev pub is_pen_change : Control → Bool
 is_pen_change (SetPen renditions) = true
+is_pen_change (ChangePen rendition) = true
 is_pen_change control = false
 
 -- the number of changes of the pen
@@ -57,14 +59,15 @@ BeginsUpdate is_updating controls =
 abbrev pub MovesTo : Option ℕ → ℕ → ℕ → List Control → Type 0
 MovesTo at columns place controls =
     (prints_of controls ≡ [])
-    × ((terminal : Terminal) → IfSome at (λ here. terminal.cursor ≡ Some here) → terminal.columns ≡ columns → place < length terminal.cells →
-    run controls terminal ≡ record terminal { cursor = Some place })
+    × ((terminal : Terminal) → IfSome at (λ here. terminal.cursor ≡ Some here) → terminal.columns ≡ columns → is_plain terminal.modes ≡ true →
+    place < length terminal.cells → run controls terminal ≡ record terminal { cursor = Some place })
     × (at ≡ Some place → controls ≡ [])
     × (moves_of controls ≤ 1) × (pens_of controls ≡ 0)
 
--- the needed number of changes of the pen: one, unless it is known to have the look
+-- the needed number of changes of the pen: those that give the look, or none if it is known to have
+-- it
 abbrev pub IsNeeded : Option Look → Look → ℕ → Type 0
-IsNeeded pen look count = ((pen ≡ Some look) × (count ≡ 0)) ⊎ ((pen ≢ Some look) × (count ≡ 1))
+IsNeeded pen look count = ((pen ≡ Some look) × (count ≡ 0)) ⊎ ((pen ≢ Some look) × (count ≡ pen_count look))
 
 -- they give the pen a look, from this one if it is known
 abbrev pub TakesLook : Option Look → Look → List Control → Type 0
@@ -78,31 +81,56 @@ pub record Knows (brush : Brush) (terminal : Terminal) : Type 0 where
   pub cursor : IfSome brush.at (λ place. terminal.cursor ≡ Some place)
   pub pen : IfSome brush.pen (λ look. terminal.pen ≡ look)
   pub updating : terminal.is_updating ≡ brush.is_updating
+  pub modes : is_plain terminal.modes ≡ true
+  pub family : IsOfFamily terminal.shown_as
+
+-- the texts that are printed for a cell: the blanks of a disputed cluster come before it
+abbrev pub texts_of : CellView → List (List ℕ)
+texts_of cell =
+    if is_disputed cell.symbol then replicate (cluster_columns cell.symbol) (32 ∷ []) ++ cell.symbol ∷ [] else cell.symbol ∷ []
+
+-- the moves between them: a disputed cluster is addressed again
+abbrev pub inner_moves : CellView → ℕ
+inner_moves cell = if is_disputed cell.symbol then 1 else 0
 
 -- the terminal with the cell's grapheme cluster printed at an index
 abbrev pub with_cell : ℕ → ℕ → CellView → Terminal → Terminal
 with_cell columns place cell terminal = record terminal {
-  cells = printed (rest_of terminal.rest_look (look_of cell)) cell (cluster_columns cell.symbol) (take place terminal.cells) (drop place terminal.cells);
-  cursor = cursor_after columns (place + cluster_columns cell.symbol);
+  cells = printed (rest_of terminal.rest_look (look_of cell)) (settled_cells terminal.shown_as cell) (take place terminal.cells) (drop place terminal.cells);
+  cursor = cursor_after columns (place + length (cluster_cells terminal.shown_as (look_of cell) cell.symbol));
   pen = look_of cell;
   is_updating = true;
 }
 
+-- where the cursor is known to be after that: after a disputed cluster it isn't known
+abbrev pub at_after : ℕ → ℕ → CellView → Option ℕ
+at_after columns place cell = if is_disputed cell.symbol then None else cursor_after columns (place + cluster_columns cell.symbol)
+
 -- the known state after that
 abbrev pub brush_after : ℕ → ℕ → CellView → Brush
 brush_after columns place cell = record {
-  at = cursor_after columns (place + cluster_columns cell.symbol);
+  at = at_after columns place cell;
   pen = Some (look_of cell);
   is_updating = true;
 }
 
--- the controls print the cell's cluster at an index
+-- controls that print the cell's cluster where the cursor is, with the pen that it needs
+pub record PrintsLast (columns place : ℕ) (cell : CellView) (last : List Control) : Type 0 where
+  pub prints : prints_of last ≡ texts_of cell
+  pub brings : (terminal : Terminal) → is_plain terminal.modes ≡ true → IsOfFamily terminal.shown_as → terminal.columns ≡ columns → place < length terminal.cells →
+      begins_half (drop place terminal.cells) ≡ false →
+      run last (record terminal { is_updating = true; cursor = Some place; pen = look_of cell }) ≡ with_cell columns place cell terminal
+  pub moves : moves_of last ≡ inner_moves cell
+  pub pens : pens_of last ≡ 0
+
+-- the controls print the cell's cluster at an index, where no cluster is covered in half
 abbrev pub PrintsCell : Brush → ℕ → ℕ → CellView → List Control → Type 0
 PrintsCell brush columns place cell controls =
-    (prints_of controls ≡ cell.symbol ∷ [])
-    × ((terminal : Terminal) → Knows brush terminal → terminal.columns ≡ columns → place < length terminal.cells →
+    (prints_of controls ≡ texts_of cell)
+    × ((terminal : Terminal) → Knows brush terminal → terminal.columns ≡ columns → place < length terminal.cells → begins_half (drop place terminal.cells) ≡ false →
     run controls terminal ≡ with_cell columns place cell terminal)
-    × (moves_of controls ≤ 1) × (brush.at ≡ Some place → moves_of controls ≡ 0) × IsNeeded brush.pen (look_of cell) (pens_of controls)
+    × (moves_of controls ≤ 1 + inner_moves cell) × (brush.at ≡ Some place → moves_of controls ≡ inner_moves cell)
+    × IsNeeded brush.pen (look_of cell) (pens_of controls)
 
 -- the cell is as it was, or its cluster begins before it: nothing is written
 pub record KeepsCell (before after : Brush) (old new : CellView) (controls : List Control) : Type 0 where
@@ -123,30 +151,33 @@ IsStep before after columns place old new controls =
 
 -- ---- a frame
 
--- the terminal is as the brush knows it, and shows these cells, and its cursor or not
+-- the terminal is as the brush knows it, and shows these cells as its family does, and its cursor or
+-- not
 pub record Shows (brush : Brush) (width : ℕ) (frame : List CellView) (is_caret_visible : Bool) (terminal : Terminal) : Type 0 where
   pub knows : Knows brush terminal
   pub columns : terminal.columns ≡ width
-  pub cells : terminal.cells ≡ frame
+  pub cells : terminal.cells ≡ settled terminal.shown_as [] frame
   pub caret : terminal.has_visible_cursor ≡ is_caret_visible
 
--- these texts, in order, are those of the new clusters that begin in a changed cell
+-- these texts, in order, are those of the new clusters that begin in a changed cell, with the blanks
+-- before a disputed one
 abbrev pub AreChanges : List CellView → List CellView → List (List ℕ) → Type 0
 AreChanges [] [] texts = texts ≡ []
 AreChanges (old ∷ olds) (new ∷ news) texts =
     (((is_half new ≡ true) ⊎ (old ≡ new)) × AreChanges olds news texts)
-    ⊎ ((is_half new ≡ false) × (old ≢ new) × ((later : List (List ℕ)) × (texts ≡ new.symbol ∷ later) × AreChanges olds news later))
+    ⊎ ((is_half new ≡ false) × (old ≢ new) × ((later : List (List ℕ)) × (texts ≡ texts_of new ++ later) × AreChanges olds news later))
 AreChanges olds news texts = ⊥
 
 -- the number of runs of changed clusters, each in one row; `follows` if the cluster before these
--- cells has changed
+-- cells has changed, and isn't disputed. A disputed cluster ends its run, and is one more.
 abbrev pub HasRuns : ℕ → ℕ → Bool → List CellView → List CellView → ℕ → Type 0
 HasRuns columns place follows [] [] runs = runs ≡ 0
 HasRuns columns place follows (old ∷ olds) (new ∷ news) runs =
     ((is_half new ≡ true) × HasRuns columns (place + 1) follows olds news runs)
     ⊎ (((is_half new ≡ false) × (old ≡ new) × HasRuns columns (place + 1) false olds news runs)
     ⊎ ((is_half new ≡ false) × (old ≢ new)
-    × ((later : ℕ) × (runs ≡ (if follows && not (place % columns == 0) then later else later + 1)) × HasRuns columns (place + 1) true olds news later)))
+    × ((later : ℕ) × (runs ≡ (if follows && not (place % columns == 0) then later else later + 1) + inner_moves new)
+    × HasRuns columns (place + 1) (not (is_disputed new.symbol)) olds news later)))
 HasRuns columns place follows olds news runs = ⊥
 
 -- the number of changes of the look among changed clusters, from the look of the pen on
@@ -182,17 +213,30 @@ abbrev pub IsCaret : Option ℕ → Terminal → Type 0
 IsCaret None terminal = terminal.has_visible_cursor ≡ false
 IsCaret (Some place) terminal = (terminal.has_visible_cursor ≡ true) × (terminal.cursor ≡ Some place)
 
--- the terminal shows exactly these cells and this caret, and no update is open
+-- the terminal is one of the family, shows these cells as it does and this caret, and no update is
+-- open
 pub record ShowsFrame (width : ℕ) (frame : PaintedFrame) (terminal : Terminal) : Type 0 where
+  pub family : IsOfFamily terminal.shown_as
+  pub modes : is_plain terminal.modes ≡ true
   pub columns : terminal.columns ≡ width
-  pub cells : terminal.cells ≡ frame.cells
+  pub cells : terminal.cells ≡ settled terminal.shown_as [] frame.cells
   pub caret : IsCaret frame.caret terminal
   pub updating : terminal.is_updating ≡ false
 
+-- a terminal of the family, in any modes, has these numbers of columns and cells
+pub record HasSize (columns size : ℕ) (terminal : Terminal) : Type 0 where
+  pub family : IsOfFamily terminal.shown_as
+  pub has_columns : terminal.columns ≡ columns
+  pub has_size : length terminal.cells ≡ size
+
 -- the terminal has these numbers of columns and cells, and shows the frame if one is known
 abbrev pub ShowsKnown : ℕ → ℕ → Option PaintedFrame → Terminal → Type 0
-ShowsKnown columns size None terminal = (terminal.columns ≡ columns) × (length terminal.cells ≡ size)
+ShowsKnown columns size None terminal = HasSize columns size terminal
 ShowsKnown columns size (Some frame) terminal = ShowsFrame columns frame terminal
+
+-- the terminal shows exactly these cells
+abbrev pub ShowsExactly : PaintedFrame → Terminal → Type 0
+ShowsExactly frame terminal = terminal.cells ≡ frame.cells
 
 -- the cells before the next frame; if nothing is known, those of an erased terminal
 abbrev pub first_cells : ℕ → Option PaintedFrame → List CellView
@@ -204,13 +248,15 @@ abbrev pub first_pen : Option PaintedFrame → Option Look
 first_pen None = Some plain_look
 first_pen (Some frame) = None
 
--- The controls make a terminal show the frame, if it shows the frame before, or, if that is
--- unknown, has this size. They print each changed cluster once and nothing else. They move the
--- cursor at most once for each run of changed clusters and once for the caret, and change the pen
--- at most once for each change of the look and once more. There are none if neither a cell nor the
--- caret has changed.
+-- The controls make a terminal of the family show the frame, if it shows the frame before, or, if
+-- that is unknown, has this size, in any modes. One that counts as we do shows exactly its cells.
+-- They print each changed cluster once, the blanks of disputed ones, and nothing else. They move the
+-- cursor at most once for each run of changed clusters, once for each disputed one and once for the
+-- caret, and change the pen at most once for each change of the look and once more. There are none
+-- if neither a cell nor the caret has changed.
 pub record Paints (columns size : ℕ) (before : Option PaintedFrame) (frame : PaintedFrame) (controls : List Control) : Type 0 where
   pub brings : (terminal : Terminal) → ShowsKnown columns size before terminal → ShowsFrame columns frame (run controls terminal)
+  pub exact : (terminal : Terminal) → CountsAlike terminal.shown_as → ShowsKnown columns size before terminal → ShowsExactly frame (run controls terminal)
   pub prints : AreChanges (first_cells size before) frame.cells (prints_of controls)
   pub moves : (runs : ℕ) × (HasRuns columns 0 false (first_cells size before) frame.cells runs × (moves_of controls ≤ runs + 1))
   pub pens : (looks : ℕ) × (HasLooks (first_pen before) (first_cells size before) frame.cells looks × (pens_of controls ≤ looks + 1))
@@ -218,12 +264,13 @@ pub record Paints (columns size : ℕ) (before : Option PaintedFrame) (frame : P
 
 -- ---- around the cells
 
--- a terminal that shows anything is erased in its own colours, in an update
+-- a terminal that shows anything, in any modes, is erased in its own colours and first modes, in an
+-- update
 abbrev pub Clears : List Control → Type 0
 Clears controls =
     (prints_of controls ≡ [])
     × ((terminal : Terminal) → run controls terminal
-    ≡ record terminal { cells = replicate (length terminal.cells) fresh_cell; pen = plain_look; is_updating = true })
+    ≡ record terminal { cells = replicate (length terminal.cells) fresh_cell; cursor = None; pen = plain_look; is_updating = true; modes = first_modes })
     × (moves_of controls ≡ 0) × (pens_of controls ≡ 1)
 
 -- the cursor is shown or hidden as wanted; `known` is whether it was shown, if that is known
@@ -245,7 +292,7 @@ EndsUpdate is_updating controls =
 -- the cursor is moved to the caret and shown, or hidden
 pub record PutsCaret (at : Option ℕ) (known : Option Bool) (width : ℕ) (caret : Option ℕ) (controls : List Control) : Type 0 where
   pub brings : (terminal : Terminal) → IfSome at (λ here. terminal.cursor ≡ Some here) → IfSome known (λ is_printed. terminal.has_visible_cursor ≡ is_printed) →
-      terminal.columns ≡ width → IfSome caret (λ place. place < length terminal.cells) →
+      terminal.columns ≡ width → is_plain terminal.modes ≡ true → IfSome caret (λ place. place < length terminal.cells) →
       run controls terminal ≡ record terminal { cursor = option_or caret terminal.cursor; has_visible_cursor = is_some caret }
   pub prints : prints_of controls ≡ []
   pub moves : moves_of controls ≤ 1
@@ -263,7 +310,7 @@ pub record Ends (brush : Brush) (known : Option Bool) (width : ℕ) (caret : Opt
 -- the cells and then the caret are changed from the known state to the frame
 pub record PaintsFrame (brush : Brush) (known : Option Bool) (width : ℕ) (old : List CellView) (frame : PaintedFrame) (controls : List Control) : Type 0 where
   pub brings : (terminal : Terminal) → Knows brush terminal → IfSome known (λ is_printed. terminal.has_visible_cursor ≡ is_printed) → terminal.columns ≡ width →
-      terminal.cells ≡ old → ShowsFrame width frame (run controls terminal)
+      terminal.cells ≡ settled terminal.shown_as [] old → ShowsFrame width frame (run controls terminal)
   pub prints : AreChanges old frame.cells (prints_of controls)
   pub moves : (runs : ℕ) × (HasRuns width 0 false old frame.cells runs × (moves_of controls ≤ runs + 1))
   pub pens : (looks : ℕ) × (HasLooks brush.pen old frame.cells looks × (pens_of controls ≤ looks))

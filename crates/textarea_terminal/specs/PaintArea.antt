@@ -7,6 +7,7 @@ use Rattle.textarea_screen.specs.declared.screen.rect.Position.{Position}
 use Rattle.textarea_screen.specs.declared.screen.rect.Rect.{Rect}
 use Rattle.textarea_terminal.specs.Paint.{PaintedFrame}
 use Rattle.textarea_terminal.specs.PaintCells.{frame_of_buffer}
+use Rattle.textarea_terminal.specs.declared.output.colors.Colors.{Colors}
 
 -- the number of cells
 abbrev pub cell_count : Rect → ℕ
@@ -17,6 +18,6 @@ abbrev pub caret_in : Rect → Option Position → Option ℕ
 caret_in area None = None
 caret_in area (Some position) = if contains area position.x position.y then Some (place_in area position.x position.y) else None
 
--- what a terminal of the area is to show
-abbrev pub frame_in : Rect → Buffer → Option Position → PaintedFrame
-frame_in area buffer caret = record { cells = frame_of_buffer area buffer; caret = caret_in area caret }
+-- what a terminal of these colours and this area is to show
+abbrev pub frame_in : Colors → Rect → Buffer → Option Position → PaintedFrame
+frame_in colors area buffer caret = record { cells = frame_of_buffer colors area buffer; caret = caret_in area caret }

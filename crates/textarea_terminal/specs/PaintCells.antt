@@ -1,5 +1,5 @@
 -- The cells of a buffer as a terminal can show them.
-use Rattle.std.specs.Prelude.{ℕ, zero, suc, ◌+◌, ◌-◌, ◌*◌, ◌/◌, ◌%◌, true, false, Bool, ◌&&◌, ◌==◌, nat_lt, nat_le, List, [], ◌∷◌, length, unwrap_or, if◌then◌else◌}
+use Rattle.std.specs.Prelude.{ℕ, zero, suc, ◌+◌, ◌-◌, ◌*◌, ◌/◌, ◌%◌, true, false, Bool, ◌&&◌, ◌==◌, nat_lt, nat_le, List, [], ◌∷◌, length, chars, unwrap_or, if◌then◌else◌}
 use Rattle.std.specs.Int.RustNames.{bit_and}
 use Rattle.textarea_paint.specs.Columns.{columns_of}
 use Rattle.textarea_screen.specs.Buffer.{cell_at}
@@ -8,7 +8,10 @@ use Rattle.textarea_screen.specs.declared.screen.buffer.Buffer.{Buffer}
 use Rattle.textarea_screen.specs.declared.screen.color.Color.{Color}
 use Rattle.textarea_screen.specs.declared.screen.color.Color.TheVariants.{Reset}
 use Rattle.textarea_screen.specs.declared.screen.rect.Rect.{Rect}
+use Rattle.textarea_terminal.specs.Disputed.{can_widen, before_selector}
+use Rattle.textarea_terminal.specs.PaintColors.{shown_color}
 use Rattle.textarea_terminal.specs.Pen.{look_of, in_look}
+use Rattle.textarea_terminal.specs.declared.output.colors.Colors.{Colors}
 use Rattle.textarea_terminal.specs.declared.output.look.Look.{Look}
 use Rattle.unicode_segmentation.specs.Grapheme.{graphemes}
 
@@ -17,6 +20,14 @@ use Rattle.unicode_segmentation.specs.Grapheme.{graphemes}
 unfoldable pub cluster_columns : List ℕ → ℕ
 cluster_columns text = if length (graphemes true text) == 1 then columns_of text else 0
 
+-- the part of a cluster, if it is a cluster of at most as many columns, or else a blank
+abbrev pub part_or_blank : List ℕ → List ℕ → List ℕ
+part_or_blank part whole = if nat_lt 0 (cluster_columns part) && nat_le (cluster_columns part) (cluster_columns whole) then part else 32 ∷ []
+
+-- the longest first part of a cluster that no terminal shows in more columns than we count
+unfoldable pub shown_text : List ℕ → List ℕ
+shown_text text = if can_widen text then part_or_blank (before_selector (chars text)) text else text
+
 -- a cell that is covered by a cluster in a cell before it, which has the look of both
 abbrev pub half : CellView
 half = record { symbol = []; fg = Reset; bg = Reset; modifier = record { 0 = 0 } }
@@ -24,16 +35,24 @@ half = record { symbol = []; fg = Reset; bg = Reset; modifier = record { 0 = 0 }
 abbrev pub is_half : CellView → Bool
 is_half cell = length cell.symbol == 0
 
--- the look as a terminal shows it, which has nine modifiers
-abbrev pub nine_of : Look → Look
-nine_of look = record look { modifier = record { 0 = bit_and look.modifier.0 511 } }
+-- of bold and dim, bits 0 and 1, a terminal may have only one: bold is shown
+abbrev pub one_intensity : ℕ → ℕ
+one_intensity bits = if bit_and bits 3 == 3 then bits - 2 else bits
 
-abbrev pub displayed_alike : CellView → CellView
-displayed_alike cell = in_look (nine_of (look_of cell)) cell.symbol
+-- the look as a terminal with these colours shows it, which has nine modifiers
+abbrev pub shown_look : Colors → Look → Look
+shown_look colors look = record {
+  fg = shown_color colors look.fg;
+  bg = shown_color colors look.bg;
+  modifier = record { 0 = one_intensity (bit_and look.modifier.0 511) };
+}
+
+abbrev pub displayed_alike : Colors → CellView → CellView
+displayed_alike colors cell = in_look (shown_look colors (look_of cell)) (shown_text cell.symbol)
 
 -- the cell with a blank instead of its text
-abbrev pub blanked : CellView → CellView
-blanked cell = in_look (nine_of (look_of cell)) (32 ∷ [])
+abbrev pub blanked : Colors → CellView → CellView
+blanked colors cell = in_look (shown_look colors (look_of cell)) (32 ∷ [])
 
 -- the texts of the first `count` cells are empty
 abbrev pub begins_empty : ℕ → List CellView → Bool
@@ -49,15 +68,15 @@ fits_in_row columns place cell cells =
     nat_lt 0 (cluster_columns cell.symbol)
     && nat_le (place % columns + cluster_columns cell.symbol) columns && begins_empty (cluster_columns cell.symbol - 1) cells
 
--- cells, row after row, as a terminal shows them, from left to right: the next `halves` of them
--- belong to a cluster that began before them
-abbrev pub displayed : ℕ → ℕ → ℕ → List CellView → List CellView
-displayed columns place halves [] = []
-displayed columns place (suc halves) (cell ∷ cells) = half ∷ displayed columns (place + 1) halves cells
-displayed columns place zero (cell ∷ cells) =
+-- cells, row after row, as a terminal with these colours shows them, from left to right: the next
+-- `halves` of them belong to a cluster that began before them
+abbrev pub displayed : Colors → ℕ → ℕ → ℕ → List CellView → List CellView
+displayed colors columns place halves [] = []
+displayed colors columns place (suc halves) (cell ∷ cells) = half ∷ displayed colors columns (place + 1) halves cells
+displayed colors columns place zero (cell ∷ cells) =
     if fits_in_row columns place cell cells
-    then displayed_alike cell ∷ displayed columns (place + 1) (cluster_columns cell.symbol - 1) cells
-    else blanked cell ∷ displayed columns (place + 1) 0 cells
+    then displayed_alike colors cell ∷ displayed colors columns (place + 1) (cluster_columns (shown_text cell.symbol) - 1) cells
+    else blanked colors cell ∷ displayed colors columns (place + 1) 0 cells
 
 -- the buffer's cell at an index in an area, counted row after row; a fresh one if the buffer has
 -- none
@@ -69,9 +88,9 @@ abbrev pub cells_from : Rect → Buffer → ℕ → ℕ → List CellView
 cells_from area buffer place zero = []
 cells_from area buffer place (suc count) = cell_in area buffer place ∷ cells_from area buffer (place + 1) count
 
--- the cells that a terminal of this area shows of a buffer
-abbrev pub frame_of_buffer : Rect → Buffer → List CellView
-frame_of_buffer area buffer = displayed area.width 0 0 (cells_from area buffer 0 (area.height * area.width))
+-- the cells that a terminal of these colours and this area shows of a buffer
+abbrev pub frame_of_buffer : Colors → Rect → Buffer → List CellView
+frame_of_buffer colors area buffer = displayed colors area.width 0 0 (cells_from area buffer 0 (area.height * area.width))
 
 -- the color is the terminal's own
 abbrev pub is_own : Color → Bool

@@ -1,5 +1,5 @@
 -- The pen of a terminal: the look of what it prints next. A terminal changes it by Select Graphic Rendition.
-use Rattle.std.specs.Prelude.{ℕ, ◌+◌, ◌-◌, ◌^◌, Bool, ◌==◌, List, [], ◌∷◌, ◌++◌, codes, decimal, if◌then◌else◌}
+use Rattle.std.specs.Prelude.{ℕ, ◌+◌, ◌-◌, ◌^◌, Bool, ◌==◌, nat_le, List, [], ◌∷◌, ◌++◌, codes, decimal, if◌then◌else◌}
 use Rattle.std.specs.Int.RustNames.{bit_and}
 use Rattle.textarea_screen.specs.Cell.{CellView}
 use Rattle.textarea_screen.specs.Modifier.{union_of}
@@ -42,6 +42,28 @@ rendered look (Background color) = record look { bg = color }
 abbrev pub rendered_all : Look → List Rendition → Look
 rendered_all look [] = look
 rendered_all look (rendition ∷ renditions) = rendered_all (rendered look rendition) renditions
+
+-- ---- how many parameters a control has
+
+abbrev pub color_parameters : Color → ℕ
+color_parameters (Rgb red green blue) = 5
+color_parameters (Indexed number) = 3
+color_parameters color = 1
+
+abbrev pub rendition_parameters : Rendition → ℕ
+rendition_parameters (Add number) = 1
+rendition_parameters (Foreground color) = color_parameters color
+rendition_parameters (Background color) = color_parameters color
+
+abbrev pub parameter_count : List Rendition → ℕ
+parameter_count [] = 0
+parameter_count (rendition ∷ renditions) = rendition_parameters rendition + parameter_count renditions
+
+-- the renditions that a terminal reads, which leaves out all after this number of parameters
+abbrev pub first_read : ℕ → List Rendition → List Rendition
+first_read room [] = []
+first_read room (rendition ∷ renditions) =
+    if nat_le (rendition_parameters rendition) room then rendition ∷ first_read (room - rendition_parameters rendition) renditions else []
 
 -- ---- its numbers
 
@@ -100,5 +122,18 @@ abbrev pub background : Color → List Rendition
 background Reset = []
 background color = Background color ∷ []
 
+-- those before the background
+abbrev pub before_background : Look → List Rendition
+before_background look = added look.modifier all_numbers ++ foreground look.fg
+
 unfoldable pub renditions_of : Look → List Rendition
-renditions_of look = added look.modifier all_numbers ++ foreground look.fg ++ background look.bg
+renditions_of look = before_background look ++ background look.bg
+
+-- whether they are read from one control, which has one more parameter, for the reset
+unfoldable pub fits_one_control : Look → Bool
+fits_one_control look = nat_le (parameter_count (renditions_of look)) 15
+
+-- the number of controls that give the look: a second one has the background if the first has no
+-- room
+abbrev pub pen_count : Look → ℕ
+pen_count look = if fits_one_control look then 1 else 2

@@ -1,4 +1,5 @@
-//! Look-ups, worked by hand from the rules, and maps that follow hundreds of replacements.
+//! Look-ups, worked by hand from the rules, by views and by maps, and maps that follow hundreds of
+//! replacements.
 ghost use Rattle.std.specs.Prelude.{◌≡◌, ◌+◌, ◌<◌, ◌≤◌, length, vec_len, IfOk, OnOk};
 ghost use Rattle.textarea_text.specs.Text.{lines_of};
 ghost use Rattle.textarea_screen_map.specs.LineRows.{AreRowsOf};
@@ -211,6 +212,58 @@ fn are_so(view: &TextLayoutView<'_>, facts: &[Fact]) -> bool {
     true
 }
 
+// Whether the map's own look-ups, to which its lines are lent, agree with a fact.
+fn is_looked_up(map: &ScreenMap, lines: &[String], fact: Fact) -> bool
+    requires { AreRowsOf map.now.wrapping (lines_of lines.now) map.now.rows }
+{
+    let rows = map.row_count();
+    match fact {
+        RowCount(count) => rows == count,
+        Moves(place, visual, _, _) => {
+            is_place(lines, place) && map.visual_position(lines, place) == at(visual)
+        }
+        Columns(row, wanted) => {
+            row < rows && (map.row_width(lines, row), map.greatest_column(lines, row)) == wanted
+        }
+        Row(row, (line, _), (_, text), _) => {
+            if rows <= row {
+                return false;
+            }
+            let found = map.row_at(lines, row);
+            (found.line, found.text) == (line, text)
+        }
+        Back((row, column), place) => {
+            row < rows && map.place_at(lines, VisualPosition { row, column }) == place
+        }
+    }
+}
+
+fn are_looked_up(map: &ScreenMap, lines: &[String], facts: &[Fact]) -> bool
+    requires { AreRowsOf map.now.wrapping (lines_of lines.now) map.now.rows }
+{
+    for fact in facts {
+        if !is_looked_up(map, lines, *fact) {
+            return false;
+        }
+    }
+    true
+}
+
+// Whether the greatest cursor column of each visual row leads to a position there, and back.
+fn leads_back(map: &ScreenMap, lines: &[String]) -> bool
+    requires { AreRowsOf map.now.wrapping (lines_of lines.now) map.now.rows }
+{
+    for row in 0..map.row_count() {
+        let column = map.greatest_column(lines, row);
+        let visual = VisualPosition { row, column };
+        let place = map.place_at(lines, visual);
+        if map.row_width(lines, row) < column || map.visual_position(lines, place) != visual {
+            return false;
+        }
+    }
+    true
+}
+
 fn wrapped((mode, width, tab_len): Shape) -> Wrapping {
     Wrapping {
         mode,
@@ -232,7 +285,11 @@ fn is_met(alloc: Global, (texts, shape, facts): &Case) -> Result<bool, AllocErro
         return Ok(false);
     }
     let view = TextLayoutView::new(lines.as_slice(), &map, &marks);
-    Ok(are_so(&view, facts))
+    Ok(
+        are_so(&view, facts)
+            && are_looked_up(&map, lines.as_slice(), facts)
+            && leads_back(&map, lines.as_slice()),
+    )
 }
 
 #[test]
@@ -519,7 +576,8 @@ fn follows_breaks(
         };
         replace(alloc, map, lines, change, wrapping, &mut counter)?;
     }
-    is_as_fresh(alloc, map, lines.as_slice(), wrapping, &mut counter)
+    let is_right = leads_back(map, lines.as_slice());
+    Ok(is_right && is_as_fresh(alloc, map, lines.as_slice(), wrapping, &mut counter)?)
 }
 
 fn follows_breaks_of(

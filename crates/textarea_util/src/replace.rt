@@ -9,6 +9,7 @@ pub fn replace_items<T: Drop>(items: &mut Vec<T>, start: usize, count: usize, mu
     requires room { vec_len items.old + vec_len new ≤ vec_capacity items.old + count }
     ensures items { items.new.items ≡ replaced items.old.items start count new.items }
     ensures len { vec_len items.new + count ≡ vec_len items.old + vec_len new }
+    ensures capacity { vec_capacity items.old ≤ vec_capacity items.new }
 {
     let shared = count.min(new.len());
     swap_segments(items, start, &mut new, shared);

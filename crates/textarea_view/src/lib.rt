@@ -22,14 +22,18 @@ pub mod cursor {
 
 /// The spans of a drawn row.
 pub mod highlight {
-    pub use textarea_highlight::highlight::{CursorCellRender, LineHighlighter};
+    pub use textarea_highlight::highlight::{CursorCellRender, LineHighlighter, RowMark, RowPart};
 }
 
-/// The visual rows of all lines, cached line by line.
+/// The visual rows of all lines, cached line by line, with look-ups both ways.
 pub mod screen_map {
+    pub use textarea_screen_map::blocks::RowBlocks;
+    pub use textarea_screen_map::laws;
+    pub use textarea_screen_map::layout::{VisualPosition, Wrapping};
     pub use textarea_screen_map::screen_map::{
         NewRows, PreparedRows, RowText, ScreenMap, new_rows,
     };
+    pub use textarea_wrap::wrap::{Rows, WrapCount, WrapMode};
 }
 
 /// The state that a widget has from its last drawing.

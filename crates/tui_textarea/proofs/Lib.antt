@@ -18,6 +18,9 @@ mod OneTarget
 pub mod Frames
 mod OneAct
 mod Removing
+mod Targets
+mod FoundPlaces
+mod StaysSound
 mod WrappedLines
 mod Stepping
 mod RangesOverActions
@@ -25,5 +28,6 @@ mod Lifted
 mod Unselected
 mod CursorLine
 pub mod CallWraps
-pub mod RangesOverCalls
+mod RangesOverCalls
+mod RangesOverRuns
 pub mod Runs

@@ -1,7 +1,11 @@
 -- A cell shows at most one position.
-use Rattle.std.proofs.Common.{◌≡◌, ℕ, Bool, true, false, Option, Some, sym, subst, ap, ap₂, ◌∙◌}
+use Rattle.std.proofs.Common.{◌≡◌, ◌↔◌, ℕ, Bool, true, false, Option, None, Some, refl, sym, subst, ap, ap₂, ◌∙◌, inl, inr, arith}
+use Rattle.std.proofs.lemmas.Bool.Decides.{nat_tests}
 use Rattle.tui_textarea.specs.DrawingPrelude.{is_some, text_and_layout, WidgetState, frame_of, FrameState, number_width, shows_placeholder, IsHitTest, IsLastArea, IsHitBy, IsHitInRows, IsHitOf, IsHitWith, IsNear, VisualPosition, greatest_at, IsStart, HasRowView, row_area, row_view, BorrowedRows, RowArea, IsRowStart, SceneState, contains, Alignment, Left, Center, Right, Rect, Place, hit_column, ViewportState, RowView}
 use Rattle.tui_textarea.proofs.DrawnRows.{IsPlacedOnce, IsViewedOnce, near_once}
+use Rattle.tui_textarea.specs.Drawing.{widget_of}
+use Rattle.tui_textarea.specs.Hit.{IsWithoutCell}
+use Rattle.tui_textarea.specs.State.{State}
 use Rattle.tui_textarea.proofs.Rects.{last_area_once}
 
 -- a visual row begins at one column
@@ -63,3 +67,21 @@ pub some_where_visible : (widget : WidgetState) (x y : ℕ) (found : Option Plac
 some_where_visible widget x y found h inner last =
     some_by (contains h.inner x y) (frame_of widget h.rows) widget.drawing.viewport h.inner x y found h.found_is
     ∙ ap (λ (a : Rect). contains a x y) (last_area_once widget.document widget.drawing h.inner inner h.inner_is last)
+
+-- the law of drawings: there is a position exactly for a cell of the inner area
+abbrev pub IsHitInside : Type 0
+IsHitInside = (widget : WidgetState) (x y : ℕ) (found : Option Place) → IsHitTest widget x y found → (inner : Rect) → IsLastArea widget.document widget.drawing inner → is_some found ≡ contains inner x y
+
+contains_none : (area : Rect) (x y : ℕ) → IsWithoutCell area x y → contains area x y ≡ false
+contains_none area x y (inl narrow) = grind (arith, nat_tests)
+contains_none area x y (inr (inl low)) = grind (arith, nat_tests)
+contains_none area x y (inr (inr out)) = out
+
+none_by : (found : Option Place) (inside : Bool) → is_some found ≡ inside → (found ≡ None) ↔ (inside ≡ false)
+none_by None inside e = (λ none. sym e, λ out. refl)
+none_by (Some place) inside e = (λ some. absurd cc, λ out. let never : true ≡ false = e ∙ out in absurd cc)
+
+pub none_outside : IsHitInside → (state : State) (x y : ℕ) (found : Option Place) (inner : Rect) → IsLastArea state.document state.drawing inner → IsHitTest (widget_of state) x y found → (found ≡ None) ↔ IsWithoutCell inner x y
+none_outside law state x y found inner last h =
+    let tells = none_by found (contains inner x y) (law (widget_of state) x y found h inner last) in
+    (λ none. inr (inr (tells.0 none)), λ out. tells.1 (contains_none inner x y out))

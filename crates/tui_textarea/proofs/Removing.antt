@@ -107,7 +107,7 @@ least_passes test zero found is = absurd cc
 least_passes test (suc n) found is =
     one_passes test (least_below test n) (passing test n) found (λ e. least_passes test n e) (λ e at. passes test (test n) n e refl at) is
 
-below : (m n : ℕ) → nat_lt m n ≡ true → m < n
+pub below : (m n : ℕ) → nat_lt m n ≡ true → m < n
 below m n test = grind (arith, nat_tests)
 
 start_before : (line : List ℕ) (column : ℕ) (found : Option ℕ) → 0 < column → previous_word_start line column ≡ found → unwrap_or found 0 < column

@@ -63,20 +63,20 @@ copy_unchanged state = by_test (λ (s : State). layout_and_ranges s.document ≡
 -- ---- steps
 
 -- two numbers that the test finds different are different
-apart : (m n : ℕ) → (m == n) ≡ false → m ≢ n
+pub apart : (m n : ℕ) → (m == n) ≡ false → m ≢ n
 apart m n e same = absurd (cc (e, eq-eqb m n same))
 
-some_symbols : (symbols : List Symbol) → has_symbols symbols ≡ true → 0 < length symbols
+pub some_symbols : (symbols : List Symbol) → has_symbols symbols ≡ true → 0 < length symbols
 some_symbols [] e = absurd cc
 some_symbols (symbol ∷ symbols) e = omega arith
 
 -- the document without the selected text is sound too
-sound_between : (document : DocumentState) (from to : Place) (now : ℕ) → IsSound document → HasEffect document (Remove from to) → IsSound (between_removed document from to now)
+pub sound_between : (document : DocumentState) (from to : Place) (now : ℕ) → IsSound document → HasEffect document (Remove from to) → IsSound (between_removed document from to now)
 unfolding between_removed
 sound_between document from to now h made =
     sound_edited document (splice_of_step document (Remove from to)) false now h (step_keeps document (Remove from to) h made).0
 
-sound_unselected : (state : State) → IsSound state.document → IsSound (unselected state).document
+pub sound_unselected : (state : State) → IsSound state.document → IsSound (unselected state).document
 sound_unselected state h =
     by_test IsSound (is_selected state.document) _ _
     (λ selected. sound_between state.document (selection_start state.document) (selection_end state.document) state.time h (selected_made state.document h selected))

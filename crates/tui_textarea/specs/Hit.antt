@@ -1,5 +1,5 @@
 -- The position that a cell of the screen shows, and the visible position nearest to the cursor.
-use Rattle.std.specs.Prelude.{◌≡◌, ℕ, ◌-◌, min, Bool, true, false, Option}
+use Rattle.std.specs.Prelude.{◌≡◌, ◌⊎◌, ℕ, ◌-◌, min, Bool, true, false, Option}
 use Rattle.textarea_document.specs.DocumentRows.{text_and_layout}
 use Rattle.textarea_document.specs.DocumentState.{DocumentState}
 use Rattle.tui_textarea.specs.DrawnFrame.{WidgetState, frame_of}
@@ -10,6 +10,7 @@ use Rattle.textarea_lines.specs.View.{IsViewOf}
 use Rattle.textarea_blocks.specs.Sums.{row_total}
 use Rattle.textarea_screen_map.specs.VisualPositions.{IsVisualPosition, is_same_visual}
 use Rattle.textarea_screen_map.specs.declared.layout.VisualPosition.{VisualPosition}
+use Rattle.textarea_screen.specs.Rect.{contains}
 use Rattle.textarea_screen.specs.declared.screen.rect.Rect.{Rect}
 use Rattle.textarea_text.specs.Place.{Place}
 use Rattle.textarea_view.specs.Viewport.{ViewportState, clamped}
@@ -31,6 +32,10 @@ pub record IsHitTest (widget : WidgetState) (x y : ℕ) (found : Option Place) :
   pub rows : BorrowedRows
   pub rows_are : IsViewOf (text_and_layout widget.document) rows
   pub found_is : IsHitOf (frame_of widget rows) widget.drawing.viewport inner x y found
+
+-- the cell isn't in the area: it is outside of it, or the area is empty
+abbrev pub IsWithoutCell : Rect → ℕ → ℕ → Type 0
+IsWithoutCell area x y = (area.width ≡ 0) ⊎ (area.height ≡ 0) ⊎ (contains area x y ≡ false)
 
 -- ---- the nearest visible position
 

@@ -2,7 +2,7 @@
 pub use Rattle.textarea_util.specs.Limit.{size_limit}
 pub use Rattle.textarea_text.specs.Between.{clip}
 pub use Rattle.textarea_text.specs.Fragment.{fragment_symbols, pasted_symbols, fragment_text, without_last_break}
-pub use Rattle.textarea_text.specs.Place.{IsPlace, index_of, place_of}
+pub use Rattle.textarea_text.specs.Place.{IsPlace, Place, index_of, place_of}
 pub use Rattle.textarea_text.specs.Size.{size_of, weight}
 pub use Rattle.textarea_text.specs.Splice.{CanApply, Fits, Splice}
 pub use Rattle.textarea_text.specs.Text.{Character, lines, lines_of, text_of}
@@ -43,7 +43,9 @@ pub use Rattle.textarea_view.specs.Placements.{cell_of_position}
 pub use Rattle.textarea_view.specs.SurroundState.{AreBounds, first_bytes, style_with_lines}
 pub use Rattle.textarea_data.specs.declared.measure.TextAreaMeasure.{TextAreaMeasure}
 pub use Rattle.textarea_calls.specs.CallGroups.{call_of_edit}
+pub use Rattle.textarea_calls.specs.Possible.{CanBeMade}
 pub use Rattle.textarea_calls.specs.declared.action.Action.{Action}
+pub use Rattle.textarea_calls.specs.declared.answer.Answer.{Answer}
 pub use Rattle.textarea_calls.specs.declared.call.Call.{Call}
 pub use Rattle.tui_textarea.specs.CallResults.{CallResult, Flag}
 pub use Rattle.tui_textarea.specs.CallSplices.{OfSplicesOutOfMemory, splices_of}
@@ -54,17 +56,17 @@ pub use Rattle.tui_textarea.specs.Drawing.{IsRendered, widget_of}
 pub use Rattle.tui_textarea.specs.DrawnFrame.{frame_of}
 pub use Rattle.tui_textarea.specs.Edits.{char_inserted, char_or_break_inserted, inserts_tab, inserts_text, newline_inserted, spaces_to_stop, str_inserted, symbols_or_none_inserted, tab_inserted, tab_or_spaces_inserted}
 pub use Rattle.tui_textarea.specs.Frames.{HasLayoutFor}
-pub use Rattle.tui_textarea.specs.Hit.{IsHitTest}
+pub use Rattle.tui_textarea.specs.Hit.{IsHitTest, IsLastArea, IsWithoutCell}
 pub use Rattle.tui_textarea.specs.Input.{ActMayRunOutOfMemory, IsAfterAction, IsInputOutOfMemory, action_flag, asked_by, asked_without_shortcuts}
 pub use Rattle.tui_textarea.specs.LayoutCalls.{indent_of}
 pub use Rattle.tui_textarea.specs.Measure.{IsMeasured, IsMeasuredAround, reads_rows, with_surround}
 pub use Rattle.tui_textarea.specs.Moves.{IsMoved, gone_to, IsMovedWith, IsScrolled, IsScrolledWith, IsTarget, anchor_with, bias_of}
 pub use Rattle.tui_textarea.specs.Outcomes.{IsAfterCall, IsAfterOutOfMemory, IsResultOf, RanOutOfMemory}
 pub use Rattle.tui_textarea.specs.Ranges.{atomic_range_removed, cursor_normalized, ranges_accepted, ranges_cleared}
-pub use Rattle.tui_textarea.specs.RangesOverCalls.{IsUndoOrRedo, RangesFollowCall}
+pub use Rattle.tui_textarea.specs.RangesOverCalls.{IsUndoOrRedo, RangesFollowCall, RangesOfRun}
 pub use Rattle.tui_textarea.specs.Removals.{back_to_word_removed, break_before_removed, has_after, has_ahead, has_before, has_break_before, has_line_after, has_line_before, has_word_after, has_word_before, index_ahead, line_end_removed, line_head_removed, on_to_word_end_removed, removes_or, symbol_after_removed, symbol_before_removed, symbols_ahead_removed, text_cleared, unselected_or, word_after_removed, word_before_removed, yanked}
 pub use Rattle.tui_textarea.specs.Rendered.{IsDrawn}
-pub use Rattle.tui_textarea.specs.Run.{Leads, ShowsSame}
+pub use Rattle.tui_textarea.specs.Run.{Leads, Run, ShowsSame}
 pub use Rattle.tui_textarea.specs.Search.{after_search, found_match, next_match, previous_match, with_pattern}
 pub use Rattle.tui_textarea.specs.Selection.{IsInsertOutOfMemory, all_selected, selection_cancelled, selection_copied, selection_cut, selection_started, unselected}
 pub use Rattle.tui_textarea.specs.State.{State, default_settings, new_state, text_of_each, with_document, with_other_lines}

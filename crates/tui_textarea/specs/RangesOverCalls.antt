@@ -1,10 +1,14 @@
 -- How the atomic ranges move with the text over calls, and where those after a run come from.
-use Rattle.std.specs.Prelude.{◌≡◌, ◌⊎◌, List, [], ◌∷◌, ◌++◌, length, map, take}
+use Rattle.std.specs.Prelude.{◌≡◌, ◌⊎◌, false, List, [], ◌∷◌, ◌++◌, length, map, take, All, Some}
+use Rattle.textarea_text.specs.Place.{end}
 use Rattle.textarea_text.specs.Splice.{Splice}
-use Rattle.textarea_document.specs.RangesOverSplices.{AllStayOrAreDropped, AllStemFrom, RangesFollowSplices, RangesStayWhole}
+use Rattle.textarea_document.specs.RangesOverSplices.{AllStemFrom, IsCarriedTo, RangesFollowSplices, RangesStayWhole}
+use Rattle.textarea_document.specs.Ranges.{SplitsNoRange}
 use Rattle.textarea_document.specs.Splices.{selected_splices}
 use Rattle.textarea_document.specs.DocumentState.{DocumentState}
 use Rattle.textarea_data.specs.declared.range.AtomicRange.{AtomicRange}
+use Rattle.textarea_ranges.specs.Lookup.{TakesRange}
+use Rattle.textarea_ranges.specs.Moved.{Disturbs, moved_range, moved_ranges}
 use Rattle.textarea_ranges.specs.Order.{in_order}
 use Rattle.textarea_screen.specs.declared.screen.buffer.Buffer.{Buffer}
 use Rattle.textarea_calls.specs.declared.action.Action.{Action}
@@ -13,9 +17,9 @@ use Rattle.textarea_calls.specs.declared.kind.Edit.TheVariants as edit
 use Rattle.tui_textarea.specs.RangesOverActions.{RangesFollowAction}
 use Rattle.tui_textarea.specs.Input.{asked_by, asked_without_shortcuts}
 use Rattle.tui_textarea.specs.State.{State}
-use Rattle.tui_textarea.specs.Run.{Leads}
+use Rattle.tui_textarea.specs.Run.{CallLeads, Leads}
 use Rattle.tui_textarea.specs.CallResults.{CallResult, Done, call_result}
-use Rattle.tui_textarea.specs.CallSplices.{LeadsBy, splices_of}
+use Rattle.tui_textarea.specs.CallSplices.{CallSplice, LeadsBy, OfEdit, OfUndoOrRedo, marked_splices, splices_of, underlying}
 use Rattle.textarea_calls.specs.declared.answer.Answer.{Answer}
 use Rattle.textarea_calls.specs.declared.call.Call.{Call}
 use Rattle.textarea_calls.specs.declared.call.Call.TheVariants.{Undo, Redo, SetLines, TrySetAtomicRanges, ClearAtomicRanges, Input, InputWithoutShortcuts}
@@ -44,6 +48,40 @@ RangesFollowCall old ClearAtomicRanges returned new = HoldsNoRange new
 RangesFollowCall old (TrySetAtomicRanges ranges) Done new = HoldsRanges old ranges.now new
 RangesFollowCall old call returned new = RangesStayWhole old.document (splices_of old call) new.document
 
+-- ---- what splits a range, and what drops one
+
+-- the splice splits none of the ranges, unless it is of an undo or a redo
+abbrev pub KeepsWhole : List AtomicRange → CallSplice → Type 0
+KeepsWhole ranges (OfUndoOrRedo splice) = Unit {0}
+KeepsWhole ranges (OfEdit splice) = SplitsNoRange ranges splice
+
+-- each of the splices splits none of the ranges at its time, unless it is of an undo or a redo
+abbrev pub AllKeepWhole : List AtomicRange → List CallSplice → Type 0
+AllKeepWhole ranges [] = Unit {0}
+AllKeepWhole ranges (made ∷ rest) = KeepsWhole ranges made × AllKeepWhole (moved_ranges ranges (underlying made)) rest
+
+-- the splice drops the range: one of an undo or a redo if it inserts strictly inside the range or
+-- removes some of it, any other if it removes the range completely
+abbrev pub Drops : CallSplice → AtomicRange → Type 0
+Drops (OfUndoOrRedo splice) range = Disturbs splice range
+Drops (OfEdit splice) range = (splice.inserts ≡ false) × TakesRange splice.place (end splice.place splice.symbols) range
+
+-- one of the splices drops the range, as the splices before it move it
+abbrev pub OneDrops : List CallSplice → AtomicRange → Type 0
+OneDrops [] range = ⊥
+OneDrops (made ∷ rest) range =
+    Drops made range ⊎ ((carried : AtomicRange) × (moved_range (underlying made) range ≡ Some carried) × OneDrops rest carried)
+
+-- What happens to the ranges of the first document over these splices. They move with the text.
+-- Each range of the last document comes from one of them, and covers the same characters, all in
+-- one line. Only a splice of an undo or a redo splits one. Each of them is in the last document, as
+-- the splices move it, or one of the splices drops it.
+pub record RangesAfterSplices (first : DocumentState) (splices : List CallSplice) (last : DocumentState) : Type 0 where
+  pub ranges_follow : RangesFollowSplices first (map underlying splices) last
+  pub stem : AllStemFrom first (map underlying splices) last
+  pub whole : AllKeepWhole first.ranges splices
+  pub dropped : All (λ range. IsCarriedTo range (map underlying splices) last ⊎ OneDrops splices range) first.ranges
+
 -- ---- a run
 
 -- the call replaces the ranges: it sets some that are accepted, or clears them, or sets lines
@@ -52,6 +90,20 @@ SetsRanges (TrySetAtomicRanges ranges) Done = Unit {0}
 SetsRanges ClearAtomicRanges returned = Unit {0}
 SetsRanges (SetLines lines cursor) returned = Unit {0}
 SetsRanges call returned = ⊥
+
+-- over the call the ranges move as above, and its splices do the rest, or it replaces the ranges
+pub record RangesOverCall (old : State) (call : Call) (returned : CallResult) (new : State) : Type 0 where
+  pub follow : RangesFollowCall old call returned new
+  pub kept : SetsRanges call returned ⊎ RangesAfterSplices old.document (marked_splices old call) new.document
+
+-- the calls lead with these results from the old state and buffer to the new ones, and over each
+-- call its ranges go so
+abbrev pub RangesOverCalls : State → Buffer → List Call → List CallResult → State → Buffer → Type 0
+RangesOverCalls old buffer [] [] new displayed = (new ≡ old) × (displayed ≡ buffer)
+RangesOverCalls old buffer (call ∷ calls) (returned ∷ results) new displayed =
+    (between : State) × (screen : Buffer) × CallLeads old buffer call returned between screen
+    × RangesOverCall old call returned between × RangesOverCalls between screen calls results new displayed
+RangesOverCalls old buffer calls results new displayed = ⊥
 
 -- none of the calls, with these results, replaces the ranges
 abbrev pub NoneSetsRanges : List Call → List CallResult → Type 0
@@ -84,27 +136,23 @@ pub record SinceRangesSet (old : State) (buffer : Buffer) (calls : List Call) (r
   pub led : Leads old buffer until results_until then screen
   pub ranges_set : (until ≡ []) ⊎ LastSetsRanges until results_until
   pub none_later : NoneSetsRanges later results_later
-  pub splices : List Splice
+  pub splices : List CallSplice
   pub led_on : LeadsBy then screen later results_later splices newest displayed
 
--- What happens to the ranges of the first document over these splices. They move with the text.
--- Each range of the last document comes from one of them, and covers the same characters, all in
--- one line. Each of them is in the last document, as the splices move it, or one of the splices
--- disturbs it.
-pub record RangesAfterSplices (first : DocumentState) (splices : List Splice) (last : DocumentState) : Type 0 where
-  pub ranges_follow : RangesFollowSplices first splices last
-  pub stem : AllStemFrom first splices last
-  pub dropped : AllStayOrAreDropped first splices last
-
 -- What happens to the ranges over calls that lead with these results to the newest state, and then
--- over the splices left by a call that ran out of memory, if there is one: the ranges set last move
--- with the text over the splices of the later calls.
+-- over the splices left by a call that ran out of memory, if there is one. Over each call, those
+-- that it finds move with the text, unless it sets ranges, clears them or sets lines: its splices
+-- take each of them completely or not at all and insert strictly inside none, but for those of an
+-- undo or a redo; and one is dropped only by a removal that takes it completely, or by an undo or a
+-- redo that disturbs it. Each range at the end comes from those that were set last, or else from
+-- those at the start, and covers the same characters as then, all in one line.
 pub record RangesInRun (old : State) (buffer : Buffer) (calls : List Call) (results : List CallResult) (left : List Splice) (new : State) : Type 0 where
   pub newest : State
   pub displayed : Buffer
+  pub each : RangesOverCalls old buffer calls results newest displayed
   pub since : SinceRangesSet old buffer calls results newest displayed
   pub left_are : (left ≡ []) ⊎ (left ≡ selected_splices newest.document)
-  pub go : RangesAfterSplices since.then.document (since.splices ++ left) new.document
+  pub go : RangesAfterSplices since.then.document (since.splices ++ map OfEdit left) new.document
 
 -- the same over a run, for the calls that have results
 abbrev pub RangesOfRun : State → Buffer → List Call → List Answer → State → Type 0

@@ -1,6 +1,6 @@
 //! Laws of text areas and their visual rows, each the contract of a function that does nothing.
-ghost use Rattle.std.specs.Prelude.{◌≡◌, ◌<◌, ◌^◌, ℕ, Bool, [], true, false, length};
-ghost use Rattle.tui_textarea.specs.Prelude.{size_limit, CursorMove, Scrolling, text_and_layout, IsSound, IsCaretHit, frame_of, shows_placeholder, IsCaretVisible, Action, BorrowedRows, IsViewOf, row_total, Rect, saturated_u16, width_inside, TextAreaMeasure, weight, IsRendered, widget_of, HasLayoutFor, IsMeasured, IsMeasuredAround, IsAfterAction, IsMovedWith, IsScrolledWith, State};
+ghost use Rattle.std.specs.Prelude.{◌≡◌, ◌<◌, ◌^◌, ◌↔◌, ℕ, Bool, [], true, false, length, None, Option};
+ghost use Rattle.tui_textarea.specs.Prelude.{IsHitTest, IsLastArea, IsWithoutCell, Place, size_limit, CursorMove, Scrolling, text_and_layout, IsSound, IsCaretHit, frame_of, shows_placeholder, IsCaretVisible, Action, BorrowedRows, IsViewOf, row_total, Rect, saturated_u16, width_inside, TextAreaMeasure, weight, IsRendered, widget_of, HasLayoutFor, IsMeasured, IsMeasuredAround, IsAfterAction, IsMovedWith, IsScrolledWith, State};
 
 use crate::drawing::laws::{caret_hit_is_cursor, caret_is_visible, one_nearest_place};
 pub use crate::textarea::laws::{
@@ -114,4 +114,23 @@ pub fn caret_hits_are_cursors()
 {
     caret_hit_is_cursor();
     caret_is_visible();
+}
+
+/// A hit test has one answer: a state and a cell determine the result of `cursor_at_position`.
+pub fn one_hit()
+    ensures { (state : State) (x y : ℕ) (found other : Option Place) →
+        IsHitTest (widget_of state) x y found → IsHitTest (widget_of state) x y other →
+        found ≡ other }
+{
+    crate::drawing::laws::one_hit();
+}
+
+/// A hit test returns `None` exactly if the cell is outside the inner area of the last drawing, or
+/// that area is empty.
+pub fn hit_exactly_inside()
+    ensures { (state : State) (x y : ℕ) (found : Option Place) (inner : Rect) →
+        IsLastArea state.document state.drawing inner →
+        IsHitTest (widget_of state) x y found → (found ≡ None) ↔ IsWithoutCell inner x y }
+{
+    crate::drawing::laws::hit_exactly_inside();
 }

@@ -27,7 +27,7 @@ pub use textarea_wrap::wrap::WrapMode;
 
 /// The spans of a visual row, as it is drawn.
 pub mod highlight {
-    pub use textarea_highlight::highlight::{CursorCellRender, LineHighlighter};
+    pub use textarea_highlight::highlight::{CursorCellRender, LineHighlighter, RowMark, RowPart};
 }
 
 /// The history of a text's edits, and the laws of undo and redo.
@@ -47,9 +47,15 @@ pub mod layout {
     pub use textarea_wrap::layout::{LayoutMetrics, num_digits};
 }
 
-/// The visual rows of all lines, updated line by line.
+/// The visual rows of all lines, updated line by line, with look-ups both ways.
 pub mod screen_map {
-    pub use textarea_screen_map::screen_map::{PreparedRows, ScreenMap};
+    pub use textarea_screen_map::blocks::RowBlocks;
+    pub use textarea_screen_map::laws;
+    pub use textarea_screen_map::layout::{VisualPosition, Wrapping};
+    pub use textarea_screen_map::screen_map::{
+        NewRows, PreparedRows, RowText, ScreenMap, new_rows,
+    };
+    pub use textarea_wrap::wrap::{Rows, WrapCount, WrapMode};
 }
 
 /// Searches for a pattern, and its matches in lines.

@@ -1,4 +1,4 @@
-//! Styles, the mask, the cursor's cell, custom highlights, and drawing.
+//! The mask, the cursor's cell, custom highlights, and drawing.
 
 use super::TextArea;
 use crate::data::{CursorRenderMode, OutOfMemory};
@@ -10,48 +10,11 @@ use crate::ratatui::style::Style;
 use crate::ratatui::widgets::Widget;
 use crate::sys;
 
-/// Writes a call that sets a style and one that returns it.
-macro_rules! styles {
-    ($($what:literal $set:ident $get:ident $core_set:ident $core_get:ident;)*) => {
-        impl TextArea<'_> {
-            $(
-                #[doc = concat!("Sets the style of ", $what, ".")]
-                pub fn $set(&mut self, style: Style) {
-                    let style = style.into();
-                    self.core.is(|h| unsafe { sys::$core_set(h, &style) });
-                }
-
-                #[doc = concat!("Returns the style of ", $what, ".")]
-                pub fn $get(&self) -> Style {
-                    let mut style = BLANK;
-                    self.core.is(|h| unsafe { sys::$core_get(h, &mut style) });
-                    style.into()
-                }
-            )*
-        }
-    };
-}
-
-styles! {
-    "each cell of the inner area, under all others" set_style style ta_set_style ta_style;
-    "the cell at the cursor" set_cursor_style cursor_style ta_set_cursor_style ta_cursor_style;
-    "the cursor's line, where no highlight is" set_cursor_line_style cursor_line_style
-        ta_set_cursor_line_style ta_cursor_line_style;
-    "selected text" set_selection_style selection_style ta_set_selection_style ta_selection_style;
-    "the search pattern's matches" set_search_style search_style ta_set_search_style
-        ta_search_style;
-}
-
 impl TextArea<'_> {
     /// Shows this character instead of each character of the text.
     pub fn set_mask_char(&mut self, mask: char) {
         self.core
             .is(|h| unsafe { sys::ta_set_mask_char(h, mask as u32) });
-    }
-
-    /// Shows the text itself again.
-    pub fn clear_mask_char(&mut self) {
-        self.core.is(|h| unsafe { sys::ta_clear_mask_char(h) });
     }
 
     /// Returns the character that is shown instead of each character of the text, if one is set.
@@ -107,12 +70,6 @@ impl TextArea<'_> {
             sys::ta_custom_highlight(h, start.0, start.1, end.0, end.1, &style, priority)
         })?;
         Ok(())
-    }
-
-    /// Removes all custom highlights.
-    pub fn clear_custom_highlight(&mut self) {
-        self.core
-            .is(|h| unsafe { sys::ta_clear_custom_highlight(h) });
     }
 
     /// Returns what draws the text area; `&area` is the same.

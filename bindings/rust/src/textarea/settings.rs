@@ -1,4 +1,4 @@
-//! Tabs, wrapping, line numbers, alignment and heights.
+//! The indent, wrapping, line numbers, alignment and measuring.
 
 use super::TextArea;
 use crate::data::{OutOfMemory, TextAreaMeasure, WrapMode};
@@ -9,37 +9,6 @@ use crate::ratatui::style::Style;
 use crate::sys;
 
 impl TextArea<'_> {
-    /// Sets the distance of tab stops, in columns; at 0 a tab inserts nothing.
-    pub fn set_tab_length(&mut self, len: u8) {
-        must(self.try_set_tab_length(len));
-    }
-
-    /// As `set_tab_length`, but returns that memory ran out.
-    pub fn try_set_tab_length(&mut self, len: u8) -> Result<(), OutOfMemory> {
-        self.core
-            .on(|h| unsafe { sys::ta_set_tab_length(h, len) })?;
-        Ok(())
-    }
-
-    /// Returns the distance of tab stops, in columns.
-    pub fn tab_length(&self) -> u8 {
-        let mut columns = 0;
-        self.core
-            .is(|h| unsafe { sys::ta_tab_length(h, &mut columns) });
-        columns
-    }
-
-    /// Sets whether a tab is inserted as a tab character, and not as spaces.
-    pub fn set_hard_tab_indent(&mut self, enabled: bool) {
-        self.core
-            .is(|h| unsafe { sys::ta_set_hard_tab_indent(h, enabled) });
-    }
-
-    /// Returns whether a tab is inserted as a tab character.
-    pub fn hard_tab_indent(&self) -> bool {
-        self.core.is(|h| unsafe { sys::ta_hard_tab_indent(h) })
-    }
-
     /// Returns a tab at a line's start: a tab character, or a space for each column of its length.
     pub fn indent(&self) -> &'static str {
         const SPACES: &str = match std::str::from_utf8(&[b' '; 255]) {
@@ -97,17 +66,6 @@ impl TextArea<'_> {
         Ok(())
     }
 
-    /// Hides the line numbers.
-    pub fn remove_line_number(&mut self) {
-        must(self.try_remove_line_number());
-    }
-
-    /// As `remove_line_number`, but returns that memory ran out.
-    pub fn try_remove_line_number(&mut self) -> Result<(), OutOfMemory> {
-        self.core.on(|h| unsafe { sys::ta_remove_line_number(h) })?;
-        Ok(())
-    }
-
     /// Returns the style of the line numbers, or `None` if they are hidden.
     pub fn line_number_style(&self) -> Option<Style> {
         let mut style = BLANK;
@@ -145,32 +103,6 @@ impl TextArea<'_> {
             sys::ALIGNMENT_RIGHT => Alignment::Right,
             _ => Alignment::Left,
         }
-    }
-
-    /// Sets the least height of the whole area, in screen rows; 0 counts as 1. The greatest height is
-    /// raised to it if it is less.
-    pub fn set_min_rows(&mut self, rows: u16) {
-        self.core.is(|h| unsafe { sys::ta_set_min_rows(h, rows) });
-    }
-
-    /// Returns the least height of the whole area, in screen rows.
-    pub fn min_rows(&self) -> u16 {
-        let mut rows = 0;
-        self.core.is(|h| unsafe { sys::ta_min_rows(h, &mut rows) });
-        rows
-    }
-
-    /// Sets the greatest height of the whole area, in screen rows; 0 counts as 1, and less than the
-    /// least height as that height.
-    pub fn set_max_rows(&mut self, rows: u16) {
-        self.core.is(|h| unsafe { sys::ta_set_max_rows(h, rows) });
-    }
-
-    /// Returns the greatest height of the whole area, in screen rows.
-    pub fn max_rows(&self) -> u16 {
-        let mut rows = 0;
-        self.core.is(|h| unsafe { sys::ta_max_rows(h, &mut rows) });
-        rows
     }
 
     /// Returns the height that an area of this width, in columns, needs for the block and all visual

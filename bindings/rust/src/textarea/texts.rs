@@ -172,30 +172,6 @@ impl<'a> TextArea<'a> {
         pattern.as_ref()
     }
 
-    /// Moves the cursor to the next start of a match, and returns whether there was one: the first
-    /// after the cursor or, with `match_cursor`, at it, and past the text's end the first of all.
-    pub fn search_forward(&mut self, match_cursor: bool) -> bool {
-        must(self.try_search_forward(match_cursor))
-    }
-
-    /// As `search_forward`, but returns that memory ran out.
-    pub fn try_search_forward(&mut self, match_cursor: bool) -> Result<bool, OutOfMemory> {
-        self.core
-            .on(|h| unsafe { sys::ta_search_forward(h, match_cursor) })
-    }
-
-    /// Moves the cursor to the last start of a match before it or, with `match_cursor`, at it, and
-    /// past the text's start to the last of all; returns whether there was one.
-    pub fn search_back(&mut self, match_cursor: bool) -> bool {
-        must(self.try_search_back(match_cursor))
-    }
-
-    /// As `search_back`, but returns that memory ran out.
-    pub fn try_search_back(&mut self, match_cursor: bool) -> Result<bool, OutOfMemory> {
-        self.core
-            .on(|h| unsafe { sys::ta_search_back(h, match_cursor) })
-    }
-
     /// Replaces the atomic ranges; they are sorted by row and start.
     ///
     /// # Panics

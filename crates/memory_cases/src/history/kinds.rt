@@ -4,7 +4,6 @@ ghost use Rattle.textarea_text.specs.Text.{text_of};
 ghost use Rattle.textarea_history.specs.Edit.{inserts_of, line_count_of, symbols_of};
 
 use std::alloc::{AllocError, Global};
-use std::sync::Arc;
 use textarea_history::edit::EditKind;
 
 /// Returns the fragment of a text, which is split into lines at each `|`.
@@ -22,24 +21,23 @@ pub fn line_count_in(alloc: Global, text: &str) -> Result<Vec<String>, AllocErro
 }
 
 /// Returns the kind that inserts or removes the fragment.
-pub fn kind_of(mut fragment_lines: Vec<String>, inserts: bool) -> Result<EditKind, AllocError>
+pub fn kind_of(mut fragment_lines: Vec<String>, inserts: bool) -> EditKind
     requires { 0 < vec_len fragment_lines }
-    ensures symbols { IfOk result (λ kind. symbols_of kind ≡ text_of fragment_lines.items) }
-    ensures inserts { IfOk result (λ kind. inserts_of kind ≡ inserts) }
-    ensures fragment_lines { IfOk result (λ kind. IfSome (line_count_of kind) (λ n. 2 ≤ n)) }
+    ensures symbols { symbols_of result ≡ text_of fragment_lines.items }
+    ensures inserts { inserts_of result ≡ inserts }
+    ensures fragment_lines { IfSome (line_count_of result) (λ n. 2 ≤ n) }
 {
     if 1 < fragment_lines.len() {
-        let shared = Arc::new(*fragment_lines.allocator(), fragment_lines)?;
-        return Ok(if inserts {
-            EditKind::InsertChunk(shared)
+        return if inserts {
+            EditKind::InsertChunk(fragment_lines)
         } else {
-            EditKind::DeleteChunk(shared)
-        });
+            EditKind::DeleteChunk(fragment_lines)
+        };
     }
     let text = fragment_lines.pop().unwrap();
-    Ok(if inserts {
+    if inserts {
         EditKind::InsertStr(text)
     } else {
         EditKind::DeleteStr(text)
-    })
+    }
 }

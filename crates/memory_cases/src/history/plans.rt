@@ -82,30 +82,26 @@ pub fn insertion(
     let Some(before) = nearest(lines, place) else {
         return Ok(None);
     };
-    insertion_of(lines, before, fragment_lines)
+    Ok(insertion_of(lines, before, fragment_lines))
 }
 
-fn insertion_of(
-    lines: &[String],
-    before: Place,
-    fragment_lines: Vec<String>,
-) -> Result<Option<Plan>, AllocError>
+fn insertion_of(lines: &[String], before: Place, fragment_lines: Vec<String>) -> Option<Plan>
     requires some { 0 < vec_len fragment_lines }
     requires size { size_of fragment_lines.items ≤ size_limit }
     requires place { IsPlace (text_of lines.now) before }
     requires small { (before.0 ≤ 2 ^ 32) × (before.1 ≤ 2 ^ 32) }
-    ensures { IfOk result (λ found. IfSome found
-        (λ plan. IsEditReady (text_of lines.now) plan.kind plan.before plan.after)) }
+    ensures { IfSome result
+        (λ plan. IsEditReady (text_of lines.now) plan.kind plan.before plan.after) }
 {
     let after = end_of(before, fragment_lines.as_slice());
     if is_same(after, before) {
-        return Ok(None);
+        return None;
     }
-    Ok(Some(Plan {
-        kind: kind_of(fragment_lines, true)?,
+    Some(Plan {
+        kind: kind_of(fragment_lines, true),
         before,
         after,
-    }))
+    })
 }
 
 // The removal of the symbol before the position, if there is one.
@@ -146,7 +142,7 @@ fn removal(
         return Ok(None);
     }
     Ok(Some(Plan {
-        kind: kind_of(fragment_lines, false)?,
+        kind: kind_of(fragment_lines, false),
         before,
         after,
     }))

@@ -1,5 +1,5 @@
 //! For each block, the number of items (lines or visual rows) before it.
-ghost use Rattle.std.specs.Prelude.{◌≡◌, ℕ, ◌+◌, ◌-◌, ◌<◌, ◌≤◌, ◌++◌, ◌∷◌, [], length, get_or, vec_len, vec_capacity, OnOk};
+ghost use Rattle.std.specs.Prelude.{◌≡◌, ℕ, ◌+◌, ◌-◌, ◌<◌, ◌≤◌, ◌++◌, ◌∷◌, [], length, get_or, vec_len, vec_capacity, OnErr, OnOk};
 ghost use Rattle.textarea_blocks.specs.Prelude.{AreExchanged, AreShifted, CanShift};
 
 use std::alloc::{AllocError, Global};
@@ -70,12 +70,21 @@ impl Numbers {
         }
     }
 
-    /// Reserves room for `more` numbers.
+    /// Reserves room for `more` numbers. Out of memory, all stays.
     pub(super) fn reserve(&mut self, more: usize) -> Result<(), AllocError>
         ensures same { self.new.numbers ≡ self.old.numbers }
         ensures room { OnOk result (more ≤ self.new.spare) }
+        ensures grown { self.old.spare ≤ self.new.spare }
+        ensures err { OnErr result (self.new.spare ≡ self.old.spare) }
     {
         self.items.reserve(more)
+    }
+
+    /// Returns how many more numbers fit without allocation.
+    pub(super) fn spare(&self) -> usize
+        ensures { result ≡ self.now.spare }
+    {
+        self.items.capacity() - self.items.len()
     }
 
     /// Appends a number. Allocates nothing.
@@ -158,7 +167,9 @@ impl Numbers {
         requires after { CanShift self.old.numbers exchanged.to exchanged.gone exchanged.come }
         requires small_new { (k : ℕ) → k < length new.numbers
             → get_or new.numbers k 0 + exchanged.before ≤ usize.MAX }
-        ensures { AreExchanged self.old.numbers new.numbers exchanged self.new.numbers }
+        ensures exchanged { AreExchanged self.old.numbers new.numbers exchanged self.new.numbers }
+        ensures room { self.old.spare + (exchanged.to - exchanged.from)
+            ≤ self.new.spare + length new.numbers }
     {
         let Numbers {
             mut items,
@@ -205,7 +216,8 @@ fn exchange_numbers(numbers: &mut Vec<usize>, mut new: Vec<usize>, exchanged: Ex
     requires after { CanShift numbers.old.items exchanged.to exchanged.gone exchanged.come }
     requires small_new { (k : ℕ) → k < vec_len new
         → get_or new.items k 0 + exchanged.before ≤ usize.MAX }
-    ensures { AreExchanged numbers.old.items new.items exchanged numbers.new.items }
+    ensures exchanged { AreExchanged numbers.old.items new.items exchanged numbers.new.items }
+    ensures capacity { vec_capacity numbers.old ≤ vec_capacity numbers.new }
 {
     move_numbers(&mut new, 0, 0, exchanged.before);
     move_numbers(numbers, exchanged.to, exchanged.gone, exchanged.come);

@@ -1,7 +1,7 @@
 //! The mask, the cursor's cell, and custom highlights.
 ghost use Rattle.std.specs.Prelude.{◌≡◌, ◌≢◌, IfSome, MatchOption, None, Some};
-ghost use Rattle.tui_textarea.specs.Drawing.{highlighted, unhighlighted, with_look_set};
-ghost use Rattle.textarea_c.specs.Calls.{Asks, Calls, ChangesBy, Reads, Sets, SetsBy};
+ghost use Rattle.tui_textarea.specs.Drawing.{highlighted, with_look_set};
+ghost use Rattle.textarea_c.specs.Calls.{Asks, Calls, ChangesBy, Reads, SetsBy};
 ghost use Rattle.textarea_c_data.specs.Inputs.{character_of};
 ghost use Rattle.textarea_c_data.specs.Modes.{render_mode_of};
 ghost use Rattle.textarea_c_data.specs.Styles.{style_of};
@@ -29,21 +29,6 @@ pub extern "C" fn ta_set_mask_char(handle: &mut Handle, alloc: Global, mask: u32
             OK
         }
         None => INVALID_ARGUMENT,
-    })
-}
-
-/// Shows the text itself again.
-///
-/// Statuses: ok, empty handle.
-#[unsafe(no_mangle)]
-pub extern "C" fn ta_clear_mask_char(handle: &mut Handle, alloc: Global) -> u32
-    ensures { Calls handle.old.stored.content result handle.new.stored.content
-        (λ a b. Sets (with_look_set a.area (record a.area.drawing.look { mask = None }))
-        result a b) }
-{
-    on!(handle, alloc, editor => {
-        editor.area.clear_mask_char();
-        OK
     })
 }
 
@@ -134,19 +119,5 @@ pub extern "C" fn ta_custom_highlight(
             priority,
         )),
         None => INVALID_ARGUMENT,
-    })
-}
-
-/// Removes all custom highlights.
-///
-/// Statuses: ok, empty handle.
-#[unsafe(no_mangle)]
-pub extern "C" fn ta_clear_custom_highlight(handle: &mut Handle, alloc: Global) -> u32
-    ensures { Calls handle.old.stored.content result handle.new.stored.content
-        (λ a b. Sets (unhighlighted a.area) result a b) }
-{
-    on!(handle, alloc, editor => {
-        editor.area.clear_custom_highlight();
-        OK
     })
 }

@@ -1,8 +1,8 @@
 //! Wrapping, line numbers, alignment and measuring.
 ghost use Rattle.std.specs.Prelude.{◌≡◌, ◌≢◌, IfSome, MatchOption, Some};
-ghost use Rattle.tui_textarea.specs.LayoutCalls.{number_style, with_alignment, with_line_numbers, with_wrap_mode, without_line_numbers};
+ghost use Rattle.tui_textarea.specs.LayoutCalls.{number_style, with_alignment, with_line_numbers, with_wrap_mode};
 ghost use Rattle.tui_textarea.specs.Measure.{IsMeasured};
-ghost use Rattle.textarea_c.specs.Calls.{Asks, Calls, Changes, ChangesBy, Copies, Reads};
+ghost use Rattle.textarea_c.specs.Calls.{Asks, Calls, ChangesBy, Copies, Reads};
 ghost use Rattle.textarea_c_data.specs.Measures.{measure_of};
 ghost use Rattle.textarea_c_data.specs.Modes.{wrap_mode_of};
 ghost use Rattle.textarea_c_data.specs.Numbers.{alignment_of};
@@ -61,17 +61,6 @@ pub extern "C" fn ta_set_line_number_style(handle: &mut Handle, alloc: Global, s
         Some(style) => done(editor.area.set_line_number_style(style)),
         None => INVALID_ARGUMENT,
     })
-}
-
-/// Hides the line numbers.
-///
-/// Statuses: ok, out of memory, empty handle.
-#[unsafe(no_mangle)]
-pub extern "C" fn ta_remove_line_number(handle: &mut Handle, alloc: Global) -> u32
-    ensures { Calls handle.old.stored.content result handle.new.stored.content
-        (λ a b. Changes (without_line_numbers a.area) result a b) }
-{
-    on!(handle, alloc, editor => done(editor.area.remove_line_number()))
 }
 
 /// Returns the style of the line numbers.

@@ -2,8 +2,8 @@
 ghost use Rattle.std.specs.Prelude.{◌≡◌, ◌≢◌, IfSome, MatchOption, MatchResult, is_some, length, map};
 ghost use Rattle.textarea_document.specs.Edits.{range_at_cursor};
 ghost use Rattle.textarea_ranges.specs.Lookup.{range_around};
-ghost use Rattle.tui_textarea.specs.Ranges.{cursor_normalized, atomic_range_removed, ranges_cleared};
-ghost use Rattle.textarea_c.specs.Calls.{Calls, Reads, Sets, SetsRanges, Tries, TriesBy};
+ghost use Rattle.tui_textarea.specs.Ranges.{cursor_normalized, atomic_range_removed};
+ghost use Rattle.textarea_c.specs.Calls.{Calls, Reads, SetsRanges, Tries, TriesBy};
 ghost use Rattle.textarea_c_data.specs.Copied.{written};
 ghost use Rattle.textarea_c_data.specs.Numbers.{bias_of, direction_of};
 ghost use Rattle.textarea_c_data.specs.Ranges.{IsRangeOut, plain_range, plain_rejected, range_of};
@@ -85,20 +85,6 @@ pub extern "C" fn ta_rejected_ranges(
 {
     on!(handle, alloc, editor => {
         *needed = write_rejected(editor.rejected.as_slice(), out);
-        OK
-    })
-}
-
-/// Drops all atomic ranges.
-///
-/// Statuses: ok, empty handle.
-#[unsafe(no_mangle)]
-pub extern "C" fn ta_clear_atomic_ranges(handle: &mut Handle, alloc: Global) -> u32
-    ensures { Calls handle.old.stored.content result handle.new.stored.content
-        (λ a b. Sets (ranges_cleared a.area) result a b) }
-{
-    on!(handle, alloc, editor => {
-        editor.area.clear_atomic_ranges();
         OK
     })
 }

@@ -1,10 +1,9 @@
-//! The selection, copying and cutting, and the yanked text.
+//! The selection, copying, and the yanked text.
 ghost use Rattle.std.specs.Prelude.{◌≡◌, ◌≢◌, IfSome, MatchOption, is_some};
 ghost use Rattle.std.specs.Str.{chars};
-ghost use Rattle.textarea_document.specs.Selection.{is_selected, selection};
+ghost use Rattle.textarea_document.specs.Selection.{selection};
 ghost use Rattle.textarea_text.specs.Fragment.{fragment_symbols, fragment_text};
-ghost use Rattle.tui_textarea.specs.Selection.{all_selected, selection_cancelled, selection_copied, selection_cut, selection_started};
-ghost use Rattle.textarea_c.specs.Calls.{Answers, Asks, Calls, Changes, ChangesBy, Copies, Sets, Tries};
+ghost use Rattle.textarea_c.specs.Calls.{Answers, Asks, Calls, ChangesBy, Copies};
 ghost use Rattle.textarea_c_data.specs.Lines.{AreCharactersOut};
 ghost use Rattle.textarea_c_data.specs.Texts.{text_in};
 
@@ -12,49 +11,7 @@ use crate::calls::on;
 use crate::handle::Handle;
 use std::alloc::Global;
 use textarea_c_data::slices::{copied_text, text_of};
-use textarea_c_data::status::{FALSE, INVALID_ARGUMENT, OK, OUT_OF_MEMORY, done, flag, truth};
-
-/// Begins an empty selection at the cursor.
-///
-/// Statuses: ok, empty handle.
-#[unsafe(no_mangle)]
-pub extern "C" fn ta_start_selection(handle: &mut Handle, alloc: Global) -> u32
-    ensures { Calls handle.old.stored.content result handle.new.stored.content
-        (λ a b. Sets (selection_started a.area) result a b) }
-{
-    on!(handle, alloc, editor => {
-        editor.area.start_selection();
-        OK
-    })
-}
-
-/// Drops the selection, if there is one; the text stays.
-///
-/// Statuses: ok, empty handle.
-#[unsafe(no_mangle)]
-pub extern "C" fn ta_cancel_selection(handle: &mut Handle, alloc: Global) -> u32
-    ensures { Calls handle.old.stored.content result handle.new.stored.content
-        (λ a b. Sets (selection_cancelled a.area) result a b) }
-{
-    on!(handle, alloc, editor => {
-        editor.area.cancel_selection();
-        OK
-    })
-}
-
-/// Selects the whole text, and moves the cursor to its end.
-///
-/// Statuses: ok, empty handle.
-#[unsafe(no_mangle)]
-pub extern "C" fn ta_select_all(handle: &mut Handle, alloc: Global) -> u32
-    ensures { Calls handle.old.stored.content result handle.new.stored.content
-        (λ a b. Sets (all_selected a.area) result a b) }
-{
-    on!(handle, alloc, editor => {
-        editor.area.select_all();
-        OK
-    })
-}
+use textarea_c_data::status::{FALSE, INVALID_ARGUMENT, OK, OUT_OF_MEMORY, done, truth};
 
 /// Returns whether a selection is open, even an empty one.
 ///
@@ -97,28 +54,6 @@ pub extern "C" fn ta_selection_range(
         }
         None => FALSE,
     })
-}
-
-/// Yanks the selected text, if there is any, and drops the selection.
-///
-/// Statuses: ok, out of memory, empty handle.
-#[unsafe(no_mangle)]
-pub extern "C" fn ta_copy(handle: &mut Handle, alloc: Global) -> u32
-    ensures { Calls handle.old.stored.content result handle.new.stored.content
-        (λ a b. Changes (selection_copied a.area) result a b) }
-{
-    on!(handle, alloc, editor => done(editor.area.copy()))
-}
-
-/// Yanks and removes the selected text, and drops the selection.
-///
-/// Statuses: ok, false (no text was selected), out of memory, empty handle.
-#[unsafe(no_mangle)]
-pub extern "C" fn ta_cut(handle: &mut Handle, alloc: Global) -> u32
-    ensures { Calls handle.old.stored.content result handle.new.stored.content
-        (λ a b. Tries (is_selected a.area.document) (selection_cut a.area) result a b) }
-{
-    on!(handle, alloc, editor => flag(editor.area.cut()))
 }
 
 /// Returns the text that was yanked last, with a line feed for each line break; empty at first.

@@ -3,7 +3,7 @@ ghost use Rattle.std.specs.Prelude.{◌≡◌, ◌≢◌, IfSome, MatchOption, N
 ghost use Rattle.textarea_screen.specs.Block.{block_view};
 ghost use Rattle.textarea_screen.specs.Text.{text_view};
 ghost use Rattle.textarea_view.specs.SurroundState.{first_bytes, style_with_lines};
-ghost use Rattle.textarea_view.specs.Outcomes.{with_max_rows, with_min_rows, with_placeholder_style, with_placeholder_text};
+ghost use Rattle.textarea_view.specs.Outcomes.{with_placeholder_style, with_placeholder_text};
 ghost use Rattle.tui_textarea.specs.Measure.{with_surround};
 ghost use Rattle.textarea_c.specs.Calls.{Asks, Calls, ChangesBy, ChangesIf, Reads, Sets, SetsBy, with_block, with_placeholder};
 ghost use Rattle.textarea_c_data.specs.Copied.{written};
@@ -268,67 +268,5 @@ pub extern "C" fn ta_placeholder_style(handle: &mut Handle, alloc: Global, style
             OK
         }
         None => FALSE,
-    })
-}
-
-/// Sets the least height of the whole area, in screen rows; 0 counts as 1. The greatest height is
-/// raised to it if it is less.
-///
-/// Statuses: ok, empty handle.
-#[unsafe(no_mangle)]
-pub extern "C" fn ta_set_min_rows(handle: &mut Handle, alloc: Global, rows: u16) -> u32
-    ensures { Calls handle.old.stored.content result handle.new.stored.content
-        (λ a b. Sets (with_surround a.area (with_min_rows a.area.surround rows)) result a b) }
-{
-    on!(handle, alloc, editor => {
-        editor.area.set_min_rows(rows);
-        OK
-    })
-}
-
-/// Returns the least height of the whole area, in screen rows, from 1 to the greatest height.
-///
-/// Statuses: ok, empty handle.
-#[unsafe(no_mangle)]
-pub extern "C" fn ta_min_rows(handle: &mut Handle, alloc: Global, rows: &mut u16) -> u32
-    ensures unchanged { Calls handle.old.stored.content result handle.new.stored.content
-        (λ a b. Reads result a b) }
-    ensures value { IfSome handle.old.stored.content (λ a. rows.new ≡ a.area.surround.min_rows) }
-    ensures unwritten { result ≢ 0 → rows.new ≡ rows.old }
-{
-    on!(handle, alloc, editor => {
-        *rows = editor.area.min_rows();
-        OK
-    })
-}
-
-/// Sets the greatest height of the whole area, in screen rows; 0 counts as 1, and less than the
-/// least height as that height.
-///
-/// Statuses: ok, empty handle.
-#[unsafe(no_mangle)]
-pub extern "C" fn ta_set_max_rows(handle: &mut Handle, alloc: Global, rows: u16) -> u32
-    ensures { Calls handle.old.stored.content result handle.new.stored.content
-        (λ a b. Sets (with_surround a.area (with_max_rows a.area.surround rows)) result a b) }
-{
-    on!(handle, alloc, editor => {
-        editor.area.set_max_rows(rows);
-        OK
-    })
-}
-
-/// Returns the greatest height of the whole area, in screen rows: at least the least height.
-///
-/// Statuses: ok, empty handle.
-#[unsafe(no_mangle)]
-pub extern "C" fn ta_max_rows(handle: &mut Handle, alloc: Global, rows: &mut u16) -> u32
-    ensures unchanged { Calls handle.old.stored.content result handle.new.stored.content
-        (λ a b. Reads result a b) }
-    ensures value { IfSome handle.old.stored.content (λ a. rows.new ≡ a.area.surround.max_rows) }
-    ensures unwritten { result ≢ 0 → rows.new ≡ rows.old }
-{
-    on!(handle, alloc, editor => {
-        *rows = editor.area.max_rows();
-        OK
     })
 }

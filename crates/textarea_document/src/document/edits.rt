@@ -24,11 +24,7 @@ pub(super) fn edit_of(
     ensures fragment_lines { IfOk result (λ edit. IfSome edit.fragment_lines (λ n. 2 ≤ n)) }
 {
     if 1 < fragment_lines.len() {
-        return Ok(if inserts {
-            Edit::between(EditKind::InsertChunk(fragment_lines), start, end)
-        } else {
-            Edit::between(EditKind::DeleteChunk(fragment_lines), end, start)
-        });
+        return Ok(Edit::of_fragment(fragment_lines, inserts, start, end));
     }
     let text = only_line(fragment_lines)?;
     Ok(if inserts {

@@ -16,6 +16,7 @@ use crate::message::Message;
 use crate::pattern::{first_line, pattern_of};
 use std::alloc::AllocError;
 use textarea_data::input::Input;
+use textarea_run::inputs::copied;
 
 impl Editor {
     // Opens the prompt with an empty text.
@@ -74,7 +75,7 @@ impl Editor {
         ensures end { self.new.line_end ≡ self.old.line_end }
         ensures controls { self.new.controls ≡ self.old.controls }
     {
-        let is_edited = self.field.input(*input)?;
+        let is_edited = self.field.input(copied(input))?;
         if is_edited {
             self.look(asked)
         } else {

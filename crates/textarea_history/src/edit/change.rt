@@ -85,7 +85,8 @@ impl<'a> Change<'a> {
             Content::Text(text) => text.len(),
             Content::Typed(text) => text.len(),
             Content::Break => 1,
-            Content::Chunk(fragment_lines) => weight_of_fragment(fragment_lines.as_slice()),
+            Content::Lines(fragment_lines) => weight_of_fragment(fragment_lines.as_slice()),
+            Content::Shared(fragment_lines) => weight_of_fragment(fragment_lines.as_slice()),
         }
     }
 
@@ -141,7 +142,7 @@ impl<'a> Change<'a> {
                 let restored = reverse_text(*lines.allocator(), text.as_str())?;
                 self.insert_inside(lines, offset, restored.as_str())
             }
-            Content::Break | Content::Chunk(_) => unreachable!(),
+            Content::Break | Content::Lines(_) | Content::Shared(_) => unreachable!(),
         }
     }
 
@@ -191,8 +192,11 @@ impl<'a> Change<'a> {
                 self.prepare_insertion(alloc, lines, restored.as_str(), &[])
             }
             Content::Break => self.prepare_insertion(alloc, lines, "", &[String::new(alloc)]),
-            Content::Chunk(chunk) => {
-                self.prepare_insertion(alloc, lines, chunk[0].as_str(), &chunk[1..])
+            Content::Lines(fragment) => {
+                self.prepare_insertion(alloc, lines, fragment[0].as_str(), &fragment[1..])
+            }
+            Content::Shared(fragment) => {
+                self.prepare_insertion(alloc, lines, fragment[0].as_str(), &fragment[1..])
             }
         }
     }

@@ -18,7 +18,8 @@ impl Edit {
             Content::Text(text) => only_character(text.as_str()),
             Content::Typed(text) => only_character(text.as_str()),
             Content::Break => None,
-            Content::Chunk(_) => None,
+            Content::Lines(_) => None,
+            Content::Shared(_) => None,
         }
     }
 

@@ -78,6 +78,6 @@ pub fn pass_on(area: &mut TextArea<'_>, input: &Input) -> Result<(), AllocError>
     ensures ok { OnOk result (AllMade area.old (passed_on input.now ∷ []) area.new) }
     ensures err { OnErr result (OneRunsOut area.old (passed_on input.now ∷ []) area.new) }
 {
-    area.input(*input)?;
+    area.input(Input { ..*input })?;
     Ok(())
 }

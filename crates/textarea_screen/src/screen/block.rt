@@ -1,4 +1,4 @@
-ghost use Rattle.std.specs.Prelude.{⊤, ◌≡◌, ◌==◌, ◌+◌, ◌-◌, ℕ, [], ◌∷◌, codes, min, Some, IfOk, IsTrue};
+ghost use Rattle.std.specs.Prelude.{⊤, ◌≡◌, ◌==◌, ◌+◌, ◌-◌, ℕ, [], ◌∷◌, codes, min, Some, None, IfOk, IsOk, IsTrue};
 ghost use Rattle.std.specs.Int.RustNames.{bit_and, bit_or};
 ghost use Rattle.textarea_screen.specs.Inset.{inset_of};
 
@@ -170,9 +170,11 @@ impl<'a> Block<'a> {
         }
     }
 
-    /// Returns a copy of the block; the owned texts of its title are copied.
+    /// Returns a copy of the block; the owned texts of its title are copied. It allocates nothing if
+    /// there is no title.
     pub fn clone(&self) -> Result<Block<'a>, AllocError>
-        ensures { IfOk result (λ block. block_view block ≡ block_view self.now) }
+        ensures value { IfOk result (λ block. block_view block ≡ block_view self.now) }
+        ensures untitled { self.now.title ≡ None → IsOk result }
     {
         let title = match &self.title {
             Some(title) => Some(title.clone()?),

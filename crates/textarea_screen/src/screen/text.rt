@@ -144,9 +144,11 @@ impl<'a> Line<'a> {
         Ok(Line::from_spans(spans))
     }
 
-    /// Returns a copy of the line; the owned texts of its spans are copied.
+    /// Returns a copy of the line; the owned texts of its spans are copied. It allocates nothing if
+    /// there is no span.
     pub fn clone(&self) -> Result<Line<'a>, AllocError>
-        ensures { IfOk result (λ line. line_view line ≡ line_view self.now) }
+        ensures value { IfOk result (λ line. line_view line ≡ line_view self.now) }
+        ensures empty { self.now.spans.items ≡ [] → IsOk result }
     {
         let mut spans = Vec::with_capacity(*self.spans.allocator(), self.spans.len())?;
         for span in &self.spans {
@@ -187,9 +189,11 @@ impl<'a> Text<'a> {
         }
     }
 
-    /// Returns a copy of the text; the owned texts of its spans are copied.
+    /// Returns a copy of the text; the owned texts of its spans are copied. It allocates nothing if
+    /// there is no line.
     pub fn clone(&self) -> Result<Text<'a>, AllocError>
-        ensures { IfOk result (λ text. text_view text ≡ text_view self.now) }
+        ensures value { IfOk result (λ text. text_view text ≡ text_view self.now) }
+        ensures empty { self.now.lines.items ≡ [] → IsOk result }
     {
         let mut lines = Vec::with_capacity(*self.lines.allocator(), self.lines.len())?;
         for line in &self.lines {

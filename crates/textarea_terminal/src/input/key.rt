@@ -1,10 +1,10 @@
 //! The keys of a terminal.
 
 ghost use Rattle.std.specs.Prelude.{◌≡◌, ◌<◌};
-ghost use Rattle.textarea_terminal.specs.InputEvent.{value_of};
-ghost use Rattle.textarea_terminal.specs.InputKey.{input_of_key, ctrl_input, with_alt, input_with, key_event, entry, letter_keys, numbered_keys, small_letter_keys, console_keys, byte_input, single_event};
+ghost use Rattle.textarea_terminal.specs.InputEvent.{unit_value};
+ghost use Rattle.textarea_terminal.specs.InputKey.{input_of_key, ctrl_input, with_alt, has_modifier, input_with, key_event, entry, letter_keys, numbered_keys, small_letter_keys, console_keys, keypad_keys, coded_keys, or_key, byte_input, single_event, is_typed, character_of, typed_event, coded_event};
 
-use crate::input::event::Event;
+use crate::input::event::Unit;
 use textarea_data::input::{Input, Key};
 
 /// The input of a key with no modifier.
@@ -39,33 +39,35 @@ pub fn alt_input(input: Input) -> Input
     Input { alt: true, ..input }
 }
 
-/// The input of a key with the modifiers of a parameter from 1 to 8; parameter 0 is no modifier.
-pub fn modified_input(key: Key, parameter: u16) -> Input
+// Whether a parameter of modifiers has some of these.
+#[inline]
+fn has_modifier(parameter: u32, bits: u32) -> bool
+    ensures { result ≡ has_modifier parameter bits }
+{
+    parameter.saturating_sub(1) & bits != 0
+}
+
+/// The input of a key with the modifiers of a parameter, which is 1 plus 1 for Shift, 2 for Alt, 4
+/// for Ctrl, and 8 and 32 for Meta and Super, which count as Alt. Parameter 0 is no modifier.
+#[inline]
+pub fn modified_input(key: Key, parameter: u32) -> Input
     ensures { result ≡ input_with key parameter }
 {
-    let bits = parameter.saturating_sub(1);
     Input {
         key,
-        ctrl: bits & 4 != 0,
-        alt: bits & 2 != 0,
-        shift: bits & 1 != 0,
+        ctrl: has_modifier(parameter, 4),
+        alt: has_modifier(parameter, 42),
+        shift: has_modifier(parameter, 1),
     }
 }
 
-/// The event of a key with the modifiers of a parameter, which is 1 plus 1 for Shift, 2 for Alt and
-/// 4 for Ctrl (xterm). It is unknown if there is no key, or if the parameter isn't from 1 to 8.
-pub fn pressed_key(key: Option<Key>, parameter: u16) -> Event
-    ensures { value_of result ≡ key_event key parameter }
+/// A key, if there is one, with the modifiers of a parameter.
+pub fn pressed_key(key: Option<Key>, parameter: u32) -> Unit
+    ensures { unit_value result ≡ key_event key parameter }
 {
     match key {
-        Some(key) => {
-            if 1 <= parameter && parameter <= 8 {
-                Event::Input(modified_input(key, parameter))
-            } else {
-                Event::Unknown
-            }
-        }
-        None => Event::Unknown,
+        Some(key) => Unit::Input(modified_input(key, parameter)),
+        None => Unit::Unknown,
     }
 }
 
@@ -89,7 +91,7 @@ pub fn letter_key(letter: u8) -> Option<Key>
 }
 
 /// The key of a number before a final `~`.
-pub fn numbered_key(number: u16) -> Option<Key>
+pub fn numbered_key(number: u32) -> Option<Key>
     ensures { result ≡ entry numbered_keys number }
 {
     match number {
@@ -170,13 +172,177 @@ pub fn single_byte(byte: u8) -> Input
     }
 }
 
-/// The event of a byte after `ESC O`.
-pub fn single_letter(letter: u8) -> Event
-    ensures { value_of result ≡ single_event letter }
+/// The key of a letter of the keypad.
+pub fn keypad_key(letter: u8) -> Option<Key>
+    ensures { result ≡ entry keypad_keys letter }
 {
     match letter {
-        b'M' => Event::Input(plain_input(Key::Enter)),
+        b' ' => Some(Key::Char(' ')),
+        b'I' => Some(Key::Tab),
+        b'M' => Some(Key::Enter),
+        b'X' => Some(Key::Char('=')),
+        b'j' => Some(Key::Char('*')),
+        b'k' => Some(Key::Char('+')),
+        b'l' => Some(Key::Char(',')),
+        b'm' => Some(Key::Char('-')),
+        b'n' => Some(Key::Char('.')),
+        b'o' => Some(Key::Char('/')),
+        b'p' => Some(Key::Char('0')),
+        b'q' => Some(Key::Char('1')),
+        b'r' => Some(Key::Char('2')),
+        b's' => Some(Key::Char('3')),
+        b't' => Some(Key::Char('4')),
+        b'u' => Some(Key::Char('5')),
+        b'v' => Some(Key::Char('6')),
+        b'w' => Some(Key::Char('7')),
+        b'x' => Some(Key::Char('8')),
+        b'y' => Some(Key::Char('9')),
+        _ => None,
+    }
+}
+
+/// The key of a letter of the keypad, or of one that ends a sequence.
+pub fn letter_or_keypad_key(letter: u8) -> Option<Key>
+    ensures { result ≡ or_key (entry letter_keys letter) (entry keypad_keys letter) }
+{
+    match letter_key(letter) {
+        Some(key) => Some(key),
+        None => keypad_key(letter),
+    }
+}
+
+/// What a byte after `ESC O` is.
+pub fn single_letter(letter: u8) -> Unit
+    ensures { unit_value result ≡ single_event letter }
+{
+    match letter {
         b'a'..=b'd' => pressed_key(small_letter_key(letter), 5),
-        _ => pressed_key(letter_key(letter), 1),
+        b'E' => Unit::Input(plain_input(Key::Char('5'))),
+        _ => pressed_key(letter_or_keypad_key(letter), 1),
+    }
+}
+
+// The key of a code (kitty, "Functional key definitions").
+fn coded_key(code: u32) -> Option<Key>
+    ensures { result ≡ entry coded_keys code }
+{
+    match code {
+        8 => Some(Key::Backspace),
+        9 => Some(Key::Tab),
+        13 => Some(Key::Enter),
+        27 => Some(Key::Esc),
+        127 => Some(Key::Backspace),
+        57376 => Some(Key::F(13)),
+        57377 => Some(Key::F(14)),
+        57378 => Some(Key::F(15)),
+        57379 => Some(Key::F(16)),
+        57380 => Some(Key::F(17)),
+        57381 => Some(Key::F(18)),
+        57382 => Some(Key::F(19)),
+        57383 => Some(Key::F(20)),
+        57384 => Some(Key::F(21)),
+        57385 => Some(Key::F(22)),
+        57386 => Some(Key::F(23)),
+        57387 => Some(Key::F(24)),
+        57388 => Some(Key::F(25)),
+        57389 => Some(Key::F(26)),
+        57390 => Some(Key::F(27)),
+        57391 => Some(Key::F(28)),
+        57392 => Some(Key::F(29)),
+        57393 => Some(Key::F(30)),
+        57394 => Some(Key::F(31)),
+        57395 => Some(Key::F(32)),
+        57396 => Some(Key::F(33)),
+        57397 => Some(Key::F(34)),
+        57398 => Some(Key::F(35)),
+        57399 => Some(Key::Char('0')),
+        57400 => Some(Key::Char('1')),
+        57401 => Some(Key::Char('2')),
+        57402 => Some(Key::Char('3')),
+        57403 => Some(Key::Char('4')),
+        57404 => Some(Key::Char('5')),
+        57405 => Some(Key::Char('6')),
+        57406 => Some(Key::Char('7')),
+        57407 => Some(Key::Char('8')),
+        57408 => Some(Key::Char('9')),
+        57409 => Some(Key::Char('.')),
+        57410 => Some(Key::Char('/')),
+        57411 => Some(Key::Char('*')),
+        57412 => Some(Key::Char('-')),
+        57413 => Some(Key::Char('+')),
+        57414 => Some(Key::Enter),
+        57415 => Some(Key::Char('=')),
+        57416 => Some(Key::Char(',')),
+        57417 => Some(Key::Left),
+        57418 => Some(Key::Right),
+        57419 => Some(Key::Up),
+        57420 => Some(Key::Down),
+        57421 => Some(Key::PageUp),
+        57422 => Some(Key::PageDown),
+        57423 => Some(Key::Home),
+        57424 => Some(Key::End),
+        57425 => Some(Key::Null),
+        57426 => Some(Key::Delete),
+        _ => None,
+    }
+}
+
+fn is_typed(code: u32) -> bool
+    ensures { result ≡ is_typed code }
+{
+    (32 <= code && code <= 126)
+        || (160 <= code && code <= 55_295)
+        || (63_744 <= code && code <= 1_114_111)
+}
+
+// The character of a key by its code, its character with Shift, and its text, or 0 for each that
+// isn't told.
+fn character_of(code: u32, shifted: u32, text: u32, shift: bool) -> u32
+    ensures { result ≡ character_of code shifted text shift }
+{
+    if text != 0 {
+        text
+    } else if !shift {
+        code
+    } else if shifted != 0 {
+        shifted
+    } else if 97 <= code && code <= 122 {
+        code - 32
+    } else {
+        code
+    }
+}
+
+// A character with modifiers.
+fn typed(code: u32, modifiers: Input) -> Unit
+    ensures { unit_value result ≡ typed_event code modifiers }
+{
+    if !is_typed(code) {
+        return Unit::Unknown;
+    }
+    match char::from_u32(code) {
+        Some(character) => Unit::Input(Input {
+            key: Key::Char(character),
+            ctrl: modifiers.ctrl,
+            alt: modifiers.alt,
+            shift: modifiers.shift && (modifiers.ctrl || modifiers.alt),
+        }),
+        None => Unit::Unknown,
+    }
+}
+
+/// A key by its code, its character with Shift and its text, which are 0 if they aren't told, and a
+/// parameter of modifiers (kitty, "CSI u"; xterm, "modifyOtherKeys").
+#[tactic(auto, unfolding(crate::specs::InputKey::coded_event))]
+pub fn coded_input(code: u32, shifted: u32, text: u32, parameter: u32) -> Unit
+    ensures { unit_value result ≡ coded_event code shifted text parameter }
+{
+    match coded_key(code) {
+        Some(key) => Unit::Input(modified_input(key, parameter)),
+        None => {
+            let shift = has_modifier(parameter, 1);
+            let character = character_of(code, shifted, text, shift);
+            typed(character, modified_input(Key::Null, parameter))
+        }
     }
 }

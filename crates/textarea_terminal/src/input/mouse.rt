@@ -1,16 +1,29 @@
-//! SGR mouse reports (xterm, mode 1006).
+//! Mouse reports (xterm, "Mouse Tracking"): of mode 1006 (SGR), and of the older ones.
 
-ghost use Rattle.std.specs.Prelude.{◌≡◌, ◌<◌};
-ghost use Rattle.textarea_terminal.specs.InputEvent.{value_of};
-ghost use Rattle.textarea_terminal.specs.InputMouse.{button_of, mouse_kind, wheel_event, button_event, mouse_event};
+ghost use Rattle.std.specs.Prelude.{◌≡◌, ◌<◌, Some};
+ghost use Rattle.textarea_terminal.specs.InputEvent.{unit_value};
+ghost use Rattle.textarea_terminal.specs.InputMouse.{has, button_of, mouse_kind, at_cell, with_code, wheel_event, button_event, mouse_at, mouse_event, old_mouse_event, raised_mouse_event};
+ghost use Rattle.textarea_terminal.specs.InputParameter.{clamped};
 
-use crate::input::event::{Event, Mouse, MouseButton, MouseKind};
+use crate::input::event::{Mouse, MouseButton, MouseKind, Unit};
+use crate::input::parameter::clamped;
 use textarea_data::input::{Input, Key};
 
-fn button(code: u16) -> Option<MouseButton>
+// Whether a code has a bit.
+fn has(code: u32, bit: u32) -> bool
+    ensures { result ≡ has code bit }
+{
+    code & bit != 0
+}
+
+fn button(code: u32) -> Option<MouseButton>
     ensures { result ≡ button_of code }
 {
-    match code & 3 {
+    let low = (code & 3) as u8;
+    if has(code, 128) {
+        return Some(MouseButton::Other(low + 8));
+    }
+    match low {
         0 => Some(MouseButton::Left),
         1 => Some(MouseButton::Middle),
         2 => Some(MouseButton::Right),
@@ -30,54 +43,105 @@ fn kind(button: Option<MouseButton>, moved: bool, down: bool) -> Option<MouseKin
     }
 }
 
-fn read_wheel(code: u16, down: bool) -> Event
-    ensures { value_of result ≡ wheel_event code down }
+// A step of the wheel up or down.
+fn wheel_key(code: u32, key: Key) -> Unit
+    ensures { unit_value result ≡ with_code code key }
 {
-    let key = match code & 3 {
-        0 => Key::MouseScrollUp,
-        1 => Key::MouseScrollDown,
-        _ => return Event::Unknown,
-    };
-    if !down {
-        return Event::Unknown;
-    }
-    Event::Input(Input {
+    Unit::Input(Input {
         key,
-        ctrl: code & 16 != 0,
-        alt: code & 8 != 0,
-        shift: code & 4 != 0,
+        ctrl: has(code, 16),
+        alt: has(code, 8),
+        shift: has(code, 4),
     })
 }
 
-fn read_button(code: u16, column: u16, row: u16, down: bool) -> Event
+// What a mouse did in a cell.
+fn at_cell(code: u32, column: u32, row: u32, kind: MouseKind) -> Unit
     requires column { 0 < column }
     requires row { 0 < row }
-    ensures { value_of result ≡ button_event code column row down }
+    ensures { unit_value result ≡ at_cell code column row (Some kind) }
 {
-    match kind(button(code), code & 32 != 0, down) {
-        Some(kind) => Event::Mouse(Mouse {
-            kind,
-            column: column - 1,
-            row: row - 1,
-            ctrl: code & 16 != 0,
-            alt: code & 8 != 0,
-            shift: code & 4 != 0,
-        }),
-        None => Event::Unknown,
+    Unit::Mouse(Mouse {
+        kind,
+        column: clamped(column) - 1,
+        row: clamped(row) - 1,
+        ctrl: has(code, 16),
+        alt: has(code, 8),
+        shift: has(code, 4),
+    })
+}
+
+fn read_wheel(code: u32, column: u32, row: u32, down: bool) -> Unit
+    requires column { 0 < column }
+    requires row { 0 < row }
+    ensures { unit_value result ≡ wheel_event code column row down }
+{
+    if !down {
+        return Unit::Unknown;
+    }
+    match code & 3 {
+        0 => wheel_key(code, Key::MouseScrollUp),
+        1 => wheel_key(code, Key::MouseScrollDown),
+        2 => at_cell(code, column, row, MouseKind::WheelLeft),
+        _ => at_cell(code, column, row, MouseKind::WheelRight),
     }
 }
 
-/// The event of an SGR mouse report: its code, its column and row from 1, and its final byte.
-#[tactic(auto, unfolding(crate::specs::InputMouse::mouse_event))]
-pub fn read_mouse(code: u16, column: u16, row: u16, last: u8) -> Event
-    ensures { value_of result ≡ mouse_event code column row last }
+fn read_button(code: u32, column: u32, row: u32, down: bool) -> Unit
+    requires column { 0 < column }
+    requires row { 0 < row }
+    ensures { unit_value result ≡ button_event code column row down }
 {
-    if (last != b'M' && last != b'm') || code >= 128 || column == 0 || row == 0 {
-        return Event::Unknown;
+    match kind(button(code), has(code, 32), down) {
+        Some(kind) => at_cell(code, column, row, kind),
+        None => Unit::Unknown,
     }
-    if code & 64 != 0 {
-        read_wheel(code, last == b'M')
+}
+
+// What a mouse did, by its code, and its column and row from 1.
+#[tactic(auto, unfolding(crate::specs::InputMouse::mouse_at))]
+fn read_at(code: u32, column: u32, row: u32, down: bool) -> Unit
+    ensures { unit_value result ≡ mouse_at code column row down }
+{
+    if code >= 192 || column == 0 || row == 0 {
+        return Unit::Unknown;
+    }
+    if has(code, 64) {
+        read_wheel(code, column, row, down)
     } else {
-        read_button(code, column, row, last == b'M')
+        read_button(code, column, row, down)
     }
+}
+
+/// An SGR mouse report: its code, its column and row from 1, and its final byte.
+#[tactic(auto, unfolding(crate::specs::InputMouse::mouse_event))]
+pub fn read_mouse(code: u32, column: u32, row: u32, last: u8) -> Unit
+    ensures { unit_value result ≡ mouse_event code column row last }
+{
+    if last == b'M' || last == b'm' {
+        read_at(code, column, row, last == b'M')
+    } else {
+        Unit::Unknown
+    }
+}
+
+#[tactic(auto, unfolding(crate::specs::InputMouse::old_mouse_event))]
+fn read_old(code: u32, column: u32, row: u32) -> Unit
+    ensures { unit_value result ≡ old_mouse_event code column row }
+{
+    if code & 227 == 3 && column != 0 && row != 0 {
+        at_cell(code, column, row, MouseKind::ReleaseAny)
+    } else {
+        read_at(code, column, row, true)
+    }
+}
+
+/// A report of the older modes: its code, which 32 is added to, and its column and row from 1.
+pub fn read_old_mouse(code: u32, column: u32, row: u32) -> Unit
+    ensures { unit_value result ≡ raised_mouse_event code column row }
+{
+    if code < 32 {
+        return Unit::Unknown;
+    }
+    read_old(code - 32, column, row)
 }

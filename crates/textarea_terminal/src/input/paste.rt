@@ -1,13 +1,11 @@
 //! Pasted texts (xterm, "Bracketed Paste Mode").
 
-ghost use Rattle.std.specs.Prelude.{◌≡◌, ◌≤◌, ◌+◌, length, take, None, IfOk, option_map, IfSome};
+ghost use Rattle.std.specs.Prelude.{◌≡◌, ◌≤◌, ◌+◌, length, take, None, IfSome};
 ghost use Rattle.textarea_terminal.specs.InputReading.{Reads};
-ghost use Rattle.textarea_terminal.specs.InputEvent.{value_of};
+ghost use Rattle.textarea_terminal.specs.InputEvent.{paste};
 ghost use Rattle.textarea_terminal.specs.InputUnit.{paste_start, paste_end, after_mark, mark_index, paste_at};
 
-use crate::input::event::Event;
 use memchr::memmem;
-use std::alloc::{AllocError, Global};
 
 const START: &[u8; 6] = b"\x1b[200~";
 
@@ -20,8 +18,8 @@ pub fn after_start(bytes: &[u8]) -> Option<&[u8]>
     bytes.strip_prefix(START)
 }
 
-// The index of the end mark. The first `begun` bytes contain none.
-fn find_end(text: &[u8], begun: usize) -> Option<usize>
+/// The index of the end mark. The first `begun` bytes are known to contain none.
+pub fn find_end(text: &[u8], begun: usize) -> Option<usize>
     requires within { begun ≤ length text.now }
     requires begun { mark_index paste_end (take begun text.now) ≡ None }
     ensures index { result ≡ mark_index paste_end text.now }
@@ -35,26 +33,18 @@ fn find_end(text: &[u8], begun: usize) -> Option<usize>
     }
 }
 
-/// Returns the pasted text whose start mark is before these bytes, and the bytes after its end
-/// mark; `None` if there is no end mark.
+/// Returns the bytes of the pasted text whose start mark is before these bytes, and the bytes after
+/// its end mark; `None` if there is no end mark.
 ///
 /// The first `begun` bytes are known to contain no end mark, and are not searched again.
 #[tactic(auto, unfolding(crate::specs::InputUnit::paste_at))]
-pub fn read_paste(
-    alloc: Global,
-    bytes: &[u8],
-    begun: usize,
-) -> Result<Option<(Event, &[u8])>, AllocError>
+pub fn read_paste(bytes: &[u8], begun: usize) -> Option<(&[u8], &[u8])>
     requires within { begun ≤ length bytes.now }
     requires begun { mark_index paste_end (take begun bytes.now) ≡ None }
-    ensures { IfOk result (λ found.
-        Reads (λ x. (value_of x.0, x.1.now)) found (paste_at bytes.now)) }
+    ensures { Reads (λ x. (paste x.0.now, x.1.now)) result (paste_at bytes.now) }
 {
     match find_end(bytes, begun) {
-        Some(index) => {
-            let text = String::from_utf8_lossy(alloc, &bytes[..index])?;
-            Ok(Some((Event::Paste(text), &bytes[index + 6..])))
-        }
-        None => Ok(None),
+        Some(index) => Some((&bytes[..index], &bytes[index + 6..])),
+        None => None,
     }
 }

@@ -18,17 +18,17 @@ const ESCAPE: u8 = 0x1b;
 fn modified_key(number: u8, parameter: u8, last: u8) -> Option<Input>
     requires { (2 ≤ parameter) × (parameter ≤ 8) }
     ensures event { IfSome result (λ i. event_of_two number parameter last ≡ input i) }
-    ensures end { IfSome result (λ i. is_final last ≡ true) }
+    ensures end { IfSome result (λ i. (is_final last ≡ true) × (last ≢ 117)) }
 {
     if last == b'~' {
-        let key = numbered_key(u16::from(number))?;
-        return Some(modified_input(key, u16::from(parameter)));
+        let key = numbered_key(u32::from(number))?;
+        return Some(modified_input(key, u32::from(parameter)));
     }
     if number != 1 {
         return None;
     }
     let key = letter_key(last)?;
-    Some(modified_input(key, u16::from(parameter)))
+    Some(modified_input(key, u32::from(parameter)))
 }
 
 // The key of a sequence by the bytes after `ESC [`, the digits of a number and a semicolon, and the
@@ -56,7 +56,7 @@ fn read_numbered(number: u8, bytes: &[u8]) -> Option<(Input, &[u8])>
 {
     let (byte, rest) = bytes.split_first()?;
     if *byte == b'~' {
-        let key = numbered_key(u16::from(number))?;
+        let key = numbered_key(u32::from(number))?;
         return Some((plain_input(key), rest));
     }
     if *byte != b';' {

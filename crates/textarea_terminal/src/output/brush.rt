@@ -1,17 +1,20 @@
 //! The known state of a terminal's cursor and pen, and the bytes of changed cells.
 ghost use Rattle.std.specs.Prelude.{◌≡◌, ℕ, ◌+◌, ◌<◌, ◌≤◌, ◌^◌, ◌++◌, ◌⊎◌, ◌%◌, ◌/◌, true, ◌≢◌, false, map, length, replicate, OnOk, IfOk, Some, None, IsTrue, ◌↔◌};
 ghost use Rattle.textarea_screen.specs.Cell.{CellView, cell_view, fresh_cell};
+ghost use Rattle.textarea_terminal.specs.Control.{bytes_of};
+ghost use Rattle.textarea_terminal.specs.Disputed.{is_disputed};
+ghost use Rattle.textarea_terminal.specs.Parted.{blank_prints, parted_controls};
 ghost use Rattle.textarea_terminal.specs.Pen.{look_of};
 ghost use Rattle.textarea_terminal.specs.PaintSpot.{IsSpot};
 ghost use Rattle.textarea_terminal.specs.PaintCells.{can_begin, is_half, are_whole, cluster_columns};
 ghost use Rattle.textarea_terminal.specs.Screen.{cursor_after};
-ghost use Rattle.textarea_terminal.specs.Paint.{Wrote, BeginsUpdate, MovesTo, TakesLook, PrintsCell, IsStep, Repaints, brush_after};
+ghost use Rattle.textarea_terminal.specs.Paint.{Wrote, BeginsUpdate, MovesTo, TakesLook, PrintsLast, PrintsCell, IsStep, Repaints, at_after, brush_after};
 
 use super::controls::{write_move, write_pen};
 use super::look::{Look, PLAIN, has_look, is_same_look, look_of};
 use super::spot::Spot;
 use super::symbol::{is_same_symbol, write_symbol};
-use super::width::cluster_columns;
+use super::width::{cluster_columns, is_disputed};
 use std::alloc::AllocError;
 use textarea_screen::screen::Cell;
 
@@ -98,6 +101,110 @@ fn cursor_after(columns: usize, spot: Spot, width: usize) -> Option<usize>
     }
 }
 
+/// Writes the blanks of some columns.
+fn write_blanks(bytes: &mut Vec<u8>, count: usize) -> Result<(), AllocError>
+    ensures { OnOk result
+        (bytes.new.items ≡ bytes.old.items ++ bytes_of (blank_prints count)) }
+{
+    for _ in 0..count {
+        bytes.push(b' ')?;
+    }
+    Ok(())
+}
+
+/// Prints a disputed cluster at a cell, apart from what is before it: its cells are made blank, and
+/// it is addressed again. Where the cursor is then isn't known.
+#[inline(never)]
+fn write_apart(bytes: &mut Vec<u8>, spot: Spot, symbol: &str) -> Result<(), AllocError>
+    requires place { spot.place < 2 ^ 32 }
+    requires row { spot.row ≤ spot.place }
+    requires column { spot.column < 2 ^ 32 }
+    ensures { OnOk result (bytes.new.items
+        ≡ bytes.old.items ++ bytes_of (parted_controls spot.row spot.column symbol.now)) }
+{
+    write_blanks(bytes, cluster_columns(symbol))?;
+    write_move(bytes, spot.row as u64, spot.column as u64)?;
+    write_symbol(bytes, symbol)?;
+    Ok(())
+}
+
+/// Whether a cell's cluster is disputed.
+#[inline]
+fn is_disputed_cell(cell: &Cell) -> bool
+    ensures { result ≡ is_disputed (cell_view cell.now).symbol }
+{
+    is_disputed(cell.symbol())
+}
+
+/// Prints a cell's disputed cluster. Where the cursor is then isn't known.
+#[inline(never)]
+fn write_disputed(
+    bytes: &mut Vec<u8>,
+    columns: usize,
+    spot: Spot,
+    cell: &Cell,
+) -> Result<(), AllocError>
+    requires columns { (0 < columns) × (columns < 2 ^ 16) }
+    requires place { spot.place < 2 ^ 32 }
+    requires spot { IsSpot columns spot }
+    requires begins { IsTrue (can_begin columns spot.place (cell_view cell.now)) }
+    requires disputed { is_disputed (cell_view cell.now).symbol ≡ true }
+    ensures at { OnOk result (at_after columns spot.place (cell_view cell.now) ≡ None) }
+    ensures wrote { OnOk result (Wrote bytes.old.items bytes.new.items
+        (PrintsLast columns spot.place (cell_view cell.now))) }
+{
+    write_apart(bytes, spot, cell.symbol())?;
+    Ok(())
+}
+
+/// Prints a cell's cluster, which isn't disputed. Returns where the cursor is then, if it is known.
+#[inline]
+fn write_agreed(
+    bytes: &mut Vec<u8>,
+    columns: usize,
+    spot: Spot,
+    cell: &Cell,
+) -> Result<Option<usize>, AllocError>
+    requires columns { (0 < columns) × (columns < 2 ^ 16) }
+    requires place { spot.place < 2 ^ 32 }
+    requires spot { IsSpot columns spot }
+    requires begins { IsTrue (can_begin columns spot.place (cell_view cell.now)) }
+    requires agreed { is_disputed (cell_view cell.now).symbol ≡ false }
+    ensures at { IfOk result (λ at. at ≡ at_after columns spot.place (cell_view cell.now)) }
+    ensures wrote { OnOk result (Wrote bytes.old.items bytes.new.items
+        (PrintsLast columns spot.place (cell_view cell.now))) }
+{
+    write_symbol(bytes, cell.symbol())?;
+    let at = cursor_after(columns, spot, cluster_columns(cell.symbol()));
+    Ok(at)
+}
+
+/// Prints the cluster that begins in a cell, where the cursor is.
+#[inline]
+fn write_cluster(
+    bytes: &mut Vec<u8>,
+    at: &mut Option<usize>,
+    columns: usize,
+    spot: Spot,
+    cell: &Cell,
+) -> Result<(), AllocError>
+    requires columns { (0 < columns) × (columns < 2 ^ 16) }
+    requires place { spot.place < 2 ^ 32 }
+    requires spot { IsSpot columns spot }
+    requires begins { IsTrue (can_begin columns spot.place (cell_view cell.now)) }
+    ensures at { OnOk result (at.new ≡ at_after columns spot.place (cell_view cell.now)) }
+    ensures wrote { OnOk result (Wrote bytes.old.items bytes.new.items
+        (PrintsLast columns spot.place (cell_view cell.now))) }
+{
+    if is_disputed_cell(cell) {
+        write_disputed(bytes, columns, spot, cell)?;
+        *at = None;
+        return Ok(());
+    }
+    *at = write_agreed(bytes, columns, spot, cell)?;
+    Ok(())
+}
+
 /// Prints the cluster that begins in a cell.
 #[inline(never)]
 fn write_cell(
@@ -120,8 +227,7 @@ fn write_cell(
     brush.is_updating = true;
     move_to(bytes, brush.at, columns, spot)?;
     take_look(bytes, &mut brush.pen, look_of(cell))?;
-    write_symbol(bytes, cell.symbol())?;
-    brush.at = cursor_after(columns, spot, cluster_columns(cell.symbol()));
+    write_cluster(bytes, &mut brush.at, columns, spot, cell)?;
     Ok(())
 }
 

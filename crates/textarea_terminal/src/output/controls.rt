@@ -1,8 +1,9 @@
 //! The bytes of each control.
-ghost use Rattle.std.specs.Prelude.{◌≡◌, ℕ, ◌+◌, ◌<◌, ◌≤◌, ◌^◌, ◌++◌, OnOk, [], ◌∷◌, codes, decimal};
-ghost use Rattle.textarea_terminal.specs.Control.{control_bytes};
-ghost use Rattle.textarea_terminal.specs.Control.Control.{MoveTo, SetPen};
-ghost use Rattle.textarea_terminal.specs.Pen.{Rendition, renditions_bytes, renditions_of, added, all_numbers, foreground, background, color_bytes};
+ghost use Rattle.std.specs.Prelude.{◌≡◌, ℕ, ◌+◌, ◌<◌, ◌≤◌, ◌^◌, ◌++◌, OnOk, IfOk, [], ◌∷◌, codes, decimal};
+ghost use Rattle.textarea_terminal.specs.Control.{bytes_of, control_bytes};
+ghost use Rattle.textarea_terminal.specs.Control.Control.{MoveTo};
+ghost use Rattle.textarea_terminal.specs.PenControls.{pen_controls};
+ghost use Rattle.textarea_terminal.specs.Pen.{Rendition, renditions_bytes, parameter_count, added, all_numbers, foreground, background, color_bytes};
 
 use super::look::Look;
 use std::alloc::AllocError;
@@ -10,6 +11,9 @@ use textarea_screen::screen::{Color, Modifier};
 
 /// The SGR numbers of the modifiers. Number N is bit N - 1 of a `Modifier`.
 const MODIFIERS: [u8; 9] = [1, 2, 3, 4, 5, 6, 7, 8, 9];
+
+/// A terminal may leave out the parameters of a control after these.
+const MOST_PARAMETERS: u8 = 16;
 
 /// Writes a number in decimal.
 fn write_number(bytes: &mut Vec<u8>, number: u64) -> Result<(), AllocError>
@@ -39,45 +43,73 @@ pub(super) fn write_move(bytes: &mut Vec<u8>, row: u64, column: u64) -> Result<(
     bytes.extend_from_slice(b"H")
 }
 
-/// Resets the pen, and gives it a look.
+/// Resets the pen, and gives it a look. A second control has the background if the first would have
+/// too many parameters.
 #[inline(never)]
 pub(super) fn write_pen(bytes: &mut Vec<u8>, look: Look) -> Result<(), AllocError>
     ensures { OnOk result
-        (bytes.new.items ≡ bytes.old.items ++ control_bytes (SetPen (renditions_of look))) }
+        (bytes.new.items ≡ bytes.old.items ++ bytes_of (pen_controls look)) }
 {
     bytes.extend_from_slice(b"\x1b[0")?;
-    write_modifiers(bytes, look.modifier)?;
+    let count = write_modifiers(bytes, look.modifier)?;
     write_foreground(bytes, look.fg)?;
-    write_background(bytes, look.bg)?;
+    if count + parameters(look.fg) + parameters(look.bg) <= MOST_PARAMETERS - 1 {
+        write_background(bytes, look.bg)?;
+        bytes.extend_from_slice(b"m")?;
+        return Ok(());
+    }
+    bytes.extend_from_slice(b"m\x1b[")?;
+    write_color(bytes, 40, look.bg)?;
     bytes.extend_from_slice(b"m")?;
     Ok(())
 }
 
-/// Adds the modifiers of a set, in the order of their numbers.
-fn write_modifiers(bytes: &mut Vec<u8>, modifier: Modifier) -> Result<(), AllocError>
-    ensures { OnOk result (bytes.new.items
-        ≡ bytes.old.items ++ renditions_bytes (added modifier all_numbers)) }
+/// The number of parameters of a colour; 0 for the terminal's own, which a pen has after its reset.
+fn parameters(color: Color) -> u8
+    ensures fg { result ≡ parameter_count (foreground color) }
+    ensures bg { result ≡ parameter_count (background color) }
+    ensures bound { result ≤ 5 }
 {
-    if modifier.0 != 0 {
-        for number in &MODIFIERS {
-            write_modifier(bytes, modifier, *number)?;
-        }
+    match color {
+        Color::Reset => 0,
+        Color::Rgb(..) => 5,
+        Color::Indexed(_) => 3,
+        _ => 1,
     }
-    Ok(())
 }
 
-/// Adds the modifier of a number, if the set has it.
-fn write_modifier(bytes: &mut Vec<u8>, modifier: Modifier, number: u8) -> Result<(), AllocError>
+/// Adds the modifiers of a set, in the order of their numbers. Returns how many there are.
+fn write_modifiers(bytes: &mut Vec<u8>, modifier: Modifier) -> Result<u8, AllocError>
+    ensures wrote { OnOk result (bytes.new.items
+        ≡ bytes.old.items ++ renditions_bytes (added modifier all_numbers)) }
+    ensures count { IfOk result (λ count. count ≡ parameter_count (added modifier all_numbers)) }
+    ensures bound { IfOk result (λ count. count ≤ 9) }
+{
+    let mut count = 0u8;
+    if modifier.0 != 0 {
+        for number in &MODIFIERS {
+            count += write_modifier(bytes, modifier, *number)?;
+        }
+    }
+    Ok(count)
+}
+
+/// Adds the modifier of a number, if the set has it. Returns how many that are.
+fn write_modifier(bytes: &mut Vec<u8>, modifier: Modifier, number: u8) -> Result<u8, AllocError>
     requires { (1 ≤ number) × (number ≤ 9) }
-    ensures { OnOk result (bytes.new.items
+    ensures wrote { OnOk result (bytes.new.items
         ≡ bytes.old.items ++ renditions_bytes (added modifier (number ∷ []))) }
+    ensures count { IfOk result
+        (λ count. count ≡ parameter_count (added modifier (number ∷ []))) }
+    ensures bound { IfOk result (λ count. count ≤ 1) }
 {
     let bit = 1u16 << (number - 1);
     if modifier.contains(Modifier(bit)) {
         bytes.extend_from_slice(b";")?;
         write_number(bytes, u64::from(number))?;
+        return Ok(1);
     }
-    Ok(())
+    Ok(0)
 }
 
 fn write_foreground(bytes: &mut Vec<u8>, color: Color) -> Result<(), AllocError>

@@ -2,11 +2,14 @@
 ghost use Rattle.std.specs.Prelude.{◌≡◌, ℕ, ◌+◌, ◌-◌, ◌*◌, ◌/◌, ◌%◌, ◌<◌, ◌≤◌, ◌^◌, ◌++◌, ◌∷◌, ◌&&◌, [], map, take, length, nat_lt, nat_le, IfOk, IfSome, OnOk, OnErr, IsTrue, Some, None};
 ghost use Rattle.std.specs.Int.RustNames.{bit_and};
 ghost use Rattle.textarea_screen.specs.Cell.{cell_view};
+ghost use Rattle.textarea_terminal.specs.Disputed.{can_widen};
 ghost use Rattle.textarea_terminal.specs.Pen.{in_look, look_of};
 ghost use Rattle.textarea_terminal.specs.PaintSpot.{IsSpot};
-ghost use Rattle.textarea_terminal.specs.PaintCells.{begins_empty, cell_in, cells_from, displayed, frame_of_buffer, is_half, nine_of};
+ghost use Rattle.textarea_terminal.specs.PaintCells.{begins_empty, cell_in, cells_from, cluster_columns, displayed, shown_text, frame_of_buffer, is_half, one_intensity, shown_look};
 
+use super::colors::{Colors, shown_color};
 use super::look::{Look, PLAIN, look_of};
+use super::part::{before_selector, can_widen};
 use super::spot::Spot;
 use super::symbol::is_same_symbol;
 use super::width::cluster_columns;
@@ -15,6 +18,8 @@ use textarea_screen::screen::{Buffer, Cell, Modifier, Rect};
 
 /// The modifiers that a terminal has.
 const NINE: u16 = 511;
+
+const BOLD_AND_DIM: u16 = 3;
 
 /// The text and the look of a buffer's cell.
 #[derive(Clone, Copy)]
@@ -29,17 +34,18 @@ struct Source<'a> {
 pub(super) fn fill(
     alloc: Global,
     cells: &mut [Cell],
+    colors: Colors,
     area: Rect,
     buffer: &Buffer,
 ) -> Result<(), AllocError>
     requires { length cells.old ≡ area.height * area.width }
-    ensures { OnOk result (map cell_view cells.new ≡ frame_of_buffer area buffer.now) }
+    ensures { OnOk result (map cell_view cells.new ≡ frame_of_buffer colors area buffer.now) }
 {
     let columns = usize::from(area.width);
     let mut halves = 0usize;
     let mut spot = Spot::first(columns);
     for place in 0..cells.len() {
-        halves = fill_cell(alloc, &mut cells[place], area, buffer, spot, halves)?;
+        halves = fill_cell(alloc, &mut cells[place], colors, area, buffer, spot, halves)?;
         spot = spot.next(columns);
     }
     Ok(())
@@ -50,6 +56,7 @@ pub(super) fn fill(
 fn fill_cell(
     alloc: Global,
     cell: &mut Cell,
+    colors: Colors,
     area: Rect,
     buffer: &Buffer,
     spot: Spot,
@@ -57,9 +64,9 @@ fn fill_cell(
 ) -> Result<usize, AllocError>
     requires place { spot.place < area.height * area.width }
     requires spot { IsSpot area.width spot }
-    ensures { IfOk result (λ left. displayed area.width spot.place halves
+    ensures { IfOk result (λ left. displayed colors area.width spot.place halves
         (cells_from area buffer.now spot.place (area.height * area.width - spot.place))
-        ≡ cell_view cell.new ∷ displayed area.width (spot.place + 1) left
+        ≡ cell_view cell.new ∷ displayed colors area.width (spot.place + 1) left
         (cells_from area buffer.now (spot.place + 1)
         (area.height * area.width - (spot.place + 1)))) }
 {
@@ -68,15 +75,61 @@ fn fill_cell(
         return Ok(halves - 1);
     }
     let source = source_at(buffer, area, spot);
-    let look = nine_of(source.look);
+    let look = shown_look(colors, source.look);
     let columns = cluster_columns(source.symbol);
     if can_show(buffer, area, spot, columns) {
-        show(alloc, cell, source.symbol, look)?;
-        Ok(columns - 1)
+        let left = show_cluster(alloc, cell, source.symbol, look, columns)?;
+        Ok(left)
     } else {
         show(alloc, cell, " ", look)?;
         Ok(0)
     }
+}
+
+/// Gives a cell a cluster of this number of columns, or the part that is shown of it. Returns the
+/// number of cells after it that belong to what is shown.
+#[inline]
+fn show_cluster(
+    alloc: Global,
+    cell: &mut Cell,
+    symbol: &str,
+    look: Look,
+    columns: usize,
+) -> Result<usize, AllocError>
+    requires columns { columns ≡ cluster_columns symbol.now }
+    requires some { 0 < columns }
+    ensures view { OnOk result (cell_view cell.new ≡ in_look look (shown_text symbol.now)) }
+    ensures left { IfOk result (λ left. left ≡ cluster_columns (shown_text symbol.now) - 1) }
+{
+    if can_widen(symbol) {
+        return show_part(alloc, cell, symbol, look, columns);
+    }
+    show(alloc, cell, symbol, look)?;
+    Ok(columns - 1)
+}
+
+/// Gives a cell the part that is shown of a cluster of this number of columns.
+#[inline(never)]
+fn show_part(
+    alloc: Global,
+    cell: &mut Cell,
+    symbol: &str,
+    look: Look,
+    columns: usize,
+) -> Result<usize, AllocError>
+    requires columns { columns ≡ cluster_columns symbol.now }
+    requires widens { IsTrue (can_widen symbol.now) }
+    ensures view { OnOk result (cell_view cell.new ≡ in_look look (shown_text symbol.now)) }
+    ensures left { IfOk result (λ left. left ≡ cluster_columns (shown_text symbol.now) - 1) }
+{
+    let part = before_selector(alloc, symbol)?;
+    let part_columns = cluster_columns(part.as_str());
+    if part_columns == 0 || part_columns > columns {
+        show(alloc, cell, " ", look)?;
+        return Ok(0);
+    }
+    show(alloc, cell, part.as_str(), look)?;
+    Ok(part_columns - 1)
 }
 
 /// Gives a cell a text and a look.
@@ -92,13 +145,27 @@ fn show(alloc: Global, cell: &mut Cell, symbol: &str, look: Look) -> Result<(), 
     Ok(())
 }
 
-/// The look with the modifiers that a terminal has.
-fn nine_of(look: Look) -> Look
-    ensures { result ≡ nine_of look }
+/// The look as a terminal with these colours shows it.
+#[inline]
+fn shown_look(colors: Colors, look: Look) -> Look
+    ensures { result ≡ shown_look colors look }
 {
     Look {
-        modifier: Modifier(look.modifier.0 & NINE),
-        ..look
+        fg: shown_color(colors, look.fg),
+        bg: shown_color(colors, look.bg),
+        modifier: Modifier(one_intensity(look.modifier.0 & NINE)),
+    }
+}
+
+/// The modifiers without dim, if bold is one of them.
+#[inline]
+fn one_intensity(bits: u16) -> u16
+    ensures { result ≡ one_intensity bits }
+{
+    if bits & BOLD_AND_DIM == BOLD_AND_DIM {
+        bits - 2
+    } else {
+        bits
     }
 }
 

@@ -10,11 +10,15 @@ use super::spot::Spot;
 use std::alloc::AllocError;
 use textarea_screen::screen::Cell;
 
-/// Begins an update, resets the pen and erases all cells.
+/// Begins an update, resets the modes and the pen, and erases all cells.
 fn clear(bytes: &mut Vec<u8>) -> Result<(), AllocError>
     ensures { OnOk result (Wrote bytes.old.items bytes.new.items Clears) }
 {
-    bytes.extend_from_slice(b"\x1b[?2026h\x1b[0m\x1b[2J")?;
+    bytes.extend_from_slice(b"\x1b[?2026h")?;
+    // From any modes to those that a terminal has at first: the characters of ASCII, no origin, no
+    // margins, no insertion, and wrapping.
+    bytes.extend_from_slice(b"\x1b(B\x0f\x1b[?6l\x1b[?69l\x1b[r\x1b[4l\x1b[?7h")?;
+    bytes.extend_from_slice(b"\x1b[0m\x1b[2J")?;
     Ok(())
 }
 

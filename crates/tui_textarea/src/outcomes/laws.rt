@@ -1,10 +1,11 @@
 //! Laws of runs of calls, each the contract of a function that does nothing.
-ghost use Rattle.std.specs.Prelude.{◌≡◌, ◌≤◌, List};
-ghost use Rattle.tui_textarea.specs.Prelude.{CanApply, SplicedBy, SplitNoRange, RangesStayWhole, IsSound, Buffer, State, WrapsByCall, Call, RangesFollowCall, IsUndoOrRedo, IsResultOf, IsAfterCall, IsAfterOutOfMemory, Leads, ShowsSame, CallResult, OfSplicesOutOfMemory, splices_of};
+ghost use Rattle.std.specs.Prelude.{◌≡◌, ◌≤◌, ℕ, All, List, Option};
+ghost use Rattle.tui_textarea.specs.Prelude.{Answer, CanApply, CanBeMade, RangesOfRun, Run, SplicedBy, SplitNoRange, RangesStayWhole, IsSound, Buffer, State, WrapsByCall, Call, RangesFollowCall, IsUndoOrRedo, IsResultOf, IsAfterCall, IsAfterOutOfMemory, Leads, ShowsSame, CallResult, OfSplicesOutOfMemory, splices_of};
 
 use crate::drawing::laws::{one_drawing, one_rendering};
 use crate::laws::{one_input, one_move};
 use textarea_document::laws::{edits_wrap, layout_changes_wrap, ranges_follow_splices};
+use textarea_screen_map::laws::look_up_leads_back;
 
 /// Calls with these results lead to one state of the text area, whatever the buffers.
 pub fn one_end()
@@ -87,4 +88,31 @@ pub fn splices_split_no_range()
         ¬ IsUndoOrRedo call → SplitNoRange state.document.ranges (splices_of state call) }
 {
     ranges_follow_splices();
+}
+
+/// Every call that can be made keeps the invariant of documents, in every state: cursor and anchor
+/// stay positions of the text, ranges valid for it and sorted, and both history lists such that
+/// they can be undone and redone. So does every call that runs out of memory.
+pub fn each_call_stays_sound()
+    ensures made { (old new : State) (call : Call) (returned : CallResult) → IsSound old.document →
+        CanBeMade call → IsAfterCall old call returned new → IsSound new.document }
+    ensures out_of_memory { (old new : State) (call : Call) → IsSound old.document →
+        IsAfterOutOfMemory old call new → IsSound new.document }
+{
+    look_up_leads_back();
+}
+
+/// What happens to the atomic ranges over every run of calls that can be made, from every state
+/// that a text area has. Each range at the end comes from those that were set last, or from those at
+/// the start, and covers the same characters as then, all in one line. Only an undo or a redo splits
+/// a range. A range is dropped only by a removal that takes it completely, by an undo or a redo that
+/// disturbs it, by new lines, by the call that clears ranges, and by new ranges.
+pub fn ranges_follow_each_run()
+    ensures { (calls : List Call) (answers : List Answer) (refused : Option ℕ) (old new : State)
+        (buffer displayed : Buffer) → IsSound old.document → All CanBeMade calls →
+        Run old buffer calls answers refused new displayed →
+        RangesOfRun old buffer calls answers new }
+{
+    ranges_follow_each_call();
+    each_call_stays_sound();
 }

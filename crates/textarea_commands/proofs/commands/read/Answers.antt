@@ -5,7 +5,7 @@ use Rattle.std.proofs.lemmas.List.FromFn.{length-enumerate_from}
 use Rattle.std.proofs.lemmas.Bool.Decides.{nat_tests}
 use Rattle.std.proofs.lemmas.Iterator.Splits.{YieldsList-from_slice_split}
 use Rattle.std.proofs.lemmas.Iterator.Consumers.{YieldsList-from_enumerate, YieldsList-turn, YieldsList-end, YieldsList-at}
-use Rattle.textarea_commands.specs.Commands.{Meaning}
+use Rattle.textarea_commands.specs.Meaning.{Meaning}
 use Rattle.textarea_commands.specs.Script.{lines_of_script, filled_lines, meaning_of, meaning_of_line, meanings_of_lines, IsFilledLine, IsUnparsedLine, NamesLine}
 use Rattle.textarea_commands.specs.declared.commands.Command.{Command}
 use Rattle.textarea_commands.proofs.Lines.{all_meanings, meanings_of_lines-empty, meanings_of_lines-filled}

@@ -4,7 +4,6 @@ use Rattle.tui_textarea.specs.Run.{Leads}
 use Rattle.tui_textarea.specs.CallResults.{call_result}
 use Rattle.textarea_calls.specs.declared.answer.Answer.{Answer}
 use Rattle.textarea_calls.specs.declared.call.Call.{Call}
-use Rattle.tui_textarea.proofs.RangesOverCalls.{SoFar, at_start, ranges_at_end, ranges_at_out_of_memory, so_far_next}
 use Rattle.tui_textarea.proofs.Runs.{leads_more}
 use Rattle.textarea_run.proofs.run.make_all.Goals as goal
 
@@ -12,8 +11,6 @@ pub loop-index-init : goal.loop-index-init
 loop-index-init c =
     record {
       led = subst (λ (all : List Answer). Leads c.args.area.now c.args.buffer.now [] (map call_result all) c.args.area.now c.args.buffer.now) (sym c.requires.none) (refl, refl);
-      ranges = subst (λ (all : List Answer). SoFar c.args.area.now c.args.buffer.now [] (map call_result all) c.args.area.now c.args.buffer.now) (sym c.requires.none)
-          (at_start c.args.area.now c.args.buffer.now c.requires.sound);
       counted = search rules;
       room = search rules;
     }
@@ -28,16 +25,14 @@ loop-index-preserved c =
     let items : c.push.new.self.items ≡ c.loop-index.answers.items ++ (c.in-Ok.answer ∷ []) =
     c.push.ensures.items ∙ ap (λ b. cond b (c.loop-index.answers.items ++ c.in-Ok.answer ∷ []) c.loop-index.answers.items) pushed in
     record {
-      led = subst (λ (all : List Answer). Leads c.args.area.now c.args.buffer.now (take (c.loop-index.index + 1) c.args.calls.now) (map call_result all) c.make.new.area c.make.new.buffer) (sym items)
-          (leads_more c.args.area.now c.loop-index.area c.make.new.area c.args.buffer.now c.loop-index.buffer c.make.new.buffer c.args.calls.now c.loop-index.answers.items c.loop-index.index c.index-calls-index.result c.in-Ok.answer within c.index-calls-index.is before.led did.made);
-      ranges = subst (λ (all : List Answer). SoFar c.args.area.now c.args.buffer.now (take (c.loop-index.index + 1) c.args.calls.now) (map call_result all) c.make.new.area c.make.new.buffer) (sym items)
-          (so_far_next c.args.area.now c.loop-index.area c.make.new.area c.args.buffer.now c.loop-index.buffer c.make.new.buffer c.args.calls.now c.loop-index.answers.items c.loop-index.index c.index-calls-index.result c.in-Ok.answer within c.index-calls-index.is did.after before.led did.made did.ranges_follow before.ranges);
+      led = subst (λ (all : List Answer). Leads c.args.area.now c.args.buffer.now (take (c.loop-index.index + 1) c.args.calls.now) (map call_result all) c.perform.new.area c.perform.new.buffer) (sym items)
+          (leads_more c.args.area.now c.loop-index.area c.perform.new.area c.args.buffer.now c.loop-index.buffer c.perform.new.buffer c.args.calls.now c.loop-index.answers.items c.loop-index.index c.index-calls-index.result c.in-Ok.answer within c.index-calls-index.is before.led (record { answered = did.answer; after = did.ok; drawn = did.displayed }));
       counted = c.push.ensures.len ∙ ap (λ b. cond b (vec_len c.loop-index.answers + 1) (vec_len c.loop-index.answers)) pushed ∙ ap (λ n. n + 1) before.counted;
       room = omega (arith, before.room, c.push.ensures.capacity);
     }
 
-pub returns-in-Err-clause-led : goal.returns-in-Err-clause-led
-returns-in-Err-clause-led c =
+pub returns-in-Err : goal.returns-in-Err
+returns-in-Err c =
     inr (record {
       call = c.index-calls-index.result;
       here = slice_get_read c.args.calls.now (length c.args.calls.now) c.loop-index.index c.index-calls-index.result refl c.loop-index-test.true c.index-calls-index.is;
@@ -48,19 +43,7 @@ returns-in-Err-clause-led c =
       buffer_left = c.in-Err.ensures.buffer_left;
     })
 
-pub returns-in-Err-clause-ranges : goal.returns-in-Err-clause-ranges
-returns-in-Err-clause-ranges c =
-    let before = c.loop-index.invariant in
-    let counted : length c.loop-index.answers.items ≡ c.loop-index.index = omega (arith, c.loop-index.answers.ok, before.counted) in
-    ranges_at_out_of_memory c.args.area.now c.loop-index.area c.make.new.area c.args.buffer.now c.loop-index.buffer c.args.calls.now c.loop-index.answers.items c.loop-index.index counted c.in-Err.ensures.left before.ranges
-
-pub returns-clause-led : goal.returns-clause-led
-returns-clause-led c =
+pub returns : goal.returns
+returns c =
     subst (λ (made : List Call). Leads c.args.area.now c.args.buffer.now made (map call_result c.loop-index.answers.items) c.loop-index.area c.loop-index.buffer)
     (take_all c.loop-index.index c.args.calls.now (omega (arith, c.loop-index-test.false))) c.loop-index.invariant.led
-
-pub returns-clause-ranges : goal.returns-clause-ranges
-returns-clause-ranges c =
-    let before = c.loop-index.invariant in
-    let counted : length c.loop-index.answers.items ≡ c.loop-index.index = omega (arith, c.loop-index.answers.ok, before.counted) in
-    ranges_at_end c.args.area.now c.loop-index.area c.args.buffer.now c.loop-index.buffer c.args.calls.now c.loop-index.answers.items c.loop-index.index counted before.ranges

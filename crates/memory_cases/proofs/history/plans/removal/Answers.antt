@@ -13,6 +13,6 @@ returns c =
     let after = c.in-Some.after in
     let before = c.ahead-before.result in
     let apart : before ≢ after = search rules in
-    ready_between text c.in_ok-kind_of.field-0 before after c.in_ok-kind_of.ensures.inserts (c.in_ok-kind_of.ensures.symbols ∙ c.in_ok-fragment_lines.ensures.text) c.in_ok-kind_of.ensures.fragment_lines c.in-Some.ensures.text
+    ready_between text c.kind_of.result before after c.kind_of.ensures.inserts (c.kind_of.ensures.symbols ∙ c.in_ok-fragment_lines.ensures.text) c.kind_of.ensures.fragment_lines c.in-Some.ensures.text
     (text_place c.args.lines.now before c.ahead-before.ensures.is_place)
     (ordered_ahead text after before c.args.count c.in-Some.ensures.text c.ahead-before.ensures.index) apart

@@ -1,7 +1,7 @@
 use Rattle.std.proofs.lemmas.Grind.{common_steps}
 use Rattle.std.proofs.Common.{◌≡◌, ◌-◌, ◌≤◌, ◌∙◌, ap, arith, length}
-use Rattle.textarea_blocks.specs.Prelude.{BlocksView, all_rows, lines_before, rows_of_each, row_total, Exchanged}
-use Rattle.textarea_blocks.proofs.InBlocks.{before_ordered, before_within, blocks_exchanged, lines_sum, rows_sum, total_before}
+use Rattle.textarea_blocks.specs.Prelude.{BlocksView, all_rows, lines_before, replaced, rows_of_each, spare_of_each, row_total, Exchanged}
+use Rattle.textarea_blocks.proofs.InBlocks.{before_ordered, before_within, blocks_exchanged, lines_sum, rows_sum, spare_exchanged, total_before}
 use Rattle.textarea_blocks.proofs.Totals.{all_exchanged, totals_can_shift, totals_exchanged}
 use Rattle.textarea_blocks.proofs.blocks.RowBlocks.exchange_blocks.Goals as goal
 use Rattle.textarea_blocks.proofs.blocks.RowBlocks.exchange_blocks.Goals.{After-lines_before, After-rows_before}
@@ -76,11 +76,20 @@ invariant_of-self c =
     let new_rows = ap (λ (v : BlocksView). row_total (all_rows v.blocks)) c.new.view_is in
     rw same
     (record {
-      lines_are = totals_exchanged length lines_sum blocks new c.self.inside.lines.numbers c.new.inside.lines.numbers c.exchange.new.self.numbers by_lines c.self.invariant.lines_are c.new.invariant.lines_are ordered within line_from (omega (arith, line_from, line_to, lines)) (omega (arith, c.line_count.ensures, new_lines)) c.exchange.ensures;
-      rows_are = totals_exchanged row_total rows_sum blocks new c.self.inside.rows.numbers c.new.inside.rows.numbers c.exchange-2.new.self.numbers by_rows c.self.invariant.rows_are c.new.invariant.rows_are ordered within row_from (omega (arith, row_from, row_to, rows)) (omega (arith, c.row_count.ensures, new_rows)) c.exchange-2.ensures;
+      lines_are = totals_exchanged length lines_sum blocks new c.self.inside.lines.numbers c.new.inside.lines.numbers c.exchange.new.self.numbers by_lines c.self.invariant.lines_are c.new.invariant.lines_are ordered within line_from (omega (arith, line_from, line_to, lines)) (omega (arith, c.line_count.ensures, new_lines)) c.exchange.ensures.exchanged;
+      rows_are = totals_exchanged row_total rows_sum blocks new c.self.inside.rows.numbers c.new.inside.rows.numbers c.exchange-2.new.self.numbers by_rows c.self.invariant.rows_are c.new.invariant.rows_are ordered within row_from (omega (arith, row_from, row_to, rows)) (omega (arith, c.row_count.ensures, new_rows)) c.exchange-2.ensures.exchanged;
       few_lines = omega (arith, all_exchanged length lines_sum blocks new from to ordered within, lines, new_lines, c.requires.lines, ap (λ (v : BlocksView). length (all_rows v.blocks)) c.self.view_is);
       few_rows = omega (arith, all_exchanged row_total rows_sum blocks new from to ordered within, rows, new_rows, c.requires.rows, ap (λ (v : BlocksView). row_total (all_rows v.blocks)) c.self.view_is);
     })
 
-pub returns : goal.returns
-returns c = grind (arith, common_steps, blocks_exchanged)
+pub returns-clause-blocks : goal.returns-clause-blocks
+returns-clause-blocks c = grind (arith, common_steps, blocks_exchanged)
+
+pub returns-clause-spare : goal.returns-clause-spare
+returns-clause-spare c =
+    let from = c.args.from in
+    let count = c.args.to - from in
+    ap spare_of_each c.replace_items.ensures.items
+    ∙ spare_exchanged c.self.inside.blocks.items c.new.inside.blocks.items from count
+    ∙ ap (λ (v : BlocksView). replaced v.spare from count (spare_of_each c.new.inside.blocks.items)) c.self.view_is
+    ∙ ap (λ (v : BlocksView). replaced c.args.self.now.spare from count v.spare) c.new.view_is

@@ -47,7 +47,7 @@ returns-then-index-len c =
     let rows = all_rows blocks in
     let first = lines_before blocks block in
     let size : lines_before blocks next - first ≡ c.args.count = omega (arith, before_more length lines_sum blocks c.place_of-last.result.0 known.within, known.at, known.size_is, c.if-index-len.true) in
-    ap all_rows (c.exchange_blocks.ensures ∙ ap (replaced blocks block (next - block)) c.new.ensures)
+    ap all_rows (c.exchange_blocks.ensures.blocks ∙ ap (replaced blocks block (next - block)) c.new.ensures)
     ∙ blocks_replaced blocks [] block next (omega (arith, known.ordered)) (omega (arith, known.within))
     ∙ ap (λ n. replaced rows first n []) size
 
@@ -90,7 +90,7 @@ returns c =
     let below = before_set length blocks last last (replaced here 0 portion []) (omega arith) in
     let size : lines_before now last - lines_before now block ≡ between = omega (arith, above, below) in
     let inside : first + between ≤ length rows = omega (arith, before_within length lines_sum blocks last, before_ordered length lines_sum blocks block last known.ordered) in
-    ap all_rows (c.exchange_blocks-2.ensures ∙ ap (replaced c.exchange.new.self.blocks block (last - block)) c.new-3.ensures ∙ ap (λ t. replaced t block (last - block) []) same)
+    ap all_rows (c.exchange_blocks-2.ensures.blocks ∙ ap (replaced c.exchange.new.self.blocks block (last - block)) c.new-3.ensures ∙ ap (λ t. replaced t block (last - block) []) same)
     ∙ blocks_replaced now [] block last known.ordered (omega (arith, known.within, length-set blocks last (replaced here 0 portion [])))
     ∙ ap (λ n. replaced (all_rows now) n (lines_before now last - lines_before now block) []) above
     ∙ ap (λ n. replaced (all_rows now) first n []) size

@@ -15,7 +15,7 @@ next c =
     let new = c.args.rows.blocks in
     let block = c.edge_of-block.result in
     let within = c.edge_of-block.ensures.within in
-    let same = c.exchange_blocks.ensures in
+    let same = c.exchange_blocks.ensures.blocks in
     let zero_more : block + 0 ≡ block = omega arith in (
       omega (arith, c.block_count.ensures, c.block_count-2.ensures, ap length same, length-replaced blocks block (block - block) new (omega (arith, within)), within),
       omega (arith, ap (λ t. lines_before t (block + (length new + 0))) same, total_after length lines_sum blocks new block block 0 (omega arith) within, c.edge_of-block.ensures.edge, ap (lines_before blocks) zero_more),

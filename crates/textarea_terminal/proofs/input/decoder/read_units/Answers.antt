@@ -1,41 +1,54 @@
-use Rattle.std.proofs.Common.{ℕ, List, refl, sym, ap, ◌∙◌, arith, vec_len}
-use Rattle.textarea_terminal.specs.InputEvent.{EventValue, value_of}
-use Rattle.textarea_terminal.specs.InputStream.{AddsUpTo, Decoding, events_of}
+use Rattle.std.proofs.Common.{◌≡◌, ℕ, List, refl, sym, ap, ◌∙◌, arith, vec_len, subst}
+use Rattle.textarea_terminal.specs.InputEvent.{EventValue}
+use Rattle.textarea_terminal.specs.InputReply.{made, refined}
+use Rattle.textarea_terminal.specs.InputStream.{AddsUpTo, Decoding, found_value}
+use Rattle.textarea_terminal.specs.declared.input.reply.Expected.{Expected}
 use Rattle.textarea_terminal.proofs.InputUnits.{unit_at-nil}
-use Rattle.textarea_terminal.proofs.InputStreams.{unit_at-shorter, decoding-none, decoding-some, AddsUpTo-push, AddsUpTo-unit, AddsUpTo-begun, AddsUpTo-trans, AddsUpTo-front_of_more}
+use Rattle.textarea_terminal.proofs.InputStreams.{unit_at-shorter, decoding-none, decoding-some, made-some, made-none, AddsUpTo-found, AddsUpTo-begun, AddsUpTo-trans, AddsUpTo-front_of_more}
 use Rattle.textarea_terminal.proofs.input.decoder.read_units.Goals as goal
 
-pub loop-event-smaller : goal.loop-event-smaller
-loop-event-smaller c =
-    let short = unit_at-shorter c.loop-event.rest.now (value_of c.in-Some.event, c.in-Some.after.now) (rw c.in-Some.is at c.in_ok-event.ensures) in
+pub loop-found-smaller : goal.loop-found-smaller
+loop-found-smaller c =
+    let short = unit_at-shorter c.loop-found.rest.now (found_value c.in-Some.found, c.in-Some.after.now) c.in-Some.ensures in
     omega (arith, short, c.in_ok-rest.ensures.shorter)
 
-pub loop-event-preserved : goal.loop-event-preserved
-loop-event-preserved c =
-    let unit = rw c.in-Some.is at c.in_ok-event.ensures in
-    let x : EventValue × List ℕ = (value_of c.in-Some.event, c.in-Some.after.now) in
+pub loop-found-preserved : goal.loop-found-preserved
+loop-found-preserved c =
+    let x : EventValue × List ℕ = (found_value c.in-Some.found, c.in-Some.after.now) in
+    let e = c.loop-found.expected in
+    let next = c.in_ok-expected.expected in
+    let all = (made c.args.expected c.args.bytes.now).0 in
+    let mid : AddsUpTo c.args.events.now.items c.push_found.new.events.items (made (refined e x.0).1 x.1).0 all =
+    AddsUpTo-found e c.args.events.now.items c.loop-found.events.items c.push_found.new.events.items all c.loop-found.rest.now x c.in-Some.ensures c.loop-found.invariant.events c.in_ok-expected.ensures.events in
+    let P : Expected → Type 0 = λ f. AddsUpTo c.args.events.now.items c.push_found.new.events.items (made f x.1).0 all in
     record {
       within = omega arith;
       begun = unit_at-nil;
-      left = c.in_ok-rest.ensures.left ∙ sym (ap (λ (d : Decoding). d.1) (decoding-some c.loop-event.rest.now x unit)) ∙ c.loop-event.invariant.left;
-      events = AddsUpTo-trans c.args.events.now.items c.push.new.self.items c.push_short.new.events.items (events_of x.1) (events_of c.in_ok-rest.rest.now) (events_of c.args.bytes.now)
-          (rw c.in_ok-push.ensures.items (AddsUpTo-push c.args.events.now.items c.loop-event.events.items c.in-Some.event x.0 (events_of x.1) (events_of c.args.bytes.now) refl
-          (AddsUpTo-unit c.args.events.now.items c.loop-event.events.items (events_of c.args.bytes.now) c.loop-event.rest.now x unit c.loop-event.invariant.events)))
-          c.in_ok-rest.ensures.events;
+      left = c.in_ok-rest.ensures.left ∙ sym (ap (λ (d : Decoding). d.1) (decoding-some c.loop-found.rest.now x c.in-Some.ensures)) ∙ c.loop-found.invariant.left;
+      events = AddsUpTo-trans c.args.events.now.items c.push_found.new.events.items c.push_short.new.events.items (made next x.1).0 (made next c.in_ok-rest.rest.now).0 all
+          (subst P (sym c.in_ok-expected.ensures.expected) mid) c.in_ok-rest.ensures.events;
+      expected = c.in_ok-rest.ensures.expected ∙ ap (λ (f : Expected). (made f x.1).1) c.in_ok-expected.ensures.expected
+          ∙ sym (ap (λ (d : List EventValue × Expected). d.1) (made-some e c.loop-found.rest.now x c.in-Some.ensures)) ∙ c.loop-found.invariant.expected;
     }
+
+pub returns-in_err-expected-clause-front : goal.returns-in_err-expected-clause-front
+returns-in_err-expected-clause-front c =
+    AddsUpTo-front_of_more (vec_len c.args.events.now) (vec_len c.loop-found.events) c.args.events.now.items c.loop-found.events.items c.push_found.new.events.items (made c.loop-found.expected c.loop-found.rest.now).0 (made c.args.expected c.args.bytes.now).0
+    (omega (arith, c.args.events.now.ok.0)) (omega (arith, c.loop-found.events.ok.0)) c.loop-found.invariant.events c.in_err-expected.ensures.front
 
 pub returns-in_err-rest-clause-front : goal.returns-in_err-rest-clause-front
 returns-in_err-rest-clause-front c =
-    let unit = rw c.in-Some.is at c.in_ok-event.ensures in
-    let x : EventValue × List ℕ = (value_of c.in-Some.event, c.in-Some.after.now) in
-    let mid : AddsUpTo c.args.events.now.items c.push.new.self.items (events_of x.1) (events_of c.args.bytes.now) =
-    rw c.in_ok-push.ensures.items (AddsUpTo-push c.args.events.now.items c.loop-event.events.items c.in-Some.event x.0 (events_of x.1) (events_of c.args.bytes.now) refl
-    (AddsUpTo-unit c.args.events.now.items c.loop-event.events.items (events_of c.args.bytes.now) c.loop-event.rest.now x unit c.loop-event.invariant.events)) in
-    AddsUpTo-front_of_more (vec_len c.args.events.now) (vec_len c.push.new.self) c.args.events.now.items c.push.new.self.items c.push_short.new.events.items (events_of x.1) (events_of c.args.bytes.now)
-    (omega (arith, c.args.events.now.ok.0)) (omega (arith, c.push.new.self.ok.0)) mid c.in_err-rest.ensures.front
+    let x : EventValue × List ℕ = (found_value c.in-Some.found, c.in-Some.after.now) in
+    let all = (made c.args.expected c.args.bytes.now).0 in
+    let mid = AddsUpTo-found c.loop-found.expected c.args.events.now.items c.loop-found.events.items c.push_found.new.events.items all c.loop-found.rest.now x c.in-Some.ensures c.loop-found.invariant.events c.in_ok-expected.ensures.events in
+    AddsUpTo-front_of_more (vec_len c.args.events.now) (vec_len c.push_found.new.events) c.args.events.now.items c.push_found.new.events.items c.push_short.new.events.items (made (refined c.loop-found.expected x.0).1 x.1).0 all
+    (omega (arith, c.args.events.now.ok.0)) (omega (arith, c.push_found.new.events.ok.0)) mid c.in_err-rest.ensures.front
 
 pub returns-clause-rest : goal.returns-clause-rest
-returns-clause-rest c = sym (ap (λ (d : Decoding). d.1) (decoding-none c.loop-event.rest.now (rw c.in_default.is at c.in_ok-event.ensures))) ∙ c.loop-event.invariant.left
+returns-clause-rest c = sym (ap (λ (d : Decoding). d.1) (decoding-none c.loop-found.rest.now c.in_default.ensures)) ∙ c.loop-found.invariant.left
+
+pub returns-clause-expected : goal.returns-clause-expected
+returns-clause-expected c = sym (ap (λ (d : List EventValue × Expected). d.1) (made-none c.loop-found.expected c.loop-found.rest.now c.in_default.ensures)) ∙ c.loop-found.invariant.expected
 
 pub returns-clause-events : goal.returns-clause-events
-returns-clause-events c = AddsUpTo-begun c.args.events.now.items c.loop-event.events.items (events_of c.args.bytes.now) c.loop-event.rest.now (rw c.in_default.is at c.in_ok-event.ensures) c.loop-event.invariant.events
+returns-clause-events c = AddsUpTo-begun c.loop-found.expected c.args.events.now.items c.loop-found.events.items (made c.args.expected c.args.bytes.now).0 c.loop-found.rest.now c.in_default.ensures c.loop-found.invariant.events

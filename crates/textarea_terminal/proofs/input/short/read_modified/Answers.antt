@@ -13,4 +13,4 @@ returns c = λ digits are.
     let whole : c.args.bytes.now ≡ digit ∷ c.in_ok-digit.after.now = search rules in
     let is : is_digit digit ≡ true = in-digits digit (omega arith) (omega arith) in
     ap (λ bytes. unit_at (27 ∷ 91 ∷ (digits ++ 59 ∷ bytes))) (whole ∙ ap (λ bytes. digit ∷ bytes) after)
-    ∙ modified-read digits rest c.args.number digit last c.in_ok-key.key are is c.in_ok-key.ensures.end c.in_ok-key.ensures.event
+    ∙ modified-read digits rest c.args.number digit last c.in_ok-key.key are is c.in_ok-key.ensures.end.0 c.in_ok-key.ensures.end.1 c.in_ok-key.ensures.event

@@ -1,12 +1,10 @@
-use Rattle.std.proofs.Common.{inr, refl, ap}
-use Rattle.textarea_terminal.specs.Control.Control.{SetPen}
-use Rattle.textarea_terminal.specs.Pen.{renditions_of}
-use Rattle.textarea_terminal.specs.declared.output.look.Look.{Look}
-use Rattle.textarea_terminal.proofs.ControlLemmas.{Wrote-one}
-use Rattle.textarea_terminal.proofs.PenLemmas.{rendered-look}
+use Rattle.textarea_terminal.specs.PenControls.{pen_controls}
+use Rattle.textarea_terminal.proofs.PenRuns.{takes-look}
 use Rattle.textarea_terminal.proofs.output.brush.change_look.Goals as goal
 
 pub returns-clause-wrote : goal.returns-clause-wrote
-returns-clause-wrote c =
-    Wrote-one (SetPen (renditions_of c.args.look)) c.in_ok-write_pen.ensures
-    (refl, λ terminal known. ap (λ (look : Look). record terminal { pen = look }) (rendered-look c.args.look c.requires.modifier), refl, inr (c.requires.other, refl))
+returns-clause-wrote c = record {
+  controls = pen_controls c.args.look;
+  bytes = c.in_ok-write_pen.ensures;
+  with_ranges = takes-look c.args.pen.now c.args.look c.requires.modifier c.requires.other;
+}

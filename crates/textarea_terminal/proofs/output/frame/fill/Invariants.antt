@@ -6,5 +6,5 @@ use Rattle.textarea_terminal.proofs.output.frame.fill.Given as goal
 
 abbrev pub invariant-loop-place : goal.invariant-loop-place
 invariant-loop-place l =
-    (map cell_view (take l.place l.cells) ++ displayed l.area.width l.place l.halves (cells_from l.area l.buffer l.place (l.area.height * l.area.width - l.place)) ≡ frame_of_buffer l.area l.buffer)
+    (map cell_view (take l.place l.cells) ++ displayed l.colors l.area.width l.place l.halves (cells_from l.area l.buffer l.place (l.area.height * l.area.width - l.place)) ≡ frame_of_buffer l.colors l.area l.buffer)
     × (l.spot.place ≡ l.place) × IsSpot l.area.width l.spot

@@ -11,4 +11,4 @@ returns c =
     let new : PaintedFrame = record { cells = map cell_view c.args.new.now; caret = c.args.caret } in
     Wrote-then (Paints c.args.columns (length c.args.new.now) None new) c.in_ok-clear.ensures
     (Wrote-frame _ c.in_ok-brush.brush _ c.args.columns old new.cells c.args.caret (within-visible c.args.caret c.args.new.now c.requires.caret) c.in_ok-brush.ensures c.in_ok-write_end.ensures)
-    (λ xs ys clears finish. paints-unknown c.args.columns (length c.args.new.now) old new xs ys refl clears finish)
+    (λ xs ys clears finish. paints-unknown c.args.columns (length c.args.new.now) old new xs ys refl c.requires.whole clears finish)

@@ -11,4 +11,4 @@ returns c =
     let new : PaintedFrame = record { cells = map cell_view c.args.new.now; caret = c.args.caret } in
     Wrote-as (Paints c.args.columns (length c.args.new.now) (Some old) new)
     (Wrote-frame _ c.in_ok-brush.brush _ c.args.columns old.cells new.cells c.args.caret (within-visible c.args.caret c.args.new.now c.requires.caret) c.in_ok-brush.ensures (rw c.is_some.ensures at c.in_ok-write_end.ensures))
-    (λ xs finish. paints-known c.args.columns (length c.args.new.now) old new xs finish)
+    (λ xs finish. paints-known c.args.columns (length c.args.new.now) old new xs c.requires.new_whole finish)

@@ -43,7 +43,27 @@ exchange_numbers-requires-clause-small_new c = λ k there.
     let same = new (goal.at.exchange_numbers-requires-clause-small_new c).After-move_numbers-2 in
     omega (arith, c.requires.small_new k (omega (arith, there, ap length same, c.move_numbers.new.numbers.ok.0)), ap (λ (t : List ℕ). get_or t k 0) same)
 
-pub returns : goal.returns
-returns c =
-    let known = (goal.at.returns c).After-move_numbers-2 in
-    rw (not_turned c.len-self-inside.result c.exchange_numbers.new.numbers.items, ← old known, ← new known) c.exchange_numbers.ensures
+pub returns-clause-exchanged : goal.returns-clause-exchanged
+returns-clause-exchanged c =
+    let known = (goal.at.returns-clause-exchanged c).After-move_numbers-2 in
+    rw (not_turned c.len-self-inside.result c.exchange_numbers.new.numbers.items, ← old known, ← new known) c.exchange_numbers.ensures.exchanged
+
+pub returns-clause-room : goal.returns-clause-room
+returns-clause-room c =
+    let known = (goal.at.returns-clause-room c).After-move_numbers-2 in
+    omega (
+      arith,
+      c.requires.ordered,
+      c.requires.within,
+      c.exchange_numbers.ensures.exchanged.len,
+      c.exchange_numbers.ensures.capacity,
+      c.exchange_numbers.new.numbers.ok.0,
+      c.move_numbers-2.ensures.shifted.len,
+      c.move_numbers-2.ensures.capacity,
+      c.move_numbers-2.new.numbers.ok.0,
+      c.move_numbers.new.numbers.ok.0,
+      ap length (old known),
+      ap length (new known),
+      ap (λ (v : NumbersView). v.spare) c.self.view_is,
+      c.self.inside.items.ok.0,
+    )

@@ -1,0 +1,34 @@
+"""Written by tools/calls from crates/textarea_calls/calls.txt."""
+
+# Commands that are methods: the type of the argument, and whether the method returns a bool.
+METHODS = {
+    "insert_newline": (None, False),
+    "insert_tab": (None, True),
+    "paste": (None, True),
+    "delete_char": (None, True),
+    "delete_next_char": (None, True),
+    "delete_newline": (None, True),
+    "delete_str": ("usize", True),
+    "delete_line_by_end": (None, True),
+    "delete_line_by_head": (None, True),
+    "delete_word": (None, True),
+    "delete_next_word": (None, True),
+    "clear": (None, True),
+    "cut": (None, True),
+    "undo": (None, True),
+    "redo": (None, True),
+    "start_selection": (None, False),
+    "cancel_selection": (None, False),
+    "select_all": (None, False),
+    "copy": (None, False),
+    "search_forward": ("bool", True),
+    "search_back": ("bool", True),
+}
+
+# Commands that set a property: its name, and its type.
+SETTERS = {
+    "set_max_histories": ("max_histories", "usize"),
+    "set_undo_coalescing": ("undo_coalescing", "bool"),
+    "set_tab_length": ("tab_length", "u8"),
+    "set_hard_tab_indent": ("hard_tab_indent", "bool"),
+}

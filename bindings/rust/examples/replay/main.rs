@@ -1,0 +1,97 @@
+//! Makes the calls of a script of `tascript` on a text area, and prints what `tascript` prints:
+//!
+//!     cargo run --example replay < script
+//!
+//! The commands are those of calls.rs, `insert_char`, `insert_str`, `move` and `set_search_pattern`.
+//! Texts have no escape `\u{..}`.
+
+mod calls;
+
+use calls::{call, done, flag};
+use std::io::Read;
+use std::time::Duration;
+use tui_textarea::{CursorMove, TextArea};
+
+fn unescaped(text: &str) -> String {
+    let mut found = String::new();
+    let mut rest = text.chars();
+    while let Some(c) = rest.next() {
+        found.push(match c {
+            '\\' => match rest.next() {
+                Some('n') => '\n',
+                Some('r') => '\r',
+                Some('t') => '\t',
+                other => other.unwrap_or('\\'),
+            },
+            _ => c,
+        });
+    }
+    found
+}
+
+fn escaped(text: &str) -> String {
+    text.replace('\\', "\\\\")
+        .replace('\n', "\\n")
+        .replace('\r', "\\r")
+        .replace('\t', "\\t")
+}
+
+fn move_named(name: &str) -> CursorMove {
+    match name {
+        "Forward" => CursorMove::Forward,
+        "Back" => CursorMove::Back,
+        "Up" => CursorMove::Up,
+        "Down" => CursorMove::Down,
+        "Head" => CursorMove::Head,
+        "End" => CursorMove::End,
+        "Top" => CursorMove::Top,
+        "Bottom" => CursorMove::Bottom,
+        "WordForward" => CursorMove::WordForward,
+        "WordEnd" => CursorMove::WordEnd,
+        "WordBack" => CursorMove::WordBack,
+        "ParagraphForward" => CursorMove::ParagraphForward,
+        "ParagraphBack" => CursorMove::ParagraphBack,
+        "InViewport" => CursorMove::InViewport,
+        _ => panic!("no move: {name}"),
+    }
+}
+
+/// Makes the call of a line, and returns its result in words.
+fn result_of(area: &mut TextArea, line: &str) -> &'static str {
+    let (name, words) = line.split_once(' ').unwrap_or((line, ""));
+    if let Some(result) = call(area, name, words) {
+        return result;
+    }
+    match name {
+        "insert_char" => done(area.insert_char(unescaped(words).chars().next().unwrap())),
+        "insert_str" => flag(area.insert_str(unescaped(words))),
+        "move" => done(area.move_cursor(move_named(words))),
+        "set_search_pattern" => match area.set_search_pattern(unescaped(words)) {
+            Ok(()) => "ok",
+            Err(_) => "pattern",
+        },
+        _ => panic!("no command: {line}"),
+    }
+}
+
+fn main() {
+    let mut script = String::new();
+    std::io::stdin().read_to_string(&mut script).unwrap();
+    let mut area = TextArea::default();
+    area.set_now(Duration::ZERO);
+    for (index, line) in script.lines().enumerate() {
+        println!("{} {}", index + 1, result_of(&mut area, line));
+    }
+    println!("lines {}", area.lines().len());
+    for line in area.lines() {
+        println!("|{}", escaped(line));
+    }
+    let (row, column) = area.cursor();
+    println!("cursor {row} {column}");
+    match area.selection_range() {
+        Some((start, end)) => {
+            println!("selection {} {} {} {}", start.0, start.1, end.0, end.1);
+        }
+        None => println!("selection none"),
+    }
+}

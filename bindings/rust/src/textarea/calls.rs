@@ -1,0 +1,405 @@
+//! Written by tools/calls from crates/textarea_calls/calls.txt.
+//! The calls that only pass their arguments and return their result.
+
+use super::TextArea;
+use crate::data::OutOfMemory;
+use crate::handle::must;
+use crate::ratatui::BLANK;
+use crate::ratatui::style::Style;
+use crate::sys;
+
+impl TextArea<'_> {
+    /// Breaks the line at the cursor.
+    pub fn insert_newline(&mut self) {
+        must(self.try_insert_newline());
+    }
+
+    /// As `insert_newline`, but returns that memory ran out.
+    pub fn try_insert_newline(&mut self) -> Result<(), OutOfMemory> {
+        self.edit(|h| unsafe { sys::ta_insert_newline(h) })?;
+        Ok(())
+    }
+
+    /// Inserts a tab at the cursor: with hard tabs a tab character, otherwise spaces up to the next
+    /// tab stop; at tab length 0 nothing. Returns whether it inserted something or removed a
+    /// selection.
+    pub fn insert_tab(&mut self) -> bool {
+        must(self.try_insert_tab())
+    }
+
+    /// As `insert_tab`, but returns that memory ran out.
+    pub fn try_insert_tab(&mut self) -> Result<bool, OutOfMemory> {
+        self.edit(|h| unsafe { sys::ta_insert_tab(h) })
+    }
+
+    /// Inserts the yanked text where `insert_str` inserts, and returns whether there was any.
+    pub fn paste(&mut self) -> bool {
+        must(self.try_paste())
+    }
+
+    /// As `paste`, but returns that memory ran out.
+    pub fn try_paste(&mut self) -> Result<bool, OutOfMemory> {
+        self.edit(|h| unsafe { sys::ta_paste(h) })
+    }
+
+    /// Removes the atomic range that ends at the cursor or strictly contains it, or else the
+    /// character before the cursor, or at column 0 the line break. Returns whether it removed text.
+    pub fn delete_char(&mut self) -> bool {
+        must(self.try_delete_char())
+    }
+
+    /// As `delete_char`, but returns that memory ran out.
+    pub fn try_delete_char(&mut self) -> Result<bool, OutOfMemory> {
+        self.edit(|h| unsafe { sys::ta_delete_char(h) })
+    }
+
+    /// Removes the atomic range that starts at the cursor or strictly contains it, or else the
+    /// character after the cursor, or at a line's end the line break. Returns whether it removed
+    /// text.
+    pub fn delete_next_char(&mut self) -> bool {
+        must(self.try_delete_next_char())
+    }
+
+    /// As `delete_next_char`, but returns that memory ran out.
+    pub fn try_delete_next_char(&mut self) -> Result<bool, OutOfMemory> {
+        self.edit(|h| unsafe { sys::ta_delete_next_char(h) })
+    }
+
+    /// Removes the line break before the cursor's line. Returns whether it removed text.
+    pub fn delete_newline(&mut self) -> bool {
+        must(self.try_delete_newline())
+    }
+
+    /// As `delete_newline`, but returns that memory ran out.
+    pub fn try_delete_newline(&mut self) -> Result<bool, OutOfMemory> {
+        self.edit(|h| unsafe { sys::ta_delete_newline(h) })
+    }
+
+    /// Removes and yanks the next characters after the cursor, at most this number; each line break
+    /// counts as one. Returns whether it removed text.
+    pub fn delete_str(&mut self, count: usize) -> bool {
+        must(self.try_delete_str(count))
+    }
+
+    /// As `delete_str`, but returns that memory ran out.
+    pub fn try_delete_str(&mut self, count: usize) -> Result<bool, OutOfMemory> {
+        self.edit(|h| unsafe { sys::ta_delete_str(h, count) })
+    }
+
+    /// Removes and yanks the text from the cursor to its line's end; at the line's end it does what
+    /// `delete_next_char` does. Returns whether it removed text.
+    pub fn delete_line_by_end(&mut self) -> bool {
+        must(self.try_delete_line_by_end())
+    }
+
+    /// As `delete_line_by_end`, but returns that memory ran out.
+    pub fn try_delete_line_by_end(&mut self) -> Result<bool, OutOfMemory> {
+        self.edit(|h| unsafe { sys::ta_delete_line_by_end(h) })
+    }
+
+    /// Removes and yanks the text from the line's start to the cursor; at the line's start it does
+    /// what `delete_newline` does. Returns whether it removed text.
+    pub fn delete_line_by_head(&mut self) -> bool {
+        must(self.try_delete_line_by_head())
+    }
+
+    /// As `delete_line_by_head`, but returns that memory ran out.
+    pub fn try_delete_line_by_head(&mut self) -> Result<bool, OutOfMemory> {
+        self.edit(|h| unsafe { sys::ta_delete_line_by_head(h) })
+    }
+
+    /// Removes the atomic range that ends at the cursor or strictly contains it. Otherwise removes
+    /// and yanks the text from the start of the word before the cursor, or from the line's start,
+    /// to the cursor; at column 0 it does what `delete_newline` does. Returns whether it removed
+    /// text.
+    pub fn delete_word(&mut self) -> bool {
+        must(self.try_delete_word())
+    }
+
+    /// As `delete_word`, but returns that memory ran out.
+    pub fn try_delete_word(&mut self) -> Result<bool, OutOfMemory> {
+        self.edit(|h| unsafe { sys::ta_delete_word(h) })
+    }
+
+    /// Removes the atomic range that starts at the cursor or strictly contains it. Otherwise
+    /// removes and yanks the text from the cursor to the word's end, or to the line's end; at the
+    /// line's end it does what `delete_next_char` does. Returns whether it removed text.
+    pub fn delete_next_word(&mut self) -> bool {
+        must(self.try_delete_next_word())
+    }
+
+    /// As `delete_next_word`, but returns that memory ran out.
+    pub fn try_delete_next_word(&mut self) -> Result<bool, OutOfMemory> {
+        self.edit(|h| unsafe { sys::ta_delete_next_word(h) })
+    }
+
+    /// Removes and yanks the whole text, as one edit, and returns whether there was any.
+    pub fn clear(&mut self) -> bool {
+        must(self.try_clear())
+    }
+
+    /// As `clear`, but returns that memory ran out.
+    pub fn try_clear(&mut self) -> Result<bool, OutOfMemory> {
+        self.edit(|h| unsafe { sys::ta_clear(h) })
+    }
+
+    /// Yanks and removes the selected text, returns whether there was any, and drops the selection.
+    pub fn cut(&mut self) -> bool {
+        must(self.try_cut())
+    }
+
+    /// As `cut`, but returns that memory ran out.
+    pub fn try_cut(&mut self) -> Result<bool, OutOfMemory> {
+        self.edit(|h| unsafe { sys::ta_cut(h) })
+    }
+
+    /// Undoes the newest edit, and returns whether there was one. The cursor is then after the
+    /// restored text, or where the removed text began, and nothing is selected.
+    pub fn undo(&mut self) -> bool {
+        must(self.try_undo())
+    }
+
+    /// As `undo`, but returns that memory ran out.
+    pub fn try_undo(&mut self) -> Result<bool, OutOfMemory> {
+        self.edit(|h| unsafe { sys::ta_undo(h) })
+    }
+
+    /// Redoes the edit that was undone last, and returns whether there was one. The cursor is then
+    /// where that edit left it, and nothing is selected.
+    pub fn redo(&mut self) -> bool {
+        must(self.try_redo())
+    }
+
+    /// As `redo`, but returns that memory ran out.
+    pub fn try_redo(&mut self) -> Result<bool, OutOfMemory> {
+        self.edit(|h| unsafe { sys::ta_redo(h) })
+    }
+
+    /// Forgets all edits, and remembers at most this number from now on, done and undone together.
+    pub fn set_max_histories(&mut self, maximum: usize) {
+        self.core
+            .is(|h| unsafe { sys::ta_set_max_histories(h, maximum) });
+    }
+
+    /// Begins an empty selection at the cursor.
+    pub fn start_selection(&mut self) {
+        self.core.is(|h| unsafe { sys::ta_start_selection(h) });
+    }
+
+    /// Drops the selection, if there is one; the text stays.
+    pub fn cancel_selection(&mut self) {
+        self.core.is(|h| unsafe { sys::ta_cancel_selection(h) });
+    }
+
+    /// Selects the whole text, and moves the cursor to its end.
+    pub fn select_all(&mut self) {
+        self.core.is(|h| unsafe { sys::ta_select_all(h) });
+    }
+
+    /// Yanks the selected text, if there is any, and drops the selection.
+    pub fn copy(&mut self) {
+        must(self.try_copy());
+    }
+
+    /// As `copy`, but returns that memory ran out.
+    pub fn try_copy(&mut self) -> Result<(), OutOfMemory> {
+        self.core.on(|h| unsafe { sys::ta_copy(h) })?;
+        Ok(())
+    }
+
+    /// Moves the cursor to the next start of a match, and returns whether there was one: the first
+    /// after the cursor or, with `match_cursor`, at it, and past the text's end the first of all.
+    pub fn search_forward(&mut self, match_cursor: bool) -> bool {
+        must(self.try_search_forward(match_cursor))
+    }
+
+    /// As `search_forward`, but returns that memory ran out.
+    pub fn try_search_forward(&mut self, match_cursor: bool) -> Result<bool, OutOfMemory> {
+        self.core
+            .on(|h| unsafe { sys::ta_search_forward(h, match_cursor) })
+    }
+
+    /// Moves the cursor to the last start of a match before it or, with `match_cursor`, at it, and
+    /// past the text's start to the last of all; returns whether there was one.
+    pub fn search_back(&mut self, match_cursor: bool) -> bool {
+        must(self.try_search_back(match_cursor))
+    }
+
+    /// As `search_back`, but returns that memory ran out.
+    pub fn try_search_back(&mut self, match_cursor: bool) -> Result<bool, OutOfMemory> {
+        self.core
+            .on(|h| unsafe { sys::ta_search_back(h, match_cursor) })
+    }
+
+    /// Sets the distance of tab stops, in columns; at 0 a tab inserts nothing.
+    pub fn set_tab_length(&mut self, columns: u8) {
+        must(self.try_set_tab_length(columns));
+    }
+
+    /// As `set_tab_length`, but returns that memory ran out.
+    pub fn try_set_tab_length(&mut self, columns: u8) -> Result<(), OutOfMemory> {
+        self.core
+            .on(|h| unsafe { sys::ta_set_tab_length(h, columns) })?;
+        Ok(())
+    }
+
+    /// Sets whether a tab is inserted as a tab character, and not as spaces.
+    pub fn set_hard_tab_indent(&mut self, hard: bool) {
+        self.core
+            .is(|h| unsafe { sys::ta_set_hard_tab_indent(h, hard) });
+    }
+
+    /// Hides the line numbers.
+    pub fn remove_line_number(&mut self) {
+        must(self.try_remove_line_number());
+    }
+
+    /// As `remove_line_number`, but returns that memory ran out.
+    pub fn try_remove_line_number(&mut self) -> Result<(), OutOfMemory> {
+        self.core.on(|h| unsafe { sys::ta_remove_line_number(h) })?;
+        Ok(())
+    }
+
+    /// Sets the least height of the whole area, in screen rows; 0 counts as 1. The greatest height
+    /// is raised to it if it is less.
+    pub fn set_min_rows(&mut self, rows: u16) {
+        self.core.is(|h| unsafe { sys::ta_set_min_rows(h, rows) });
+    }
+
+    /// Sets the greatest height of the whole area, in screen rows; 0 counts as 1, and less than the
+    /// least height as that height.
+    pub fn set_max_rows(&mut self, rows: u16) {
+        self.core.is(|h| unsafe { sys::ta_set_max_rows(h, rows) });
+    }
+
+    /// Sets the style of each cell of the inner area, under all others; a placeholder has its own.
+    pub fn set_style(&mut self, style: Style) {
+        let style = style.into();
+        self.core.is(|h| unsafe { sys::ta_set_style(h, &style) });
+    }
+
+    /// Sets the style of the cell at the cursor.
+    pub fn set_cursor_style(&mut self, style: Style) {
+        let style = style.into();
+        self.core
+            .is(|h| unsafe { sys::ta_set_cursor_style(h, &style) });
+    }
+
+    /// Sets the style of the cursor's line, in all its visual rows, where no highlight is.
+    pub fn set_cursor_line_style(&mut self, style: Style) {
+        let style = style.into();
+        self.core
+            .is(|h| unsafe { sys::ta_set_cursor_line_style(h, &style) });
+    }
+
+    /// Sets the style of selected text.
+    pub fn set_selection_style(&mut self, style: Style) {
+        let style = style.into();
+        self.core
+            .is(|h| unsafe { sys::ta_set_selection_style(h, &style) });
+    }
+
+    /// Sets the style of the search pattern's matches.
+    pub fn set_search_style(&mut self, style: Style) {
+        let style = style.into();
+        self.core
+            .is(|h| unsafe { sys::ta_set_search_style(h, &style) });
+    }
+
+    /// Shows the text itself again.
+    pub fn clear_mask_char(&mut self) {
+        self.core.is(|h| unsafe { sys::ta_clear_mask_char(h) });
+    }
+
+    /// Removes all custom highlights.
+    pub fn clear_custom_highlight(&mut self) {
+        self.core
+            .is(|h| unsafe { sys::ta_clear_custom_highlight(h) });
+    }
+
+    /// Returns whether a selection is open, even an empty one.
+    pub fn is_selecting(&self) -> bool {
+        self.core.is(|h| unsafe { sys::ta_is_selecting(h) })
+    }
+
+    /// Returns the greatest number of edits that are remembered, done and undone together.
+    pub fn max_histories(&self) -> usize {
+        let mut max_histories = 0;
+        self.core
+            .is(|h| unsafe { sys::ta_max_histories(h, &mut max_histories) });
+        max_histories
+    }
+
+    /// Returns whether typed edits join into one.
+    pub fn undo_coalescing(&self) -> bool {
+        self.core.is(|h| unsafe { sys::ta_undo_coalescing(h) })
+    }
+
+    /// Returns the distance of tab stops, in columns.
+    pub fn tab_length(&self) -> u8 {
+        let mut tab_length = 0;
+        self.core
+            .is(|h| unsafe { sys::ta_tab_length(h, &mut tab_length) });
+        tab_length
+    }
+
+    /// Returns whether a tab is inserted as a tab character.
+    pub fn hard_tab_indent(&self) -> bool {
+        self.core.is(|h| unsafe { sys::ta_hard_tab_indent(h) })
+    }
+
+    /// Returns the least height of the whole area, in screen rows, from 1 to the greatest height.
+    pub fn min_rows(&self) -> u16 {
+        let mut min_rows = 0;
+        self.core
+            .is(|h| unsafe { sys::ta_min_rows(h, &mut min_rows) });
+        min_rows
+    }
+
+    /// Returns the greatest height of the whole area, in screen rows: at least the least height.
+    pub fn max_rows(&self) -> u16 {
+        let mut max_rows = 0;
+        self.core
+            .is(|h| unsafe { sys::ta_max_rows(h, &mut max_rows) });
+        max_rows
+    }
+
+    /// Returns the style of each cell of the inner area, under all others.
+    pub fn style(&self) -> Style {
+        let mut style = BLANK;
+        self.core.is(|h| unsafe { sys::ta_style(h, &mut style) });
+        style.into()
+    }
+
+    /// Returns the style of the cell at the cursor.
+    pub fn cursor_style(&self) -> Style {
+        let mut style = BLANK;
+        self.core
+            .is(|h| unsafe { sys::ta_cursor_style(h, &mut style) });
+        style.into()
+    }
+
+    /// Returns the style of the cursor's line, where no highlight is.
+    pub fn cursor_line_style(&self) -> Style {
+        let mut style = BLANK;
+        self.core
+            .is(|h| unsafe { sys::ta_cursor_line_style(h, &mut style) });
+        style.into()
+    }
+
+    /// Returns the style of selected text.
+    pub fn selection_style(&self) -> Style {
+        let mut style = BLANK;
+        self.core
+            .is(|h| unsafe { sys::ta_selection_style(h, &mut style) });
+        style.into()
+    }
+
+    /// Returns the style of the search pattern's matches.
+    pub fn search_style(&self) -> Style {
+        let mut style = BLANK;
+        self.core
+            .is(|h| unsafe { sys::ta_search_style(h, &mut style) });
+        style.into()
+    }
+}

@@ -1,0 +1,96 @@
+// Written by tools/calls from crates/textarea_calls/calls.txt.
+//! Undo, redo, and options of the history.
+ghost use Rattle.std.specs.Prelude.{◌≡◌, ◌≢◌, IfSome};
+ghost use Rattle.tui_textarea.specs.Calls.{result_of_call};
+ghost use Rattle.tui_textarea.specs.Input.{flag_of};
+ghost use Rattle.textarea_c.specs.Calls.{Answers, Calls, MakesAttempt, MakesSetting, Reads, number_in};
+ghost use Rattle.textarea_calls.specs.declared.call.Call.TheVariants as call;
+
+use crate::calls::on;
+use crate::handle::Handle;
+use std::alloc::Global;
+use textarea_c_data::status::{OK, flag, truth};
+
+/// Undoes the newest edit, and returns whether there was one. The cursor is then after the restored
+/// text, or where the removed text began, and nothing is selected.
+///
+/// Statuses: ok (true), false, out of memory, empty handle.
+#[unsafe(no_mangle)]
+pub extern "C" fn ta_undo(handle: &mut Handle, alloc: Global) -> u32
+    ensures { Calls handle.old.stored.content result handle.new.stored.content
+        (λ a b. MakesAttempt call.Undo result a b) }
+{
+    on!(handle, alloc, editor => flag(editor.area.undo()))
+}
+
+/// Redoes the edit that was undone last, and returns whether there was one. The cursor is then
+/// where that edit left it, and nothing is selected.
+///
+/// Statuses: ok (true), false, out of memory, empty handle.
+#[unsafe(no_mangle)]
+pub extern "C" fn ta_redo(handle: &mut Handle, alloc: Global) -> u32
+    ensures { Calls handle.old.stored.content result handle.new.stored.content
+        (λ a b. MakesAttempt call.Redo result a b) }
+{
+    on!(handle, alloc, editor => flag(editor.area.redo()))
+}
+
+/// Forgets all edits, and remembers at most this number from now on, done and undone together.
+///
+/// Statuses: ok, empty handle.
+#[unsafe(no_mangle)]
+pub extern "C" fn ta_set_max_histories(handle: &mut Handle, alloc: Global, maximum: usize) -> u32
+    ensures { Calls handle.old.stored.content result handle.new.stored.content
+        (λ a b. MakesSetting (call.SetMaxHistories maximum) result a b) }
+{
+    on!(handle, alloc, editor => {
+        editor.area.set_max_histories(maximum);
+        OK
+    })
+}
+
+/// Sets whether typed edits join into one edit, which is undone at once. A run of typing ends.
+///
+/// Statuses: ok, empty handle.
+#[unsafe(no_mangle)]
+pub extern "C" fn ta_set_undo_coalescing(handle: &mut Handle, alloc: Global, joins: bool) -> u32
+    ensures { Calls handle.old.stored.content result handle.new.stored.content
+        (λ a b. MakesSetting (call.SetUndoCoalescing joins) result a b) }
+{
+    on!(handle, alloc, editor => {
+        editor.area.set_undo_coalescing(joins);
+        OK
+    })
+}
+
+/// Returns the greatest number of edits that are remembered, done and undone together.
+///
+/// Statuses: ok, empty handle.
+#[unsafe(no_mangle)]
+pub extern "C" fn ta_max_histories(
+    handle: &mut Handle,
+    alloc: Global,
+    max_histories: &mut usize,
+) -> u32
+    ensures unchanged { Calls handle.old.stored.content result handle.new.stored.content
+        (λ a b. Reads result a b) }
+    ensures value { IfSome handle.old.stored.content
+        (λ a. max_histories.new ≡ number_in (result_of_call a.area call.MaxHistories)) }
+    ensures unwritten { result ≢ 0 → max_histories.new ≡ max_histories.old }
+{
+    on!(handle, alloc, editor => {
+        *max_histories = editor.area.max_histories();
+        OK
+    })
+}
+
+/// Returns whether typed edits join into one.
+///
+/// Statuses: ok (true), false, empty handle.
+#[unsafe(no_mangle)]
+pub extern "C" fn ta_undo_coalescing(handle: &mut Handle, alloc: Global) -> u32
+    ensures { Calls handle.old.stored.content result handle.new.stored.content
+        (λ a b. Answers (flag_of (result_of_call a.area call.UndoCoalescing)) result a b) }
+{
+    on!(handle, alloc, editor => truth(editor.area.undo_coalescing()))
+}

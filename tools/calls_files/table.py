@@ -1,0 +1,152 @@
+"""The table of calls, read."""
+import pathlib
+import re
+import sys
+
+ROOT = pathlib.Path(__file__).resolve().parent.parent.parent
+TABLE = "crates/textarea_calls/calls.txt"
+NOTE = f"Written by tools/calls from {TABLE}."
+
+# The types of arguments that a module has to name, and where they are.
+MODULES = {
+    "std::time": "Duration",
+    "textarea_data::cursor": "CursorMove CursorRenderMode",
+    "textarea_data::input": "Input",
+    "textarea_data::range": "AtomicCursorBias AtomicDeleteDirection AtomicRange",
+    "textarea_data::scroll": "Scrolling",
+    "textarea_screen::screen": "Alignment Block Position Rect Style Text",
+    "textarea_wrap::wrap": "WrapMode",
+}
+PLAIN_WORDS = {"char", "str", "bool", "u8", "u16", "usize", "String", "static"}
+LANGUAGES = ["C", "Rust", "Python"]
+
+
+def stop(message):
+    sys.exit(f"calls: {message}")
+
+
+def camel(name):
+    return "".join(word.capitalize() for word in name.split("_"))
+
+
+class Group:
+    """Calls with results of one form."""
+
+    def __init__(self, name, derives):
+        self.name, self.derives, self.doc = name, derives, ""
+        self.calls = []
+
+    def is_one_call(self):
+        return [call.variant for call in self.calls] == [self.name]
+
+    def type(self):
+        return self.name + ("<'a>" if any(call.borrows() for call in self.calls) else "")
+
+
+class Call:
+    def __init__(self, topic, name, arguments, result):
+        self.topic, self.name, self.arguments, self.result = topic, name, arguments, result
+        self.variant, self.group, self.memory = camel(name), None, False
+        self.command, self.by_hand = None, []
+        self.languages, self.is_new = set(), False
+        self.note, self.notes, self.doc = "", {}, ""
+
+    def edits(self):
+        """Whether it changes the text, by an edit that the history may have."""
+        return self.memory and self.topic in ("insert", "remove", "history")
+
+    def borrows(self):
+        return any(type.startswith("&") for _, type in self.arguments)
+
+    def names(self):
+        return [name for name, _ in self.arguments]
+
+    def applied(self, path):
+        """The variant with its arguments, as an expression and as a pattern of Rust."""
+        if len(self.arguments) > 1:
+            return f"{path}::{self.variant} {{ {', '.join(self.names())} }}"
+        return f"{path}::{self.variant}" + (f"({self.names()[0]})" if self.arguments else "")
+
+
+class Table:
+    def __init__(self):
+        self.groups, self.calls = {}, []
+        self.topic, self.entry = None, None
+        for number, line in enumerate((ROOT / TABLE).read_text().splitlines(), 1):
+            try:
+                self.read(line)
+            except ValueError as error:
+                stop(f"{TABLE}:{number}: {error}")
+        for call in self.calls:
+            if not call.group or not call.doc:
+                stop(f"{TABLE}: `{call.name}` has no group, or does not say what it does")
+            if len(call.arguments) > 1 and set(call.notes) != set(call.names()):
+                stop(f"{TABLE}: `{call.name}` says something of some of its arguments only")
+
+    def read(self, line):
+        if not line.strip() or line.startswith("#"):
+            return
+        heading = re.fullmatch(r"\[(\w+)\]", line)
+        if heading:
+            self.topic = heading[1]
+        elif line.startswith("    "):
+            self.read_more(line.strip())
+        elif self.topic == "groups":
+            name, _, derives = line.partition(":")
+            self.entry = self.groups[name] = Group(name, derives.strip())
+        else:
+            self.read_call(line)
+
+    def read_call(self, line):
+        front, _, result = line.partition(" -> ")
+        head = re.fullmatch(r"(\w+)\((.*)\)", front)
+        if not head:
+            raise ValueError("expected a call, as `delete_str(count: usize) -> bool`")
+        arguments = re.findall(r"(\w+): ((?:[^,()]|\((?:[^()]|\([^()]*\))*\))+)", head[2])
+        if ", ".join(f"{name}: {type}" for name, type in arguments) != head[2]:
+            raise ValueError("expected arguments as `range: ((usize, usize), (usize, usize)), style: Style`")
+        if head[1] in [call.name for call in self.calls]:
+            raise ValueError(f"`{head[1]}` is there twice")
+        for _, type in arguments:
+            unknown = set(re.findall(r"[A-Za-z]\w*", type)) - PLAIN_WORDS - set(" ".join(MODULES.values()).split())
+            if unknown:
+                raise ValueError(f"MODULES of tools/calls_files/table.py doesn't have {', '.join(sorted(unknown))}")
+        self.entry = Call(self.topic, head[1], arguments, result or None)
+        self.calls.append(self.entry)
+
+    def read_more(self, line):
+        entry = self.entry
+        if isinstance(entry, Call) and not entry.group:
+            self.read_facts(entry, line)
+        elif line.startswith("- "):
+            name, _, words = line[2:].partition(": ")
+            if name not in entry.names():
+                raise ValueError(f"`{entry.name}` has no argument `{name}`")
+            entry.notes[name] = words
+        elif line.startswith("+ "):
+            entry.note = line[2:]
+        else:
+            entry.doc = f"{entry.doc} {line}".strip()
+
+    def read_facts(self, call, line):
+        for fact in line.split(", "):
+            word, _, rest = fact.partition(" ")
+            if fact in self.groups:
+                call.group = self.groups[fact]
+                call.group.calls.append(call)
+            elif fact == "memory":
+                call.memory = True
+            elif fact == "new":
+                call.is_new = True
+            elif word == "command":
+                call.command = rest or call.name
+            elif fact.startswith("by hand "):
+                call.by_hand.append(fact.removeprefix("by hand "))
+            elif word == "variant" and rest:
+                call.variant = rest
+            elif word == "plain" and set(rest.split()) <= set(LANGUAGES):
+                call.languages = set(rest.split() or LANGUAGES)
+            else:
+                raise ValueError(f"`{fact}` is no group, and none of `memory`, `command`, `by hand`, `variant`, `plain`, `new`")
+        if not call.group:
+            raise ValueError(f"`{call.name}` has no group")
