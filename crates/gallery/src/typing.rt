@@ -27,7 +27,7 @@ impl Typing {
             return Ok(false);
         }
         self.runs.set_now(now);
-        self.runs.input(input)?;
+        self.runs.input(input.clone()?)?;
         self.characters.input(input)?;
         Ok(true)
     }

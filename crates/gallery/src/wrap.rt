@@ -29,7 +29,7 @@ impl Wraps {
             return Ok(false);
         }
         for area in &mut self.areas {
-            area.input(input)?;
+            area.input(input.clone()?)?;
         }
         Ok(true)
     }

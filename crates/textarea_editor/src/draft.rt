@@ -17,7 +17,6 @@ ghost use Rattle.textarea_editor.specs.Draft.{FailsIn, IsUndrawn, Makes, RunsSho
 pub mod moving;
 
 use std::alloc::{AllocError, Global};
-use std::slice::from_ref;
 use std::time::Duration;
 use textarea_calls::kind::{Edit, Write};
 use textarea_calls::{Action, Answer, Call};
@@ -143,7 +142,7 @@ impl Draft {
             result ≡ stop_of (step modal.old input.now).quits }
     {
         self.is_changed = self.is_changed || may_change(modal.mode(), input);
-        let stop = modal.run(&mut self.area, from_ref(input)).stop;
+        let stop = modal.run(&mut self.area, &[Input { ..*input }]).stop;
         if stop == ModalStop::Memory {
             self.is_changed = true;
         }
