@@ -3,7 +3,8 @@ ghost use Rattle.gallery.specs.Ends.{EndsByEsc};
 
 use anyhow::Result;
 use std::alloc::{AllocError, Global};
-use tui_textarea::{Block, Buffer, Input, Key, Line, Rect, Style, TextArea, WrapMode};
+use textarea_terminal::input::{Mouse, MouseButton, MouseKind};
+use tui_textarea::{Block, Buffer, Input, Key, Line, Position, Rect, Style, TextArea, WrapMode};
 
 const TEXT: &str = "# Notes\n\nA line that is longer than the screen goes on in the next row, \
     and has one number.\n\n- 漢字 and other wide characters\n- a selection from here to there";
@@ -34,7 +35,7 @@ impl Editor {
         })
     }
 
-    /// The keys are those of the text area. Esc ends the program.
+    /// The keys and the wheel are those of the text area. Esc ends the program.
     pub fn take(&mut self, input: Input) -> Result<bool>
         ensures ends { EndsByEsc input.key result }
     {
@@ -44,6 +45,28 @@ impl Editor {
         let is_changed = self.area.input(input)?;
         self.is_changed = self.is_changed || is_changed;
         Ok(true)
+    }
+
+    /// A click moves the cursor, and a drag selects.
+    pub fn take_mouse(&mut self, mouse: &Mouse) -> Result<()> {
+        let drags = match mouse.kind {
+            MouseKind::Press(MouseButton::Left) => false,
+            MouseKind::Drag(MouseButton::Left) => true,
+            _ => return Ok(()),
+        };
+        let cell = Position {
+            x: mouse.column,
+            y: mouse.row,
+        };
+        if let Some(place) = self.area.cursor_at_position(cell)? {
+            if !drags {
+                self.area.cancel_selection();
+            } else if !self.area.is_selecting() {
+                self.area.start_selection();
+            }
+            self.area.go_to(place);
+        }
+        Ok(())
     }
 
     /// Draws the status in the top row, and the text below it.

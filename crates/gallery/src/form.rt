@@ -1,7 +1,7 @@
 //! A form: three fields of one line, each of which checks itself.
-ghost use Rattle.gallery.specs.Ends.{EndsByEsc};
+ghost use Rattle.gallery.specs.Ends.{EndsOnlyByEscOrEnter};
 
-use crate::program::{checked_style, cursor_style, field, titled};
+use crate::program::{checked_style, cursor_style, field, say, titled};
 use std::alloc::{AllocError, Global};
 use tui_textarea::{Buffer, Input, Key, Rect, TextArea};
 
@@ -19,21 +19,47 @@ fn is_right(title: &str, text: &str) -> bool {
     }
 }
 
+// What a field asks for.
+fn asked_by(title: &str) -> &'static str {
+    match title {
+        " Name " => "Type a name.",
+        " Port " => "Type a number, at most 65535.",
+        _ => "Type at least 8 characters.",
+    }
+}
+
 impl Form {
     pub fn new(alloc: Global) -> Result<Form, AllocError> {
         let mut fields = Vec::new(alloc);
-        for title in [" Name ", " Port ", " Secret, at least 8 characters "] {
+        for title in [" Name ", " Port ", " Secret "] {
             fields.push((title, field(alloc, title)?))?;
         }
         Ok(Form { fields, focus: 0 })
     }
 
-    /// Tab and Enter go to the next field. Esc ends the program.
+    // The first field that isn't right, with what it asks for.
+    fn first_wrong(&self) -> Option<(usize, &'static str)> {
+        for (index, (title, field)) in self.fields.iter().enumerate() {
+            if !is_right(title, field.lines()[0].as_str()) {
+                return Some((index, asked_by(title)));
+            }
+        }
+        None
+    }
+
+    /// Tab and Enter go to the next field, Shift with Tab to the one before. In the last field
+    /// Enter sends the form, which ends the program, or goes to the first field that isn't right.
+    /// Esc ends the program.
     pub fn take(&mut self, input: Input) -> Result<bool, AllocError>
-        ensures ends { EndsByEsc input.key result }
+        ensures ends { EndsOnlyByEscOrEnter input.key result }
     {
         match input.key {
             Key::Esc => return Ok(false),
+            Key::Enter if self.focus >= 2 => match self.first_wrong() {
+                Some((wrong, _)) => self.focus = wrong,
+                None => return Ok(false),
+            },
+            Key::Tab if input.shift => self.focus = self.focus.checked_sub(1).unwrap_or(2),
             Key::Tab | Key::Enter => self.focus = if self.focus < 2 { self.focus + 1 } else { 0 },
             _ => {
                 if let Some((_, field)) = self.fields.get_mut(self.focus) {
@@ -44,7 +70,8 @@ impl Form {
         Ok(true)
     }
 
-    /// Draws the fields one below another. The border of one that is right is green.
+    /// Draws the fields one below another, and then what is asked for. The border of a field that is
+    /// right is green.
     pub fn draw(&mut self, screen: Rect, buffer: &mut Buffer) -> Result<(), AllocError> {
         let alloc = *self.fields.allocator();
         let mut area = Rect::new(screen.x, screen.y, screen.width, 3);
@@ -55,6 +82,10 @@ impl Form {
             field.render(area.intersection(screen), buffer)?;
             area = Rect::new(area.x, area.bottom(), area.width, 3);
         }
-        Ok(())
+        let asked = match self.first_wrong() {
+            Some((_, asked)) => asked,
+            None => "Enter in the last field sends it.",
+        };
+        say(buffer, area, asked)
     }
 }

@@ -4,16 +4,12 @@
 use crate::program::Program;
 use anyhow::Result;
 use std::alloc::Global;
-use std::env;
 use std::io::{Read, Write};
 use std::time::{Duration, Instant};
+use textarea_host::{SizeFile, Watch, size_in};
 use textarea_terminal::input::{Decoder, Event};
 use textarea_terminal::output::Painter;
 use tui_textarea::{Buffer, Rect};
-
-/// The number of reads without bytes, one after another, that took no time, after which the terminal
-/// is gone.
-const MOST_EMPTY_READS: u32 = 100;
 
 /// A program, and the terminal that it runs in.
 #[derive(Drop)]
@@ -41,17 +37,11 @@ pub fn run(rt: &HostRuntime, name: &str) -> Result<()> {
     ended
 }
 
-fn size_in(rt: &HostRuntime, variable: &str, other: u16) -> u16 {
-    match env::var(rt, variable) {
-        Ok(text) => text.parse::<u16>().unwrap_or(other),
-        Err(_) => other,
-    }
-}
-
 impl Session {
     fn run(&mut self, rt: &HostRuntime) -> Result<()> {
         let begin = Instant::now(rt)?;
-        let mut empty_reads = 0u32;
+        let mut sizes = SizeFile::new(rt);
+        let mut watch = Watch::default();
         self.show(rt)?;
         for _ in 0..u64::MAX {
             let mut bytes = [0u8; 4096];
@@ -59,18 +49,29 @@ impl Session {
             let count = rt.stdin().read(&mut bytes)?;
             let now = Instant::now(rt)?;
             let waited = now.duration_since(asked);
-            let is_there = count > 0 || waited > Duration::from_millis(5);
-            empty_reads = if is_there {
-                0
-            } else {
-                empty_reads.saturating_add(1)
-            };
+            if count == 0 {
+                self.take_size(rt, &mut sizes)?;
+            }
             let goes_on = self.take(rt, &bytes[..count], waited, now.duration_since(begin))?;
-            if !goes_on || empty_reads > MOST_EMPTY_READS {
+            if !goes_on || watch.is_gone(count, waited) {
                 break;
             }
         }
         Ok(())
+    }
+
+    // Draws all again if the terminal has another size.
+    fn take_size(&mut self, rt: &HostRuntime, sizes: &mut SizeFile) -> Result<()> {
+        if let Some((columns, rows)) = sizes.news(rt) {
+            self.resize(columns, rows)?;
+            self.show(rt)?;
+        }
+        Ok(())
+    }
+
+    fn resize(&mut self, columns: u16, rows: u16) -> Result<()> {
+        self.screen = Rect::new(0, 0, columns, rows);
+        Ok(self.painter.resize(self.screen)?)
     }
 
     // Takes bytes of the terminal, or that none came in this time, and returns whether the program
@@ -91,8 +92,7 @@ impl Session {
         }
         for event in &events {
             if let Event::Size { columns, rows } = event {
-                self.screen = Rect::new(0, 0, *columns, *rows);
-                self.painter.resize(self.screen)?;
+                self.resize(*columns, *rows)?;
             }
             if !self.program.take(event, now)? {
                 return Ok(false);

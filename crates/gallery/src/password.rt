@@ -1,7 +1,8 @@
 //! A password: one masked line in a block with a title, and a placeholder while it is empty.
 ghost use Rattle.gallery.specs.Ends.{EndsOnlyByEscOrEnter};
 
-use crate::program::{checked_style, titled};
+use crate::program::{checked_style, say, titled};
+use anyhow::Result;
 use std::alloc::{AllocError, Global};
 use tui_textarea::{Buffer, Input, Key, Rect, Style, TextArea};
 
@@ -21,8 +22,9 @@ impl Password {
         placed.map(|()| Password { alloc, area })
     }
 
-    fn is_long(&self) -> bool {
-        self.area.lines()[0].chars().count() >= 8
+    // The number of characters that are missing.
+    fn missing(&self) -> usize {
+        8usize.saturating_sub(self.area.lines()[0].chars().count())
     }
 
     /// Tab shows the text or masks it. Enter ends the program if the text is long enough, and Esc.
@@ -31,7 +33,7 @@ impl Password {
     {
         match (input.key, self.area.mask_char()) {
             (Key::Esc, _) => return Ok(false),
-            (Key::Enter, _) => return Ok(!self.is_long()),
+            (Key::Enter, _) => return Ok(self.missing() > 0),
             (Key::Tab, Some(_)) => self.area.clear_mask_char(),
             (Key::Tab, None) => self.area.set_mask_char('•'),
             _ => {
@@ -41,12 +43,20 @@ impl Password {
         Ok(true)
     }
 
-    /// Draws the field in the three rows at the top of the screen.
-    pub fn draw(&mut self, screen: Rect, buffer: &mut Buffer) -> Result<(), AllocError> {
-        let style = checked_style(self.is_long());
+    /// Draws the field at the top of the screen, and below it what Enter or Tab would do.
+    pub fn draw(&mut self, screen: Rect, buffer: &mut Buffer) -> Result<()> {
+        let missing = self.missing();
         let block = titled(self.alloc, " Password ")?;
-        self.area.set_block(block.border_style(style));
+        self.area
+            .set_block(block.border_style(checked_style(missing == 0)));
         let field = Rect::new(screen.x, screen.y, screen.width, 3);
-        self.area.render(field.intersection(screen), buffer)
+        self.area.render(field.intersection(screen), buffer)?;
+        let message = match missing {
+            0 => format!(in self.alloc; "Enter goes on, Tab shows it.")?,
+            1 => format!(in self.alloc; "One more character.")?,
+            _ => format!(in self.alloc; "{missing} more characters.")?,
+        };
+        let below = Rect::new(screen.x, field.bottom(), screen.width, 1);
+        Ok(say(buffer, below, message.as_str())?)
     }
 }

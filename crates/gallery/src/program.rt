@@ -14,8 +14,8 @@ use crate::wrap::Wraps;
 use anyhow::{Result, bail};
 use std::alloc::{AllocError, Global};
 use std::time::Duration;
-use textarea_terminal::input::Event;
-use tui_textarea::{Block, Buffer, Input, Line, Rect, Style, TextArea};
+use textarea_terminal::input::{Event, Mouse};
+use tui_textarea::{Block, Buffer, DrawText, Input, Line, Rect, Style, TextArea};
 
 /// A program of the gallery.
 #[derive(Drop)]
@@ -57,6 +57,7 @@ impl Program {
         match event {
             Event::Input(input) => self.take_input(Input { ..*input }, now),
             Event::Paste(text) => self.paste(text.as_str()),
+            Event::Mouse(mouse) => self.take_mouse(mouse),
             _ => Ok(true),
         }
     }
@@ -81,6 +82,14 @@ impl Program {
     fn paste(&mut self, text: &str) -> Result<bool> {
         if let Program::Prompt(prompt) = self {
             prompt.paste(text)?;
+        }
+        Ok(true)
+    }
+
+    // The other programs take no mouse.
+    fn take_mouse(&mut self, mouse: &Mouse) -> Result<bool> {
+        if let Program::Editor(editor) = self {
+            editor.take_mouse(mouse)?;
         }
         Ok(true)
     }
@@ -118,6 +127,11 @@ pub fn field(alloc: Global, title: &'static str) -> Result<TextArea<'static>, Al
     area.set_block(block);
     area.set_cursor_line_style(Style::new());
     Ok(area)
+}
+
+/// Draws a message into the top row of an area, from its left edge on.
+pub fn say(buffer: &mut Buffer, area: Rect, message: &str) -> Result<(), AllocError> {
+    buffer.set_string(area.x, area.y, message, Style::new().dark_gray())
 }
 
 /// Returns the style of a cursor, which is visible only with the focus.

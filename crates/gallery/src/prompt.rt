@@ -1,4 +1,4 @@
-//! A prompt that grows with its text, up to five rows, and then scrolls.
+//! A prompt that grows with its text, up to five rows, and then scrolls; above it what was sent.
 
 ghost use Rattle.std.specs.Prelude.{IfOk};
 ghost use Rattle.gallery.specs.Ends.{EndsByEsc};
@@ -6,7 +6,7 @@ ghost use Rattle.gallery.specs.Heights.{IsAsHighAsItsText};
 
 use std::alloc::{AllocError, Global};
 use tui_textarea::laws::measured_as_drawn;
-use tui_textarea::{Block, Buffer, Input, Key, Rect, Style, TextArea, WrapMode};
+use tui_textarea::{Block, Buffer, CursorMove, Input, Key, Rect, Style, TextArea, WrapMode};
 
 /// The most rows of text that are visible.
 const MOST_ROWS: u16 = 5;
@@ -14,6 +14,7 @@ const MOST_ROWS: u16 = 5;
 #[derive(Drop)]
 pub struct Prompt {
     area: TextArea<'static>,
+    sent: TextArea<'static>,
 }
 
 fn set_up(area: &mut TextArea<'_>) -> Result<(), AllocError> {
@@ -25,11 +26,39 @@ fn set_up(area: &mut TextArea<'_>) -> Result<(), AllocError> {
     area.set_wrap_mode(WrapMode::Word)
 }
 
+// What was sent has no cursor that shows.
+fn set_up_sent(sent: &mut TextArea<'_>) -> Result<(), AllocError> {
+    sent.set_cursor_style(Style::new());
+    sent.set_cursor_line_style(Style::new());
+    sent.set_wrap_mode(WrapMode::Word)
+}
+
+// Adds the lines of a text below those that were sent before.
+fn add(sent: &mut TextArea<'_>, lines: &[String]) -> Result<(), AllocError> {
+    sent.move_cursor(CursorMove::Bottom);
+    sent.move_cursor(CursorMove::End);
+    for line in lines {
+        sent.insert_newline()?;
+        sent.insert_str(line.as_str())?;
+    }
+    Ok(())
+}
+
 impl Prompt {
     pub fn new(alloc: Global) -> Result<Prompt, AllocError> {
         let mut area = TextArea::try_default(alloc)?;
         set_up(&mut area)?;
-        Ok(Prompt { area })
+        let mut sent = TextArea::try_default(alloc)?;
+        set_up_sent(&mut sent)?;
+        Ok(Prompt { area, sent })
+    }
+
+    // Sends the text, and empties the prompt.
+    fn send(&mut self) -> Result<bool, AllocError> {
+        if !self.area.is_empty() {
+            add(&mut self.sent, self.area.lines())?;
+        }
+        self.area.clear()
     }
 
     /// Enter sends the text, Alt with Enter breaks the line, and Esc ends the program.
@@ -38,7 +67,7 @@ impl Prompt {
     {
         match input.key {
             Key::Esc => return Ok(false),
-            Key::Enter if !input.alt => self.area.clear()?,
+            Key::Enter if !input.alt => self.send()?,
             _ => self.area.input(input)?,
         };
         Ok(true)
@@ -50,16 +79,32 @@ impl Prompt {
         Ok(())
     }
 
-    /// Draws the prompt at the bottom of the screen, as high as its text needs, and returns its area.
+    /// Draws the prompt at the bottom of the screen, as high as its text needs, and above it what was
+    /// sent. Returns the prompt's area.
     pub fn draw(&mut self, screen: Rect, buffer: &mut Buffer) -> Result<Rect, AllocError>
         ensures height { IfOk result (IsAsHighAsItsText self.old.area self.new.area screen) }
     {
-        measured_as_drawn();
-        let height = self.area.measure(screen.width)?.preferred_rows;
-        let height = height.min(screen.height);
-        let top = screen.bottom() - height;
-        let area = Rect::new(screen.x, top, screen.width, height);
-        self.area.render(area, buffer)?;
+        let area = draw_prompt(&mut self.area, screen, buffer)?;
+        let above = area.y.saturating_sub(screen.y);
+        let rows = Rect::new(screen.x, screen.y, screen.width, above);
+        self.sent.render(rows, buffer)?;
         Ok(area)
     }
+}
+
+// Draws the prompt at the bottom of the screen, as high as its text needs, and returns its area.
+fn draw_prompt(
+    text: &mut TextArea<'_>,
+    screen: Rect,
+    buffer: &mut Buffer,
+) -> Result<Rect, AllocError>
+    ensures height { IfOk result (IsAsHighAsItsText text.old text.new screen) }
+{
+    measured_as_drawn();
+    let height = text.measure(screen.width)?.preferred_rows;
+    let height = height.min(screen.height);
+    let top = screen.bottom() - height;
+    let area = Rect::new(screen.x, top, screen.width, height);
+    text.render(area, buffer)?;
+    Ok(area)
 }

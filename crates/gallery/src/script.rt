@@ -5,6 +5,7 @@
 //! - `type TEXT`: each character is a key.
 //! - `key NAME`: one key, after `Ctrl-`, `Alt-` and `Shift-`, as in `key Ctrl-u` or `key Enter`.
 //! - `paste TEXT`: a pasted text, in which `\n` is a line break.
+//! - `click COLUMN ROW`, `drag COLUMN ROW`: the left button of the mouse, at a cell counted from 0.
 //! - `resize COLUMNS ROWS`: the screen gets this size.
 //! - `wait N`: N milliseconds pass.
 //! - `show CAPTION`: the screen is printed.
@@ -16,7 +17,7 @@ use crate::program::Program;
 use anyhow::{Context, Result, bail};
 use std::io::Read;
 use std::time::Duration;
-use textarea_terminal::input::Event;
+use textarea_terminal::input::{Event, Mouse, MouseButton, MouseKind};
 use tui_textarea::{Buffer, Input, Key, Rect};
 
 /// A program that runs by a script.
@@ -82,6 +83,8 @@ impl Stage<'_> {
                 let text = rest.replace(rt.alloc(), "\\n", "\n")?;
                 self.take(rt, &Event::Paste(text))
             }
+            "click" => self.point(rt, rest, MouseKind::Press(MouseButton::Left)),
+            "drag" => self.point(rt, rest, MouseKind::Drag(MouseButton::Left)),
             "resize" => {
                 self.screen = screen_of(rest)?;
                 Ok(())
@@ -101,6 +104,20 @@ impl Stage<'_> {
             self.take(rt, &Event::Input(Input::from(character)))?;
         }
         Ok(())
+    }
+
+    // The mouse does this at a cell.
+    fn point(&mut self, rt: &HostRuntime, cell: &str, kind: MouseKind) -> Result<()> {
+        let (column, row) = cell.split_once(' ').context("a cell without a row")?;
+        let mouse = Mouse {
+            kind,
+            column: column.parse::<u16>()?,
+            row: row.parse::<u16>()?,
+            ctrl: false,
+            alt: false,
+            shift: false,
+        };
+        self.take(rt, &Event::Mouse(mouse))
     }
 
     fn take(&mut self, rt: &HostRuntime, event: &Event) -> Result<()> {
