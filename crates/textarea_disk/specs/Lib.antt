@@ -1,0 +1,4 @@
+pub mod ContentHash
+pub mod Disk
+pub mod Plan
+pub mod Save

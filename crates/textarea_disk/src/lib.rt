@@ -1,0 +1,11 @@
+//! Saves as lists of disk steps: what a save does to a disk is data, and laws say what a crash or a
+//! failure at any step leaves. Also a hash by which a file's bytes are compared with those that
+//! were read or saved last.
+#![tactic(auto)]
+
+pub mod content_hash;
+pub mod laws;
+pub mod step;
+
+pub use content_hash::{NEW_HASH, hash_with};
+pub use step::{DiskStep, Ownership, Place, SavePlan};
