@@ -1,14 +1,22 @@
 -- The effects of an editor's steps.
-use Rattle.std.specs.Prelude.{◌≡◌, ℕ, List, String, string_bytes}
+use Rattle.std.specs.Prelude.{◌≡◌, ℕ, Bool, true, false, List, String, string_bytes}
 use Rattle.std.specs.Str.{chars}
 use Rattle.std.specs.declared.alloc.Global.{Global}
 use Rattle.textarea_editor.specs.FileText.{joined_bytes}
 use Rattle.textarea_editor.specs.declared.effect.Effect.{Effect}
 use Rattle.textarea_editor.specs.declared.effect.Effect.TheVariants.{Copy, Nothing, Quit, Save}
+use Rattle.textarea_editor.specs.declared.effect.SaveEnd.{SaveEnd}
+use Rattle.textarea_editor.specs.declared.effect.SaveEnd.TheVariants as save_end
 use Rattle.textarea_editor.specs.declared.file_text.LineEnd.{LineEnd}
 use Rattle.textarea_text.specs.Fragment.{fragment_text}
 use Rattle.textarea_text.specs.Text.{lines, lines_of}
 use Rattle.tui_textarea.specs.State.{State}
+
+-- the file has the new bytes
+abbrev pub is_saved : SaveEnd → Bool
+is_saved save_end.Saved = true
+is_saved save_end.SavedAnew = true
+is_saved end = false
 
 -- these bytes are the text's lines, joined by the line end
 pub record IsWritten (state : State) (end : LineEnd) (bytes : List ℕ) : Type 0 where

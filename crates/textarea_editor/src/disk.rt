@@ -1,12 +1,18 @@
-//! Files: read whole, and saved as a new file beside the old one that then takes its name.
+//! Files: read whole, and saved by a list of steps that never leaves a part of a text alone.
+
+mod carrying_out;
+mod names;
+mod new_file;
 
 use crate::effect::SaveEnd;
 use crate::message::Trouble;
-use std::fs::{File, Metadata, OpenFile, OpenOptions};
-use std::io::{ErrorKind, Read, Write};
-use std::os::unix::fs::{MetadataExt, chown};
-use std::rt::Files;
+use carrying_out::{Failure, Way, carry_out};
+use std::fs::{File, Metadata};
+use std::io::{ErrorKind, Read};
+use std::os::unix::fs::MetadataExt;
+use std::rt::{Env, Files};
 use std::{fs, io};
+use textarea_disk::{NEW_HASH, hash_with};
 
 // A state of a file on disk: its node, size and time of the last change.
 #[derive(Clone, Copy, Debug, PartialEq, Eq)]
@@ -18,12 +24,25 @@ struct Stamp {
     nanoseconds: i64,
 }
 
-/// A file on disk, by the state that is known of it.
+// A file as it was read or saved last.
+#[derive(Clone, Copy, Debug, PartialEq, Eq)]
+struct Known {
+    // The hash of its name.
+    name: u64,
+    stamp: Stamp,
+    // The hash of its bytes; none for a large file that wasn't saved yet.
+    content: Option<u64>,
+}
+
+/// A file on disk, by what is known of it.
 #[derive(Clone, Copy, Debug, Default, PartialEq, Eq)]
 pub struct DiskFile {
-    /// Its state when it was read or saved last; none if it didn't exist.
-    known: Option<Stamp>,
+    // None if the file didn't exist, or nothing was read or saved.
+    known: Option<Known>,
 }
+
+// The size of a text from which on opening it makes no hash.
+const LARGE: usize = 16 << 20;
 
 fn trouble_of(error: &io::Error) -> Trouble {
     match error.kind() {
@@ -50,6 +69,10 @@ fn stamp_of(metadata: &Metadata) -> Stamp {
     }
 }
 
+fn hash_of(text: &str) -> u64 {
+    hash_with(NEW_HASH, text.as_bytes())
+}
+
 // The state of the file on disk, or none if it doesn't exist. It has to be a regular file.
 fn state_of<R: Files>(rt: &R, name: &str) -> Result<Option<Metadata>, Trouble> {
     match fs::metadata(rt, name) {
@@ -73,9 +96,59 @@ fn read_text<R: Files + AllocGlobal>(rt: &R, name: &str, size: u64) -> io::Resul
     Ok(text)
 }
 
+// The hash of a file's bytes, which are read in pieces.
+fn hash_on_disk<R: Files>(rt: &R, name: &str) -> io::Result<u64> {
+    let mut file = File::open(rt, name)?;
+    let mut hash = NEW_HASH;
+    for _ in 0..u64::MAX {
+        let mut bytes = [0u8; 16384];
+        let count = file.read(&mut bytes)?;
+        if count == 0 {
+            break;
+        }
+        hash = hash_with(hash, &bytes[..count]);
+    }
+    Ok(hash)
+}
+
+impl Known {
+    fn new(name: &str, stamp: Stamp, content: Option<u64>) -> Known {
+        Known {
+            name: hash_of(name),
+            stamp,
+            content,
+        }
+    }
+
+    // Whether the file of this name is as it was: by its state, and by the hash of its bytes where
+    // that is known. A file that can't be read is not.
+    fn is_on_disk<R: Files>(&self, rt: &R, name: &str, now: &Metadata) -> bool {
+        if self.stamp != stamp_of(now) {
+            return false;
+        }
+        match (self.content, hash_on_disk(rt, name)) {
+            (Some(known), Ok(hash)) => known == hash,
+            (Some(_), Err(_)) => false,
+            (None, _) => true,
+        }
+    }
+
+    // What is known after a save failed: a file that has the known bytes has them at another time
+    // now, if it was grown and cut again.
+    fn after_failure<R: Files>(self, rt: &R, name: &str) -> Known {
+        match (self.content, hash_on_disk(rt, name), fs::metadata(rt, name)) {
+            (Some(known), Ok(hash), Ok(now)) if known == hash => Known {
+                stamp: stamp_of(&now),
+                ..self
+            },
+            _ => self,
+        }
+    }
+}
+
 impl DiskFile {
     /// Reads the file of this name whole. A file that doesn't exist has no text. After an error
-    /// nothing is known of the file, so that `save` asks before it replaces it.
+    /// nothing is known of the file, so that `save` asks before it overwrites it.
     pub fn read<R: Files + AllocGlobal>(
         &mut self,
         rt: &R,
@@ -86,18 +159,28 @@ impl DiskFile {
         };
         match read_text(rt, name, metadata.len()) {
             Ok(text) => {
-                self.known = Some(stamp_of(&metadata));
+                let is_large = text.len() >= LARGE;
+                let content = if is_large {
+                    None
+                } else {
+                    Some(hash_of(text.as_str()))
+                };
+                self.known = Some(Known::new(name, stamp_of(&metadata), content));
                 Ok(Some(text))
             }
             Err(error) => Err(trouble_of(&error)),
         }
     }
 
-    /// Saves a text as the file of this name. A file that exists has to be in the known state,
-    /// unless it is overwritten. The text is written to a new file beside it, with its mode bits,
-    /// which then takes its name; so at each time the name is that of the whole old file or of the
-    /// whole new one. After an error it is that of the old file, and the new one is removed.
-    pub fn save<R: Files + AllocGlobal>(
+    /// Saves a text as the file of this name, over links to it. A file that exists has to be as it
+    /// was read or saved last, unless it is overwritten.
+    ///
+    /// The steps are those of [`SavePlan`](textarea_disk::SavePlan): a new file beside the old one,
+    /// with its mode bits, takes its name; or the text is written over the old file where renaming
+    /// would lose its other names, its owner or its group, or can't be done. After an error the
+    /// file is the whole old one, and there is no new one; but if it fails in the middle of
+    /// writing over the file, the whole text is in the copy.
+    pub fn save<R: Files + Env + AllocGlobal>(
         &mut self,
         rt: &R,
         name: &str,
@@ -108,108 +191,78 @@ impl DiskFile {
             Ok(old) => old,
             Err(trouble) => return SaveEnd::Failed(trouble),
         };
-        if !overwrites && self.is_changed(&old) {
-            return SaveEnd::ChangedOnDisk;
-        }
-        match replace(rt, name, text, &old) {
-            Ok(stamp) => {
-                self.known = Some(stamp);
-                SaveEnd::Saved
+        if let (Some(now), false) = (&old, overwrites) {
+            if let Some(question) = self.question(rt, name, now) {
+                return question;
             }
-            Err(error) => SaveEnd::Failed(trouble_of(&error)),
+        }
+        let was_deleted = old.is_none() && self.knows(name);
+        match save_steps(rt, name, text, &old) {
+            Ok(stamp) => {
+                self.known = Some(Known::new(name, stamp, Some(hash_of(text))));
+                if was_deleted {
+                    SaveEnd::SavedAnew
+                } else {
+                    SaveEnd::Saved
+                }
+            }
+            Err(trouble) => {
+                self.known = match self.known {
+                    Some(known) if self.knows(name) => Some(known.after_failure(rt, name)),
+                    known => known,
+                };
+                SaveEnd::Failed(trouble)
+            }
         }
     }
 
-    // Whether the file exists in another state than the known one.
-    fn is_changed(&self, now: &Option<Metadata>) -> bool {
-        match now {
-            Some(metadata) => self.known != Some(stamp_of(metadata)),
+    // Whether the file of this name was read or saved.
+    fn knows(&self, name: &str) -> bool {
+        match self.known {
+            Some(known) => known.name == hash_of(name),
             None => false,
+        }
+    }
+
+    // What has to be asked before the file of this name, which exists, is overwritten.
+    fn question<R: Files>(&self, rt: &R, name: &str, now: &Metadata) -> Option<SaveEnd> {
+        match self.known {
+            Some(known) if known.name == hash_of(name) => {
+                if known.is_on_disk(rt, name, now) {
+                    None
+                } else {
+                    Some(SaveEnd::ChangedOnDisk)
+                }
+            }
+            _ => Some(SaveEnd::Exists),
         }
     }
 }
 
-// Writes the text to a new file, which then takes the name, and returns its state on disk.
-fn replace<R: Files + AllocGlobal>(
+// Saves a text by the steps of a plan, and returns the state of the file after them. Where a way to
+// save it can't be gone, the next one is tried.
+fn save_steps<R: Files + Env + AllocGlobal>(
     rt: &R,
     name: &str,
     text: &str,
     old: &Option<Metadata>,
-) -> io::Result<Stamp> {
-    // A file that may not be written is not replaced.
-    if old.is_some() {
-        OpenOptions::new().write(true).open(rt, name)?;
-    }
-    let target = target_of(rt, name)?;
-    let beside = beside(rt, target.as_str())?;
-    let replaced = write_and_rename(rt, beside.as_str(), target.as_str(), text, old);
-    if replaced.is_err() {
-        let _ = fs::remove_file(rt, beside.as_str());
-    }
-    replaced
-}
-
-// Writes the text to the new file, which then takes the target's name, as the last step that may
-// fail. Returns the state of the new file, which is the same under either name.
-fn write_and_rename<R: Files>(
-    rt: &R,
-    beside: &str,
-    target: &str,
-    text: &str,
-    old: &Option<Metadata>,
-) -> io::Result<Stamp> {
-    let stamp = write_beside(rt, beside, text, old)?;
-    fs::rename(rt, beside, target)?;
-    Ok(stamp)
-}
-
-// The file that a name leads to, if it is that of a link.
-fn target_of<R: Files + AllocGlobal>(rt: &R, name: &str) -> io::Result<String> {
-    match fs::canonicalize(rt, name) {
-        Ok(path) => Ok(String::from_str(rt.alloc(), path.as_path().as_str())?),
-        Err(error) if error.kind() == ErrorKind::NotFound => {
-            Ok(String::from_str(rt.alloc(), name)?)
+) -> Result<Stamp, Trouble> {
+    let target = match names::target_of(rt, name) {
+        Ok(target) => target,
+        Err(error) => return Err(trouble_of(&error)),
+    };
+    let mut way = Way::AsKept;
+    for _ in 0..3 {
+        match carry_out(rt, target.as_str(), text, old, way) {
+            Ok(stamp) => return Ok(stamp),
+            Err(
+                Failure {
+                    next: Some(next),
+                    ..
+                },
+            ) => way = next,
+            Err(failure) => return Err(failure.trouble),
         }
-        Err(error) => Err(error),
     }
-}
-
-// The name of the new file beside a file.
-fn beside<R: AllocGlobal>(rt: &R, target: &str) -> io::Result<String> {
-    let alloc = rt.alloc();
-    match target.rsplit_once('/') {
-        Some((folder, file)) => Ok(format!(in alloc; "{folder}/.{file}.taedit")?),
-        None => Ok(format!(in alloc; ".{target}.taedit")?),
-    }
-}
-
-// Writes the new file, with the mode bits and owner of the old one, brings it to the disk, and
-// returns its state.
-fn write_beside<R: Files>(
-    rt: &R,
-    beside: &str,
-    text: &str,
-    old: &Option<Metadata>,
-) -> io::Result<Stamp> {
-    let mut file = create_beside(rt, beside)?;
-    if let Some(metadata) = old {
-        // Only root may give a file to another owner. That may clear mode bits, so these come after
-        // it.
-        let _ = chown(rt, beside, Some(metadata.uid()), Some(metadata.gid()));
-        file.set_permissions(metadata.permissions())?;
-    }
-    file.write_all(text.as_bytes())?;
-    file.sync_all()?;
-    Ok(stamp_of(&file.metadata()?))
-}
-
-// Creates the new file. One that a killed save left is removed first.
-fn create_beside<R: Files>(rt: &R, beside: &str) -> io::Result<R::File> {
-    match File::create_new(rt, beside) {
-        Err(error) if error.kind() == ErrorKind::AlreadyExists => {
-            fs::remove_file(rt, beside)?;
-            File::create_new(rt, beside)
-        }
-        outcome => outcome,
-    }
+    Err(Trouble::Other)
 }

@@ -26,8 +26,12 @@ pub enum Effect {
 pub enum SaveEnd {
     /// The file has the new bytes.
     Saved,
+    /// The same, after another program deleted the file.
+    SavedAnew,
     /// The file changed on disk since it was read or saved, and is as it was.
     ChangedOnDisk,
+    /// There is a file of this name, which was not opened, and it is as it was.
+    Exists,
     /// It failed, and the file is as it was.
     Failed(Trouble),
 }

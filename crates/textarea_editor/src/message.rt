@@ -19,6 +19,9 @@ pub enum Trouble {
     ReadOnly,
     /// Out of memory.
     Memory,
+    /// It failed while the file was written over. The copy, whose name ends in `.taedit-1` or in a
+    /// later number, has the whole text.
+    InPart,
     /// Another failure of the file system.
     Other,
 }
@@ -35,6 +38,7 @@ impl Trouble {
             Trouble::NoFolder => "its folder does not exist",
             Trouble::ReadOnly => "the file system is read-only",
             Trouble::Memory => "out of memory",
+            Trouble::InPart => "it is written in part; the copy .taedit-1 is whole",
             Trouble::Other => "the file system reports an error",
         }
     }
@@ -49,6 +53,10 @@ pub enum Message {
     NewFile,
     /// The file was saved.
     Saved,
+    /// The file was saved after another program deleted it.
+    SavedAnew,
+    /// Nothing, but that the question whether to overwrite is for a file that was not opened.
+    Exists,
     /// The file was not saved. The text is as it was.
     NotSaved(Trouble),
     /// The file was not opened. The text is empty, and has no name.
@@ -65,9 +73,10 @@ impl Message {
     /// Returns the message, and the reason that follows it, if there is one.
     pub fn components(self) -> (&'static str, &'static str) {
         match self {
-            Message::Nothing => ("", ""),
+            Message::Nothing | Message::Exists => ("", ""),
             Message::NewFile => ("new file", ""),
             Message::Saved => ("saved", ""),
+            Message::SavedAnew => ("it was deleted; saved anew", ""),
             Message::NotSaved(trouble) => ("not saved: ", trouble.text()),
             Message::NotOpened(trouble) => ("not opened: ", trouble.text()),
             Message::NoMatch => ("no match", ""),

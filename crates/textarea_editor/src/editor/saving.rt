@@ -1,8 +1,8 @@
 // Saving the text, and ending the program.
-ghost use Rattle.std.specs.Prelude.{◌≡◌, ◌≢◌, false, IfOk, OnErr, OnOk, is_some};
+ghost use Rattle.std.specs.Prelude.{◌≡◌, false, true, IfOk, OnErr, OnOk, is_some};
 ghost use Rattle.textarea_editor.specs.Controls.{quit_asked, save_asked};
 ghost use Rattle.textarea_editor.specs.Editor.{MayQuit, draft_of, end_of};
-ghost use Rattle.textarea_editor.specs.Effects.{Carries};
+ghost use Rattle.textarea_editor.specs.Effects.{Carries, is_saved};
 
 use super::Editor;
 use crate::effect::{Effect, SaveEnd};
@@ -36,28 +36,48 @@ impl Editor {
     /// After a save that failed the text is as it was, and counts as changed if it did before; the
     /// status row tells why.
     pub fn saved(&mut self, end: SaveEnd) -> Effect
-        ensures saved { end ≡ SaveEnd.Saved
+        ensures saved { is_saved end ≡ true
             → draft_of self.new ≡ record (draft_of self.old) { is_changed = false } }
-        ensures failed { end ≢ SaveEnd.Saved → draft_of self.new ≡ draft_of self.old }
-        ensures carries { Carries (end ≡ SaveEnd.Saved) (draft_of self.new).area
+        ensures failed { is_saved end ≡ false → draft_of self.new ≡ draft_of self.old }
+        ensures carries { Carries (is_saved end ≡ true) (draft_of self.new).area
             (end_of self.new) result }
         ensures same_end { end_of self.new ≡ end_of self.old }
     {
         match end {
-            SaveEnd::Saved => {
-                self.draft.set_saved();
-                self.message = Message::Saved;
-                if self.controls.ends_when_saved {
-                    return Effect::Quit;
-                }
-            }
-            SaveEnd::ChangedOnDisk => self.controls.focus = Focus::Question(Question::Overwrite),
+            SaveEnd::Saved => return self.end_save(Message::Saved),
+            SaveEnd::SavedAnew => return self.end_save(Message::SavedAnew),
+            SaveEnd::ChangedOnDisk => self.ask_to_overwrite(Message::Nothing),
+            SaveEnd::Exists => self.ask_to_overwrite(Message::Exists),
             SaveEnd::Failed(trouble) => {
                 self.message = Message::NotSaved(trouble);
                 self.controls.ends_when_saved = false;
             }
         }
         Effect::Nothing
+    }
+
+    // The text is the saved one. The program ends if it was to be saved for that.
+    fn end_save(&mut self, message: Message) -> Effect
+        ensures draft { self.new.draft ≡ record self.old.draft { is_changed = false } }
+        ensures end { self.new.line_end ≡ self.old.line_end }
+        ensures carries { Carries (self.new.draft.is_changed ≡ false) self.new.draft.area
+            self.new.line_end result }
+    {
+        self.draft.set_saved();
+        self.message = message;
+        if self.controls.ends_when_saved {
+            return Effect::Quit;
+        }
+        Effect::Nothing
+    }
+
+    // Asks whether to overwrite the file; the message says which question it is.
+    fn ask_to_overwrite(&mut self, message: Message)
+        ensures draft { self.new.draft ≡ self.old.draft }
+        ensures end { self.new.line_end ≡ self.old.line_end }
+    {
+        self.message = message;
+        self.controls.focus = Focus::Question(Question::Overwrite);
     }
 
     // Ends the program, after a question if the text may have changed.

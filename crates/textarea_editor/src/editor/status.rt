@@ -2,6 +2,7 @@
 
 use super::Editor;
 use crate::focus::{Asked, Focus, Question};
+use crate::message::Message;
 use std::alloc::{AllocError, Global};
 use textarea_modal::Mode;
 
@@ -18,15 +19,23 @@ impl Editor {
                     " Save the changes? y: yes  n: no  Esc: back to the text",
                 )
             }
-            Focus::Question(Question::Overwrite) => {
-                String::from_str(
-                    alloc,
-                    " The file changed on disk. Overwrite it? y: yes  n: no",
-                )
-            }
+            Focus::Question(Question::Overwrite) => self.overwrite_question(alloc),
             Focus::Help => String::from_str(alloc, " Keys  (any key: back to the text)"),
             Focus::Text => self.name_and_message(alloc),
         }
+    }
+
+    // The question whether to overwrite the file. A long name would hide it.
+    fn overwrite_question(&self, alloc: Global) -> Result<String, AllocError> {
+        if self.message != Message::Exists {
+            let changed = " The file changed on disk. Overwrite it? y: yes  n: no";
+            return String::from_str(alloc, changed);
+        }
+        let name = match self.name() {
+            Some(name) if name.len() < 24 => name,
+            _ => "The file",
+        };
+        format!(in alloc; " {name} exists already. Overwrite it? y: yes  n: no")
     }
 
     fn name_and_message(&self, alloc: Global) -> Result<String, AllocError> {
