@@ -133,13 +133,14 @@ impl Known {
         }
     }
 
-    // What is known after a save failed: a file that has the known bytes has them at another time
-    // now, if it was grown and cut again.
-    fn after_failure<R: Files>(self, rt: &R, name: &str) -> Known {
-        match (self.content, hash_on_disk(rt, name), fs::metadata(rt, name)) {
-            (Some(known), Ok(hash), Ok(now)) if known == hash => Known {
+    // What is known after a save failed. The file may have the known bytes, at another time if it
+    // was grown and cut again, or those of the text, whose hash this is.
+    fn after_failure<R: Files>(self, rt: &R, name: &str, text: u64) -> Known {
+        match (hash_on_disk(rt, name), fs::metadata(rt, name)) {
+            (Ok(hash), Ok(now)) if hash == text || self.content == Some(hash) => Known {
+                name: self.name,
                 stamp: stamp_of(&now),
-                ..self
+                content: Some(hash),
             },
             _ => self,
         }
@@ -208,7 +209,11 @@ impl DiskFile {
             }
             Err(trouble) => {
                 self.known = match self.known {
-                    Some(known) if self.knows(name) => Some(known.after_failure(rt, name)),
+                    Some(known) if self.knows(name) => Some(known.after_failure(
+                        rt,
+                        name,
+                        hash_of(text),
+                    )),
                     known => known,
                 };
                 SaveEnd::Failed(trouble)

@@ -12,7 +12,7 @@ pub enum Effect {
     Save {
         /// The text of the whole file.
         text: String,
-        /// Whether to overwrite a file that changed on disk.
+        /// Whether to overwrite a file that changed on disk, or that was not opened.
         overwrites: bool,
     },
     /// Give this text to the terminal's clipboard.

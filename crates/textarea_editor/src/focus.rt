@@ -23,7 +23,7 @@ pub enum Asked {
 pub enum Question {
     /// Whether to save before the program ends.
     SaveFirst,
-    /// Whether to overwrite a file that changed on disk.
+    /// Whether to overwrite a file that changed on disk, or that was not opened.
     Overwrite,
 }
 

@@ -90,7 +90,10 @@ impl Editor {
             self.old.draft.area.document.cursor self.old.field input.now self.new.controls) }
         ensures kept { OnErr result (self.new.controls ≡ self.old.controls) }
     {
-        self.message = Message::Nothing;
+        // The question whether to overwrite goes on being asked of the same file.
+        if self.message != Message::Exists {
+            self.message = Message::Nothing;
+        }
         match self.controls.focus {
             Focus::Text => self.take_key(input),
             Focus::Prompt(asked) => self.take_prompt_key(asked, input),
