@@ -85,7 +85,7 @@ leaves_agree P old new name same agree leaves =
 
 -- what a synced file leaves
 pub synced_left : (disk : Disk) (n : ℕ) (content : Content) → disk.files n ≡ record { content = content; is_synced = true } → (left : Option Content) → IsLeftByEntry disk (Some n) left → left ≡ Some content
-synced_left disk n content h None l = cc
+synced_left disk n content h None l = absurd l
 synced_left disk n content h (Some c) l = ap Some (l (ap (λ (f : File). f.is_synced) h) ∙ ap (λ (f : File). f.content) h)
 
 pub left_or_later : (P : Option Content → Type 0) (old new : Disk) (name : List ℕ) (entry : Option ℕ) → new.names name ≡ record { now = entry; before = entries_of (old.names name) } → Agree old new (entries_of (old.names name)) → ((left : Option Content) → IsLeftByEntry new entry left → P left) → Leaves old name P → Leaves new name P
@@ -103,7 +103,7 @@ leaves_one P disk name n content same file p =
   where
     cases : (left : Option Content) → IsLeftByOne disk (Some n ∷ []) left → P left
     cases left (inl l) = subst P (sym (synced_left disk n content file left l)) p
-    cases left (inr l) = cc
+    cases left (inr l) = absurd l
 
 -- ---- what is seen
 

@@ -1,5 +1,5 @@
 -- A disk: what is under each name, and what a crash may leave there.
-use Rattle.std.specs.Prelude.{◌≡◌, ◌⊎◌, ◌<◌, ◌+◌, ◌==◌, ℕ, Bool, true, false, if◌then◌else◌, List, [], ◌∷◌, Option, None, Some}
+use Rattle.std.specs.Prelude.{◌≡◌, ◌⊎◌, ◌<◌, ◌+◌, ◌==◌, ℕ, Bool, true, if◌then◌else◌, List, [], ◌∷◌, Option, None, Some}
 use Rattle.std.specs.List.{AllByRecursion}
 use Rattle.std.specs.Str.{bytes_eq}
 
@@ -30,11 +30,11 @@ pub record Disk : Type 0 where
 
 abbrev pub IsLeftByEntry : Disk → Option ℕ → Option Content → Type 0
 IsLeftByEntry disk None left = left ≡ None
-IsLeftByEntry disk (Some n) None = Some n ≡ None
+IsLeftByEntry disk (Some n) None = ⊥
 IsLeftByEntry disk (Some n) (Some content) = (disk.files n).is_synced ≡ true → content ≡ (disk.files n).content
 
 abbrev pub IsLeftByOne : Disk → List (Option ℕ) → Option Content → Type 0
-IsLeftByOne disk [] left = true ≡ false
+IsLeftByOne disk [] left = ⊥
 IsLeftByOne disk (entry ∷ entries) left = IsLeftByEntry disk entry left ⊎ IsLeftByOne disk entries left
 
 -- a crash now may leave this under the name: a file with this content, or no file
@@ -86,7 +86,7 @@ changed disk name change = changed_at (disk.names name).now disk change
 -- ---- which disks there are
 
 abbrev pub IsBelow : ℕ → Option ℕ → Type 0
-IsBelow count None = count ≡ count
+IsBelow count None = Unit {0}
 IsBelow count (Some n) = n < count
 
 -- each entry is the number of a file that was made

@@ -74,7 +74,7 @@ abbrev pub LeavesOldOrNew : Save → Option Content → Disk → Type 0
 LeavesOldOrNew save old disk = Leaves disk save.file (λ left. (left ≡ old) ⊎ (left ≡ Some (saved save)))
 
 abbrev pub HasBytes : List ℕ → Option Content → Type 0
-HasBytes bytes None = true ≡ false
+HasBytes bytes None = ⊥
 HasBytes bytes (Some content) = content.bytes ≡ bytes
 
 -- a crash leaves what was under the name, or the whole saved file, or else the copy with the whole text under its name
