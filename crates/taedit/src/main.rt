@@ -1,4 +1,5 @@
-// Edits a file in a terminal that `bin/taedit` prepares: taedit [--modal] [FILE]
+// Edits a file in a terminal that `bin/taedit` prepares:
+// taedit [--modal] [--no-final-newline] [+LINE[,COLUMN]] [--] [FILE]
 #![tactic(auto)]
 
 use anyhow::{Result, bail};
@@ -6,6 +7,8 @@ use std::io::{Read, Write};
 use std::time::{Duration, Instant};
 use std::{env, fs};
 use textarea_editor::message::Message;
+use textarea_editor::screen::Colors;
+use textarea_editor::terminal_colors::terminal_colors;
 use textarea_editor::{Arguments, DiskFile, Editor, Effect, Event, Screen};
 
 // The file that `bin/taedit` writes the terminal's size to when it may have changed: the rows, the
@@ -36,6 +39,10 @@ impl SizeFile {
     }
 }
 
+// The alternate screen, reports of the mouse with its buttons down, in SGR's form, and bracketed
+// paste. `bin/taedit` restores the terminal.
+const ENTER: &[u8] = b"\x1b[?1049h\x1b[?1002h\x1b[?1006h\x1b[?2004h";
+
 fn size_of(text: &str) -> Option<Event> {
     let mut words = text.split(' ');
     let rows = words.next()?.parse::<u16>().ok()?;
@@ -47,7 +54,7 @@ fn main(rt: HostRuntime) -> Result<()> {
     let words: Vec<String> = env::args(&rt)?.skip(1).collect(rt.alloc())?;
     match Arguments::read(words.as_slice()) {
         Some(arguments) => edit(&rt, arguments),
-        None => bail!("usage: taedit [--modal] [FILE]"),
+        None => bail!("usage: taedit [--modal] [--no-final-newline] [+LINE[,COLUMN]] [--] [FILE]"),
     }
 }
 
@@ -55,7 +62,8 @@ fn main(rt: HostRuntime) -> Result<()> {
 fn edit(rt: &HostRuntime, arguments: Arguments<'_>) -> Result<()> {
     let (columns, rows) = (size_in(rt, "COLUMNS", 80), size_in(rt, "LINES", 24));
     let mut editor = Editor::new(rt.alloc(), columns, rows, arguments.is_modal)?;
-    let outcome = edit_with(rt, &mut editor, arguments.name);
+    editor.set_closes_last(arguments.closes_last);
+    let outcome = edit_with(rt, &mut editor, arguments);
     drop(editor);
     outcome
 }
@@ -75,22 +83,40 @@ fn is_console(rt: &HostRuntime) -> bool {
     }
 }
 
-fn edit_with(rt: &HostRuntime, editor: &mut Editor, name: Option<&str>) -> Result<()> {
+fn edit_with(rt: &HostRuntime, editor: &mut Editor, arguments: Arguments<'_>) -> Result<()> {
     let mut file = DiskFile::default();
-    if let Some(name) = name {
+    if let Some(name) = arguments.name {
         open(rt, editor, &mut file, name)?;
+    }
+    if let Some(position) = arguments.position {
+        editor.go_to(position)?;
     }
     let mut screen = Screen::new(rt.alloc(), editor.screen_area())?;
     screen.set_console(is_console(rt));
+    screen.set_colors(colors(rt));
     let outcome = run(rt, editor, &mut screen, &mut file);
     drop(screen);
     outcome
 }
 
+// The colours that the terminal has.
+fn colors(rt: &HostRuntime) -> Colors {
+    let no_color = variable(rt, "NO_COLOR");
+    let colorterm = variable(rt, "COLORTERM");
+    let term = variable(rt, "TERM");
+    terminal_colors(no_color.as_str(), colorterm.as_str(), term.as_str())
+}
+
+// The value of a variable, empty if it isn't set.
+fn variable(rt: &HostRuntime, name: &str) -> String {
+    env::var(rt, name).unwrap_or(String::new(rt.alloc()))
+}
+
+// Opens a file, before the program takes the screen. A text that can't be opened ends the program.
 fn open(rt: &HostRuntime, editor: &mut Editor, file: &mut DiskFile, name: &str) -> Result<()> {
     match file.read(rt, name) {
         Ok(text) => editor.open(name, text)?,
-        Err(trouble) => editor.show_message(Message::NotOpened(trouble)),
+        Err(trouble) => bail!("{name}: not opened: {}", trouble.text()),
     }
     Ok(())
 }
@@ -104,6 +130,7 @@ fn run(
 ) -> Result<()> {
     let begin = Instant::now(rt)?;
     let mut sizes = SizeFile::new(rt);
+    write(rt, ENTER)?;
     show(rt, editor, screen)?;
     for _ in 0..u64::MAX {
         let mut bytes = [0u8; 4096];

@@ -1,15 +1,16 @@
 -- Events after the time was set: the calls of the table don't depend on it.
-use Rattle.std.proofs.Common.{◌≡◌, ◌⊎◌, ℕ, List, [], ◌∷◌, inl, inr, lit<, refl, string_bytes, subst}
+use Rattle.std.proofs.Common.{◌≡◌, ◌⊎◌, ◌-◌, ℕ, Bool, true, false, List, [], ◌∷◌, inl, inr, lit<, refl, string_bytes, subst}
 use Rattle.std.specs.Duration.{as_nanos}
 use Rattle.std.specs.declared.time.Duration.{Duration}
 use Rattle.textarea_calls.specs.declared.answer.Answer.TheVariants as answer
 use Rattle.textarea_calls.specs.declared.call.Call.{Call}
 use Rattle.textarea_calls.specs.declared.call.Call.TheVariants.{SetNow}
 use Rattle.textarea_data.specs.declared.input.Input.{Input}
+use Rattle.textarea_data.specs.declared.measure.TextAreaMeasure.{TextAreaMeasure}
 use Rattle.textarea_editor.proofs.Drafts.{fails_then, makes_then}
 use Rattle.textarea_editor.specs.Draft.{FailsIn, FailsInAsked, FailsInSome, Makes, MakesSome}
 use Rattle.textarea_editor.specs.declared.draft.Draft.{Draft}
-use Rattle.textarea_editor.specs.EventCalls.{IsEvent, IsInput, IsPaste}
+use Rattle.textarea_editor.specs.EventCalls.{IsEvent, IsFit, IsInput, IsPaste}
 use Rattle.textarea_editor.specs.Steps.{IsTimed}
 use Rattle.textarea_editor.specs.declared.editor.Editor.{Editor}
 use Rattle.textarea_editor.specs.declared.focus.Focus.{Focus}
@@ -18,6 +19,7 @@ use Rattle.textarea_modal.proofs.Runs.{draws_nothing_of, made_more, none_made}
 use Rattle.textarea_modal.specs.Runs.{AllMade}
 use Rattle.textarea_terminal.specs.declared.input.event.Event.{Event}
 use Rattle.textarea_terminal.specs.declared.input.event.Event.TheVariants as event
+use Rattle.tui_textarea.specs.Measure.{IsMeasured}
 use Rattle.tui_textarea.specs.State.{State}
 
 -- ---- the time is set
@@ -35,8 +37,22 @@ time_made old new now is =
 abbrev with_draft : Editor → Draft → Editor
 with_draft editor draft = record editor { draft = draft }
 
+measured_at : (area : State) (time width : ℕ) (measure : TextAreaMeasure) → IsMeasured (at_time area time) width measure → IsMeasured area width measure
+measured_at area time width measure is = record { rows = is.rows; rows_are = is.rows_are; measure_is = is.measure_is }
+
+fit_at : (area : State) (time columns rows : ℕ) (fits : Bool) → IsFit (at_time area time) columns rows fits → IsFit area columns rows fits
+fit_at area time columns rows true is = (is.0, measured_at area time columns is.0 is.1, is.2)
+fit_at area time columns rows false (inl is) = inl (is.0, measured_at area time columns is.0 is.1, is.2)
+fit_at area time columns rows false (inr is) = inr is
+
 input_at : (asked : Focus) (editor : Editor) (draft : Draft) (area : State) (time : ℕ) (input : Input) (calls : List Call) → IsInput asked (with_draft editor draft) (at_time area time) input calls → IsInput asked editor area input calls
-input_at focus.Text editor draft area time input calls is = is
+input_at focus.Text editor draft area time input calls is = record {
+  command = is.command;
+  found = is.found;
+  fits = is.fits;
+  is_fit = fit_at area time editor.columns (editor.rows - 1) is.fits is.is_fit;
+  calls_are = is.calls_are;
+}
 input_at (focus.Prompt asked) editor draft area time input calls is = is
 input_at (focus.Question question) editor draft area time input calls is = is
 input_at focus.Help editor draft area time input calls is = is

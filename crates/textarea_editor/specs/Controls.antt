@@ -1,15 +1,20 @@
 -- What decides what the next event does, after each event, as a table.
-use Rattle.std.specs.Prelude.{◌≡◌, ◌≢◌, ◌==◌, ◌||◌, ℕ, not, Bool, true, false, [], Option, Some, None, is_some, if◌then◌else◌}
+use Rattle.std.specs.Prelude.{◌≡◌, ◌≢◌, not, Bool, true, false, [], Option, Some, None, is_some, if◌then◌else◌}
 use Rattle.textarea_data.specs.declared.input.Input.{Input}
 use Rattle.textarea_data.specs.declared.input.Key.{Key}
-use Rattle.textarea_data.specs.declared.input.Key.TheVariants.{Char, Down, Esc, MouseScrollDown, MouseScrollUp, PageDown, PageUp, Up}
+use Rattle.textarea_data.specs.declared.input.Key.TheVariants.{MouseScrollDown, MouseScrollUp}
 use Rattle.textarea_editor.specs.EventCalls.{IsCommandOf}
+use Rattle.textarea_editor.specs.HelpKeys.{help_key}
 use Rattle.textarea_editor.specs.PromptKeys.{prompt_key}
+use Rattle.textarea_editor.specs.Replies.{reply_of}
+use Rattle.textarea_editor.specs.TypedInput.{typed_input}
 use Rattle.textarea_editor.specs.declared.controls.Controls.{Controls}
 use Rattle.textarea_editor.specs.declared.focus.Asked.{Asked}
 use Rattle.textarea_editor.specs.declared.focus.Asked.TheVariants as asks
 use Rattle.textarea_editor.specs.declared.focus.Focus.{Focus}
 use Rattle.textarea_editor.specs.declared.focus.Focus.TheVariants as focus
+use Rattle.textarea_editor.specs.declared.focus.HelpKey.{HelpKey}
+use Rattle.textarea_editor.specs.declared.focus.HelpKey.TheVariants as help
 use Rattle.textarea_editor.specs.declared.focus.PromptKey.{PromptKey}
 use Rattle.textarea_editor.specs.declared.focus.PromptKey.TheVariants as prompt
 use Rattle.textarea_editor.specs.declared.focus.Question.{Question}
@@ -54,6 +59,7 @@ quit_asked controls false = controls
 -- a command; the file has a name or not, and the text may have changed or not
 abbrev pub after_command : Controls → Bool → Bool → Place → Command → Controls
 after_command controls named changed cursor command.Save = save_asked controls named cursor
+after_command controls named changed cursor command.SaveAs = prompt_opened controls cursor asks.Name
 after_command controls named changed cursor command.Quit = quit_asked controls changed
 after_command controls named changed cursor command.Find = prompt_opened controls cursor asks.Text
 after_command controls named changed cursor command.GoToLine = prompt_opened controls cursor asks.Line
@@ -101,54 +107,38 @@ IsTaken asks.Text controls field new = new ≡ controls
 IsTaken asks.Line controls field new = new ≡ with_focus controls focus.Text
 IsTaken asks.Name controls field new = IsNameTaken controls field new
 
-abbrev pub IsAfterPromptKey : PromptKey → Asked → Controls → State → Controls → Type 0
-IsAfterPromptKey prompt.Leave asked controls field new = new ≡ left controls
-IsAfterPromptKey prompt.Accept asked controls field new = IsTaken asked controls field new
-IsAfterPromptKey other asked controls field new = new ≡ controls
+abbrev pub IsAfterPromptKey : PromptKey → Asked → Controls → Bool → State → Controls → Type 0
+IsAfterPromptKey prompt.Leave asked controls changed field new = new ≡ left controls
+IsAfterPromptKey prompt.Accept asked controls changed field new = IsTaken asked controls field new
+IsAfterPromptKey prompt.Quit asked controls changed field new = new ≡ quit_asked controls changed
+IsAfterPromptKey other asked controls changed field new = new ≡ controls
 
 -- ---- keys that answer a question, and keys in the help
 
--- a letter, upper case or not: `y` is 121, `n` is 110
-abbrev pub letter_reply : ℕ → Reply
-letter_reply c = if c == 121 || c == 89 then reply.Yes else (if c == 110 || c == 78 then reply.No else reply.Other)
-
-abbrev pub reply_of : Key → Reply
-reply_of (Char c) = letter_reply c
-reply_of Esc = reply.Back
-reply_of key = reply.Other
-
+-- whoever won't overwrite a file gives another name
 abbrev pub after_reply : Question → Reply → Controls → Bool → Place → Controls
 after_reply SaveFirst reply.Yes controls named cursor = record (save_asked controls named cursor) { ends_when_saved = true }
 after_reply SaveFirst reply.No controls named cursor = controls
 after_reply Overwrite reply.Yes controls named cursor = save_asked controls named cursor
-after_reply Overwrite reply.No controls named cursor = left controls
+after_reply Overwrite reply.No controls named cursor = prompt_opened (left controls) cursor asks.Name
 after_reply question reply.Back controls named cursor = left controls
 after_reply question reply.Other controls named cursor = controls
 
--- whether a key scrolls the help; others close it
-abbrev pub scrolls_help : Key → Bool
-scrolls_help Down = true
-scrolls_help MouseScrollDown = true
-scrolls_help Up = true
-scrolls_help MouseScrollUp = true
-scrolls_help PageDown = true
-scrolls_help PageUp = true
-scrolls_help key = false
-
-abbrev pub after_help_key : Bool → Controls → Controls
-after_help_key true controls = controls
-after_help_key false controls = with_focus controls focus.Text
+abbrev pub after_help_key : HelpKey → Controls → Bool → Controls
+after_help_key help.Leave controls changed = with_focus controls focus.Text
+after_help_key help.Quit controls changed = quit_asked controls changed
+after_help_key _ controls changed = controls
 
 -- ---- events
 
 -- an input, with the focus on this
 abbrev pub IsAfterInput : Focus → Controls → Bool → Bool → Place → State → Input → Controls → Type 0
 IsAfterInput focus.Text controls named changed cursor field input new = IsAfterKey controls named changed cursor input new
-IsAfterInput (focus.Prompt asked) controls named changed cursor field input new = IsAfterPromptKey (prompt_key asked input) asked controls field new
-IsAfterInput (focus.Question question) controls named changed cursor field input new = new ≡ after_reply question (reply_of input.key) controls named cursor
-IsAfterInput focus.Help controls named changed cursor field input new = new ≡ after_help_key (scrolls_help input.key) controls
+IsAfterInput (focus.Prompt asked) controls named changed cursor field input new = IsAfterPromptKey (prompt_key asked input) asked controls changed field new
+IsAfterInput (focus.Question question) controls named changed cursor field input new = new ≡ after_reply question (reply_of input) controls named cursor
+IsAfterInput focus.Help controls named changed cursor field input new = new ≡ after_help_key (help_key input) controls changed
 
 -- an event; after it the text may have changed or not
 abbrev pub IsAfterEvent : Controls → Bool → Bool → Place → State → Event → Controls → Type 0
-IsAfterEvent controls named changed cursor field (event.Input input) new = IsAfterInput controls.focus controls named changed cursor field input new
+IsAfterEvent controls named changed cursor field (event.Input input) new = IsAfterInput controls.focus controls named changed cursor field (typed_input input) new
 IsAfterEvent controls named changed cursor field other new = new ≡ controls

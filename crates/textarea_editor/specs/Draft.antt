@@ -5,6 +5,7 @@ use Rattle.textarea_calls.specs.FlagRule.{FlagRule, flag_rule_of, unchanged}
 use Rattle.textarea_calls.specs.declared.call.Call.{Call}
 use Rattle.textarea_calls.specs.declared.call.Call.TheVariants.{CancelSelection, ClearAtomicRanges, Copy, Cut, GoTo, Input, InsertPasted, Move, Paste, Redo, RemoveLineNumber, Scroll, SearchBack, SearchForward, SelectAll, SetHardTabIndent, SetLineNumberStyle, SetMaxHistories, SetNow, SetSearchPattern, SetUndoCoalescing, SetWrapMode, StartSelection, Undo}
 use Rattle.textarea_calls.specs.declared.kind.Write.TheVariants as write
+use Rattle.textarea_data.specs.declared.measure.TextAreaMeasure.{TextAreaMeasure}
 use Rattle.textarea_editor.specs.declared.draft.Draft.{Draft}
 use Rattle.textarea_modal.specs.Runs.{AllMade, RunsOutAt}
 use Rattle.textarea_modal.specs.declared.modal.ModalStop.{ModalStop}
@@ -12,6 +13,7 @@ use Rattle.textarea_modal.specs.declared.modal.ModalStop.TheVariants.{End, Quit}
 use Rattle.textarea_modal.specs.declared.step.KeyCall.{KeyCall}
 use Rattle.textarea_modal.specs.declared.step.KeyCall.TheVariants as key
 use Rattle.tui_textarea.specs.Input.{asked_by}
+use Rattle.tui_textarea.specs.Measure.{IsMeasured}
 use Rattle.tui_textarea.specs.State.{State}
 
 -- whether an input with this result leaves the text as it is
@@ -83,6 +85,10 @@ plain_calls calls = map plain_call calls
 abbrev pub IsHonest : Draft → Draft → Type 0
 IsHonest old new =
     new.is_changed ≡ false → (old.is_changed ≡ false) × (new.area.document.text ≡ old.area.document.text)
+
+-- the text needs this number of rows at this width
+abbrev pub IsMeasuredRows : State → ℕ → ℕ → Type 0
+IsMeasuredRows area width rows = (measure : TextAreaMeasure) × IsMeasured area width measure × (rows ≡ measure.content_rows)
 
 -- memory ran out in the calls: those before this index were made, and then the call at it ran out
 -- of memory, or no further call was made

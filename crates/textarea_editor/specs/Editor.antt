@@ -1,18 +1,33 @@
 -- What clauses see of an editor.
 use Rattle.textarea_editor.specs.declared.draft.Draft.{Draft}
 use Rattle.std.specs.Prelude.{◌≡◌, ◌⊎◌, Bool, false, ℕ}
+use Rattle.textarea_editor.specs.declared.controls.Controls.{Controls}
 use Rattle.textarea_editor.specs.declared.editor.Editor.{Editor}
-use Rattle.textarea_editor.specs.declared.file_text.LineEnd.{LineEnd}
+use Rattle.textarea_editor.specs.declared.file_text.LineEnds.{LineEnds}
+use Rattle.textarea_editor.specs.declared.file_text.LineEnd.TheVariants.{LineFeed}
 use Rattle.textarea_editor.specs.declared.focus.Focus.TheVariants as focus
 use Rattle.textarea_editor.specs.declared.focus.Question.TheVariants.{SaveFirst}
+use Rattle.textarea_editor.specs.declared.message.Message.{Message}
 
 -- the text area, and whether its text may differ from the saved one
 abbrev pub draft_of : Editor → Draft
 draft_of editor = editor.draft
 
--- the line end of the file
-abbrev pub end_of : Editor → LineEnd
+-- how the lines of the file end
+abbrev pub end_of : Editor → LineEnds
 end_of editor = editor.line_end
+
+-- how the lines of a new file end: by line feeds, also the last one or not
+abbrev pub new_ends : Bool → LineEnds
+new_ends closes = record { between = LineFeed; closes_last = closes }
+
+-- what decides what the next event does
+abbrev pub controls_of : Editor → Controls
+controls_of editor = editor.controls
+
+-- the message of the status row
+abbrev pub message_of : Editor → Message
+message_of editor = editor.message
 
 -- long lines are wrapped
 abbrev pub wraps_of : Editor → Bool

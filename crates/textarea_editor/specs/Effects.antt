@@ -2,12 +2,16 @@
 use Rattle.std.specs.Prelude.{◌≡◌, ℕ, Bool, true, false, List, String, string_bytes}
 use Rattle.std.specs.Str.{chars}
 use Rattle.std.specs.declared.alloc.Global.{Global}
-use Rattle.textarea_editor.specs.FileText.{joined_bytes}
+use Rattle.textarea_editor.specs.FileText.{file_bytes}
 use Rattle.textarea_editor.specs.declared.effect.Effect.{Effect}
 use Rattle.textarea_editor.specs.declared.effect.Effect.TheVariants.{Copy, Nothing, Quit, Save}
 use Rattle.textarea_editor.specs.declared.effect.SaveEnd.{SaveEnd}
 use Rattle.textarea_editor.specs.declared.effect.SaveEnd.TheVariants as save_end
-use Rattle.textarea_editor.specs.declared.file_text.LineEnd.{LineEnd}
+use Rattle.textarea_editor.specs.declared.file_text.LineEnds.{LineEnds}
+use Rattle.textarea_editor.specs.declared.focus.Question.{Question}
+use Rattle.textarea_editor.specs.declared.focus.Question.TheVariants.{Overwrite, SaveFirst}
+use Rattle.textarea_editor.specs.declared.focus.Reply.{Reply}
+use Rattle.textarea_editor.specs.declared.focus.Reply.TheVariants as reply
 use Rattle.textarea_text.specs.Fragment.{fragment_text}
 use Rattle.textarea_text.specs.Text.{lines, lines_of}
 use Rattle.tui_textarea.specs.State.{State}
@@ -18,16 +22,29 @@ is_saved save_end.Saved = true
 is_saved save_end.SavedAnew = true
 is_saved end = false
 
--- these bytes are the text's lines, joined by the line end
-pub record IsWritten (state : State) (end : LineEnd) (bytes : List ℕ) : Type 0 where
+-- these bytes are those of a file of the text's lines
+pub record IsWritten (state : State) (ends : LineEnds) (bytes : List ℕ) : Type 0 where
   pub strings : List (String Global)
   pub of_text : lines_of strings ≡ lines state.document.text
-  pub joined : bytes ≡ joined_bytes end strings
+  pub joined : bytes ≡ file_bytes ends strings
+
+-- the program saves the file, and overwrites a changed one or not; without a name it does nothing yet
+abbrev pub IsSaveAsked : Bool → Bool → Effect → Type 0
+IsSaveAsked true overwrites (Save text asked) = asked ≡ overwrites
+IsSaveAsked true overwrites effect = ⊥
+IsSaveAsked false overwrites effect = effect ≡ Nothing
+
+-- what the program does after a reply to a question; only `n` to the first one ends it
+abbrev pub IsAnswered : Question → Reply → Bool → Effect → Type 0
+IsAnswered SaveFirst reply.Yes named effect = IsSaveAsked named false effect
+IsAnswered SaveFirst reply.No named effect = effect ≡ Quit
+IsAnswered Overwrite reply.Yes named effect = IsSaveAsked named true effect
+IsAnswered question answer named effect = effect ≡ Nothing
 
 -- a text to save is that of the text area, one to copy is what was yanked last, and the program
 -- ends only if it may
-abbrev pub Carries : Type 0 → State → LineEnd → Effect → Type 0
-Carries MayQuit state end Nothing = Unit {0}
-Carries MayQuit state end (Save text overwrites) = IsWritten state end (string_bytes text)
-Carries MayQuit state end (Copy text) = chars (string_bytes text) ≡ fragment_text state.yank
-Carries MayQuit state end Quit = MayQuit
+abbrev pub Carries : Type 0 → State → LineEnds → Effect → Type 0
+Carries MayQuit state ends Nothing = Unit {0}
+Carries MayQuit state ends (Save text overwrites) = IsWritten state ends (string_bytes text)
+Carries MayQuit state ends (Copy text) = chars (string_bytes text) ≡ fragment_text state.yank
+Carries MayQuit state ends Quit = MayQuit

@@ -1,16 +1,20 @@
 -- The calls on the text area that each event makes, as a table: by what the next key is for, the
 -- key, and the command that it is bound to.
-use Rattle.std.specs.Prelude.{◌≡◌, ℕ, ◌-◌, ◌==◌, ◌&&◌, ◌||◌, nat_lt, not, Bool, true, false, List, [], ◌∷◌, ◌++◌, Option, Some, None, is_some, if◌then◌else◌, slice_index_or, string_bytes, All, Contains}
+use Rattle.std.specs.Prelude.{◌≡◌, ◌⊎◌, ◌<◌, ◌≤◌, ℕ, ◌-◌, ◌==◌, ◌&&◌, ◌||◌, nat_lt, not, Bool, true, false, List, [], ◌∷◌, ◌++◌, Option, Some, None, is_some, if◌then◌else◌, slice_index_or, string_bytes, All, Contains}
 use Rattle.std.specs.Borrow.{Bor}
 use Rattle.std.specs.Str.{chars}
 use Rattle.textarea_calls.specs.declared.call.Call.{Call}
 use Rattle.textarea_calls.specs.declared.call.Call.TheVariants as call
+use Rattle.textarea_data.specs.declared.cursor.CursorMove.TheVariants as move
 use Rattle.textarea_data.specs.declared.input.Input.{Input}
+use Rattle.textarea_data.specs.declared.measure.TextAreaMeasure.{TextAreaMeasure}
 use Rattle.textarea_data.specs.declared.input.Key.{Key}
-use Rattle.textarea_data.specs.declared.input.Key.TheVariants.{Char, Esc, F, MouseScrollDown, MouseScrollUp}
+use Rattle.textarea_data.specs.declared.input.Key.TheVariants.{Char, End, Esc, F, Home, MouseScrollDown, MouseScrollUp}
 use Rattle.textarea_editor.specs.LineNumber.{IsLineNumber, row_of}
 use Rattle.textarea_editor.specs.Patterns.{first_line, pattern_of}
 use Rattle.textarea_editor.specs.PromptKeys.{prompt_key}
+use Rattle.textarea_editor.specs.TypedInput.{typed_input}
+use Rattle.textarea_editor.specs.declared.controls.Controls.{Controls}
 use Rattle.textarea_editor.specs.declared.editor.Editor.{Editor}
 use Rattle.textarea_editor.specs.declared.editor.TheConstants.{WHEEL_DOWN, WHEEL_UP}
 use Rattle.textarea_editor.specs.declared.focus.Asked.{Asked}
@@ -44,6 +48,7 @@ use Rattle.tui_textarea.specs.DrawnFrame.{WidgetState}
 use Rattle.tui_textarea.specs.Edits.{inserts_text, str_inserted}
 use Rattle.tui_textarea.specs.Hit.{IsHitTest}
 use Rattle.tui_textarea.specs.Input.{IsAfterAction, action_flag, asked_by}
+use Rattle.tui_textarea.specs.Measure.{IsMeasured, reads_rows}
 use Rattle.tui_textarea.specs.State.{State}
 
 -- a borrowed text, at no address
@@ -52,11 +57,14 @@ borrowed text = record { ref_ptr = (0, 0); now = text }
 
 -- ---- commands
 
--- whether the bound key is the pressed one; only characters, function keys and Esc are bound
+-- whether the bound key is the pressed one; only characters, function keys, Esc, Home and End are
+-- bound
 abbrev pub is_bound : Key → Key → Bool
 is_bound (Char c) (Char d) = c == d
 is_bound (F m) (F n) = m == n
 is_bound Esc Esc = true
+is_bound Home Home = true
+is_bound End End = true
 is_bound bound pressed = false
 
 abbrev pub is_same : Bool → Bool → Bool
@@ -95,6 +103,7 @@ find_calls false = call.SearchBack false ∷ []
 -- open or not
 abbrev pub command_calls : Bool → Bool → Bool → Command → List Call
 command_calls wraps numbers selecting command.Save = []
+command_calls wraps numbers selecting command.SaveAs = []
 command_calls wraps numbers selecting command.Quit = []
 command_calls wraps numbers selecting command.Find = []
 command_calls wraps numbers selecting command.FindNext = find_calls true
@@ -106,6 +115,8 @@ command_calls wraps numbers selecting command.Cut = if selecting then call.Cut �
 command_calls wraps numbers selecting command.Copy = if selecting then call.Copy ∷ [] else []
 command_calls wraps numbers selecting command.Paste = call.Paste ∷ []
 command_calls wraps numbers selecting command.SelectAll = call.SelectAll ∷ []
+command_calls wraps numbers selecting command.TextStart = call.CancelSelection ∷ call.Move move.Top ∷ call.Move move.Head ∷ []
+command_calls wraps numbers selecting command.TextEnd = call.CancelSelection ∷ call.Move move.Bottom ∷ call.Move move.End ∷ []
 command_calls wraps numbers selecting command.Wrap = call.SetWrapMode (wrap_mode (not wraps)) ∷ []
 command_calls wraps numbers selecting command.LineNumbers = numbers_call (not numbers) ∷ []
 command_calls wraps numbers selecting command.Help = []
@@ -118,24 +129,37 @@ abbrev pub typed_calls : Option Mode → Input → List Call
 typed_calls None input = passed_on input ∷ []
 typed_calls (Some mode) input = (step mode input).calls
 
--- a key that is bound to no command; the wheel scrolls by three rows
-abbrev pub unbound_calls : Option Mode → Key → Input → List Call
-unbound_calls modal MouseScrollDown input = call.Scroll WHEEL_DOWN ∷ []
-unbound_calls modal MouseScrollUp input = call.Scroll WHEEL_UP ∷ []
-unbound_calls modal other input = typed_calls modal input
+-- the wheel scrolls down by three rows, but not if all rows of the text are shown
+abbrev pub wheel_calls : Bool → List Call
+wheel_calls true = []
+wheel_calls false = call.Scroll WHEEL_DOWN ∷ []
+
+-- a key that is bound to no command; all rows of the text fit into the screen or not
+abbrev pub unbound_calls : Bool → Option Mode → Key → Input → List Call
+unbound_calls fits modal MouseScrollDown input = wheel_calls fits
+unbound_calls fits modal MouseScrollUp input = call.Scroll WHEEL_UP ∷ []
+unbound_calls fits modal other input = typed_calls modal input
+
+-- whether all rows of the text fit into this area; where it isn't laid out for this width, memory may
+-- run out for that, and then it counts as not fitting
+abbrev pub IsFit : State → ℕ → ℕ → Bool → Type 0
+IsFit area columns rows true = (measure : TextAreaMeasure) × IsMeasured area columns measure × (measure.content_rows ≤ rows)
+IsFit area columns rows false = ((measure : TextAreaMeasure) × IsMeasured area columns measure × (rows < measure.content_rows)) ⊎ (reads_rows area columns ≡ false)
 
 abbrev pub is_selecting : State → Bool
 is_selecting area = is_some area.document.anchor
 
-abbrev pub key_calls : Option Command → Option Mode → Bool → Bool → Bool → Input → List Call
-key_calls (Some found) modal wraps numbers selecting input = command_calls wraps numbers selecting found
-key_calls None modal wraps numbers selecting input = unbound_calls modal input.key input
+abbrev pub key_calls : Option Command → Bool → Option Mode → Bool → Bool → Bool → Input → List Call
+key_calls (Some found) fits modal wraps numbers selecting input = command_calls wraps numbers selecting found
+key_calls None fits modal wraps numbers selecting input = unbound_calls fits modal input.key input
 
 -- an input in the text
-pub record IsKeyInText (modal : Option Mode) (wraps numbers selecting : Bool) (input : Input) (calls : List Call) : Type 0 where
+pub record IsKeyInText (controls : Controls) (area : State) (columns rows : ℕ) (input : Input) (calls : List Call) : Type 0 where
   pub command : Option Command
-  pub found : IsCommandOf input (is_some modal) command
-  pub calls_are : calls ≡ key_calls command modal wraps numbers selecting input
+  pub found : IsCommandOf input (is_some controls.modal) command
+  pub fits : Bool
+  pub is_fit : IsFit area columns rows fits
+  pub calls_are : calls ≡ key_calls command fits controls.modal controls.wraps controls.numbers (is_selecting area) input
 
 -- ---- the prompt
 
@@ -190,6 +214,7 @@ pub record IsPromptInput (asked : Asked) (origin : Place) (field : State) (input
 -- an input in the prompt, by what the key does
 abbrev pub IsKeyInPrompt : PromptKey → Asked → Place → State → Input → List Call → Type 0
 IsKeyInPrompt prompt.Leave asked origin field input calls = calls ≡ []
+IsKeyInPrompt prompt.Quit asked origin field input calls = calls ≡ []
 IsKeyInPrompt prompt.Next asked origin field input calls = calls ≡ find_calls true
 IsKeyInPrompt prompt.Previous asked origin field input calls = calls ≡ find_calls false
 IsKeyInPrompt prompt.Accept asked origin field input calls = IsPromptTaken asked field calls
@@ -198,7 +223,7 @@ IsKeyInPrompt prompt.Edit asked origin field input calls = IsPromptInput asked o
 -- ---- inputs, pastes and the mouse
 
 abbrev pub IsInput : Focus → Editor → State → Input → List Call → Type 0
-IsInput focus.Text editor area input calls = IsKeyInText editor.controls.modal editor.controls.wraps editor.controls.numbers (is_selecting area) input calls
+IsInput focus.Text editor area input calls = IsKeyInText editor.controls area editor.columns (editor.rows - 1) input calls
 IsInput (focus.Prompt asked) editor area input calls = IsKeyInPrompt (prompt_key asked input) asked editor.controls.origin editor.field input calls
 IsInput other editor area input calls = calls ≡ []
 
@@ -252,7 +277,7 @@ IsMouse (Some selects) selecting widget mouse calls = IsClick selects selecting 
 -- ---- events
 
 abbrev pub IsEvent : Editor → State → Event → List Call → Type 0
-IsEvent editor area (event.Input input) calls = IsInput editor.controls.focus editor area input calls
+IsEvent editor area (event.Input input) calls = IsInput editor.controls.focus editor area (typed_input input) calls
 IsEvent editor area (event.Paste text) calls = IsPaste editor.controls.focus editor (string_bytes text) calls
 IsEvent editor area (event.Mouse mouse) calls = IsMouse (click_of editor.controls.focus editor.rows mouse) (is_selecting area) (widget_of area) mouse calls
 IsEvent editor area other calls = calls ≡ []

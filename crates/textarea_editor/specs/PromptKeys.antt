@@ -1,12 +1,20 @@
 -- What the keys do in the prompt.
-use Rattle.std.specs.Prelude.{◌==◌, ℕ, Bool, if◌then◌else◌}
+use Rattle.std.specs.Prelude.{◌==◌, ◌&&◌, ℕ, not, Bool, false, if◌then◌else◌}
 use Rattle.textarea_data.specs.declared.input.Input.{Input}
 use Rattle.textarea_data.specs.declared.input.Key.{Key}
-use Rattle.textarea_data.specs.declared.input.Key.TheVariants.{Down, Enter, Esc, F, Up}
+use Rattle.textarea_data.specs.declared.input.Key.TheVariants.{Char, Down, Enter, Esc, F, Up}
 use Rattle.textarea_editor.specs.declared.focus.Asked.{Asked}
 use Rattle.textarea_editor.specs.declared.focus.Asked.TheVariants as asks
 use Rattle.textarea_editor.specs.declared.focus.PromptKey.{PromptKey}
-use Rattle.textarea_editor.specs.declared.focus.PromptKey.TheVariants.{Accept, Edit, Leave, Next, Previous}
+use Rattle.textarea_editor.specs.declared.focus.PromptKey.TheVariants.{Accept, Edit, Leave, Next, Previous, Quit}
+
+-- Ctrl Q, `q` is 113, ends the program also from a prompt and from the help
+abbrev pub quit_key : Key → Bool → Bool → Bool
+quit_key (Char c) ctrl alt = if c == 113 then ctrl && not alt else false
+quit_key key ctrl alt = false
+
+abbrev pub quits : Input → Bool
+quits input = quit_key input.key input.ctrl input.alt
 
 -- the third function key goes to the next match, with Shift to the one before; others type nothing
 abbrev pub function_key : ℕ → Bool → PromptKey
@@ -27,6 +35,10 @@ naming_key Esc = Leave
 naming_key Enter = Accept
 naming_key key = Edit
 
+-- another input than Ctrl Q
+abbrev pub asked_key : Asked → Input → PromptKey
+asked_key asks.Text input = search_key input.key input.shift
+asked_key asked input = naming_key input.key
+
 abbrev pub prompt_key : Asked → Input → PromptKey
-prompt_key asks.Text input = search_key input.key input.shift
-prompt_key asked input = naming_key input.key
+prompt_key asked input = if quits input then Quit else asked_key asked input

@@ -1,41 +1,167 @@
 //! The arguments of the program.
 
-ghost use Rattle.textarea_editor.specs.Arguments.{IsNamed, IsRead};
+ghost use Rattle.std.specs.Prelude.{◌≡◌};
+ghost use Rattle.textarea_editor.specs.Arguments.{IsNamed, IsOption, IsRead, IsReadOn, IsWord, position_word};
+ghost use Rattle.textarea_editor.specs.Positions.{IsPosition, place_of};
 
-/// What the arguments `[--modal] [FILE]` ask for.
+use crate::line_number::{line_number, row_of};
+
+/// What the arguments `[--modal] [--no-final-newline] [+LINE[,COLUMN]] [--] [FILE]` ask for.
 #[derive(Clone, Copy, Debug, PartialEq, Eq)]
 pub struct Arguments<'a> {
     /// Whether the keys are those of the modal editor.
     pub is_modal: bool,
+    /// Whether the last line of a new file gets a line end when it is saved.
+    pub closes_last: bool,
+    /// The row and column of the cursor, counted from 0, if they are given.
+    pub position: Option<(usize, usize)>,
     /// The name of the file, if there is one.
     pub name: Option<&'a str>,
 }
 
+// What a word asks for.
+#[derive(Clone, Copy, Debug, PartialEq, Eq)]
+enum Word {
+    // The keys of the modal editor.
+    Modal,
+    // A new file's last line gets no line end.
+    NoFinalNewline,
+    // A position in the text.
+    Position((usize, usize)),
+    // The next word is a name.
+    End,
+    // It is a name.
+    Name,
+    // An option that doesn't exist.
+    Unknown,
+}
+
 impl<'a> Arguments<'a> {
-    /// Reads the arguments, or returns `None` if they are others.
+    /// Reads the arguments, or returns `None` if they are others. Options come first; after `--` a
+    /// name may begin with `-` or `+`.
     pub fn read(words: &'a [String]) -> Option<Arguments<'a>>
         ensures { IsRead words.now result }
     {
-        match words.split_first() {
-            Some((option, names)) if option.as_str() == "--modal" => Arguments::named(true, names),
-            _ => Arguments::named(false, words),
-        }
-    }
-
-    // Reads the arguments after the option.
-    fn named(is_modal: bool, names: &'a [String]) -> Option<Arguments<'a>>
-        ensures { IsNamed is_modal names.now result }
-    {
-        match names {
-            [] => Some(Arguments {
-                is_modal,
+        read_on(
+            Arguments {
+                is_modal: false,
+                closes_last: true,
+                position: None,
                 name: None,
-            }),
-            [name] => Some(Arguments {
-                is_modal,
-                name: Some(name.as_str()),
-            }),
-            _ => None,
+            },
+            words,
+        )
+    }
+}
+
+// Reads further arguments, after those that are read.
+fn read_on<'a>(read: Arguments<'a>, words: &'a [String]) -> Option<Arguments<'a>>
+    ensures { IsReadOn read.entry words.now result }
+{
+    let Some((word, rest)) = words.split_first() else {
+        return Some(read);
+    };
+    match word_of(word.as_str()) {
+        Word::Modal => {
+            read_on(
+                Arguments {
+                    is_modal: true,
+                    ..read
+                },
+                rest,
+            )
         }
+        Word::NoFinalNewline => {
+            read_on(
+                Arguments {
+                    closes_last: false,
+                    ..read
+                },
+                rest,
+            )
+        }
+        Word::Position(position) => {
+            read_on(
+                Arguments {
+                    position: Some(position),
+                    ..read
+                },
+                rest,
+            )
+        }
+        Word::End => named(read, rest),
+        Word::Name => named(read, words),
+        Word::Unknown => None,
+    }
+}
+
+// Reads the arguments after the options.
+fn named<'a>(read: Arguments<'a>, names: &'a [String]) -> Option<Arguments<'a>>
+    ensures { IsNamed read.entry names.now result }
+{
+    match names {
+        [] => Some(read),
+        [name] => Some(Arguments {
+            name: Some(name.as_str()),
+            ..read
+        }),
+        _ => None,
+    }
+}
+
+// Returns what a word asks for.
+fn word_of(word: &str) -> Word
+    ensures { IsWord word.now result }
+{
+    match word.as_bytes().first() {
+        Some(b'-') => option_of(word),
+        Some(b'+') => position_word(position_of(word)),
+        _ => Word::Name,
+    }
+}
+
+// Returns which option a word that begins with `-` is.
+fn option_of(word: &str) -> Word
+    ensures { IsOption word.now result }
+{
+    if word == "--modal" {
+        return Word::Modal;
+    }
+    if word == "--no-final-newline" {
+        return Word::NoFinalNewline;
+    }
+    if word == "--" {
+        return Word::End;
+    }
+    Word::Unknown
+}
+
+fn position_word(position: Option<(usize, usize)>) -> Word
+    ensures { result ≡ position_word position }
+{
+    match position {
+        Some(position) => Word::Position(position),
+        None => Word::Unknown,
+    }
+}
+
+// Returns the position that `+LINE` or `+LINE,COLUMN` means, counted from 0, or none if it is
+// another text.
+fn position_of(word: &str) -> Option<(usize, usize)>
+    ensures { IsPosition word.now result }
+{
+    match word.split_once(",") {
+        None => place(line_number(word), Some(1)),
+        Some((line, column)) => place(line_number(line), line_number(column)),
+    }
+}
+
+// Returns the place of a line and a column, both counted from 1.
+fn place(line: Option<usize>, column: Option<usize>) -> Option<(usize, usize)>
+    ensures { result ≡ place_of line column }
+{
+    match (row_of(line), row_of(column)) {
+        (Some(row), Some(column)) => Some((row, column)),
+        _ => None,
     }
 }

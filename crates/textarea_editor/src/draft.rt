@@ -1,5 +1,5 @@
 //! The text that is edited, and whether it may differ from the saved one.
-ghost use Rattle.std.specs.Prelude.{◌≡◌, ◌≢◌, ◌∷◌, [], false, true, All, IsTrue, OnErr, OnOk, IfOk};
+ghost use Rattle.std.specs.Prelude.{◌≡◌, ◌≢◌, ◌∷◌, [], false, true, All, IsOk, IsTrue, OnErr, OnOk, IfOk};
 ghost use Rattle.std.specs.Duration.{as_nanos};
 ghost use Rattle.std.specs.List.{list_all, list_any};
 ghost use Rattle.textarea_calls.specs.FlagRule.{flag_rule_of};
@@ -11,8 +11,9 @@ ghost use Rattle.textarea_screen.specs.Buffer.{KeepsOutside};
 ghost use Rattle.textarea_screen.specs.Rect.{contains};
 ghost use Rattle.tui_textarea.specs.Drawing.{IsRendered, widget_of};
 ghost use Rattle.tui_textarea.specs.Input.{asked_by};
+ghost use Rattle.tui_textarea.specs.Measure.{reads_rows};
 ghost use Rattle.tui_textarea.specs.Rendered.{IsDrawn};
-ghost use Rattle.textarea_editor.specs.Draft.{FailsIn, IsUndrawn, Makes, RunsShort, is_edit, is_unchanged, leaves_text, may_edit, plain_calls, stop_of};
+ghost use Rattle.textarea_editor.specs.Draft.{FailsIn, IsMeasuredRows, IsUndrawn, Makes, RunsShort, is_edit, is_unchanged, leaves_text, may_edit, plain_calls, stop_of};
 
 pub mod moving;
 
@@ -147,6 +148,16 @@ impl Draft {
             self.is_changed = true;
         }
         stop
+    }
+
+    /// Returns the number of rows that the text needs at this width.
+    pub fn content_rows(&mut self, width: u16) -> Result<u16, AllocError>
+        ensures same { self.new ≡ self.old }
+        ensures measured { IfOk result (λ rows. IsMeasuredRows self.old.area width rows) }
+        ensures no_memory { reads_rows self.old.area width ≡ true → IsOk result }
+    {
+        let measure = self.area.measure(width)?;
+        Ok(measure.content_rows)
     }
 
     /// Draws the text area into an area of a buffer.

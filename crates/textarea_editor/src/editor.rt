@@ -1,7 +1,9 @@
 //! The editor's state, and its step from an event to an effect.
 
-ghost use Rattle.std.specs.Prelude.{◌≡◌, ◌≢◌, ◌≤◌, ◌↔◌, [], false, true, IfOk, IfSome, IsTrue, None, OnErr, OnOk, length, string_bytes};
-ghost use Rattle.textarea_editor.specs.Editor.{draft_of, end_of, numbers_of, wraps_of};
+ghost use Rattle.std.specs.Prelude.{◌≡◌, ◌≢◌, ◌≤◌, ◌↔◌, ◌∷◌, [], false, true, IfOk, IfSome, IsTrue, None, OnErr, OnOk, length, string_bytes};
+ghost use Rattle.textarea_calls.specs.declared.call.Call.TheVariants.{GoTo};
+ghost use Rattle.textarea_editor.specs.Draft.{Makes};
+ghost use Rattle.textarea_editor.specs.Editor.{draft_of, end_of, new_ends, numbers_of, wraps_of};
 ghost use Rattle.textarea_editor.specs.Effects.{IsWritten};
 ghost use Rattle.textarea_editor.specs.SetUp.{IsOpened, opened};
 ghost use Rattle.textarea_editor.specs.Steps.{IsStep};
@@ -17,11 +19,12 @@ mod prompt;
 mod saving;
 mod status;
 
+use crate::control_characters::opened_message;
 use crate::controls::Controls;
 use crate::draft::Draft;
 use crate::editor::parts::{fields, file_draft, opened, replace};
 use crate::effect::Effect;
-use crate::file_text::LineEnd;
+use crate::file_text::{LineEnd, LineEnds};
 use crate::focus::Focus;
 use crate::message::Message;
 pub use drawing::Frame;
@@ -50,7 +53,7 @@ pub struct Editor {
     /// The help.
     help: TextArea<'static>,
     name: Option<String>,
-    line_end: LineEnd,
+    line_end: LineEnds,
     controls: Controls,
     message: Message,
     columns: u16,
@@ -62,6 +65,7 @@ impl Editor {
     pub fn new(alloc: Global, columns: u16, rows: u16, is_modal: bool) -> Result<Editor, AllocError>
         ensures unchanged { IfOk result (λ editor. (draft_of editor).is_changed ≡ false) }
         ensures area { IfOk result (λ editor. (draft_of editor).area ≡ opened [] true) }
+        ensures ends { IfOk result (λ editor. end_of editor ≡ new_ends true) }
     {
         let draft = opened(alloc, Vec::new(alloc), true)?;
         let (field, help) = match fields(alloc, is_modal) {
@@ -76,7 +80,10 @@ impl Editor {
             field,
             help,
             name: None,
-            line_end: LineEnd::LineFeed,
+            line_end: LineEnds {
+                between: LineEnd::LineFeed,
+                closes_last: true,
+            },
             controls: Controls {
                 focus: Focus::Text,
                 modal: if is_modal { Some(Modal::new()) } else { None },
@@ -94,7 +101,8 @@ impl Editor {
     /// Replaces the text by that of a file with this name. The cursor is then at the text's start,
     /// nothing is selected, no edit can be undone, lines have no numbers, and long ones are wrapped
     /// if the text has at most 2^20 bytes. Until it is edited, the text is saved as it was. A name
-    /// without a text is that of a new file; the text stays.
+    /// without a text is that of a new file; the text stays, and its last line gets a line end when
+    /// it is saved.
     ///
     /// If memory runs out, the editor is as before.
     pub fn open(&mut self, name: &str, text: Option<String>) -> Result<(), AllocError>
@@ -134,11 +142,29 @@ impl Editor {
     {
         let wraps = text.len() <= WRAPPED_BYTES;
         let (draft, line_end) = file_draft(self.allocator(), text, wraps)?;
+        self.message = opened_message(draft.area().lines());
         replace(&mut self.draft, draft);
         self.line_end = line_end;
         self.controls.wraps = wraps;
         self.controls.numbers = false;
         Ok(())
+    }
+
+    /// Has the last line of a new file get a line end when the file is saved, as at first, or not.
+    /// It is for a file that has no text yet.
+    pub fn set_closes_last(&mut self, closes_last: bool)
+        ensures draft { draft_of self.new ≡ draft_of self.old }
+        ensures end { end_of self.new ≡ record (end_of self.old) { closes_last = closes_last } }
+    {
+        self.line_end.closes_last = closes_last;
+    }
+
+    /// Moves the cursor to the position (row, column) of the text, or the nearest one.
+    pub fn go_to(&mut self, place: (usize, usize)) -> Result<(), AllocError>
+        ensures ok { OnOk result (Makes (draft_of self.old) (GoTo place ∷ []) (draft_of self.new)) }
+        ensures end { end_of self.new ≡ end_of self.old }
+    {
+        self.draft.move_to(place)
     }
 
     /// Shows a message until the next key.

@@ -5,7 +5,7 @@
 
 ghost use Rattle.std.specs.Prelude.{◌≡◌, ◌<◌, ◌==◌, ◌++◌, false, length, IfOk, IfSome, string_bytes};
 ghost use Rattle.std.specs.List.{list_any};
-ghost use Rattle.textarea_editor.specs.FileText.{end_bytes, has_returns, joined_bytes, line_end_of};
+ghost use Rattle.textarea_editor.specs.FileText.{end_bytes, file_bytes, has_returns, joined_bytes, last_end, line_end_of};
 
 use std::alloc::{AllocError, Global};
 
@@ -16,6 +16,15 @@ pub enum LineEnd {
     LineFeed,
     /// A carriage return and a line feed, as on Windows.
     CarriageReturn,
+}
+
+/// How the lines of a file end.
+#[derive(Clone, Copy, Debug, PartialEq, Eq)]
+pub struct LineEnds {
+    /// What separates the lines.
+    pub between: LineEnd,
+    /// Whether the last line of a file gets a line end too when it is saved, if it isn't empty.
+    pub closes_last: bool,
 }
 
 impl LineEnd {
@@ -85,9 +94,21 @@ pub fn lines_of(alloc: Global, text: &str, end: LineEnd) -> Result<Vec<String>, 
     Ok(lines)
 }
 
-/// Joins lines by a line end.
-pub fn joined(alloc: Global, lines: &[String], end: LineEnd) -> Result<String, AllocError>
-    ensures { IfOk result (λ text. string_bytes text ≡ joined_bytes end lines.now) }
+/// Returns the bytes of a file with these lines.
+pub fn joined(alloc: Global, lines: &[String], ends: LineEnds) -> Result<String, AllocError>
+    ensures { IfOk result (λ text. string_bytes text ≡ file_bytes ends lines.now) }
 {
-    lines.join(alloc, end.text())
+    let mut text = lines.join(alloc, ends.between.text())?;
+    text.push_str(last_end(lines, ends))?;
+    Ok(text)
+}
+
+// Returns what is after the last line.
+fn last_end(lines: &[String], ends: LineEnds) -> &'static str
+    ensures { result.now ≡ last_end ends lines.now }
+{
+    match lines.last() {
+        Some(line) if ends.closes_last && !line.is_empty() => ends.between.text(),
+        _ => "",
+    }
 }

@@ -1,11 +1,14 @@
 //! What the next key is for.
 
-ghost use Rattle.std.specs.Prelude.{◌≡◌, is_some};
-ghost use Rattle.textarea_editor.specs.Controls.{reply_of, scrolls_help};
-ghost use Rattle.textarea_editor.specs.PromptKeys.{naming_key, prompt_key, search_key};
+ghost use Rattle.std.specs.Prelude.{◌≡◌};
+ghost use Rattle.textarea_editor.specs.HelpKeys.{help_key, plain_help_key};
+ghost use Rattle.textarea_editor.specs.PromptKeys.{asked_key, naming_key, prompt_key, quits, search_key};
+ghost use Rattle.textarea_editor.specs.Replies.{key_reply, reply_of};
+ghost use Rattle.textarea_editor.specs.TypedInput.{is_line_feed, typed_input};
 
 use textarea_data::input::{Input, Key};
 use textarea_data::scroll::Scrolling;
+use textarea_run::inputs::copied;
 
 /// What the prompt asks for.
 #[derive(Clone, Copy, Debug, PartialEq, Eq)]
@@ -66,11 +69,71 @@ pub enum PromptKey {
     Accept,
     /// It changes the prompt's text.
     Edit,
+    /// It ends the program, after a question if the text has changed.
+    Quit,
+}
+
+/// What a key does while the help is shown.
+#[derive(Clone, Copy, Debug, PartialEq, Eq)]
+pub enum HelpKey {
+    /// It scrolls the help.
+    Scroll(Scrolling),
+    /// It closes the help.
+    Leave,
+    /// It ends the program, after a question if the text has changed.
+    Quit,
+    /// Nothing.
+    Other,
+}
+
+/// Returns an input as it is taken: a line feed, which terminals send as Ctrl J, is Enter.
+pub fn typed_input(input: &Input) -> Input
+    ensures { result ≡ typed_input input.now }
+{
+    if is_line_feed(input) {
+        return Input {
+            key: Key::Enter,
+            ctrl: false,
+            alt: false,
+            shift: false,
+        };
+    }
+    copied(input)
+}
+
+fn is_line_feed(input: &Input) -> bool
+    ensures { result ≡ is_line_feed input.now }
+{
+    match input.key {
+        Key::Char('j') => input.ctrl && !input.alt,
+        _ => false,
+    }
+}
+
+// Returns whether an input is Ctrl Q, which ends the program also from a prompt and from the help.
+fn quits(input: &Input) -> bool
+    ensures { result ≡ quits input.now }
+{
+    match input.key {
+        Key::Char('q') => input.ctrl && !input.alt,
+        _ => false,
+    }
 }
 
 /// Returns what an input does in the prompt.
 pub fn prompt_key(asked: Asked, input: &Input) -> PromptKey
     ensures { result ≡ prompt_key asked input.now }
+{
+    if quits(input) {
+        PromptKey::Quit
+    } else {
+        asked_key(asked, input)
+    }
+}
+
+// Returns what another input than Ctrl Q does in the prompt.
+fn asked_key(asked: Asked, input: &Input) -> PromptKey
+    ensures { result ≡ asked_key asked input.now }
 {
     match asked {
         Asked::Text => search_key(input.key, input.shift),
@@ -103,9 +166,19 @@ fn naming_key(key: Key) -> PromptKey
     }
 }
 
-/// Returns what a key answers to a question.
-pub fn reply_of(key: Key) -> Reply
-    ensures { result ≡ reply_of key }
+/// Returns what an input answers to a question: with Ctrl or Alt a letter answers nothing.
+pub fn reply_of(input: &Input) -> Reply
+    ensures { result ≡ reply_of input.now }
+{
+    if input.ctrl || input.alt {
+        Reply::Other
+    } else {
+        key_reply(input.key)
+    }
+}
+
+fn key_reply(key: Key) -> Reply
+    ensures { result ≡ key_reply key }
 {
     match key {
         Key::Char('y' | 'Y') => Reply::Yes,
@@ -115,15 +188,26 @@ pub fn reply_of(key: Key) -> Reply
     }
 }
 
-/// Returns how a key scrolls the help, if it does.
-pub fn help_scrolling(key: Key) -> Option<Scrolling>
-    ensures { is_some result ≡ scrolls_help key }
+/// Returns what an input does while the help is shown.
+pub fn help_key(input: &Input) -> HelpKey
+    ensures { result ≡ help_key input.now }
+{
+    if quits(input) {
+        HelpKey::Quit
+    } else {
+        plain_help_key(input.key)
+    }
+}
+
+fn plain_help_key(key: Key) -> HelpKey
+    ensures { result ≡ plain_help_key key }
 {
     match key {
-        Key::Down | Key::MouseScrollDown => Some(Scrolling::Delta { rows: 1, cols: 0 }),
-        Key::Up | Key::MouseScrollUp => Some(Scrolling::Delta { rows: -1, cols: 0 }),
-        Key::PageDown => Some(Scrolling::PageDown),
-        Key::PageUp => Some(Scrolling::PageUp),
-        _ => None,
+        Key::Down | Key::MouseScrollDown => HelpKey::Scroll(Scrolling::Delta { rows: 1, cols: 0 }),
+        Key::Up | Key::MouseScrollUp => HelpKey::Scroll(Scrolling::Delta { rows: -1, cols: 0 }),
+        Key::PageDown => HelpKey::Scroll(Scrolling::PageDown),
+        Key::PageUp => HelpKey::Scroll(Scrolling::PageUp),
+        Key::Esc | Key::F(1) => HelpKey::Leave,
+        _ => HelpKey::Other,
     }
 }

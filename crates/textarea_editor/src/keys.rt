@@ -10,6 +10,8 @@ use textarea_data::input::{Input, Key};
 pub enum Command {
     /// Saves the file.
     Save,
+    /// Opens the prompt for the file's name, which is there to be edited, and saves by it.
+    SaveAs,
     /// Ends the program, after a question if the text has changed.
     Quit,
     /// Opens the prompt for a text to find.
@@ -32,6 +34,10 @@ pub enum Command {
     Paste,
     /// Selects the whole text.
     SelectAll,
+    /// Moves to the very start of the text.
+    TextStart,
+    /// Moves to the very end of the text.
+    TextEnd,
     /// Wraps long lines, or no longer does.
     Wrap,
     /// Shows line numbers, or hides them.
@@ -81,8 +87,9 @@ macro_rules! binding {
 }
 
 /// The keys of the editor. Other keys are those of the text area, or of the modal editor.
-pub const BINDINGS: [Binding; 16] = [
+pub const BINDINGS: [Binding; 19] = [
     binding!(ctrl Key::Char('s'), Command::Save, true),
+    binding!(ctrl Key::Char('o'), Command::SaveAs, true),
     binding!(ctrl Key::Char('q'), Command::Quit, true),
     binding!(ctrl Key::Char('f'), Command::Find, true),
     binding!(plain Key::F(3), Command::FindNext, true),
@@ -94,6 +101,8 @@ pub const BINDINGS: [Binding; 16] = [
     binding!(ctrl Key::Char('c'), Command::Copy, false),
     binding!(ctrl Key::Char('v'), Command::Paste, false),
     binding!(ctrl Key::Char('a'), Command::SelectAll, false),
+    binding!(ctrl Key::Home, Command::TextStart, false),
+    binding!(ctrl Key::End, Command::TextEnd, false),
     binding!(alt Key::Char('z'), Command::Wrap, true),
     binding!(alt Key::Char('l'), Command::LineNumbers, true),
     binding!(plain Key::F(1), Command::Help, true),
@@ -101,25 +110,28 @@ pub const BINDINGS: [Binding; 16] = [
 ];
 
 impl Command {
-    /// Returns the name of its key, and what it does, in words.
-    pub fn texts(self) -> (&'static str, &'static str) {
+    /// Returns what it does, in words.
+    pub fn about(self) -> &'static str {
         match self {
-            Command::Save => ("Ctrl S", "save"),
-            Command::Quit => ("Ctrl Q", "quit"),
-            Command::Find => ("Ctrl F", "find as you type"),
-            Command::FindNext => ("F3", "next match"),
-            Command::FindPrevious => ("Shift F3", "match before"),
-            Command::GoToLine => ("Ctrl G", "go to a line"),
-            Command::Undo => ("Ctrl Z", "undo"),
-            Command::Redo => ("Ctrl Y", "redo"),
-            Command::Cut => ("Ctrl X", "cut"),
-            Command::Copy => ("Ctrl C", "copy"),
-            Command::Paste => ("Ctrl V", "paste"),
-            Command::SelectAll => ("Ctrl A", "select all"),
-            Command::Wrap => ("Alt Z", "wrap long lines or not"),
-            Command::LineNumbers => ("Alt L", "line numbers or none"),
-            Command::Help => ("F1", "these keys"),
-            Command::Cancel => ("Esc", "drop the selection and the matches"),
+            Command::Save => "save",
+            Command::SaveAs => "save as another file",
+            Command::Quit => "quit, from prompts too",
+            Command::Find => "find as you type",
+            Command::FindNext => "next match",
+            Command::FindPrevious => "match before",
+            Command::GoToLine => "go to a line",
+            Command::Undo => "undo",
+            Command::Redo => "redo",
+            Command::Cut => "cut",
+            Command::Copy => "copy",
+            Command::Paste => "paste",
+            Command::SelectAll => "select all",
+            Command::TextStart => "to the very start of the text",
+            Command::TextEnd => "to the very end of the text",
+            Command::Wrap => "wrap long lines or not",
+            Command::LineNumbers => "line numbers or none",
+            Command::Help => "these keys",
+            Command::Cancel => "drop selection and matches",
         }
     }
 }
@@ -147,14 +159,15 @@ fn binds(binding: &Binding, input: &Input, is_modal: bool) -> bool
         && (binding.with_modal || !is_modal)
 }
 
-// Returns whether a bound key, which is a character, a function key or Esc, is the pressed one.
+// Returns whether a bound key, which is a character, a function key, Esc, Home or End, is the
+// pressed one.
 fn is_bound(bound: Key, pressed: Key) -> bool
     ensures { result ≡ is_bound bound pressed }
 {
     match (bound, pressed) {
         (Key::Char(c), Key::Char(d)) => c == d,
         (Key::F(m), Key::F(n)) => m == n,
-        (Key::Esc, Key::Esc) => true,
+        (Key::Esc, Key::Esc) | (Key::Home, Key::Home) | (Key::End, Key::End) => true,
         _ => false,
     }
 }

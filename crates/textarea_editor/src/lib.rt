@@ -6,6 +6,7 @@
 #![tactic(auto)]
 
 pub mod arguments;
+mod control_characters;
 pub mod controls;
 pub mod disk;
 pub mod draft;
@@ -14,12 +15,15 @@ pub mod effect;
 pub mod file_text;
 pub mod focus;
 pub mod help;
+pub mod key_names;
 pub mod keys;
 pub mod laws;
 pub mod line_number;
 pub mod message;
 pub mod pattern;
 pub mod screen;
+mod shortened;
+pub mod terminal_colors;
 
 pub use arguments::Arguments;
 pub use disk::DiskFile;

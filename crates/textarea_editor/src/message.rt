@@ -1,5 +1,8 @@
 //! Messages of the status row.
 
+ghost use Rattle.std.specs.Prelude.{◌≡◌};
+ghost use Rattle.textarea_editor.specs.SaveEnds.{asks_for_name};
+
 /// Why a file can't be read or saved.
 #[derive(Clone, Copy, Debug, PartialEq, Eq)]
 pub enum Trouble {
@@ -27,6 +30,13 @@ pub enum Trouble {
 }
 
 impl Trouble {
+    /// Returns whether the file may be saved under another name.
+    pub fn asks_for_name(self) -> bool
+        ensures { result ≡ asks_for_name self }
+    {
+        !matches!(self, Trouble::DiskFull | Trouble::Memory)
+    }
+
     /// Returns the reason as a part of a sentence.
     pub fn text(self) -> &'static str {
         match self {
@@ -51,6 +61,8 @@ pub enum Message {
     Nothing,
     /// The file doesn't exist yet.
     NewFile,
+    /// The opened text has this number of control characters other than tabs.
+    ControlCharacters(usize),
     /// The file was saved.
     Saved,
     /// The file was saved after another program deleted it.
@@ -59,8 +71,6 @@ pub enum Message {
     Exists,
     /// The file was not saved. The text is as it was.
     NotSaved(Trouble),
-    /// The file was not opened. The text is empty, and has no name.
-    NotOpened(Trouble),
     /// The searched text has no match.
     NoMatch,
     /// The prompt's text is no line number.
@@ -75,10 +85,10 @@ impl Message {
         match self {
             Message::Nothing | Message::Exists => ("", ""),
             Message::NewFile => ("new file", ""),
+            Message::ControlCharacters(_) => ("control characters: ", ""),
             Message::Saved => ("saved", ""),
             Message::SavedAnew => ("it was deleted; saved anew", ""),
             Message::NotSaved(trouble) => ("not saved: ", trouble.text()),
-            Message::NotOpened(trouble) => ("not opened: ", trouble.text()),
             Message::NoMatch => ("no match", ""),
             Message::NoLine => ("not a line number", ""),
             Message::Memory => ("out of memory", ""),

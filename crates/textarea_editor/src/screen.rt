@@ -8,7 +8,8 @@ use std::alloc::{AllocError, Global};
 use std::time::Duration;
 use textarea_screen::screen::Rect;
 use textarea_terminal::input::{Decoder, Event};
-use textarea_terminal::output::{Colors, Painter};
+pub use textarea_terminal::output::Colors;
+use textarea_terminal::output::Painter;
 
 /// A terminal that shows frames of an editor.
 #[derive(Drop)]

@@ -43,8 +43,8 @@ impl Draft {
         Ok(())
     }
 
-    // Moves the cursor to the position (row, column). An open selection stays open.
-    fn move_to(&mut self, place: (usize, usize)) -> Result<(), AllocError>
+    /// Moves the cursor to the position (row, column). An open selection stays open.
+    pub(crate) fn move_to(&mut self, place: (usize, usize)) -> Result<(), AllocError>
         ensures ok { OnOk result (Makes self.old (GoTo place ∷ []) self.new) }
         ensures err { OnErr result (FailsIn self.old (GoTo place ∷ []) self.new) }
     {

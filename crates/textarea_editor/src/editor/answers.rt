@@ -1,13 +1,14 @@
 // Questions that are answered by one key.
 ghost use Rattle.std.specs.Prelude.{◌≡◌, IfOk, OnErr, OnOk, is_some};
-ghost use Rattle.textarea_editor.specs.Controls.{after_reply, left, reply_of};
+ghost use Rattle.textarea_editor.specs.Controls.{after_reply, left};
 ghost use Rattle.textarea_editor.specs.Editor.{MayQuit};
-ghost use Rattle.textarea_editor.specs.Effects.{Carries};
+ghost use Rattle.textarea_editor.specs.Effects.{Carries, IsAnswered};
+ghost use Rattle.textarea_editor.specs.Replies.{reply_of};
 ghost use Rattle.textarea_editor.specs.declared.focus.Focus.TheVariants as focus;
 
 use super::Editor;
 use crate::effect::Effect;
-use crate::focus::{Focus, Question, Reply, reply_of};
+use crate::focus::{Asked, Focus, Question, Reply, reply_of};
 use std::alloc::AllocError;
 use textarea_data::input::Input;
 
@@ -23,13 +24,15 @@ impl Editor {
         ensures draft { self.new.draft ≡ self.old.draft }
         ensures carries { IfOk result
             (Carries (MayQuit self.old) self.new.draft.area self.new.line_end) }
+        ensures effect { IfOk result
+            (IsAnswered question (reply_of input.now) (is_some self.old.name)) }
         ensures end { self.new.line_end ≡ self.old.line_end }
         ensures controls { OnOk result (self.new.controls ≡ after_reply question
-            (reply_of input.now.key) self.old.controls (is_some self.old.name)
+            (reply_of input.now) self.old.controls (is_some self.old.name)
             self.old.draft.area.document.cursor) }
         ensures kept { OnErr result (self.new.controls ≡ self.old.controls) }
     {
-        match (question, reply_of(input.key)) {
+        match (question, reply_of(input)) {
             (Question::SaveFirst, Reply::Yes) => {
                 let effect = self.save(false)?;
                 self.controls.ends_when_saved = true;
@@ -37,7 +40,12 @@ impl Editor {
             }
             (Question::SaveFirst, Reply::No) => Ok(Effect::Quit),
             (Question::Overwrite, Reply::Yes) => self.save(true),
-            (Question::Overwrite, Reply::No) | (_, Reply::Back) => {
+            (Question::Overwrite, Reply::No) => {
+                self.ask(Asked::Name)?;
+                self.controls.ends_when_saved = false;
+                Ok(Effect::Nothing)
+            }
+            (_, Reply::Back) => {
                 self.leave();
                 Ok(Effect::Nothing)
             }

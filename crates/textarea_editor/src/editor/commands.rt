@@ -16,6 +16,7 @@ use crate::keys::Command;
 use crate::message::Message;
 use std::alloc::AllocError;
 use textarea_calls::Call;
+use textarea_data::cursor::CursorMove;
 use textarea_screen::screen::{Color, Style};
 
 impl Editor {
@@ -35,6 +36,7 @@ impl Editor {
     {
         match command {
             Command::Save => self.save(false),
+            Command::SaveAs => self.open_prompt(Asked::Name),
             Command::Quit => Ok(self.quit()),
             Command::Find => self.open_prompt(Asked::Text),
             Command::GoToLine => self.open_prompt(Asked::Line),
@@ -47,6 +49,16 @@ impl Editor {
             Command::Copy => self.copy(),
             Command::SelectAll => self.set(&[Call::SelectAll]),
             Command::Cancel => self.set(&[Call::CancelSelection, Call::SetSearchPattern("")]),
+            Command::TextStart => self.set(&[
+                Call::CancelSelection,
+                Call::Move(CursorMove::Top),
+                Call::Move(CursorMove::Head),
+            ]),
+            Command::TextEnd => self.set(&[
+                Call::CancelSelection,
+                Call::Move(CursorMove::Bottom),
+                Call::Move(CursorMove::End),
+            ]),
             Command::Wrap => self.set_wraps(!self.controls.wraps),
             Command::LineNumbers => self.set_numbers(!self.controls.numbers),
             Command::Help => {

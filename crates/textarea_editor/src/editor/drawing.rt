@@ -89,11 +89,11 @@ impl Editor {
         let alloc = self.allocator();
         let style = Style::default().add_modifier(Modifier::REVERSED);
         buffer.set_style(row, style);
-        let left = self.left_text(alloc)?;
-        let left_columns = u16::try_from(left.len()).unwrap_or(u16::MAX);
+        let left = self.left_text(alloc, usize::from(row.width))?;
+        let left_columns = columns_of(left.as_str());
         let room = usize::from(row.width.saturating_sub(left_columns));
         let right = self.right_text(alloc, room)?;
-        let right_columns = u16::try_from(right.len()).unwrap_or(u16::MAX);
+        let right_columns = columns_of(right.as_str());
         let room = row.width.saturating_sub(right_columns);
         let left_area = Rect::new(0, row.y, room, row.height);
         let right_area = Rect::new(room, row.y, row.width.saturating_sub(room), row.height);
@@ -108,6 +108,11 @@ impl Editor {
         self.field.render(field_area, buffer)?;
         Ok(self.field.rendered_cursor_position())
     }
+}
+
+// The number of characters of a text, which for those of the status row is mostly that of columns.
+fn columns_of(text: &str) -> u16 {
+    u16::try_from(text.chars().count()).unwrap_or(u16::MAX)
 }
 
 // Draws a text into the row of an area.

@@ -1,16 +1,17 @@
 // What an event does, by what has the focus.
-ghost use Rattle.std.specs.Prelude.{◌≡◌, ◌⊎◌, ◌∷◌, [], IfOk, OnErr, OnOk, is_some};
+ghost use Rattle.std.specs.Prelude.{◌≡◌, ◌⊎◌, ◌∷◌, [], false, IfOk, OnErr, OnOk, is_some};
 ghost use Rattle.textarea_calls.specs.declared.call.Call.TheVariants.{SetNow};
-ghost use Rattle.textarea_editor.specs.Controls.{IsAfterEvent, IsAfterInput, after_help_key, scrolls_help};
+ghost use Rattle.textarea_editor.specs.Controls.{IsAfterEvent, IsAfterInput, after_help_key};
 ghost use Rattle.textarea_editor.specs.Draft.{FailsIn, FailsInAsked, FailsInSome, MakesSome};
 ghost use Rattle.textarea_editor.specs.Editor.{MayQuit};
 ghost use Rattle.textarea_editor.specs.Effects.{Carries};
 ghost use Rattle.textarea_editor.specs.EventCalls.{IsEvent, IsInput, IsPaste};
+ghost use Rattle.textarea_editor.specs.HelpKeys.{IsHelpAfter, help_key};
 ghost use Rattle.textarea_editor.specs.Steps.{IsTimed};
 
 use super::Editor;
 use crate::effect::Effect;
-use crate::focus::{Focus, help_scrolling};
+use crate::focus::{Focus, HelpKey, help_key, typed_input};
 use crate::message::Message;
 use std::alloc::AllocError;
 use std::time::Duration;
@@ -60,7 +61,7 @@ impl Editor {
                 self.resize(column.saturating_add(1), row.saturating_add(1));
                 Ok(Effect::Nothing)
             }
-            Event::Input(input) => self.take_input(input),
+            Event::Input(input) => self.take_input(&typed_input(input)),
             Event::Paste(text) => self.take_paste(text.as_str()),
             Event::Mouse(mouse) => self.take_mouse(mouse),
             Event::FocusGained | Event::FocusLost | Event::Unknown => Ok(Effect::Nothing),
@@ -98,10 +99,7 @@ impl Editor {
             Focus::Text => self.take_key(input),
             Focus::Prompt(asked) => self.take_prompt_key(asked, input),
             Focus::Question(question) => self.take_answer(question, input),
-            Focus::Help => {
-                self.take_help_key(input);
-                Ok(Effect::Nothing)
-            }
+            Focus::Help => Ok(self.take_help_key(input)),
         }
     }
 
@@ -123,16 +121,27 @@ impl Editor {
         }
     }
 
-    // Takes a key while the help is shown: it scrolls, or closes the help.
-    fn take_help_key(&mut self, input: &Input)
+    // Takes a key while the help is shown: it scrolls or closes the help, or ends the program.
+    fn take_help_key(&mut self, input: &Input) -> Effect
         ensures draft { self.new.draft ≡ self.old.draft }
+        ensures carries { Carries (self.old.draft.is_changed ≡ false) self.new.draft.area
+            self.new.line_end result }
         ensures end { self.new.line_end ≡ self.old.line_end }
         ensures controls { self.new.controls
-            ≡ after_help_key (scrolls_help input.now.key) self.old.controls }
+            ≡ after_help_key (help_key input.now) self.old.controls self.new.draft.is_changed }
+        ensures help { IsHelpAfter (help_key input.now) self.old.help self.new.help }
     {
-        match help_scrolling(input.key) {
-            Some(scrolling) => self.help.scroll(scrolling),
-            None => self.controls.focus = Focus::Text,
+        match help_key(input) {
+            HelpKey::Scroll(scrolling) => {
+                self.help.scroll(scrolling);
+                Effect::Nothing
+            }
+            HelpKey::Leave => {
+                self.controls.focus = Focus::Text;
+                Effect::Nothing
+            }
+            HelpKey::Quit => self.quit(),
+            HelpKey::Other => Effect::Nothing,
         }
     }
 }

@@ -1,10 +1,10 @@
 // Keys in the text, and texts that are pasted into it.
-ghost use Rattle.std.specs.Prelude.{◌≡◌, IfOk, OnErr, OnOk, is_some};
+ghost use Rattle.std.specs.Prelude.{◌≡◌, ◌-◌, IfOk, OnErr, OnOk, is_some};
 ghost use Rattle.textarea_editor.specs.Controls.{IsAfterKey, after_step, after_typed, after_unbound};
 ghost use Rattle.textarea_editor.specs.Draft.{FailsIn, FailsInSome, Makes, MakesSome};
 ghost use Rattle.textarea_editor.specs.Editor.{MayQuit};
 ghost use Rattle.textarea_editor.specs.Effects.{Carries};
-ghost use Rattle.textarea_editor.specs.EventCalls.{IsKeyInText, is_selecting, paste_calls, typed_calls, unbound_calls};
+ghost use Rattle.textarea_editor.specs.EventCalls.{IsFit, IsKeyInText, paste_calls, typed_calls, unbound_calls};
 ghost use Rattle.textarea_modal.specs.Table.{step};
 
 use super::{Editor, WHEEL_DOWN, WHEEL_UP};
@@ -19,12 +19,10 @@ use textarea_modal::{Modal, ModalStop};
 impl Editor {
     // Takes a key in the text: one of the table, of the modal editor, or of the text area.
     pub(super) fn take_key(&mut self, input: &Input) -> Result<Effect, AllocError>
-        ensures ok { OnOk result (MakesSome (IsKeyInText self.old.controls.modal self.old.controls.wraps
-            self.old.controls.numbers (is_selecting self.old.draft.area) input.now)
-            self.old.draft self.new.draft) }
-        ensures err { OnErr result (FailsInSome (IsKeyInText self.old.controls.modal self.old.controls.wraps
-            self.old.controls.numbers (is_selecting self.old.draft.area) input.now)
-            self.old.draft self.new.draft) }
+        ensures ok { OnOk result (MakesSome (IsKeyInText self.old.controls self.old.draft.area
+            self.old.columns (self.old.rows - 1) input.now) self.old.draft self.new.draft) }
+        ensures err { OnErr result (FailsInSome (IsKeyInText self.old.controls self.old.draft.area
+            self.old.columns (self.old.rows - 1) input.now) self.old.draft self.new.draft) }
         ensures carries { IfOk result
             (Carries (MayQuit self.old) self.new.draft.area self.new.line_end) }
         ensures end { self.new.line_end ≡ self.old.line_end }
@@ -33,18 +31,31 @@ impl Editor {
             self.new.controls) }
         ensures kept { OnErr result (self.new.controls ≡ self.old.controls) }
     {
+        let fits = self.fits();
         match command_of(input, self.controls.modal.is_some()) {
             Some(command) => self.command(command),
-            None => self.take_unbound(input),
+            None => self.take_unbound(input, fits),
         }
     }
 
-    // Takes a key that is none of the table.
-    fn take_unbound(&mut self, input: &Input) -> Result<Effect, AllocError>
+    // Returns whether all rows of the text fit into the screen. If memory runs out, they don't.
+    fn fits(&mut self) -> bool
+        ensures same { self.new ≡ self.old }
+        ensures fits { IsFit self.old.draft.area self.old.columns (self.old.rows - 1) result }
+    {
+        let rows = self.text_rows();
+        match self.draft.content_rows(self.columns) {
+            Ok(content) => content <= rows,
+            Err(_) => false,
+        }
+    }
+
+    // Takes a key that is none of the table. The text fits into the screen or not.
+    fn take_unbound(&mut self, input: &Input, fits: bool) -> Result<Effect, AllocError>
         ensures ok { OnOk result (Makes self.old.draft
-            (unbound_calls self.old.controls.modal input.now.key input.now) self.new.draft) }
+            (unbound_calls fits self.old.controls.modal input.now.key input.now) self.new.draft) }
         ensures err { OnErr result (FailsIn self.old.draft
-            (unbound_calls self.old.controls.modal input.now.key input.now) self.new.draft) }
+            (unbound_calls fits self.old.controls.modal input.now.key input.now) self.new.draft) }
         ensures carries { IfOk result
             (Carries (MayQuit self.old) self.new.draft.area self.new.line_end) }
         ensures end { self.new.line_end ≡ self.old.line_end }
@@ -53,6 +64,7 @@ impl Editor {
         ensures kept { OnErr result (self.new.controls ≡ self.old.controls) }
     {
         match input.key {
+            Key::MouseScrollDown if fits => Ok(Effect::Nothing),
             Key::MouseScrollDown => self.set(&[Call::Scroll(WHEEL_DOWN)]),
             Key::MouseScrollUp => self.set(&[Call::Scroll(WHEEL_UP)]),
             _ => self.take_typed(input),

@@ -8,7 +8,7 @@ ghost use Rattle.tui_textarea.specs.LayoutCalls.{with_wrap_mode};
 ghost use Rattle.tui_textarea.specs.State.{new_state};
 
 use crate::draft::Draft;
-use crate::file_text::{LineEnd, line_end_of, lines_of};
+use crate::file_text::{LineEnds, line_end_of, lines_of};
 use crate::help::help_lines;
 use std::alloc::{AllocError, Global};
 use textarea_data::cursor::CursorRenderMode;
@@ -53,8 +53,8 @@ fn set_up(area: &mut TextArea<'_>, wraps: bool) -> Result<(), AllocError>
     area.set_wrap_mode(wrap_mode(wraps))
 }
 
-/// Returns the draft of a file's text, and its line end.
-pub fn file_draft(alloc: Global, text: String, wraps: bool) -> Result<(Draft, LineEnd), AllocError>
+/// Returns the draft of a file's text, and how its lines end: none is added to the last one.
+pub fn file_draft(alloc: Global, text: String, wraps: bool) -> Result<(Draft, LineEnds), AllocError>
     ensures written { IfOk result (λ made. IsWritten made.0.area made.1 (string_bytes text)) }
     ensures opened { IfOk result (λ made. IsOpened made.0.area wraps) }
     ensures unchanged { IfOk result (λ made. made.0.is_changed ≡ false) }
@@ -62,7 +62,11 @@ pub fn file_draft(alloc: Global, text: String, wraps: bool) -> Result<(Draft, Li
     let line_end = line_end_of(text.as_str());
     let lines = lines_of(alloc, text.as_str(), line_end)?;
     drop(text);
-    Ok((opened(alloc, lines, wraps)?, line_end))
+    let ends = LineEnds {
+        between: line_end,
+        closes_last: false,
+    };
+    Ok((opened(alloc, lines, wraps)?, ends))
 }
 
 /// Puts a draft in place of another.

@@ -6,6 +6,7 @@ ghost use Rattle.textarea_editor.specs.Editor.{MayQuit};
 ghost use Rattle.textarea_editor.specs.Effects.{Carries};
 ghost use Rattle.textarea_editor.specs.EventCalls.{IsKeyInPrompt, IsLineAsked, IsLookingFor, IsPasteInPrompt, IsPromptChanged, IsPromptInput, IsPromptTaken, row_calls};
 ghost use Rattle.textarea_editor.specs.PromptKeys.{prompt_key};
+ghost use Rattle.textarea_editor.specs.PromptText.{IsPromptFilled, name_filled};
 ghost use Rattle.textarea_editor.specs.declared.focus.Focus.TheVariants as focus;
 
 use super::Editor;
@@ -17,17 +18,26 @@ use crate::pattern::{first_line, pattern_of};
 use std::alloc::AllocError;
 use textarea_data::input::Input;
 use textarea_run::inputs::copied;
+use tui_textarea::TextArea;
 
 impl Editor {
-    // Opens the prompt with an empty text.
+    // Opens the prompt. The name of the file is there to be edited; other texts are empty.
     pub(super) fn ask(&mut self, asked: Asked) -> Result<(), AllocError>
         ensures draft { self.new.draft ≡ self.old.draft }
+        ensures field { OnOk result
+            (IsPromptFilled asked self.old.name self.old.field self.new.field) }
+        ensures message { self.new.message ≡ self.old.message }
         ensures end { self.new.line_end ≡ self.old.line_end }
         ensures controls { OnOk result (self.new.controls ≡ prompt_opened self.old.controls
             self.old.draft.area.document.cursor asked) }
         ensures kept { OnErr result (self.new.controls ≡ self.old.controls) }
     {
-        self.field.clear()?;
+        match asked {
+            Asked::Name => fill(&mut self.field, &self.name)?,
+            Asked::Text | Asked::Line => {
+                self.field.clear()?;
+            }
+        }
         self.controls.origin = self.draft.area().cursor();
         self.controls.focus = Focus::Prompt(asked);
         Ok(())
@@ -47,7 +57,7 @@ impl Editor {
             (Carries (MayQuit self.old) self.new.draft.area self.new.line_end) }
         ensures end { self.new.line_end ≡ self.old.line_end }
         ensures controls { OnOk result (IsAfterPromptKey (prompt_key asked input.now) asked
-            self.old.controls self.old.field self.new.controls) }
+            self.old.controls self.new.draft.is_changed self.old.field self.new.controls) }
         ensures kept { OnErr result (self.new.controls ≡ self.old.controls) }
     {
         match prompt_key(asked, input) {
@@ -59,6 +69,7 @@ impl Editor {
             PromptKey::Previous => self.find(false),
             PromptKey::Accept => self.accept(asked),
             PromptKey::Edit => self.edit_prompt(asked, input),
+            PromptKey::Quit => Ok(self.quit()),
         }
     }
 
@@ -220,4 +231,16 @@ impl Editor {
         self.name = Some(self.field.lines()[0].clone()?);
         self.save(false)
     }
+}
+
+// Replaces the text of the prompt by a file's name, up to a line end in it, or by none.
+fn fill(field: &mut TextArea<'static>, name: &Option<String>) -> Result<(), AllocError>
+    ensures { OnOk result (field.new ≡ name_filled field.old name.now) }
+{
+    field.clear()?;
+    if let Some(name) = name {
+        let line = first_line(*name.allocator(), name.as_str())?;
+        field.insert_str(line.as_str())?;
+    }
+    Ok(())
 }

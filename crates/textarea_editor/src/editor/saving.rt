@@ -1,8 +1,9 @@
 // Saving the text, and ending the program.
 ghost use Rattle.std.specs.Prelude.{◌≡◌, false, true, IfOk, OnErr, OnOk, is_some};
-ghost use Rattle.textarea_editor.specs.Controls.{quit_asked, save_asked};
-ghost use Rattle.textarea_editor.specs.Editor.{MayQuit, draft_of, end_of};
-ghost use Rattle.textarea_editor.specs.Effects.{Carries, is_saved};
+ghost use Rattle.textarea_editor.specs.Controls.{quit_asked, save_asked, with_focus};
+ghost use Rattle.textarea_editor.specs.Editor.{MayQuit, controls_of, draft_of, end_of, message_of};
+ghost use Rattle.textarea_editor.specs.Effects.{Carries, IsSaveAsked, is_saved};
+ghost use Rattle.textarea_editor.specs.SaveEnds.{IsAfterSave, effect_after, message_after};
 
 use super::Editor;
 use crate::effect::{Effect, SaveEnd};
@@ -18,6 +19,7 @@ impl Editor {
         ensures carries { IfOk result
             (Carries (MayQuit self.old) self.new.draft.area self.new.line_end) }
         ensures end { self.new.line_end ≡ self.old.line_end }
+        ensures effect { IfOk result (IsSaveAsked (is_some self.old.name) overwrites) }
         ensures controls { OnOk result (self.new.controls ≡ save_asked self.old.controls
             (is_some self.old.name) self.old.draft.area.document.cursor) }
         ensures kept { OnErr result (self.new.controls ≡ self.old.controls) }
@@ -34,7 +36,7 @@ impl Editor {
     /// Takes how a save ended. The text has to be the one that was saved.
     ///
     /// After a save that failed the text is as it was, and counts as changed if it did before; the
-    /// status row tells why.
+    /// status row tells why, and the prompt for the name is open if another name may help.
     pub fn saved(&mut self, end: SaveEnd) -> Effect
         ensures saved { is_saved end ≡ true
             → draft_of self.new ≡ record (draft_of self.old) { is_changed = false } }
@@ -42,6 +44,10 @@ impl Editor {
         ensures carries { Carries (is_saved end ≡ true) (draft_of self.new).area
             (end_of self.new) result }
         ensures same_end { end_of self.new ≡ end_of self.old }
+        ensures controls { IsAfterSave end (controls_of self.old)
+            (draft_of self.old).area.document.cursor (controls_of self.new) }
+        ensures message { message_of self.new ≡ message_after end }
+        ensures effect { result ≡ effect_after end (controls_of self.old).ends_when_saved }
     {
         match end {
             SaveEnd::Saved => return self.end_save(Message::Saved),
@@ -51,6 +57,9 @@ impl Editor {
             SaveEnd::Failed(trouble) => {
                 self.message = Message::NotSaved(trouble);
                 self.controls.ends_when_saved = false;
+                if trouble.asks_for_name() {
+                    let _ = self.ask(Asked::Name);
+                }
             }
         }
         Effect::Nothing
@@ -62,6 +71,9 @@ impl Editor {
         ensures end { self.new.line_end ≡ self.old.line_end }
         ensures carries { Carries (self.new.draft.is_changed ≡ false) self.new.draft.area
             self.new.line_end result }
+        ensures controls { self.new.controls ≡ self.old.controls }
+        ensures message { self.new.message ≡ message }
+        ensures effect { result ≡ effect_after SaveEnd.Saved self.old.controls.ends_when_saved }
     {
         self.draft.set_saved();
         self.message = message;
@@ -75,6 +87,9 @@ impl Editor {
     fn ask_to_overwrite(&mut self, message: Message)
         ensures draft { self.new.draft ≡ self.old.draft }
         ensures end { self.new.line_end ≡ self.old.line_end }
+        ensures message { self.new.message ≡ message }
+        ensures controls { self.new.controls ≡ with_focus self.old.controls
+            (Focus.Question Question.Overwrite) }
     {
         self.message = message;
         self.controls.focus = Focus::Question(Question::Overwrite);
@@ -83,6 +98,7 @@ impl Editor {
     // Ends the program, after a question if the text may have changed.
     pub(super) fn quit(&mut self) -> Effect
         ensures draft { self.new.draft ≡ self.old.draft }
+        ensures help { self.new.help ≡ self.old.help }
         ensures carries { Carries (self.old.draft.is_changed ≡ false) self.new.draft.area
             self.new.line_end result }
         ensures end { self.new.line_end ≡ self.old.line_end }

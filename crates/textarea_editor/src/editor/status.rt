@@ -3,12 +3,13 @@
 use super::Editor;
 use crate::focus::{Asked, Focus, Question};
 use crate::message::Message;
+use crate::shortened::shortened;
 use std::alloc::{AllocError, Global};
 use textarea_modal::Mode;
 
 impl Editor {
     // The text at the left of the status row: a question, or the file's name and a message.
-    pub(super) fn left_text(&self, alloc: Global) -> Result<String, AllocError> {
+    pub(super) fn left_text(&self, alloc: Global, columns: usize) -> Result<String, AllocError> {
         match self.controls.focus {
             Focus::Prompt(Asked::Text) => String::from_str(alloc, " Find: "),
             Focus::Prompt(Asked::Line) => String::from_str(alloc, " Go to line: "),
@@ -20,8 +21,8 @@ impl Editor {
                 )
             }
             Focus::Question(Question::Overwrite) => self.overwrite_question(alloc),
-            Focus::Help => String::from_str(alloc, " Keys  (any key: back to the text)"),
-            Focus::Text => self.name_and_message(alloc),
+            Focus::Help => String::from_str(alloc, " Keys  (arrows scroll, Esc: back to the text)"),
+            Focus::Text => self.name_and_message(alloc, columns),
         }
     }
 
@@ -38,11 +39,24 @@ impl Editor {
         format!(in alloc; " {name} exists already. Overwrite it? y: yes  n: no")
     }
 
-    fn name_and_message(&self, alloc: Global) -> Result<String, AllocError> {
-        let name = self.name().unwrap_or("(no name)");
+    // The file's name, the mark of a changed text, and a message. The name is shortened where the
+    // row is too narrow for it beside these and the cursor's line and column.
+    fn name_and_message(&self, alloc: Global, columns: usize) -> Result<String, AllocError> {
         let changed = if self.draft.is_changed() { " *" } else { "" };
+        let message = self.message_text(alloc)?;
+        let after = format!(in alloc; "{changed}  {message}")?;
+        let taken = after.len().saturating_add(self.short_place(alloc)?.len());
+        let room = columns.saturating_sub(taken.saturating_add(1));
+        let name = shortened(alloc, self.name().unwrap_or("(no name)"), room)?;
+        format!(in alloc; " {name}{after}")
+    }
+
+    fn message_text(&self, alloc: Global) -> Result<String, AllocError> {
         let (message, reason) = self.message.components();
-        format!(in alloc; " {name}{changed}  {message}{reason}")
+        match self.message {
+            Message::ControlCharacters(count) => format!(in alloc; "{message}{count}"),
+            _ => format!(in alloc; "{message}{reason}"),
+        }
     }
 
     // The text at the right of the status row: the keys of the prompt and what it found, or mode,
@@ -55,8 +69,8 @@ impl Editor {
                 format!(in alloc; "{message}  Enter: next  Esc: back ")
             }
             Focus::Prompt(_) | Focus::Question(_) | Focus::Help => {
-                let (message, _) = self.message.components();
-                String::from_str(alloc, message)
+                let message = self.message_text(alloc)?;
+                format!(in alloc; "{message} ")
             }
         }
     }
@@ -71,6 +85,14 @@ impl Editor {
         if whole.len() <= room {
             return Ok(whole);
         }
+        self.short_place(alloc)
+    }
+
+    // The cursor's line and column, in few columns.
+    fn short_place(&self, alloc: Global) -> Result<String, AllocError> {
+        let (row, column) = self.draft.area().cursor();
+        let line = row.saturating_add(1);
+        let column = column.saturating_add(1);
         format!(in alloc; "{line}:{column} ")
     }
 

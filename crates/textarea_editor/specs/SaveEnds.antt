@@ -1,0 +1,52 @@
+-- What the editor does after a save, by how it ended.
+use Rattle.std.specs.Prelude.{◌≡◌, ◌⊎◌, Bool, true, false}
+use Rattle.textarea_editor.specs.Controls.{prompt_opened, with_focus}
+use Rattle.textarea_editor.specs.declared.controls.Controls.{Controls}
+use Rattle.textarea_editor.specs.declared.effect.Effect.{Effect}
+use Rattle.textarea_editor.specs.declared.effect.Effect.TheVariants.{Nothing, Quit}
+use Rattle.textarea_editor.specs.declared.effect.SaveEnd.{SaveEnd}
+use Rattle.textarea_editor.specs.declared.effect.SaveEnd.TheVariants as ended
+use Rattle.textarea_editor.specs.declared.focus.Asked.TheVariants as asks
+use Rattle.textarea_editor.specs.declared.focus.Focus.TheVariants as focus
+use Rattle.textarea_editor.specs.declared.focus.Question.TheVariants.{Overwrite}
+use Rattle.textarea_editor.specs.declared.message.Message.{Message}
+use Rattle.textarea_editor.specs.declared.message.Message.TheVariants as message
+use Rattle.textarea_editor.specs.declared.message.Trouble.{Trouble}
+use Rattle.textarea_editor.specs.declared.message.Trouble.TheVariants as trouble
+use Rattle.textarea_text.specs.Place.{Place}
+
+-- whether the file may be saved under another name
+abbrev pub asks_for_name : Trouble → Bool
+asks_for_name trouble.DiskFull = false
+asks_for_name trouble.Memory = false
+asks_for_name _ = true
+
+-- a failed save doesn't end the program; the name is asked for if another one may help
+abbrev pub after_failure : Bool → Controls → Place → Controls
+after_failure true controls cursor = prompt_opened (record controls { ends_when_saved = false }) cursor asks.Name
+after_failure false controls cursor = record controls { ends_when_saved = false }
+
+-- where memory runs out for the name, the text has the focus as before
+pub record IsAfterFailure (failed : Trouble) (controls : Controls) (cursor : Place) (new : Controls) : Type 0 where
+  pub led : (new ≡ after_failure (asks_for_name failed) controls cursor) ⊎ (new ≡ after_failure false controls cursor)
+
+abbrev pub IsAfterSave : SaveEnd → Controls → Place → Controls → Type 0
+IsAfterSave ended.Saved controls cursor new = new ≡ controls
+IsAfterSave ended.SavedAnew controls cursor new = new ≡ controls
+IsAfterSave ended.ChangedOnDisk controls cursor new = new ≡ with_focus controls (focus.Question Overwrite)
+IsAfterSave ended.Exists controls cursor new = new ≡ with_focus controls (focus.Question Overwrite)
+IsAfterSave (ended.Failed failed) controls cursor new = IsAfterFailure failed controls cursor new
+
+-- the message of the status row; that of a question says which file it is about
+abbrev pub message_after : SaveEnd → Message
+message_after ended.Saved = message.Saved
+message_after ended.SavedAnew = message.SavedAnew
+message_after ended.ChangedOnDisk = message.Nothing
+message_after ended.Exists = message.Exists
+message_after (ended.Failed failed) = message.NotSaved failed
+
+-- the program ends once the file is saved, if that was asked for
+abbrev pub effect_after : SaveEnd → Bool → Effect
+effect_after ended.Saved true = Quit
+effect_after ended.SavedAnew true = Quit
+effect_after other ends = Nothing
