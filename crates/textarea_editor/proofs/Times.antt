@@ -12,6 +12,7 @@ use Rattle.textarea_editor.specs.Draft.{FailsIn, FailsInAsked, FailsInSome, Make
 use Rattle.textarea_editor.specs.declared.draft.Draft.{Draft}
 use Rattle.textarea_editor.specs.EventCalls.{IsEvent, IsFit, IsInput, IsPaste}
 use Rattle.textarea_editor.specs.Steps.{IsTimed}
+use Rattle.textarea_editor.specs.TypedInput.{typed_input}
 use Rattle.textarea_editor.specs.declared.editor.Editor.{Editor}
 use Rattle.textarea_editor.specs.declared.focus.Focus.{Focus}
 use Rattle.textarea_editor.specs.declared.focus.Focus.TheVariants as focus
@@ -58,7 +59,7 @@ input_at (focus.Question question) editor draft area time input calls is = is
 input_at focus.Help editor draft area time input calls is = is
 
 event_at : (editor : Editor) (draft : Draft) (area : State) (time : ℕ) (this : Event) (calls : List Call) → IsEvent (with_draft editor draft) (at_time area time) this calls → IsEvent editor area this calls
-event_at editor draft area time (event.Input input) calls is = input_at editor.controls.focus editor draft area time input calls is
+event_at editor draft area time (event.Input input) calls is = input_at editor.controls.focus editor draft area time (typed_input input) calls is
 event_at editor draft area time (event.Paste text) calls is = paste_at editor.controls.focus is
   where
     paste_at : (asked : Focus) → IsPaste asked (with_draft editor draft) (string_bytes text) calls → IsPaste asked editor (string_bytes text) calls
