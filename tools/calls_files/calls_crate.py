@@ -1,6 +1,6 @@
-"""The enum of calls, their groups, and the definitions of both: crates/textarea_calls."""
+"""The enum of calls, their topics, and which of them edit: crates/textarea_calls."""
 from calls_files.layout import COLUMNS, broken, imports
-from calls_files.table import NOTE, Group
+from calls_files.table import NOTE
 
 
 def borrowed(type):
@@ -43,104 +43,144 @@ def call_enum(table):
 
 
 def arm(call):
-    """The arm of `kind_of`."""
-    group = call.group.name
-    if call.group.is_one_call():
-        return [f"        {call.applied('Call')} => {call.applied('Kind')},"]
-    front, inner = call.applied("Call"), call.applied(group)
-    if len(call.arguments) < 2 or len(f"        {front} => Kind::{group}({inner}),") <= COLUMNS:
-        return broken("        ", front, f"Kind::{group}", inner)
+    """The arm of `topic_of`."""
+    topic = call.topic_enum()
+    front, inner = call.applied("Call"), call.applied(topic)
+    if len(call.arguments) < 2 or len(f"        {front} => Topic::{topic}({inner}),") <= COLUMNS:
+        return broken("        ", front, f"Topic::{topic}", inner)
     fields = [f"            {name}," for name in call.names()]
     return [
         f"        Call::{call.variant} {{",
         *fields,
-        f"        }} => Kind::{group}({group}::{call.variant} {{",
+        f"        }} => Topic::{topic}({topic}::{call.variant} {{",
         *fields,
         "        }),",
     ]
 
 
-def groups_of_calls(table):
-    groups = [group for group in table.groups.values() if not group.is_one_call()]
+def topics_of_calls(table):
+    topics = table.topics_without_drawing()
     out = [
         f"// {NOTE}",
-        "//! Groups of calls. The calls of a group have results of one form, and one function makes them all.",
-        "ghost use Rattle.std.specs.Prelude.{◌≡◌};",
-        "ghost use Rattle.textarea_calls.specs.CallGroups.{call_of, draws, is_drawing};",
+        "//! The topics of calls. For each topic there is one function that makes its calls.",
+        "ghost use Rattle.std.specs.Prelude.{◌≡◌, false};",
+        "ghost use Rattle.textarea_calls.specs.Topics.{call_of, draws};",
         "",
         "use crate::call::Call;",
-        *imports(table.calls),
+        *imports([call for topic in topics for call in topic.calls]),
         "",
-        "/// A call by its group, with its arguments.",
+        "/// A call that doesn't draw, by its topic, with its arguments.",
         "#[derive(Clone, Copy)]",
-        "pub enum Kind<'a> {",
+        "pub enum Topic<'a> {",
+        *[f"    {topic.enum()}({topic.type()})," for topic in topics],
+        "}",
     ]
-    for group in table.groups.values():
-        if group.is_one_call():
-            out += [f"    /// {group.doc}", *variants(group.calls, False)]
-        else:
-            out.append(f"    {group.name}({group.type()}),")
-    out.append("}")
-    for group in groups:
-        out += ["", f"/// {group.doc}", f"#[derive({group.derives})]", f"pub enum {group.type()} {{"]
-        out += [*variants(group.calls, False), "}"]
+    for topic in topics:
+        out += ["", f"/// {topic.doc}", "#[derive(Clone, Copy)]", f"pub enum {topic.type()} {{"]
+        out += [*variants(topic.calls, False), "}"]
     out += [
         "",
-        "/// Returns the group of the call, with the call's arguments.",
-        "pub fn kind_of(call: Call<'_>) -> Kind<'_>",
-        "    ensures call { call_of result ≡ call.entry }",
-        "    ensures drawing { draws call.entry ≡ is_drawing result }",
+        "/// Returns the topic of a call that doesn't draw, with the call's arguments.",
+        "pub fn topic_of(call: Call<'_>) -> Topic<'_>",
+        "    requires undrawn { draws call ≡ false }",
+        "    ensures { call_of result ≡ call.entry }",
         "{",
         "    match call {",
     ]
-    for group in table.groups.values():
-        for call in group.calls:
+    for topic in topics:
+        for call in topic.calls:
             out += arm(call)
+    for call in table.drawing_calls():
+        out.append(f"        {call.pattern('Call')} => unreachable!(),")
     return out + ["    }", "}"]
 
 
-def call_groups(table):
-    """The definitions of the call of each member of a group."""
-    *groups, alone = sorted(table.groups.values(), key=Group.is_one_call)
-    declared = "Rattle.textarea_calls.specs.declared"
+DECLARED = "Rattle.textarea_calls.specs.declared"
+
+
+def definitions_of_topics(table):
+    """The definitions of the call of each member of a topic."""
+    topics = table.topics_without_drawing()
     out = [
         f"-- {NOTE}",
-        "-- The call of each member of a group of calls.",
+        "-- The call of each member of a topic, and which calls draw.",
         "use Rattle.std.specs.Prelude.{Bool, true, false}",
     ]
-    for module, name in [("call", "Call"), ("kind", "Kind")] + [("kind", group.name) for group in groups]:
-        out.append(f"use {declared}.{module}.{name}.{{{name}}}")
-        out.append(f"use {declared}.{module}.{name}.TheVariants as {name.lower()}")
-    for group in groups:
-        small = group.name.lower()
-        out += ["", f"abbrev pub call_of_{small} : {group.name} → Call"]
-        for call in group.calls:
+    for module, name in [("call", "Call"), ("topic", "Topic")] + [("topic", topic.enum()) for topic in topics]:
+        out.append(f"use {DECLARED}.{module}.{name}.{{{name}}}")
+        out.append(f"use {DECLARED}.{module}.{name}.TheVariants as {name.lower()}")
+    for topic in topics:
+        out += ["", f"abbrev pub call_of_{topic.name} : {topic.enum()} → Call"]
+        for call in topic.calls:
             words = " ".join([call.variant, *call.names()])
-            given = f"({small}.{words})" if call.arguments else f"{small}.{words}"
-            out.append(f"call_of_{small} {given} = call.{words}")
-    out += ["", "-- the call of a group, with its arguments", "abbrev pub call_of : Kind → Call"]
-    for group in groups:
-        small = group.name.lower()
-        out.append(f"call_of (kind.{group.name} {small}) = call_of_{small} {small}")
-    drawing = " ".join([alone.name, *alone.calls[0].names()])
-    return out + [
-        f"call_of (kind.{drawing}) = call.{drawing}",
+            given = f"({topic.name}.{words})" if call.arguments else f"{topic.name}.{words}"
+            out.append(f"call_of_{topic.name} {given} = call.{words}")
+    out += ["", "-- the call of a topic, with its arguments", "abbrev pub call_of : Topic → Call"]
+    out += [f"call_of (topic.{topic.enum()} asked) = call_of_{topic.name} asked" for topic in topics]
+    out += ["", "-- whether the call draws", "abbrev pub draws : Call → Bool"]
+    for call in table.drawing_calls():
+        out.append(f"draws (call.{' '.join([call.variant, *call.names()])}) = true")
+    return out + ["draws other = false"]
+
+
+def definition_of_edits(table):
+    out = [
+        f"-- {NOTE}",
+        "-- Which calls may change the text.",
+        "use Rattle.std.specs.Prelude.{Bool, true, false}",
+        "use Rattle.textarea_calls.specs.FlagRule.{may_change_text}",
+        "use Rattle.textarea_calls.specs.Keys.{keys_with_shortcuts, keys_without_shortcuts}",
+        "use Rattle.textarea_calls.specs.Table.{action_by}",
+        f"use {DECLARED}.call.Call.{{Call}}",
+        f"use {DECLARED}.call.Call.TheVariants as call",
         "",
-        "-- whether the call draws",
-        "abbrev pub draws : Call → Bool",
-        f"draws (call.{drawing}) = true",
-        "draws other = false",
+        "-- whether the call may change the text; of an input, whether its action may",
+        "abbrev pub edits : Call → Bool",
+        "edits (call.Input input) = may_change_text (action_by keys_with_shortcuts input.now)",
+        "edits (call.InputWithoutShortcuts input) = may_change_text (action_by keys_without_shortcuts input.now)",
+    ]
+    for call in table.calls:
+        if call.edits:
+            words = " ".join([f"call.{call.variant}", *call.names()])
+            out.append(f"edits {f'({words})' if call.arguments else words} = true")
+    return out + ["edits other = false"]
+
+
+def test_of_edits(table):
+    patterns = [call.pattern("Call") for call in table.calls if call.edits]
+    return [
+        f"// {NOTE}",
+        "//! Which calls may change the text.",
+        "ghost use Rattle.std.specs.Prelude.{◌≡◌};",
+        "ghost use Rattle.textarea_calls.specs.Edits.{edits};",
         "",
-        "-- whether the group's calls draw",
-        "abbrev pub is_drawing : Kind → Bool",
-        f"is_drawing (kind.{drawing}) = true",
-        "is_drawing other = false",
+        "use crate::call::Call;",
+        "use crate::keys::{action_of, action_without_shortcuts};",
+        "",
+        "impl Call<'_> {",
+        "    /// Returns whether the call may change the text. Every other call leaves it as it is, and makes",
+        "    /// no edit (`tui_textarea::outcomes::laws::others_edit_nothing`).",
+        "    pub fn edits(&self) -> bool",
+        "        ensures { result ≡ edits self.now }",
+        "    {",
+        "        match self {",
+        "            Call::Input(input) => action_of(input).may_change_text(),",
+        "            Call::InputWithoutShortcuts(input) => action_without_shortcuts(input).may_change_text(),",
+        f"            {patterns[0]}",
+        *[f"            | {pattern}" for pattern in patterns[1:-1]],
+        f"            | {patterns[-1]} => true,",
+        "            _ => false,",
+        "        }",
+        "    }",
+        "}",
     ]
 
 
 def files(table):
     return {
         "crates/textarea_calls/src/call.rt": call_enum(table),
-        "crates/textarea_calls/src/kind.rt": groups_of_calls(table),
-        "crates/textarea_calls/specs/CallGroups.antt": call_groups(table),
+        "crates/textarea_calls/src/edits.rt": test_of_edits(table),
+        "crates/textarea_calls/src/topic.rt": topics_of_calls(table),
+        "crates/textarea_calls/specs/Edits.antt": definition_of_edits(table),
+        "crates/textarea_calls/specs/Topics.antt": definitions_of_topics(table),
     }

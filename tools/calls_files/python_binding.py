@@ -36,7 +36,7 @@ def python_wrappers(table):
 def python_method(call):
     given = "".join(f", {n}: {PYTHON[t]}{' = False' if t == 'bool' else ''}" for n, t in call.arguments)
     words = ", ".join([f"_lib.ta_{call.name}", *call.names()])
-    made = f"self._{'edit' if call.edits() else 'call'}({words})"
+    made = f"self._{'edit' if call.edits else 'call'}({words})"
     return [
         f"    def {call.name}(self{given}) -> {PYTHON[call.result] if call.result else 'None'}:",
         *docstring(call.doc),

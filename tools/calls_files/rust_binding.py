@@ -48,7 +48,7 @@ def rust_wrapper(call):
 def rust_wrapper_with_memory(call, given):
     names, result = call.names(), call.result or "()"
     flag = call.result == "bool"
-    called = on_core(call, "edit" if call.edits() else "on", names, "" if flag else "?;")
+    called = on_core(call, "edit" if call.edits else "on", names, "" if flag else "?;")
     return [
         f"pub fn {call.name}(&mut self{given}){' -> bool' if flag else ''} {{",
         f"    must(self.try_{call.name}({', '.join(names)})){'' if flag else ';'}",

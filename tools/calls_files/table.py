@@ -29,31 +29,30 @@ def camel(name):
     return "".join(word.capitalize() for word in name.split("_"))
 
 
-class Group:
-    """Calls with results of one form."""
+class Topic:
+    """A heading, and the calls below it."""
 
-    def __init__(self, name, derives):
-        self.name, self.derives, self.doc = name, derives, ""
-        self.calls = []
+    def __init__(self, name):
+        self.name, self.doc, self.calls = name, "", []
 
-    def is_one_call(self):
-        return [call.variant for call in self.calls] == [self.name]
+    def draws(self):
+        """Whether its calls need a buffer."""
+        return self.name == "draw"
 
-    def type(self):
-        return self.name + ("<'a>" if any(call.borrows() for call in self.calls) else "")
+    def enum(self):
+        return camel(self.name)
+
+    def type(self, lifetime="'a"):
+        return self.enum() + (f"<{lifetime}>" if any(call.borrows() for call in self.calls) else "")
 
 
 class Call:
     def __init__(self, topic, name, arguments, result):
         self.topic, self.name, self.arguments, self.result = topic, name, arguments, result
-        self.variant, self.group, self.memory = camel(name), None, False
+        self.variant, self.memory, self.edits, self.special = camel(name), False, False, False
         self.command, self.by_hand = None, []
         self.languages, self.is_new = set(), False
         self.note, self.notes, self.doc = "", {}, ""
-
-    def edits(self):
-        """Whether it changes the text, by an edit that the history may have."""
-        return self.memory and self.topic in ("insert", "remove", "history")
 
     def borrows(self):
         return any(type.startswith("&") for _, type in self.arguments)
@@ -68,32 +67,46 @@ class Call:
         return f"{path}::{self.variant}" + (f"({self.names()[0]})" if self.arguments else "")
 
 
+    def pattern(self, path):
+        """The variant as a pattern that names no argument."""
+        if len(self.arguments) > 1:
+            return f"{path}::{self.variant} {{ .. }}"
+        return f"{path}::{self.variant}" + ("(_)" if self.arguments else "")
+
+    def topic_enum(self):
+        return camel(self.topic)
+
+
 class Table:
     def __init__(self):
-        self.groups, self.calls = {}, []
-        self.topic, self.entry = None, None
+        self.topics, self.calls = [], []
+        self.entry, self.may_say = None, False
         for number, line in enumerate((ROOT / TABLE).read_text().splitlines(), 1):
             try:
                 self.read(line)
             except ValueError as error:
                 stop(f"{TABLE}:{number}: {error}")
         for call in self.calls:
-            if not call.group or not call.doc:
-                stop(f"{TABLE}: `{call.name}` has no group, or does not say what it does")
+            if not call.doc:
+                stop(f"{TABLE}: `{call.name}` does not say what it does")
             if len(call.arguments) > 1 and set(call.notes) != set(call.names()):
                 stop(f"{TABLE}: `{call.name}` says something of some of its arguments only")
+
+    def topics_without_drawing(self):
+        return [topic for topic in self.topics if not topic.draws()]
+
+    def drawing_calls(self):
+        return [call for topic in self.topics if topic.draws() for call in topic.calls]
 
     def read(self, line):
         if not line.strip() or line.startswith("#"):
             return
         heading = re.fullmatch(r"\[(\w+)\]", line)
         if heading:
-            self.topic = heading[1]
+            self.entry = Topic(heading[1])
+            self.topics.append(self.entry)
         elif line.startswith("    "):
             self.read_more(line.strip())
-        elif self.topic == "groups":
-            name, _, derives = line.partition(":")
-            self.entry = self.groups[name] = Group(name, derives.strip())
         else:
             self.read_call(line)
 
@@ -111,12 +124,15 @@ class Table:
             unknown = set(re.findall(r"[A-Za-z]\w*", type)) - PLAIN_WORDS - set(" ".join(MODULES.values()).split())
             if unknown:
                 raise ValueError(f"MODULES of tools/calls_files/table.py doesn't have {', '.join(sorted(unknown))}")
-        self.entry = Call(self.topic, head[1], arguments, result or None)
+        self.entry = Call(self.topics[-1].name, head[1], arguments, result or None)
+        self.may_say = True
         self.calls.append(self.entry)
+        self.topics[-1].calls.append(self.entry)
 
     def read_more(self, line):
-        entry = self.entry
-        if isinstance(entry, Call) and not entry.group:
+        entry, may_say = self.entry, self.may_say
+        self.may_say = False
+        if may_say and line[0].islower():
             self.read_facts(entry, line)
         elif line.startswith("- "):
             name, _, words = line[2:].partition(": ")
@@ -131,11 +147,12 @@ class Table:
     def read_facts(self, call, line):
         for fact in line.split(", "):
             word, _, rest = fact.partition(" ")
-            if fact in self.groups:
-                call.group = self.groups[fact]
-                call.group.calls.append(call)
-            elif fact == "memory":
+            if fact == "memory":
                 call.memory = True
+            elif fact == "edits":
+                call.edits = True
+            elif fact == "special":
+                call.special = True
             elif fact == "new":
                 call.is_new = True
             elif word == "command":
@@ -147,6 +164,4 @@ class Table:
             elif word == "plain" and set(rest.split()) <= set(LANGUAGES):
                 call.languages = set(rest.split() or LANGUAGES)
             else:
-                raise ValueError(f"`{fact}` is no group, and none of `memory`, `command`, `by hand`, `variant`, `plain`, `new`")
-        if not call.group:
-            raise ValueError(f"`{call.name}` has no group")
+                raise ValueError(f"`{fact}` is none of `memory`, `edits`, `command`, `by hand`, `special`, `variant`, `plain`, `new`")

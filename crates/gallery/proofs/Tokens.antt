@@ -19,7 +19,6 @@ use Rattle.textarea_ranges.proofs.Moving.{occurs}
 use Rattle.textarea_ranges.proofs.OrderLemmas.{each-in_order}
 use Rattle.textarea_calls.specs.declared.action.Action.{Action}
 use Rattle.textarea_calls.specs.declared.action.Action.TheVariants as action
-use Rattle.textarea_calls.specs.declared.kind.Edit.TheVariants as edit
 use Rattle.textarea_document.specs.DocumentState.{DocumentState}
 use Rattle.textarea_document.specs.Edits.{Insert, Remove, between_removed, insertion, insertion_place, splice_of_step}
 use Rattle.textarea_document.specs.RangesOverSplices.{RangesFollowSplices, RangesStayWhole}
@@ -51,8 +50,8 @@ whole_over old new splices sound follow whole k d within =
     (All-contains (λ (range : AtomicRange). Contains names (covered_characters (lines old.document.text) range)) old.document.ranges stem.origin whole stem.stored)
 
 follows_action : (asked : Action) (old new : DocumentState) (splices : List Splice) → RangesFollowAction asked old splices new → RangesFollowSplices old splices new
-follows_action (action.Edit edit.Undo) old new splices h = h
-follows_action (action.Edit edit.Redo) old new splices h = h
+follows_action action.Undo old new splices h = h
+follows_action action.Redo old new splices h = h
 follows_action asked old new splices h = h.0
 
 -- after an input with this action

@@ -8,8 +8,6 @@ use Rattle.textarea_data.specs.declared.cursor.CursorMove.TheVariants as move
 use Rattle.textarea_data.specs.declared.scroll.Scrolling.{Scrolling}
 use Rattle.textarea_data.specs.declared.scroll.Scrolling.TheVariants as scrolling
 use Rattle.textarea_calls.specs.declared.action.Action.TheVariants as action
-use Rattle.textarea_calls.specs.declared.kind.Edit.TheVariants as edit
-use Rattle.textarea_calls.specs.declared.kind.Write.TheVariants as write
 use Rattle.textarea_calls.specs.FlagRule.{changed, unchanged, as_called}
 use Rattle.textarea_calls.specs.Table.{ActionRow, plain, ctrl, alt, both, any, chars, chars_but, one, row, always, insert_its_char, move_by, scroll_action}
 
@@ -23,15 +21,15 @@ one_up = scrolling.Delta (negsuc 0) (pos 0)
 -- the key table with shortcuts
 unfoldable pub keys_with_shortcuts : List ActionRow
 keys_with_shortcuts =
-    row (chars ctrl (codes "m") ∷ chars plain (codes "\n\r") ∷ one any key.Enter ∷ []) (always (action.Write write.InsertNewline)) changed
+    row (chars ctrl (codes "m") ∷ chars plain (codes "\n\r") ∷ one any key.Enter ∷ []) (always action.InsertNewline) changed
     ∷ row (chars_but plain (codes "\n\r") ∷ []) insert_its_char changed
-    ∷ row (one plain key.Tab ∷ []) (always (action.Edit edit.InsertTab)) as_called
-    ∷ row (chars ctrl (codes "h") ∷ one plain key.Backspace ∷ []) (always (action.Edit edit.DeleteChar)) as_called
-    ∷ row (chars ctrl (codes "d") ∷ one plain key.Delete ∷ []) (always (action.Edit edit.DeleteNextChar)) as_called
-    ∷ row (chars ctrl (codes "k") ∷ []) (always (action.Edit edit.DeleteLineByEnd)) as_called
-    ∷ row (chars ctrl (codes "j") ∷ []) (always (action.Edit edit.DeleteLineByHead)) as_called
-    ∷ row (chars ctrl (codes "w") ∷ chars alt (codes "h") ∷ one alt key.Backspace ∷ []) (always (action.Edit edit.DeleteWord)) as_called
-    ∷ row (chars alt (codes "d") ∷ one alt key.Delete ∷ []) (always (action.Edit edit.DeleteNextWord)) as_called
+    ∷ row (one plain key.Tab ∷ []) (always action.InsertTab) as_called
+    ∷ row (chars ctrl (codes "h") ∷ one plain key.Backspace ∷ []) (always action.DeleteChar) as_called
+    ∷ row (chars ctrl (codes "d") ∷ one plain key.Delete ∷ []) (always action.DeleteNextChar) as_called
+    ∷ row (chars ctrl (codes "k") ∷ []) (always action.DeleteLineByEnd) as_called
+    ∷ row (chars ctrl (codes "j") ∷ []) (always action.DeleteLineByHead) as_called
+    ∷ row (chars ctrl (codes "w") ∷ chars alt (codes "h") ∷ one alt key.Backspace ∷ []) (always action.DeleteWord) as_called
+    ∷ row (chars alt (codes "d") ∷ one alt key.Delete ∷ []) (always action.DeleteNextWord) as_called
     ∷ row (chars ctrl (codes "n") ∷ one plain key.Down ∷ []) (move_by move.Down) unchanged
     ∷ row (chars ctrl (codes "p") ∷ one plain key.Up ∷ []) (move_by move.Up) unchanged
     ∷ row (chars ctrl (codes "f") ∷ one plain key.Right ∷ []) (move_by move.Forward) unchanged
@@ -44,11 +42,11 @@ keys_with_shortcuts =
     ∷ row (chars alt (codes "b") ∷ one ctrl key.Left ∷ []) (move_by move.WordBack) unchanged
     ∷ row (chars alt (codes "]n") ∷ one ctrl key.Down ∷ []) (move_by move.ParagraphForward) unchanged
     ∷ row (chars alt (codes "[p") ∷ one ctrl key.Up ∷ []) (move_by move.ParagraphBack) unchanged
-    ∷ row (chars ctrl (codes "u") ∷ []) (always (action.Edit edit.Undo)) as_called
-    ∷ row (chars ctrl (codes "r") ∷ []) (always (action.Edit edit.Redo)) as_called
-    ∷ row (chars ctrl (codes "y") ∷ one any key.Paste ∷ []) (always (action.Edit edit.Paste)) as_called
-    ∷ row (chars ctrl (codes "x") ∷ one any key.Cut ∷ []) (always (action.Edit edit.Cut)) as_called
-    ∷ row (chars ctrl (codes "c") ∷ one any key.Copy ∷ []) (always (action.Write write.Copy)) unchanged
+    ∷ row (chars ctrl (codes "u") ∷ []) (always action.Undo) as_called
+    ∷ row (chars ctrl (codes "r") ∷ []) (always action.Redo) as_called
+    ∷ row (chars ctrl (codes "y") ∷ one any key.Paste ∷ []) (always action.Paste) as_called
+    ∷ row (chars ctrl (codes "x") ∷ one any key.Cut ∷ []) (always action.Cut) as_called
+    ∷ row (chars ctrl (codes "c") ∷ one any key.Copy ∷ []) (always action.Copy) unchanged
     ∷ row (chars ctrl (codes "v") ∷ one any key.PageDown ∷ []) (scroll_action scrolling.PageDown) unchanged
     ∷ row (chars alt (codes "v") ∷ one any key.PageUp ∷ []) (scroll_action scrolling.PageUp) unchanged
     ∷ row (one any key.MouseScrollDown ∷ []) (scroll_action one_down) unchanged
@@ -59,10 +57,10 @@ keys_with_shortcuts =
 unfoldable pub keys_without_shortcuts : List ActionRow
 keys_without_shortcuts =
     row (chars_but plain [] ∷ []) insert_its_char changed
-    ∷ row (one plain key.Tab ∷ []) (always (action.Edit edit.InsertTab)) as_called
-    ∷ row (one any key.Backspace ∷ []) (always (action.Edit edit.DeleteChar)) as_called
-    ∷ row (one any key.Delete ∷ []) (always (action.Edit edit.DeleteNextChar)) as_called
-    ∷ row (one any key.Enter ∷ []) (always (action.Write write.InsertNewline)) changed
+    ∷ row (one plain key.Tab ∷ []) (always action.InsertTab) as_called
+    ∷ row (one any key.Backspace ∷ []) (always action.DeleteChar) as_called
+    ∷ row (one any key.Delete ∷ []) (always action.DeleteNextChar) as_called
+    ∷ row (one any key.Enter ∷ []) (always action.InsertNewline) changed
     ∷ row (one any key.MouseScrollDown ∷ []) (always (action.Scroll one_down)) unchanged
     ∷ row (one any key.MouseScrollUp ∷ []) (always (action.Scroll one_up)) unchanged
     ∷ []

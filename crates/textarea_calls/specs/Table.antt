@@ -8,7 +8,6 @@ use Rattle.textarea_data.specs.declared.cursor.CursorMove.{CursorMove}
 use Rattle.textarea_data.specs.declared.scroll.Scrolling.{Scrolling}
 use Rattle.textarea_calls.specs.declared.action.Action.{Action}
 use Rattle.textarea_calls.specs.declared.action.Action.TheVariants as action
-use Rattle.textarea_calls.specs.declared.kind.Write.TheVariants as write
 use Rattle.textarea_calls.specs.FlagRule.{FlagRule, unchanged, flag_rule_of}
 
 -- ---- ---- the inputs of a case
@@ -134,7 +133,7 @@ always action input = action
 
 -- the insertion of the character of the input's key
 abbrev pub inserts_key_char : Key → Action
-inserts_key_char (key.Char c) = action.Write (write.InsertChar c)
+inserts_key_char (key.Char c) = action.InsertChar c
 inserts_key_char other = action.Nothing
 
 abbrev pub insert_its_char : Input → Action

@@ -5,7 +5,6 @@ ghost use Rattle.textarea_calls.specs.Keys.{keys_with_shortcuts, keys_without_sh
 ghost use Rattle.textarea_calls.specs.Table.{action_by};
 
 use crate::action::Action;
-use crate::kind::{Edit, Write};
 use textarea_data::input::{Input, Key};
 use textarea_data::scroll::Scrolling;
 
@@ -34,11 +33,11 @@ pub fn action_without_shortcuts(input: &Input) -> Action
     ensures { result ≡ action_by keys_without_shortcuts input.now }
 {
     match (input.key, input.ctrl, input.alt) {
-        (Key::Char(character), false, false) => Action::Write(Write::InsertChar(character)),
-        (Key::Tab, false, false) => Action::Edit(Edit::InsertTab),
-        (Key::Backspace, ..) => Action::Edit(Edit::DeleteChar),
-        (Key::Delete, ..) => Action::Edit(Edit::DeleteNextChar),
-        (Key::Enter, ..) => Action::Write(Write::InsertNewline),
+        (Key::Char(character), false, false) => Action::InsertChar(character),
+        (Key::Tab, false, false) => Action::InsertTab,
+        (Key::Backspace, ..) => Action::DeleteChar,
+        (Key::Delete, ..) => Action::DeleteNextChar,
+        (Key::Enter, ..) => Action::InsertNewline,
         (Key::MouseScrollDown, ..) => Action::Scroll(ONE_DOWN),
         (Key::MouseScrollUp, ..) => Action::Scroll(ONE_UP),
         _ => Action::Nothing,

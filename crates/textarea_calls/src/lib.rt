@@ -1,14 +1,15 @@
-//! The calls of a text area as data: their keys, groups, and results.
+//! The calls of a text area as data: their keys, topics, and results.
 #![tactic(auto)]
 
 pub mod action;
 pub mod answer;
 pub mod call;
+mod edits;
 pub mod keys;
-pub mod kind;
 pub mod laws;
 mod possible;
 pub mod printing;
+pub mod topic;
 
 pub use action::Action;
 pub use answer::Answer;

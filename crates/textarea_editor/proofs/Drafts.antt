@@ -1,114 +1,54 @@
 -- Calls on a draft, one list after another.
-use Rattle.std.proofs.Common.{◌≡◌, ◌+◌, ◌<◌, ◌∙◌, ◌⊎◌, ◌&&◌, ℕ, Bool, true, false, List, [], ◌∷◌, ◌++◌, Option, Some, None, OnErr, Result, Ok, Err, ap, append-nil, if◌then◌else◌, inl, inr, is_some, length, map, refl, subst, sym, take, zero-add, arith, length-append}
+use Rattle.std.proofs.Common.{◌≡◌, ◌+◌, ◌<◌, ◌∙◌, ◌⊎◌, ◌||◌, ℕ, Bool, true, false, List, [], ◌∷◌, ◌++◌, OnErr, OnOk, Result, Ok, Err, ap, append-nil, inl, inr, is_err, length, map, refl, subst, sym, take, zero-add, arith, length-append}
+use Rattle.std.proofs.Math.Bool.{or-false}
 use Rattle.std.proofs.Math.Seq.{take-append-add}
-use Rattle.std.specs.List.{All, list_all}
-use Rattle.std.specs.Option.{option_map}
-use Rattle.std.proofs.lemmas.Bool.{and_parts}
-use Rattle.std.proofs.lemmas.List.{length-map, take-append-le, take-map}
-use Rattle.std.proofs.lemmas.List.Elements.{All-head, All-tail, All-take}
-use Rattle.std.proofs.lemmas.Option.{slice_get-map, slice_get_within}
-use Rattle.textarea_calls.specs.FlagRule.{flag_rule_of}
-use Rattle.textarea_calls.specs.declared.action.Action.{Action}
-use Rattle.textarea_calls.specs.declared.action.Action.TheVariants as action
-use Rattle.textarea_calls.specs.declared.answer.Answer.{Answer}
+use Rattle.std.specs.List.{list_any}
+use Rattle.std.proofs.lemmas.Bool.{false≢true}
+use Rattle.std.proofs.lemmas.List.{take-append-le}
+use Rattle.textarea_calls.specs.Edits.{edits}
+use Rattle.textarea_calls.specs.Topics.{draws}
 use Rattle.textarea_calls.specs.declared.call.Call.{Call}
 use Rattle.textarea_calls.specs.declared.call.Call.TheVariants as call
-use Rattle.textarea_calls.specs.declared.kind.Write.TheVariants as write
-use Rattle.textarea_data.specs.declared.cursor.CursorMove.{CursorMove}
-use Rattle.textarea_data.specs.declared.cursor.CursorMove.TheVariants.{InViewport}
-use Rattle.textarea_document.specs.Selection.{is_selected, selected}
-use Rattle.textarea_editor.specs.Draft.{FailsIn, FailsInSome, IsHonest, IsUndrawn, Makes, RunsShort, is_unchanged, leaves_text, plain_call, plain_calls}
+use Rattle.textarea_editor.specs.Draft.{FailsIn, FailsInSome, IsHonest, Makes, RunsShort, plain_call, plain_calls}
 use Rattle.textarea_editor.specs.declared.draft.Draft.{Draft}
-use Rattle.textarea_modal.proofs.Runs.{draws_nothing_of, made_after, none_made, ran_out_after}
-use Rattle.textarea_modal.specs.Runs.{AllMade, RunsOutAt}
-use Rattle.textarea_screen.proofs.ChangeLemmas.{KeepsOutside-same}
-use Rattle.textarea_screen.specs.Rect.{contains}
-use Rattle.textarea_screen.specs.declared.screen.buffer.Buffer.{Buffer}
-use Rattle.textarea_text.specs.Place.{Place}
-use Rattle.textarea_text.specs.Text.{Symbol}
-use Rattle.tui_textarea.specs.Drawing.{viewport_scrolled}
-use Rattle.tui_textarea.specs.Input.{IsAfterAction, asked_by}
-use Rattle.tui_textarea.specs.Moves.{IsMovedWith, after_move_by, gone_to, pushed}
-use Rattle.tui_textarea.specs.Outcomes.{IsAfterCall, IsBufferOutOfMemory, RanOutOfMemory, after_pattern}
-use Rattle.tui_textarea.specs.Run.{CallLeads, Leads, Run, StopsAt}
-use Rattle.tui_textarea.specs.CallResults.{CallResult, PatternRejected, call_result}
-use Rattle.tui_textarea.specs.Search.{next_match, previous_match, after_search}
-use Rattle.tui_textarea.specs.Selection.{selection_cancelled, selection_copied}
+use Rattle.textarea_modal.proofs.Runs.{made_after, none_made, or_apart, ran_out_after}
+use Rattle.textarea_modal.specs.Runs.{AllMade, OneRunsOut, RunsOutAt}
+use Rattle.tui_textarea.specs.CallResults.{CallResult}
+use Rattle.tui_textarea.specs.Outcomes.{IsAfterCall, IsResultOf, RanOutOfMemory}
 use Rattle.tui_textarea.specs.State.{State}
 
 -- ---- a call without the address of what it borrows
 
-call_plain : (old : State) (buffer : Buffer) (this : Call) (returned : CallResult) (new : State) (displayed : Buffer) → CallLeads old buffer this returned new displayed → CallLeads old buffer (plain_call this) returned new displayed
-call_plain old buffer (call.Input input) returned new displayed led = record { answered = led.answered; after = led.after; drawn = led.drawn }
-call_plain old buffer (call.InsertPasted text) returned new displayed led = record { answered = led.answered; after = led.after; drawn = led.drawn }
-call_plain old buffer (call.SetSearchPattern text) returned new displayed led = record { answered = led.answered; after = led.after; drawn = led.drawn }
-call_plain old buffer other returned new displayed led = led
+pub result_plain : (old : State) (this : Call) (returned : CallResult) → IsResultOf old this returned → IsResultOf old (plain_call this) returned
+result_plain old (call.Input input) returned is = is
+result_plain old (call.InsertPasted text) returned is = is
+result_plain old (call.SetSearchPattern text) returned is = is
+result_plain old other returned is = is
 
-leads_plain : (old new : State) (buffer displayed : Buffer) (calls : List Call) (answers : List CallResult) → Leads old buffer calls answers new displayed → Leads old buffer (map plain_call calls) answers new displayed
-leads_plain old new buffer displayed [] [] led = led
-leads_plain old new buffer displayed [] (a ∷ answers) led = absurd led
-leads_plain old new buffer displayed (this ∷ calls) [] led = absurd led
-leads_plain old new buffer displayed (this ∷ calls) (a ∷ answers) led =
-    (led.0, led.1, call_plain old buffer this a led.0 led.1 led.2, leads_plain led.0 new led.1 displayed calls answers led.3)
+pub after_plain : (old : State) (this : Call) (returned : CallResult) (new : State) → IsAfterCall old this returned new → IsAfterCall old (plain_call this) returned new
+after_plain old (call.Input input) returned new after = after
+after_plain old (call.InsertPasted text) returned new after = after
+after_plain old (call.SetSearchPattern text) returned new after = after
+after_plain old other returned new after = after
 
-ran_out_plain : (this : Call) (before new : State) → RanOutOfMemory before this new → RanOutOfMemory before (plain_call this) new
+pub ran_out_plain : (this : Call) (before new : State) → RanOutOfMemory before this new → RanOutOfMemory before (plain_call this) new
 ran_out_plain (call.Input input) before new ran = record { may = ran.may; left = ran.left }
 ran_out_plain (call.InsertPasted text) before new ran = record { may = ran.may; left = ran.left }
 ran_out_plain (call.SetSearchPattern text) before new ran = record { may = ran.may; left = ran.left }
 ran_out_plain other before new ran = ran
 
--- ---- calls that draw nothing
+pub draws_plain : (this : Call) → draws this ≡ false → draws (plain_call this) ≡ false
+draws_plain (call.Input input) none = refl
+draws_plain other none = none
 
--- the calls lead from any buffer to the same one
-anywhere : (old new : State) (buffer displayed other : Buffer) (calls : List Call) (answers : List CallResult) → All IsUndrawn calls → Leads old buffer calls answers new displayed → Leads old other calls answers new other
-anywhere old new buffer displayed other [] [] none led = (led.0, refl)
-anywhere old new buffer displayed other [] (a ∷ answers) none led = absurd led
-anywhere old new buffer displayed other (this ∷ calls) [] none led = absurd led
-anywhere old new buffer displayed other (this ∷ calls) (a ∷ answers) none led =
-    let undrawn = draws_nothing_of this (All-head IsUndrawn this calls none) in (
-      led.0,
-      other,
-      record { answered = led.2.answered; after = led.2.after; drawn = undrawn.made led.0 other },
-      anywhere led.0 new led.1 displayed other calls answers (All-tail IsUndrawn this calls none) led.3,
-    )
+pub edits_plain : (this : Call) → edits (plain_call this) ≡ edits this
+edits_plain (call.Input input) = refl
+edits_plain other = refl
 
-pub all_made : (old new : State) (buffer displayed : Buffer) (calls : List Call) (answers : List Answer) → All IsUndrawn calls → Run old buffer calls answers None new displayed → AllMade old (plain_calls calls) new
-all_made old new buffer displayed calls answers none led = record {
-  answers = answers;
-  run = λ other. leads_plain old new other other calls (map call_result answers) (anywhere old new buffer displayed other calls (map call_result answers) none led);
-}
-
-spared_same : (this : Call) (buffer : Buffer) → IsBufferOutOfMemory this buffer buffer
-spared_same (call.Render area) buffer = KeepsOutside-same (contains area) refl
-spared_same other buffer = refl
-
-stops_plain : (old new : State) (buffer displayed other : Buffer) (calls : List Call) (answers : List Answer) (index : ℕ) → All IsUndrawn calls → StopsAt old buffer calls answers index new displayed → StopsAt old other (plain_calls calls) answers index new other
-stops_plain old new buffer displayed other calls answers index none stops = record {
-  call = plain_call stops.call;
-  here = slice_get-map plain_call calls index ∙ ap (option_map plain_call) stops.here;
-  before = stops.before;
-  screen = other;
-  led = subst (λ (l : List Call). Leads old other l (map call_result answers) stops.before other) (sym (take-map plain_call index calls))
-      (leads_plain old stops.before other other (take index calls) (map call_result answers)
-      (anywhere old stops.before buffer stops.screen other (take index calls) (map call_result answers) (All-take IsUndrawn index calls none) stops.led));
-  ran_out = ran_out_plain stops.call stops.before new stops.ran_out;
-  buffer_left = spared_same (plain_call stops.call) other;
-}
-
--- a run that ran out of memory
-pub runs_short : (old new : State) (buffer displayed : Buffer) (calls : List Call) (answers : List Answer) (index : ℕ) → All IsUndrawn calls → Run old buffer calls answers (Some index) new displayed → RunsShort old (plain_calls calls) new
-runs_short old new buffer displayed calls answers index none (inl never) = record {
-  index = 0;
-  within = omega arith;
-  made = inl (subst (λ (s : State). AllMade old [] s) (sym never.state) (none_made old));
-}
-runs_short old new buffer displayed calls answers index none (inr stops) =
-    let within : index < length (plain_calls calls) = subst (λ (n : ℕ). index < n) (sym (length-map calls plain_call)) (slice_get_within calls index stops.call stops.here) in
-    record {
-      index = index;
-      within = omega (arith, within);
-      made = inr (record { within = within; answers = answers; run = λ other. stops_plain old new buffer displayed other calls answers index none stops });
-    }
+pub any_edits_plain : (calls : List Call) → list_any edits (plain_calls calls) ≡ list_any edits calls
+any_edits_plain [] = refl
+any_edits_plain (this ∷ calls) =
+    ap (λ b. b || list_any edits (plain_calls calls)) (edits_plain this) ∙ ap (λ b. edits this || b) (any_edits_plain calls)
 
 -- ---- one list after another
 
@@ -172,104 +112,57 @@ fails_before a b calls more fails = record { short = short_before a.area b.area 
 pub fails_early : (IsAsked : List Call → Type 0) (draft : Draft) → FailsInSome IsAsked draft draft
 fails_early IsAsked draft = inl (fails_first draft [])
 
--- ---- calls that leave the text as it is
+-- ---- calls that are noted
 
--- the two states have the same text
-abbrev pub SameText : State → State → Type 0
-SameText old new = new.document.text ≡ old.document.text
+-- the draft counts as changed if it did, if the calls may have changed it, or if they failed
+abbrev pub noted : Draft → Bool → Bool → Draft
+noted draft may failed = record draft { is_changed = draft.is_changed || (may || failed) }
 
-abbrev text : State → List Symbol
-text state = state.document.text
+-- the calls were made
+pub noted_made : (old left : Draft) (calls : List Call) (may : Bool) → left.is_changed ≡ old.is_changed → may ≡ list_any edits calls → AllMade old.area calls left.area → Makes old calls (noted left may false)
+noted_made old left calls may same edit led = record {
+  made = led;
+  honest = λ none.
+    let apart = or_apart left.is_changed (may || false) none in
+    (sym same ∙ apart.0, led.text (sym edit ∙ (or_apart may false apart.1).0));
+}
 
-moved_keeps : (old : State) (shift : Bool) (found : Option Place) → SameText old (after_move_by old shift found)
-moved_keeps old shift None = refl
-moved_keeps old shift (Some place) = refl
+-- memory ran out in them
+pub noted_failed : (old left : Draft) (calls : List Call) (may : Bool) → OneRunsOut old.area calls left.area → FailsIn old calls (noted left may true)
+noted_failed old left calls may ran = record {
+  short = record { index = ran.index; within = omega (arith, ran.ran_out.within); made = inr ran.ran_out };
+  honest = λ none.
+    absurd (false≢true (sym (or_apart may true (or_apart left.is_changed (may || true) none).1).1));
+}
 
-moved_with_keeps : (old : State) (shift : Bool) (cursor_move : CursorMove) (new : State) → IsMovedWith old shift cursor_move new → SameText old new
-moved_with_keeps old shift cursor_move new moved =
-    ap text moved.new_is ∙ moved_keeps old shift (pushed old.document.ranges cursor_move moved.found)
-
-gone_keeps : (old : State) (place : Place) → SameText old (gone_to old place)
-gone_keeps old place = refl
-
-searched_keeps : (old : State) (found : Option Place) → SameText old (after_search old found)
-searched_keeps old None = refl
-searched_keeps old (Some place) = refl
-
-copied_keeps : (old : State) → SameText old (selection_copied old)
-copied_keeps old = by_flag old (is_selected old.document)
+-- of either result
+pub makes_noted : {E : Type 0} (result made : Result Bool E) (old left new : Draft) (calls : List Call) (may : Bool) → result ≡ made → left.is_changed ≡ old.is_changed → new ≡ noted left may (is_err made) → may ≡ list_any edits calls → OnOk made (AllMade old.area calls left.area) → OnOk result (Makes old calls new)
+makes_noted {E} result made old left new calls may is same note edit led =
+    subst (λ (d : Draft). OnOk result (Makes old calls d)) (sym note)
+    (subst (λ (r : Result Bool E). OnOk r (Makes old calls (noted left may (is_err made)))) (sym is) (by_result made led))
   where
-    by_flag : (old : State) (some : Bool) → SameText old (if some then record (selection_cancelled old) { yank = selected old.document } else selection_cancelled old)
-    by_flag old true = refl
-    by_flag old false = refl
+    by_result : (made : Result Bool E) → OnOk made (AllMade old.area calls left.area) → OnOk made (Makes old calls (noted left may (is_err made)))
+    by_result (Err error) led = tt
+    by_result (Ok found) led = noted_made old left calls may same edit led
 
-pattern_keeps : (old : State) (pattern : List ℕ) (answer : CallResult) → SameText old (after_pattern old pattern answer)
-pattern_keeps old pattern PatternRejected = refl
-pattern_keeps old pattern other = refl
+pub fails_noted : {E : Type 0} (result made : Result Bool E) (old left new : Draft) (calls : List Call) (may : Bool) → result ≡ made → new ≡ noted left may (is_err made) → OnErr made (OneRunsOut old.area calls left.area) → OnErr result (FailsIn old calls new)
+fails_noted {E} result made old left new calls may is note ran =
+    subst (λ (d : Draft). OnErr result (FailsIn old calls d)) (sym note)
+    (subst (λ (r : Result Bool E). OnErr r (FailsIn old calls (noted left may (is_err made)))) (sym is) (by_result made ran))
+  where
+    by_result : (made : Result Bool E) → OnErr made (OneRunsOut old.area calls left.area) → OnErr made (FailsIn old calls (noted left may (is_err made)))
+    by_result (Ok found) ran = tt
+    by_result (Err error) ran = noted_failed old left calls may ran
 
-acted_keeps : (old : State) (asked : Action) (new : State) → is_unchanged (flag_rule_of asked) ≡ true → IsAfterAction old asked new → SameText old new
-acted_keeps old action.Nothing new is acted = ap text acted
-acted_keeps old (action.Edit edit) new is acted = let no : false ≡ true = is in cc
-acted_keeps old (action.Write write.Copy) new is acted = ap text acted ∙ copied_keeps old
-acted_keeps old (action.Write (write.InsertChar c)) new is acted = let no : false ≡ true = is in cc
-acted_keeps old (action.Write write.InsertNewline) new is acted = let no : false ≡ true = is in cc
-acted_keeps old (action.MoveWithShift cursor_move shift) new is acted = moved_with_keeps old shift cursor_move new acted
-acted_keeps old (action.ScrollWithShift scrolling shift) new is acted = moved_with_keeps (viewport_scrolled old scrolling) shift InViewport new acted
-acted_keeps old (action.Scroll scrolling) new is acted = moved_with_keeps (viewport_scrolled old scrolling) (is_some old.document.anchor) InViewport new acted
-
-call_keeps : (old : State) (this : Call) (answer : CallResult) (new : State) → leaves_text this ≡ true → IsAfterCall old this answer new → SameText old new
-call_keeps old (call.Input input) answer new is after = acted_keeps old (asked_by input.now) new is after
-call_keeps old (call.Move cursor_move) answer new is after = moved_with_keeps old (is_some old.document.anchor) cursor_move new after
-call_keeps old (call.GoTo place) answer new is after = ap text after ∙ gone_keeps old place
-call_keeps old (call.Scroll scrolling) answer new is after = moved_with_keeps (viewport_scrolled old scrolling) (is_some old.document.anchor) InViewport new after
-call_keeps old call.StartSelection answer new is after = ap text after
-call_keeps old call.CancelSelection answer new is after = ap text after
-call_keeps old call.ClearAtomicRanges answer new is after = ap text after
-call_keeps old call.SelectAll answer new is after = ap text after
-call_keeps old call.Copy answer new is after = ap text after ∙ copied_keeps old
-call_keeps old (call.SetSearchPattern pattern) answer new is after = ap text after ∙ pattern_keeps old pattern.now answer
-call_keeps old (call.SearchForward at_cursor) answer new is after = ap text after ∙ searched_keeps old (next_match old at_cursor)
-call_keeps old (call.SearchBack at_cursor) answer new is after = ap text after ∙ searched_keeps old (previous_match old at_cursor)
-call_keeps old (call.SetNow time) answer new is after = ap text after
-call_keeps old (call.SetWrapMode mode) answer new is after = ap text after
-call_keeps old (call.SetLineNumberStyle style) answer new is after = ap text after
-call_keeps old call.RemoveLineNumber answer new is after = ap text after
-call_keeps old (call.SetUndoCoalescing joins) answer new is after = ap text after
-call_keeps old (call.SetMaxHistories maximum) answer new is after = ap text after
-call_keeps old (call.SetHardTabIndent hard) answer new is after = ap text after
-call_keeps old other answer new is after = let no : false ≡ true = is in cc
-
-leads_keep : (old new : State) (buffer displayed : Buffer) (calls : List Call) (answers : List CallResult) → list_all leaves_text calls ≡ true → Leads old buffer calls answers new displayed → SameText old new
-leads_keep old new buffer displayed [] [] all led = ap text led.0
-leads_keep old new buffer displayed [] (a ∷ answers) all led = absurd led
-leads_keep old new buffer displayed (this ∷ calls) [] all led = absurd led
-leads_keep old new buffer displayed (this ∷ calls) (a ∷ answers) all led =
-    let components = and_parts (leaves_text this) (list_all leaves_text calls) all in
-    leads_keep led.0 new led.1 displayed calls answers components.1 led.3 ∙ call_keeps old this a led.0 components.0 led.2.after
-
--- ---- calls that were made
-
-pub made_keeps : (old new : State) (calls : List Call) → (buffer : Buffer) → list_all leaves_text calls ≡ true → AllMade old calls new → SameText old new
-made_keeps old new calls buffer all made =
-    leads_keep old new buffer buffer calls (map call_result made.answers) all (made.run buffer)
-
-plain_leaves : (this : Call) → leaves_text (plain_call this) ≡ leaves_text this
-plain_leaves (call.Input input) = refl
-plain_leaves other = refl
-
-leaves_plain : (calls : List Call) → list_all leaves_text (plain_calls calls) ≡ list_all leaves_text calls
-leaves_plain [] = refl
-leaves_plain (this ∷ calls) =
-    ap (λ b. b && list_all leaves_text (plain_calls calls)) (plain_leaves this) ∙ ap (λ b. leaves_text this && b) (leaves_plain calls)
-
--- calls that leave the text as it is were made, and the draft counts as before
-pub set_honest : (old new : Draft) (calls : List Call) → Buffer → list_all leaves_text calls ≡ true → AllMade old.area (plain_calls calls) new.area → new.is_changed ≡ old.is_changed → IsHonest old new
-set_honest old new calls buffer all made same =
-    λ is. (sym same ∙ is, made_keeps old.area new.area (plain_calls calls) buffer (leaves_plain calls ∙ all) made)
-
--- a draft that counts as changed is honest
-pub changed_honest : (old new : Draft) → new.is_changed ≡ true → IsHonest old new
-changed_honest old new is = λ not_changed. let no : true ≡ false = sym is ∙ not_changed in cc
+-- whether the draft then counts as changed
+pub changed_noted : {E : Type 0} (result made : Result Bool E) (left new : Draft) (calls : List Call) (may : Bool) → result ≡ made → new ≡ noted left may (is_err made) → may ≡ list_any edits calls → OnOk result (new.is_changed ≡ (left.is_changed || list_any edits calls))
+changed_noted {E} result made left new calls may is note edit =
+    subst (λ (d : Draft). OnOk result (d.is_changed ≡ (left.is_changed || list_any edits calls))) (sym note)
+    (subst (λ (r : Result Bool E). OnOk r ((noted left may (is_err made)).is_changed ≡ (left.is_changed || list_any edits calls))) (sym is) (by_result made))
+  where
+    by_result : (made : Result Bool E) → OnOk made ((noted left may (is_err made)).is_changed ≡ (left.is_changed || list_any edits calls))
+    by_result (Err error) = tt
+    by_result (Ok found) = ap (λ b. left.is_changed || b) (or-false may ∙ edit)
 
 -- ---- results
 

@@ -1,5 +1,5 @@
 -- Events after the time was set: the calls of the table don't depend on it.
-use Rattle.std.proofs.Common.{◌≡◌, ◌⊎◌, ◌-◌, ℕ, Bool, true, false, List, [], ◌∷◌, inl, inr, lit<, refl, string_bytes, subst}
+use Rattle.std.proofs.Common.{◌≡◌, ◌⊎◌, ◌-◌, ℕ, Bool, true, false, List, [], ◌∷◌, ap, inl, inr, lit<, refl, string_bytes, subst}
 use Rattle.std.specs.Duration.{as_nanos}
 use Rattle.std.specs.declared.time.Duration.{Duration}
 use Rattle.textarea_calls.specs.declared.answer.Answer.TheVariants as answer
@@ -31,7 +31,7 @@ at_time area time = record area { time = time }
 pub time_made : (old new : State) (now : Duration) → new ≡ at_time old (as_nanos now) → AllMade old (SetNow now ∷ []) new
 time_made old new now is =
     let made = SetNow now in
-    made_more old old new (made ∷ []) 0 made answer.Done (lit< tt) refl (none_made old) refl is (draws_nothing_of made refl)
+    made_more old old new (made ∷ []) 0 made answer.Done (lit< tt) refl (none_made old) refl is (draws_nothing_of made refl) (λ none. ap (λ (s : State). s.document.text) is)
 
 -- ---- the calls of an event then
 

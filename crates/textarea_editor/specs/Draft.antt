@@ -1,75 +1,23 @@
 -- A text that is edited by calls, and whether it may differ from the saved one.
 use Rattle.std.specs.Prelude.{◌≡◌, ◌⊎◌, ◌≤◌, ℕ, Bool, true, false, List, [], length, map, take}
-use Rattle.textarea_calls.specs.CallGroups.{draws}
-use Rattle.textarea_calls.specs.FlagRule.{FlagRule, flag_rule_of, unchanged}
+use Rattle.textarea_calls.specs.Topics.{draws}
 use Rattle.textarea_calls.specs.declared.call.Call.{Call}
-use Rattle.textarea_calls.specs.declared.call.Call.TheVariants.{CancelSelection, ClearAtomicRanges, Copy, Cut, GoTo, Input, InsertPasted, Move, Paste, Redo, RemoveLineNumber, Scroll, SearchBack, SearchForward, SelectAll, SetHardTabIndent, SetLineNumberStyle, SetMaxHistories, SetNow, SetSearchPattern, SetUndoCoalescing, SetWrapMode, StartSelection, Undo}
-use Rattle.textarea_calls.specs.declared.kind.Write.TheVariants as write
+use Rattle.textarea_calls.specs.declared.call.Call.TheVariants.{Input, InsertPasted, Render, SetLines, SetSearchPattern}
 use Rattle.textarea_data.specs.declared.measure.TextAreaMeasure.{TextAreaMeasure}
 use Rattle.textarea_editor.specs.declared.draft.Draft.{Draft}
 use Rattle.textarea_modal.specs.Runs.{AllMade, RunsOutAt}
-use Rattle.textarea_modal.specs.declared.modal.ModalStop.{ModalStop}
-use Rattle.textarea_modal.specs.declared.modal.ModalStop.TheVariants.{End, Quit}
-use Rattle.textarea_modal.specs.declared.step.KeyCall.{KeyCall}
-use Rattle.textarea_modal.specs.declared.step.KeyCall.TheVariants as key
-use Rattle.tui_textarea.specs.Input.{asked_by}
 use Rattle.tui_textarea.specs.Measure.{IsMeasured}
 use Rattle.tui_textarea.specs.State.{State}
 
--- whether an input with this result leaves the text as it is
-abbrev pub is_unchanged : FlagRule → Bool
-is_unchanged unchanged = true
-is_unchanged other = false
-
--- whether the call leaves the text as it is; of these calls only settings and those that the editor
--- makes
-abbrev pub leaves_text : Call → Bool
-leaves_text (Input input) = is_unchanged (flag_rule_of (asked_by input.now))
-leaves_text (Move cursor_move) = true
-leaves_text (GoTo place) = true
-leaves_text (Scroll scrolling) = true
-leaves_text StartSelection = true
-leaves_text CancelSelection = true
-leaves_text SelectAll = true
-leaves_text ClearAtomicRanges = true
-leaves_text Copy = true
-leaves_text (SetSearchPattern pattern) = true
-leaves_text (SearchForward at_cursor) = true
-leaves_text (SearchBack at_cursor) = true
-leaves_text (SetNow time) = true
-leaves_text (SetWrapMode mode) = true
-leaves_text (SetLineNumberStyle style) = true
-leaves_text RemoveLineNumber = true
-leaves_text (SetUndoCoalescing joins) = true
-leaves_text (SetMaxHistories maximum) = true
-leaves_text (SetHardTabIndent hard) = true
-leaves_text call = false
-
--- whether the call may edit the text; of these calls only those that the editor makes
-abbrev pub may_edit : Call → Bool
-may_edit (Input input) = true
-may_edit (InsertPasted text) = true
-may_edit Cut = true
-may_edit Paste = true
-may_edit Undo = true
-may_edit Redo = true
-may_edit call = false
+-- whether the call is one of those that a draft makes: all but a drawing and one that sets lines
+abbrev pub is_made : Call → Bool
+is_made (Render area) = false
+is_made (SetLines lines cursor) = false
+is_made other = true
 
 -- the call draws nothing
 abbrev pub IsUndrawn : Call → Type 0
 IsUndrawn call = draws call ≡ false
-
--- whether a call of the modal editor edits the text
-abbrev pub is_edit : KeyCall → Bool
-is_edit (key.Edit edit) = true
-is_edit (key.Write write.Copy) = false
-is_edit (key.Write other) = true
-is_edit other = false
-
--- how a key of the modal editor ends that doesn't run out of memory
-abbrev pub stop_of : Bool → ModalStop
-stop_of true = Quit
-stop_of false = End
 
 -- a call without the address of the text or input that it borrows
 abbrev pub plain_call : Call → Call

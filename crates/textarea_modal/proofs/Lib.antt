@@ -1,3 +1,4 @@
 pub mod Courses
 pub mod Ends
 pub mod Runs
+pub mod Edits

@@ -1,6 +1,9 @@
 -- Runs of calls that draw nothing, one after another.
-use Rattle.std.proofs.Common.{◌≡◌, lit<, ℕ, ◌+◌, ◌<◌, true, false, List, [], ◌∷◌, ◌++◌, map, take, length, get_or, slice_get, Some, OnErr, Result, Ok, Err, ap, refl, sym, subst, ◌∙◌, arith, length-append}
+use Rattle.std.proofs.Common.{◌≡◌, lit<, ℕ, ◌+◌, ◌<◌, ◌||◌, Bool, true, false, List, [], ◌∷◌, ◌++◌, map, take, length, get_or, slice_get, Some, OnErr, Result, Ok, Err, ap, refl, sym, subst, ◌∙◌, arith, length-append}
 use Rattle.std.proofs.Math.Seq.{take-append-add}
+use Rattle.std.specs.List.{list_any}
+use Rattle.std.proofs.lemmas.Bool.{false≢true}
+use Rattle.std.proofs.lemmas.List.Folds.{list_any-append, list_any_more}
 use Rattle.std.proofs.lemmas.List.{append-nil, map-append, take-append-le, get_or-append-add, get_or_append_left}
 use Rattle.std.proofs.lemmas.Option.{slice_get_read, get_or_from_slice_get}
 use Rattle.textarea_screen.specs.declared.screen.buffer.Buffer.{Buffer}
@@ -13,17 +16,9 @@ use Rattle.textarea_calls.specs.declared.answer.Answer.TheVariants as answer
 use Rattle.textarea_data.specs.declared.cursor.CursorMove.{CursorMove}
 use Rattle.textarea_calls.specs.declared.call.Call.{Call}
 use Rattle.tui_textarea.specs.State.{State}
-use Rattle.textarea_calls.specs.CallGroups.{call_of_edit, call_of_setting, call_of_write, draws}
+use Rattle.textarea_calls.specs.Edits.{edits}
+use Rattle.textarea_calls.specs.Topics.{draws}
 use Rattle.textarea_calls.specs.declared.call.Call.TheVariants as call
-use Rattle.textarea_calls.specs.declared.kind.Edit.{Edit}
-use Rattle.textarea_calls.specs.declared.kind.Edit.TheVariants as edit
-use Rattle.textarea_calls.specs.declared.kind.Setting.{Setting}
-use Rattle.textarea_calls.specs.declared.kind.Setting.TheVariants as setting
-use Rattle.textarea_calls.specs.declared.kind.Write.{Write}
-use Rattle.textarea_calls.specs.declared.kind.Write.TheVariants as write
-use Rattle.textarea_modal.specs.Calls.{key_call}
-use Rattle.textarea_modal.specs.declared.step.KeyCall.{KeyCall}
-use Rattle.textarea_modal.specs.declared.step.KeyCall.TheVariants as key
 use Rattle.textarea_modal.specs.Runs.{AllMade, OneRunsOut, RunsOutAt}
 
 -- ---- calls that draw nothing
@@ -37,25 +32,6 @@ pub draws_nothing_of : (made : Call) → draws made ≡ false → DrawsNothing m
 draws_nothing_of (call.Render area) none = let no : true ≡ false = none in cc
 draws_nothing_of other none = record { made = λ state buffer. refl; ran_out = λ buffer. refl }
 
-edit_undrawn : (asked : Edit) → draws (call_of_edit asked) ≡ false
-edit_undrawn edit.Clear = refl
-edit_undrawn other = refl
-
-write_undrawn : (asked : Write) → draws (call_of_write asked) ≡ false
-write_undrawn write.Copy = refl
-write_undrawn other = refl
-
-setting_undrawn : (asked : Setting) → draws (call_of_setting asked) ≡ false
-setting_undrawn setting.SelectAll = refl
-setting_undrawn other = refl
-
-pub draws_nothing : (made : KeyCall) → DrawsNothing (key_call made)
-draws_nothing (key.Edit asked) = draws_nothing_of (call_of_edit asked) (edit_undrawn asked)
-draws_nothing (key.Write asked) = draws_nothing_of (call_of_write asked) (write_undrawn asked)
-draws_nothing (key.Set asked) = draws_nothing_of (call_of_setting asked) (setting_undrawn asked)
-draws_nothing (key.SearchForward at_cursor) = draws_nothing_of (call.SearchForward at_cursor) refl
-draws_nothing (key.SearchBack at_cursor) = draws_nothing_of (call.SearchBack at_cursor) refl
-
 -- ---- ---- one more call
 
 pub on_err : {T E P : Type 0} (result : Result T E) → P → OnErr result P
@@ -68,13 +44,21 @@ on_err_weaker (Err error) weaker holds = weaker holds
 
 -- no call was made
 pub none_made : (state : State) → AllMade state [] state
-none_made state = record { answers = []; run = λ buffer. (refl, refl) }
+none_made state = record { answers = []; run = λ buffer. (refl, refl); text = λ none. refl }
+
+-- neither of two is true
+pub or_apart : (first second : Bool) → (first || second) ≡ false → (first ≡ false) × (second ≡ false)
+or_apart true second none = absurd (false≢true (sym none))
+or_apart false second none = (refl, none)
 
 -- the calls before this one were made, and then this one
-pub made_more : (old mid new : State) (calls : List Call) (index : ℕ) (call : Call) (answer : Answer) → index < length calls → call ≡ get_or calls index call → AllMade old (take index calls) mid → IsResultOf mid call (call_result answer) → IsAfterCall mid call (call_result answer) new → DrawsNothing call → AllMade old (take (index + 1) calls) new
-made_more old mid new calls index call answer within is_call so_far answered after nothing = record {
+pub made_more : (old mid new : State) (calls : List Call) (index : ℕ) (call : Call) (answer : Answer) → index < length calls → call ≡ get_or calls index call → AllMade old (take index calls) mid → IsResultOf mid call (call_result answer) → IsAfterCall mid call (call_result answer) new → DrawsNothing call → (edits call ≡ false → new.document.text ≡ mid.document.text) → AllMade old (take (index + 1) calls) new
+made_more old mid new calls index call answer within is_call so_far answered after nothing keeps = record {
   answers = so_far.answers ++ answer ∷ [];
   run = λ buffer. leads_more old mid new buffer buffer buffer calls so_far.answers index call answer within is_call (so_far.run buffer) (record { answered = answered; after = after; drawn = nothing.made new buffer });
+  text = λ none.
+      let apart = or_apart (list_any edits (take index calls)) (edits (get_or calls index call)) (sym (list_any_more edits calls index call within) ∙ none) in
+      keeps (ap edits is_call ∙ apart.1) ∙ so_far.text apart.0;
 }
 
 -- the calls before this one were made, and this one ran out of memory
@@ -116,6 +100,9 @@ pub made_after : (old mid new : State) (calls later : List Call) → AllMade old
 made_after old mid new calls later earlier rest = record {
   answers = earlier.answers ++ rest.answers;
   run = λ buffer. leads_after old mid new buffer calls later earlier.answers rest.answers (earlier.run buffer) (rest.run buffer);
+  text = λ none.
+      let apart = or_apart (list_any edits calls) (list_any edits later) (sym (list_any-append edits calls later) ∙ none) in
+      rest.text apart.1 ∙ earlier.text apart.0;
 }
 
 -- the call at an index of the later calls, whatever follows them
@@ -161,7 +148,7 @@ one_ran_out_after old mid new first later earlier one = record {
 }
 
 -- a single move
-pub moved : (old new : State) (cursor_move : CursorMove) → IsAfterCall old (call.Move cursor_move) Done new → AllMade old (call.Move cursor_move ∷ []) new
-moved old new cursor_move after =
+pub moved : (old new : State) (cursor_move : CursorMove) → IsAfterCall old (call.Move cursor_move) Done new → new.document.text ≡ old.document.text → AllMade old (call.Move cursor_move ∷ []) new
+moved old new cursor_move after keeps =
     let made = call.Move cursor_move in
-    made_more old old new (made ∷ []) 0 made answer.Done (lit< tt) refl (none_made old) refl after (draws_nothing_of made refl)
+    made_more old old new (made ∷ []) 0 made answer.Done (lit< tt) refl (none_made old) refl after (draws_nothing_of made refl) (λ none. keeps)

@@ -1,5 +1,7 @@
 -- Runs of a modal editor, as runs of the calls of its inputs.
 use Rattle.std.specs.Prelude.{◌≡◌, ◌≤◌, ◌<◌, ℕ, ◌+◌, Bool, true, false, List, length, take, None}
+use Rattle.std.specs.List.{list_any}
+use Rattle.textarea_calls.specs.Edits.{edits}
 use Rattle.textarea_data.specs.declared.input.Input.{Input}
 use Rattle.textarea_screen.specs.declared.screen.buffer.Buffer.{Buffer}
 use Rattle.tui_textarea.specs.Run.{Run, StopsAt}
@@ -11,10 +13,12 @@ use Rattle.textarea_modal.specs.declared.mode.Mode.{Mode}
 use Rattle.textarea_modal.specs.declared.modal.ModalStop.{ModalStop}
 use Rattle.textarea_modal.specs.declared.modal.ModalStop.TheVariants.{End, Quit, Memory}
 
--- the run of all the calls has some results, ends in the new state, and leaves any buffer unchanged
+-- the run of all the calls has some results, ends in the new state, and leaves any buffer unchanged;
+-- if none of them edits, the text stays
 pub record AllMade (old : State) (calls : List Call) (new : State) : Type 0 where
   pub answers : List Answer
   pub run : (buffer : Buffer) → Run old buffer calls answers None new buffer
+  pub text : list_any edits calls ≡ false → new.document.text ≡ old.document.text
 
 -- the run ends at the call of this index, which runs out of memory and leaves the new state
 pub record RunsOutAt (old : State) (calls : List Call) (index : ℕ) (new : State) : Type 0 where

@@ -7,4 +7,5 @@ pub mod step;
 pub mod steps;
 
 pub use crate::mode::{Mode, Op};
+pub use crate::step::Reaction;
 pub use modal::{Modal, ModalEnd, ModalStop};

@@ -1,13 +1,16 @@
 //! A modal editor, and its runs of inputs.
 ghost use Rattle.std.specs.Prelude.{◌≡◌, IfOk, OnErr, OnOk};
+ghost use Rattle.textarea_modal.specs.Calls.{IsReaction, OfStep};
 ghost use Rattle.textarea_modal.specs.Runs.{AllMade, EndsAs, OneRunsOut};
 ghost use Rattle.textarea_modal.specs.Table.{step};
 
 mod calls;
 
-use crate::modal::calls::{make_step, pass_on};
+use crate::modal::calls::make_step;
+pub use crate::modal::calls::pass_on;
 use crate::mode::Mode;
-use crate::steps::step;
+use crate::step::Reaction;
+use crate::steps::reaction;
 use std::alloc::AllocError;
 use std::marker::Model;
 use textarea_data::input::Input;
@@ -94,6 +97,39 @@ impl Modal {
         }
     }
 
+    /// Returns what an input does in the current mode.
+    pub fn reaction(&self, input: &Input) -> Reaction
+        ensures { IsReaction self.now input.now result }
+    {
+        reaction(self.mode, input)
+    }
+
+    /// Makes the calls of a reaction that was found in the current mode, enters the mode after them,
+    /// and returns whether it quits. A call that runs out of memory is the last one that is tried;
+    /// the mode then stays.
+    pub fn react(&mut self, area: &mut TextArea<'_>, reaction: Reaction) -> Result<bool, AllocError>
+        ensures ok { OnOk result
+            (OfStep self.old reaction (λ step. AllMade area.old step.calls area.new)) }
+        ensures mode { OnOk result (OfStep self.old reaction (λ step. self.new ≡ step.mode)) }
+        ensures quits { IfOk result
+            (λ quits. OfStep self.old reaction (λ step. quits ≡ step.quits)) }
+        ensures err { OnErr result
+            (OfStep self.old reaction (λ step. OneRunsOut area.old step.calls area.new)) }
+        ensures stays { OnErr result (self.new ≡ self.old) }
+    {
+        match reaction {
+            Reaction::Step(step) => {
+                make_step(area, &step)?;
+                self.mode = step.mode;
+                Ok(step.quits)
+            }
+            Reaction::PassOn(action) => {
+                pass_on(area, action)?;
+                Ok(false)
+            }
+        }
+    }
+
     // Takes one input: makes its calls, enters the mode after them, and returns whether it quits.
     fn take(&mut self, area: &mut TextArea<'_>, input: &Input) -> Result<bool, AllocError>
         ensures ok { OnOk result
@@ -104,16 +140,7 @@ impl Modal {
             (OneRunsOut area.old (step self.old input.now).calls area.new) }
         ensures stays { OnErr result (self.new ≡ self.old) }
     {
-        match step(self.mode, input) {
-            Some(step) => {
-                make_step(area, &step)?;
-                self.mode = step.mode;
-                Ok(step.quits)
-            }
-            None => {
-                pass_on(area, input)?;
-                Ok(false)
-            }
-        }
+        let reaction = self.reaction(input);
+        self.react(area, reaction)
     }
 }

@@ -1,25 +1,68 @@
 //! What a key does: its calls on a text area, and the mode after them.
-ghost use Rattle.std.specs.Prelude.{◌≡◌, map};
-ghost use Rattle.textarea_modal.specs.Calls.{key_call, step_calls};
+ghost use Rattle.std.specs.Prelude.{◌≡◌, false, map};
+ghost use Rattle.std.specs.List.{list_any};
+ghost use Rattle.textarea_calls.specs.Edits.{edits};
+ghost use Rattle.textarea_calls.specs.Possible.{CanBeMade};
+ghost use Rattle.textarea_calls.specs.Topics.{draws};
+ghost use Rattle.textarea_modal.specs.Calls.{OfStep, key_call, key_edits, step_calls};
 ghost use Rattle.textarea_modal.specs.Table.{calls_then};
 
 use crate::mode::Mode;
-use textarea_calls::kind::{Edit, Setting, Write};
+use textarea_calls::{Action, Call};
 use textarea_data::cursor::CursorMove;
+use textarea_data::scroll::Scrolling;
 
-/// A call of a key on a text area. It borrows nothing, draws nothing and can be made in any state.
+/// A call of a key on a text area, named as in `Call`. It borrows nothing, so that the steps of keys
+/// are constants.
 #[derive(Clone, Copy)]
 pub enum KeyCall {
-    /// An edit, an undo or a redo.
-    Edit(Edit),
-    /// A line break, or a copy.
-    Write(Write),
-    /// A move, a scroll, or a selection.
-    Set(Setting),
-    /// `TextArea::search_forward`
+    InsertNewline,
+    Paste,
+    DeleteNextChar,
+    DeleteLineByEnd,
+    Cut,
+    Copy,
+    Undo,
+    Redo,
+    StartSelection,
+    CancelSelection,
+    Move(CursorMove),
+    Scroll(Scrolling),
     SearchForward(bool),
-    /// `TextArea::search_back`
     SearchBack(bool),
+}
+
+impl KeyCall {
+    /// Returns the call on the text area. It can be made in any state, and draws nothing.
+    pub fn call(self) -> Call<'static>
+        ensures call { result ≡ key_call self }
+        ensures can { CanBeMade result }
+        ensures undrawn { draws result ≡ false }
+    {
+        match self {
+            KeyCall::InsertNewline => Call::InsertNewline,
+            KeyCall::Paste => Call::Paste,
+            KeyCall::DeleteNextChar => Call::DeleteNextChar,
+            KeyCall::DeleteLineByEnd => Call::DeleteLineByEnd,
+            KeyCall::Cut => Call::Cut,
+            KeyCall::Copy => Call::Copy,
+            KeyCall::Undo => Call::Undo,
+            KeyCall::Redo => Call::Redo,
+            KeyCall::StartSelection => Call::StartSelection,
+            KeyCall::CancelSelection => Call::CancelSelection,
+            KeyCall::Move(cursor_move) => Call::Move(cursor_move),
+            KeyCall::Scroll(scrolling) => Call::Scroll(scrolling),
+            KeyCall::SearchForward(at_cursor) => Call::SearchForward(at_cursor),
+            KeyCall::SearchBack(at_cursor) => Call::SearchBack(at_cursor),
+        }
+    }
+
+    /// Returns whether the call may change the text.
+    pub fn edits(self) -> bool
+        ensures { result ≡ key_edits self }
+    {
+        self.call().edits()
+    }
 }
 
 /// What a key does: a motion, then calls, then a mode; and whether it quits.
@@ -47,4 +90,32 @@ impl Step {
             quits: false,
         }
     }
+}
+
+/// What an input does in a mode.
+#[derive(Clone, Copy)]
+pub enum Reaction {
+    /// The step that the table has for it.
+    Step(Step),
+    /// In Insert, what the text area does for it, by its own key table.
+    PassOn(Action),
+}
+
+impl Reaction {
+    /// Returns whether it may change the text.
+    pub fn edits(&self) -> bool
+        ensures { (mode : Mode) →
+            OfStep mode self.now (λ step. result ≡ list_any edits step.calls) }
+    {
+        match self {
+            Reaction::Step(step) => any_edits(step.calls),
+            Reaction::PassOn(action) => action.may_change_text(),
+        }
+    }
+}
+
+fn any_edits(calls: &[KeyCall]) -> bool
+    ensures { result ≡ list_any key_edits calls.now }
+{
+    calls.iter().any(|call| call.edits())
 }

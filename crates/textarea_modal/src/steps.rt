@@ -3,55 +3,65 @@ ghost use Rattle.std.specs.Prelude.{◌≡◌, ◌∷◌, [], true, false, map, 
 ghost use Rattle.textarea_calls.specs.declared.call.Call.TheVariants as call;
 ghost use Rattle.textarea_data.specs.declared.cursor.CursorMove.TheVariants.{End, Forward, Head};
 ghost use Rattle.textarea_data.specs.declared.input.Key.TheVariants.{Char};
-ghost use Rattle.textarea_modal.specs.Calls.{key_call, step_calls};
+ghost use Rattle.textarea_modal.specs.Calls.{IsReaction, key_call, step_calls};
 ghost use Rattle.textarea_modal.specs.Table.{IsPassedOn, calls_then, passing_on, mode_after, motion_of, moves_over, normal, operates, step, step_after_operator, step_by, step_in_insert, step_in_normal, step_in_visual, takes};
 ghost use Rattle.textarea_modal.specs.declared.mode.Mode.TheVariants as mode;
 
 use crate::mode::{Mode, Op};
-use crate::step::{KeyCall, Step};
-use textarea_calls::kind::{Edit, Setting, Write};
+use crate::step::{KeyCall, Reaction, Step};
+use textarea_calls::keys::action_of;
 use textarea_data::cursor::CursorMove;
 use textarea_data::input::{Input, Key};
 use textarea_data::scroll::Scrolling;
 
-const HEAD: KeyCall = KeyCall::Set(Setting::Move(CursorMove::Head));
+const HEAD: KeyCall = KeyCall::Move(CursorMove::Head);
 
-const END: KeyCall = KeyCall::Set(Setting::Move(CursorMove::End));
+const END: KeyCall = KeyCall::Move(CursorMove::End);
 
-const FORWARD: KeyCall = KeyCall::Set(Setting::Move(CursorMove::Forward));
+const FORWARD: KeyCall = KeyCall::Move(CursorMove::Forward);
 
-const BACK: KeyCall = KeyCall::Set(Setting::Move(CursorMove::Back));
+const BACK: KeyCall = KeyCall::Move(CursorMove::Back);
 
-const HALF_PAGE_DOWN: KeyCall = KeyCall::Set(Setting::Scroll(Scrolling::HalfPageDown));
+const HALF_PAGE_DOWN: KeyCall = KeyCall::Scroll(Scrolling::HalfPageDown);
 
-const HALF_PAGE_UP: KeyCall = KeyCall::Set(Setting::Scroll(Scrolling::HalfPageUp));
+const HALF_PAGE_UP: KeyCall = KeyCall::Scroll(Scrolling::HalfPageUp);
 
-const START_SELECTION: KeyCall = KeyCall::Set(Setting::StartSelection);
+const START_SELECTION: KeyCall = KeyCall::StartSelection;
 
-const CANCEL_SELECTION: KeyCall = KeyCall::Set(Setting::CancelSelection);
+const CANCEL_SELECTION: KeyCall = KeyCall::CancelSelection;
 
-const NEWLINE: KeyCall = KeyCall::Write(Write::InsertNewline);
+const NEWLINE: KeyCall = KeyCall::InsertNewline;
 
-const COPY: KeyCall = KeyCall::Write(Write::Copy);
+const COPY: KeyCall = KeyCall::Copy;
 
-const CUT: KeyCall = KeyCall::Edit(Edit::Cut);
+const CUT: KeyCall = KeyCall::Cut;
 
-const PASTE: KeyCall = KeyCall::Edit(Edit::Paste);
+const PASTE: KeyCall = KeyCall::Paste;
 
-const UNDO: KeyCall = KeyCall::Edit(Edit::Undo);
+const UNDO: KeyCall = KeyCall::Undo;
 
-const REDO: KeyCall = KeyCall::Edit(Edit::Redo);
+const REDO: KeyCall = KeyCall::Redo;
 
-const DELETE_NEXT_CHAR: KeyCall = KeyCall::Edit(Edit::DeleteNextChar);
+const DELETE_NEXT_CHAR: KeyCall = KeyCall::DeleteNextChar;
 
-const DELETE_TO_LINE_END: KeyCall = KeyCall::Edit(Edit::DeleteLineByEnd);
+const DELETE_TO_LINE_END: KeyCall = KeyCall::DeleteLineByEnd;
 // Search for another match than one at the cursor.
 const NEXT_MATCH: KeyCall = KeyCall::SearchForward(false);
 
 const PREVIOUS_MATCH: KeyCall = KeyCall::SearchBack(false);
 
-/// Returns what an input does in a mode, or none where it is passed to the text area, in Insert.
-pub fn step(mode: Mode, input: &Input) -> Option<Step>
+/// Returns what an input does in a mode.
+pub fn reaction(mode: Mode, input: &Input) -> Reaction
+    ensures { IsReaction mode input.now result }
+{
+    match step(mode, input) {
+        Some(step) => Reaction::Step(step),
+        None => Reaction::PassOn(action_of(input)),
+    }
+}
+
+// The step of an input in a mode, or none where it is passed to the text area, in Insert.
+fn step(mode: Mode, input: &Input) -> Option<Step>
     ensures { MatchOption result (IsPassedOn mode input.now)
         (λ made. step_calls made ≡ step mode input.now) }
 {

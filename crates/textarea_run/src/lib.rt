@@ -5,9 +5,8 @@ pub mod inputs;
 mod memory;
 pub mod perform;
 pub mod printing;
-mod questions;
 pub mod run;
-pub mod settings;
 mod special;
+mod topics;
 
 pub use run::RunEnd;

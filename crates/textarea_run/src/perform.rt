@@ -1,16 +1,13 @@
 //! Makes one call on a text area.
-ghost use Rattle.std.specs.Prelude.{◌≡◌, OnErr, OnOk, IfOk};
-ghost use Rattle.textarea_calls.specs.CallGroups.{call_of_attempt, call_of_write};
+ghost use Rattle.std.specs.Prelude.{◌≡◌, false, IfOk, OnErr, OnOk};
 ghost use Rattle.textarea_calls.specs.Possible.{CanBeMade};
+ghost use Rattle.textarea_calls.specs.Topics.{draws};
 ghost use Rattle.tui_textarea.specs.Outcomes.{IsResultOf, IsAfterCall, IsBufferAfter, IsBufferOutOfMemory, RanOutOfMemory};
-ghost use Rattle.tui_textarea.specs.CallResults.{call_result, Done, Flag};
+ghost use Rattle.tui_textarea.specs.CallResults.{call_result};
 
-use crate::inputs::copied;
-use crate::questions::ask;
-use crate::settings::{change, set, set_appearance};
-use crate::special::perform_special;
+use crate::topics;
 use std::alloc::AllocError;
-use textarea_calls::kind::{Attempt, Kind, Write, kind_of};
+use textarea_calls::topic::{Topic, topic_of};
 use textarea_calls::{Answer, Call};
 use textarea_screen::screen::Buffer;
 use tui_textarea::TextArea;
@@ -31,53 +28,32 @@ pub fn perform(
     ensures displayed { OnOk result (IsBufferAfter call.entry area.new buffer.old buffer.new) }
     ensures buffer_left { OnErr result (IsBufferOutOfMemory call.entry buffer.old buffer.new) }
 {
-    match kind_of(call) {
-        Kind::Edit(edit) => area.edit(edit).map(Answer::Flag),
-        Kind::Write(call) => write(area, call).map(|()| Answer::Done),
-        Kind::Attempt(call) => attempt(area, call).map(Answer::Flag),
-        Kind::Change(call) => change(area, call).map(|()| Answer::Done),
-        Kind::Setting(call) => {
-            set(area, call);
-            Ok(Answer::Done)
-        }
-        Kind::Appearance(call) => {
-            set_appearance(area, call);
-            Ok(Answer::Done)
-        }
-        Kind::Question(call) => Ok(ask(area, call)),
-        Kind::Special(call) => perform_special(area, call),
-        Kind::Render(place) => area.render(place, buffer).map(|()| Answer::Done),
-    }
-}
-
-/// Inserts a character or a line break, or copies the selection.
-pub fn write(area: &mut TextArea<'_>, call: Write) -> Result<(), AllocError>
-    ensures answer { OnOk result (IsResultOf area.old (call_of_write call) Done) }
-    ensures ok { OnOk result (IsAfterCall area.old (call_of_write call) Done area.new) }
-    ensures err { OnErr result (RanOutOfMemory area.old (call_of_write call) area.new) }
-{
     match call {
-        Write::InsertChar(c) => area.insert_char(c),
-        Write::InsertNewline => area.insert_newline(),
-        Write::Copy => area.copy(),
+        Call::Render(place) => area.render(place, buffer).map(|()| Answer::Done),
+        _ => make(area, call),
     }
 }
 
-// Makes another call that returns whether there was something to do.
-fn attempt(area: &mut TextArea<'_>, call: Attempt<'_>) -> Result<bool, AllocError>
-    ensures answer { IfOk result
-        (λ done. IsResultOf area.old (call_of_attempt call.entry) (Flag done)) }
+/// Makes one call that doesn't draw, and returns its result, as `perform` does.
+pub fn make(area: &mut TextArea<'_>, call: Call<'_>) -> Result<Answer, AllocError>
+    requires can { CanBeMade call }
+    requires undrawn { draws call ≡ false }
+    ensures answer { IfOk result (λ answer. IsResultOf area.old call.entry (call_result answer)) }
     ensures ok { IfOk result
-        (λ done. IsAfterCall area.old (call_of_attempt call.entry) (Flag done) area.new) }
-    ensures err { OnErr result (RanOutOfMemory area.old (call_of_attempt call.entry) area.new) }
+        (λ answer. IsAfterCall area.old call.entry (call_result answer) area.new) }
+    ensures err { OnErr result (RanOutOfMemory area.old call.entry area.new) }
 {
-    match call {
-        Attempt::InsertStr(text) => area.insert_str(text),
-        Attempt::InsertPasted(text) => area.insert_pasted(text),
-        Attempt::DeleteStr(count) => area.delete_str(count),
-        Attempt::SearchForward(match_cursor) => area.search_forward(match_cursor),
-        Attempt::SearchBack(match_cursor) => area.search_back(match_cursor),
-        Attempt::Input(input) => area.input(copied(input)),
-        Attempt::InputWithoutShortcuts(input) => area.input_without_shortcuts(copied(input)),
+    match topic_of(call) {
+        Topic::Insert(call) => topics::insert_call(area, call),
+        Topic::Remove(call) => topics::remove_call(area, call),
+        Topic::History(call) => topics::history_call(area, call),
+        Topic::Select(call) => topics::select_call(area, call),
+        Topic::Move(call) => topics::move_call(area, call),
+        Topic::Search(call) => topics::search_call(area, call),
+        Topic::Ranges(call) => topics::ranges_call(area, call),
+        Topic::Options(call) => topics::options_call(area, call),
+        Topic::Appearance(call) => topics::appearance_call(area, call),
+        Topic::Keys(call) => topics::keys_call(area, call),
+        Topic::Read(call) => topics::read_call(area, call),
     }
 }

@@ -1,49 +1,63 @@
-// Calls with results of their own forms: on texts, atomic ranges, patterns, heights and hit tests.
-ghost use Rattle.std.specs.Prelude.{◌≡◌, IfOk, OnErr, OnOk};
-ghost use Rattle.textarea_calls.specs.CallGroups.{call_of_special};
-ghost use Rattle.tui_textarea.specs.Calls.{ranges_result, rejected_ranges, with_ranges_if};
-ghost use Rattle.tui_textarea.specs.Outcomes.{after_pattern, IsResultOf, IsAfterCall, IsPatternCallResult, RanOutOfMemory};
-ghost use Rattle.tui_textarea.specs.Patterns.{IsNewPattern, IsPatternResult};
+// Calls that `TextArea` makes with a copy of an argument, or whose result becomes an `Answer`.
+ghost use Rattle.std.specs.Prelude.{◌≡◌, ◌<◌, length, IfOk, OnErr, OnOk, Some};
+ghost use Rattle.textarea_screen.specs.Block.{block_view};
+ghost use Rattle.textarea_screen.specs.Text.{text_view};
 ghost use Rattle.tui_textarea.specs.CallResults.{call_result};
+ghost use Rattle.tui_textarea.specs.Calls.{ranges_result, rejected_ranges, with_lines, with_ranges_if};
+ghost use Rattle.tui_textarea.specs.Measure.{with_surround};
+ghost use Rattle.tui_textarea.specs.Outcomes.{after_pattern, IsPatternCallResult};
+ghost use Rattle.tui_textarea.specs.Patterns.{IsNewPattern, IsPatternResult};
 
 use crate::memory::allocator;
 use std::alloc::AllocError;
 use textarea_calls::Answer;
-use textarea_calls::kind::Special;
 use textarea_data::range::AtomicRange;
+use textarea_screen::screen::{Block, Text};
 use textarea_search::search::SearchError;
+use textarea_text::fragment::copy_fragment;
 use tui_textarea::TextArea;
 
-// Makes the call and returns its result.
-pub fn perform_special(area: &mut TextArea<'_>, call: Special<'_>) -> Result<Answer, AllocError>
-    ensures answer { IfOk result
-        (λ answer. IsResultOf area.old (call_of_special call.entry) (call_result answer)) }
-    ensures ok { IfOk result
-        (λ answer. IsAfterCall area.old (call_of_special call.entry) (call_result answer)
-        area.new) }
-    ensures err { OnErr result (RanOutOfMemory area.old (call_of_special call.entry) area.new) }
+// Replaces the lines with a copy of these lines.
+pub fn set_lines(
+    area: &mut TextArea<'_>,
+    lines: &[String],
+    cursor: (usize, usize),
+) -> Result<(), AllocError>
+    requires some { 0 < length lines.now }
+    ensures ok { OnOk result (area.new ≡ with_lines area.old lines.now cursor) }
+    ensures err { OnErr result (area.new ≡ area.old) }
 {
-    match call {
-        Special::Text => area.text().map(Answer::Text),
-        Special::YankText => area.yank_text().map(Answer::Text),
-        Special::TrySetAtomicRanges(ranges) => copy_and_set_ranges(area, ranges),
-        Special::NormalizeCursorAroundAtomicRanges(bias) => {
-            Ok(Answer::Flag(area.normalize_cursor_around_atomic_ranges(bias)))
-        }
-        Special::AtomicRangeAtCursor(direction) => {
-            Ok(Answer::Range(area.atomic_range_at_cursor(direction)))
-        }
-        Special::DeleteAtomicRangeAtCursor(direction) => area
-            .delete_atomic_range_at_cursor(direction)
-            .map(Answer::Range),
-        Special::SetSearchPattern(pattern) => set_search_pattern(area, pattern),
-        Special::Measure(width) => area.measure(width).map(Answer::Measured),
-        Special::CursorAtPosition(position) => area.cursor_at_position(position).map(Answer::Place),
-    }
+    let alloc = allocator(area);
+    area.set_lines(copy_fragment(alloc, lines)?, cursor)
+}
+
+// Sets a copy of the block as the border around the text.
+pub fn set_block(area: &mut TextArea<'_>, block: &Block<'static>) -> Result<(), AllocError>
+    ensures ok { OnOk result
+        (area.new ≡ with_surround area.old
+        (record area.old.surround { block = Some (block_view block.now) })) }
+    ensures err { OnErr result (area.new ≡ area.old) }
+{
+    area.set_block(block.clone()?);
+    Ok(())
+}
+
+// Sets a copy of the text as the placeholder, which is drawn while the text area is empty.
+pub fn set_styled_placeholder(
+    area: &mut TextArea<'_>,
+    text: &Text<'static>,
+) -> Result<(), AllocError>
+    ensures ok { OnOk result
+        (area.new ≡ with_surround area.old
+        (record area.old.surround { placeholder = text_view text.now })) }
+    ensures err { OnErr result (area.new ≡ area.old) }
+{
+    area.set_styled_placeholder(text.clone()?);
+    Ok(())
 }
 
 // Sets a copy of the ranges, or returns the rejected ones.
-fn copy_and_set_ranges(
+pub fn try_set_atomic_ranges(
     area: &mut TextArea<'_>,
     ranges: &[AtomicRange],
 ) -> Result<Answer, AllocError>
@@ -72,7 +86,7 @@ fn set_ranges(area: &mut TextArea<'_>, ranges: Vec<AtomicRange>) -> Result<Answe
 }
 
 // Sets the search pattern, or returns that it is rejected.
-fn set_search_pattern(area: &mut TextArea<'_>, pattern: &str) -> Result<Answer, AllocError>
+pub fn set_search_pattern(area: &mut TextArea<'_>, pattern: &str) -> Result<Answer, AllocError>
     ensures answer { IfOk result
         (λ answer. IsPatternCallResult area.old pattern.now (call_result answer)) }
     ensures ok { IfOk result

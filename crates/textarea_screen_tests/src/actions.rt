@@ -7,8 +7,6 @@ use std::test::Fail;
 use textarea_calls::action::Action;
 use textarea_calls::action::Action::*;
 use textarea_calls::keys::{action_of, action_without_shortcuts};
-use textarea_calls::kind::Edit::*;
-use textarea_calls::kind::Write::*;
 use textarea_data::cursor::CursorMove::*;
 use textarea_data::input::{Input, Key};
 use textarea_data::scroll::Scrolling;
@@ -32,16 +30,16 @@ const ROW_UP: Scrolling = Scrolling::Delta { rows: -1, cols: 0 };
 type Asked = (Key, Action);
 
 const NO_MODIFIERS: [Asked; 14] = [
-    (Key::Char('a'), Write(InsertChar('a'))),
-    (Key::Char('m'), Write(InsertChar('m'))),
-    (Key::Char(' '), Write(InsertChar(' '))),
-    (Key::Char('\t'), Write(InsertChar('\t'))),
-    (Key::Char('あ'), Write(InsertChar('あ'))),
-    (Key::Char('\n'), Write(InsertNewline)),
-    (Key::Char('\r'), Write(InsertNewline)),
-    (Key::Tab, Edit(InsertTab)),
-    (Key::Backspace, Edit(DeleteChar)),
-    (Key::Delete, Edit(DeleteNextChar)),
+    (Key::Char('a'), InsertChar('a')),
+    (Key::Char('m'), InsertChar('m')),
+    (Key::Char(' '), InsertChar(' ')),
+    (Key::Char('\t'), InsertChar('\t')),
+    (Key::Char('あ'), InsertChar('あ')),
+    (Key::Char('\n'), InsertNewline),
+    (Key::Char('\r'), InsertNewline),
+    (Key::Tab, InsertTab),
+    (Key::Backspace, DeleteChar),
+    (Key::Delete, DeleteNextChar),
     (Key::Down, MoveWithShift(Down, false)),
     (Key::Up, MoveWithShift(Up, false)),
     (Key::Right, MoveWithShift(Forward, false)),
@@ -49,23 +47,23 @@ const NO_MODIFIERS: [Asked; 14] = [
 ];
 
 const WITH_CTRL: [Asked; 33] = [
-    (Key::Char('m'), Write(InsertNewline)),
-    (Key::Char('h'), Edit(DeleteChar)),
-    (Key::Char('d'), Edit(DeleteNextChar)),
-    (Key::Char('k'), Edit(DeleteLineByEnd)),
-    (Key::Char('j'), Edit(DeleteLineByHead)),
-    (Key::Char('w'), Edit(DeleteWord)),
+    (Key::Char('m'), InsertNewline),
+    (Key::Char('h'), DeleteChar),
+    (Key::Char('d'), DeleteNextChar),
+    (Key::Char('k'), DeleteLineByEnd),
+    (Key::Char('j'), DeleteLineByHead),
+    (Key::Char('w'), DeleteWord),
     (Key::Char('n'), MoveWithShift(Down, false)),
     (Key::Char('p'), MoveWithShift(Up, false)),
     (Key::Char('f'), MoveWithShift(Forward, false)),
     (Key::Char('b'), MoveWithShift(Back, false)),
     (Key::Char('a'), MoveWithShift(Head, false)),
     (Key::Char('e'), MoveWithShift(End, false)),
-    (Key::Char('u'), Edit(Undo)),
-    (Key::Char('r'), Edit(Redo)),
-    (Key::Char('y'), Edit(Paste)),
-    (Key::Char('x'), Edit(Cut)),
-    (Key::Char('c'), Write(Copy)),
+    (Key::Char('u'), Undo),
+    (Key::Char('r'), Redo),
+    (Key::Char('y'), Paste),
+    (Key::Char('x'), Cut),
+    (Key::Char('c'), Copy),
     (Key::Char('v'), ScrollWithShift(Scrolling::PageDown, false)),
     (Key::Right, MoveWithShift(WordForward, false)),
     (Key::Left, MoveWithShift(WordBack, false)),
@@ -85,10 +83,10 @@ const WITH_CTRL: [Asked; 33] = [
 ];
 
 const WITH_ALT: [Asked; 23] = [
-    (Key::Char('h'), Edit(DeleteWord)),
-    (Key::Backspace, Edit(DeleteWord)),
-    (Key::Char('d'), Edit(DeleteNextWord)),
-    (Key::Delete, Edit(DeleteNextWord)),
+    (Key::Char('h'), DeleteWord),
+    (Key::Backspace, DeleteWord),
+    (Key::Char('d'), DeleteNextWord),
+    (Key::Delete, DeleteNextWord),
     (Key::Char('<'), MoveWithShift(Top, false)),
     (Key::Char('>'), MoveWithShift(Bottom, false)),
     (Key::Char('f'), MoveWithShift(WordForward, false)),
@@ -130,12 +128,12 @@ const WITH_CTRL_AND_ALT: [Asked; 16] = [
 ];
 
 const ANY_MODIFIERS: [Asked; 13] = [
-    (Key::Enter, Write(InsertNewline)),
+    (Key::Enter, InsertNewline),
     (Key::Home, MoveWithShift(Head, false)),
     (Key::End, MoveWithShift(End, false)),
-    (Key::Paste, Edit(Paste)),
-    (Key::Cut, Edit(Cut)),
-    (Key::Copy, Write(Copy)),
+    (Key::Paste, Paste),
+    (Key::Cut, Cut),
+    (Key::Copy, Copy),
     (Key::PageDown, ScrollWithShift(Scrolling::PageDown, false)),
     (Key::PageUp, ScrollWithShift(Scrolling::PageUp, false)),
     (Key::MouseScrollDown, ScrollWithShift(ROW_DOWN, false)),
@@ -146,10 +144,10 @@ const ANY_MODIFIERS: [Asked; 13] = [
 ];
 
 const NO_MODIFIERS_WITHOUT_SHORTCUTS: [Asked; 4] = [
-    (Key::Char('a'), Write(InsertChar('a'))),
-    (Key::Char('\n'), Write(InsertChar('\n'))),
-    (Key::Char('\r'), Write(InsertChar('\r'))),
-    (Key::Tab, Edit(InsertTab)),
+    (Key::Char('a'), InsertChar('a')),
+    (Key::Char('\n'), InsertChar('\n')),
+    (Key::Char('\r'), InsertChar('\r')),
+    (Key::Tab, InsertTab),
 ];
 
 const MODIFIERS_WITHOUT_SHORTCUTS: [Asked; 4] = [
@@ -160,9 +158,9 @@ const MODIFIERS_WITHOUT_SHORTCUTS: [Asked; 4] = [
 ];
 
 const ANY_MODIFIERS_WITHOUT_SHORTCUTS: [Asked; 11] = [
-    (Key::Backspace, Edit(DeleteChar)),
-    (Key::Delete, Edit(DeleteNextChar)),
-    (Key::Enter, Write(InsertNewline)),
+    (Key::Backspace, DeleteChar),
+    (Key::Delete, DeleteNextChar),
+    (Key::Enter, InsertNewline),
     (Key::MouseScrollDown, Scroll(ROW_DOWN)),
     (Key::MouseScrollUp, Scroll(ROW_UP)),
     (Key::Left, Nothing),
@@ -231,20 +229,20 @@ fn check_keys(rt: &impl Abort, (has_shortcuts, all_modifiers, asked): &Keys) {
 
 /// An action, and its results for a call that returned false and for one that returned true.
 static FLAGS: [(Action, [bool; 2]); 18] = [
-    (Write(InsertChar('a')), [true, true]),
-    (Write(InsertNewline), [true, true]),
-    (Edit(InsertTab), [false, true]),
-    (Edit(DeleteChar), [false, true]),
-    (Edit(DeleteNextChar), [false, true]),
-    (Edit(DeleteLineByEnd), [false, true]),
-    (Edit(DeleteLineByHead), [false, true]),
-    (Edit(DeleteWord), [false, true]),
-    (Edit(DeleteNextWord), [false, true]),
-    (Edit(Undo), [false, true]),
-    (Edit(Redo), [false, true]),
-    (Edit(Paste), [false, true]),
-    (Edit(Cut), [false, true]),
-    (Write(Copy), [false, false]),
+    (InsertChar('a'), [true, true]),
+    (InsertNewline, [true, true]),
+    (InsertTab, [false, true]),
+    (DeleteChar, [false, true]),
+    (DeleteNextChar, [false, true]),
+    (DeleteLineByEnd, [false, true]),
+    (DeleteLineByHead, [false, true]),
+    (DeleteWord, [false, true]),
+    (DeleteNextWord, [false, true]),
+    (Undo, [false, true]),
+    (Redo, [false, true]),
+    (Paste, [false, true]),
+    (Cut, [false, true]),
+    (Copy, [false, false]),
     (MoveWithShift(Jump(1, 2), true), [false, false]),
     (ScrollWithShift(Scrolling::PageDown, false), [false, false]),
     (Scroll(Scrolling::HalfPageUp), [false, false]),
@@ -267,16 +265,16 @@ type Shortcut = (char, ModifierFlags, bool, Action);
 
 /// Two shortcuts of a program's own; the second is set again.
 static SET: [Shortcut; 3] = [
-    ('z', CTRL, false, Edit(Undo)),
-    ('z', CTRL, true, Edit(Redo)),
-    ('z', CTRL, true, Edit(Paste)),
+    ('z', CTRL, false, Undo),
+    ('z', CTRL, true, Redo),
+    ('z', CTRL, true, Paste),
 ];
 
 static OWN: [Shortcut; 4] = [
-    ('z', CTRL, false, Edit(Undo)),
-    ('z', CTRL, true, Edit(Paste)),
+    ('z', CTRL, false, Undo),
+    ('z', CTRL, true, Paste),
     ('z', ALT, true, Nothing),
-    ('z', PLAIN, false, Write(InsertChar('z'))),
+    ('z', PLAIN, false, InsertChar('z')),
 ];
 
 /// Returns the action of an input in a program with shortcuts of its own.

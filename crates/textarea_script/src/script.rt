@@ -6,7 +6,6 @@ use crate::streams::{Failure, read_whole, status, write_whole};
 use std::alloc::{AllocError, Global};
 use std::io::{Read, Write};
 use std::string::ToString;
-use textarea_calls::kind::{Kind, kind_of};
 pub use textarea_calls::{Answer, Call};
 use textarea_commands::commands;
 use textarea_commands::commands::Command;
@@ -125,7 +124,7 @@ fn run_commands(
 // The area of the last call that draws, if there is one.
 fn last_drawn(calls: &[Call<'_>]) -> Option<Rect> {
     for call in calls.iter().rev() {
-        if let Kind::Render(area) = kind_of(*call) {
+        if let Call::Render(area) = *call {
             return Some(area);
         }
     }

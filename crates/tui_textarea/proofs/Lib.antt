@@ -25,6 +25,7 @@ mod WrappedLines
 mod Stepping
 mod RangesOverActions
 mod Lifted
+mod Unedited
 mod Unselected
 mod CursorLine
 pub mod CallWraps

@@ -2,7 +2,6 @@
 use Rattle.std.proofs.Common.{◌≡◌, Bor, List, [], ◌∷◌, ap, refl, subst, sym, ◌∙◌}
 use Rattle.textarea_calls.specs.declared.action.Action.{Action}
 use Rattle.textarea_calls.specs.declared.action.Action.TheVariants as action
-use Rattle.textarea_calls.specs.declared.kind.Edit.TheVariants as edit
 use Rattle.textarea_data.specs.declared.range.AtomicRange.{AtomicRange}
 use Rattle.textarea_data.specs.declared.range.RejectedAtomicRange.{RejectedAtomicRange}
 use Rattle.textarea_text.specs.Splice.{CanApply, Splice}
@@ -12,9 +11,8 @@ use Rattle.textarea_document.specs.Sound.{IsSound}
 use Rattle.textarea_document.specs.DocumentState.{DocumentState}
 use Rattle.textarea_document.proofs.RangesOverSplices.{stays}
 use Rattle.tui_textarea.specs.RangesOverActions.{RangesFollowAction}
-use Rattle.tui_textarea.specs.Input.{IsAfterAction, asked_by, asked_without_shortcuts}
+use Rattle.tui_textarea.specs.Input.{IsAfterAction, asked_by, asked_without_shortcuts, call_of_action, state_after_any}
 use Rattle.tui_textarea.specs.State.{State, with_document}
-use Rattle.textarea_calls.specs.CallGroups.{call_of_edit, call_of_write}
 use Rattle.tui_textarea.specs.Calls.{state_after, ranges_result, rejected_ranges, with_ranges_if}
 use Rattle.tui_textarea.specs.RangesOverCalls.{RangesFollowCall, IsUndoOrRedo, IsUndoOrRedoAct}
 use Rattle.tui_textarea.specs.Outcomes.{IsResultOf, IsAfterCall, IsAfterOutOfMemory}
@@ -60,8 +58,8 @@ uncut : {Free : Type 0} (state : State) (splices : List Splice) (new : DocumentS
 uncut state splices new h = (h.0.text.can, λ no. h.1)
 
 follows_by_action : (asked : Action) (old new : DocumentState) (splices : List Splice) → ByAct RangesStayWhole RangesFollowSplices asked old splices new → RangesFollowAction asked old splices new
-follows_by_action (action.Edit edit.Undo) old new splices h = h
-follows_by_action (action.Edit edit.Redo) old new splices h = h
+follows_by_action action.Undo old new splices h = h
+follows_by_action action.Redo old new splices h = h
 follows_by_action asked old new splices h = h
 
 module _ (laws : TheLaws) where
@@ -92,15 +90,16 @@ module _ (laws : TheLaws) where
       follows_by_action asked old.document new.document _ (acts_by RangesStayWhole RangesFollowSplices (reckoning_of laws.stepped) (past_follows laws.undone laws.redone) old new asked h k)
 
   act_fits : (state : State) (asked : Action) → IsSound state.document → Fitting state (IsUndoOrRedoAct asked) (splices_by state asked)
-  act_fits state (action.Edit edit.Undo) h = ((inputs_go state (with_document state (after_undo state.document)) (action.Edit edit.Undo) h refl).text.can, λ no. absurd (no tt))
-  act_fits state (action.Edit edit.Redo) h = ((inputs_go state (with_document state (after_redo state.document)) (action.Edit edit.Redo) h refl).text.can, λ no. absurd (no tt))
-  act_fits state (action.Edit other) h = uncut state _ _ (inputs_go state (state_after state (call_of_edit other)) (action.Edit other) h refl)
-  act_fits state (action.Write write) h = uncut state _ _ (inputs_go state (state_after state (call_of_write write)) (action.Write write) h refl)
-  act_fits state asked h = (tt, λ no. tt)
+  act_fits state action.Undo h = ((inputs_go state (with_document state (after_undo state.document)) action.Undo h refl).text.can, λ no. absurd (no tt))
+  act_fits state action.Redo h = ((inputs_go state (with_document state (after_redo state.document)) action.Redo h refl).text.can, λ no. absurd (no tt))
+  act_fits state (action.MoveWithShift cursor_move shift) h = (tt, λ no. tt)
+  act_fits state (action.ScrollWithShift scrolling shift) h = (tt, λ no. tt)
+  act_fits state (action.Scroll scrolling) h = (tt, λ no. tt)
+  act_fits state asked h = uncut state _ _ (inputs_go state (state_after_any state (call_of_action asked)) asked h refl)
 
   pub call_fits : (state : State) (made : Call) → IsSound state.document → Fitting state (IsUndoOrRedo made) (splices_of state made)
-  call_fits state call.Undo h = act_fits state (action.Edit edit.Undo) h
-  call_fits state call.Redo h = act_fits state (action.Edit edit.Redo) h
+  call_fits state call.Undo h = act_fits state action.Undo h
+  call_fits state call.Redo h = act_fits state action.Redo h
   call_fits state (call.Input input) h = act_fits state (asked_by input.now) h
   call_fits state (call.InputWithoutShortcuts input) h = act_fits state (asked_without_shortcuts input.now) h
   call_fits state (call.SetLines lines cursor) h = (tt, λ no. tt)

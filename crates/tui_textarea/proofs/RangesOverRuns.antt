@@ -10,7 +10,6 @@ use Rattle.textarea_calls.specs.declared.action.Action.TheVariants as action
 use Rattle.textarea_calls.specs.declared.answer.Answer.{Answer}
 use Rattle.textarea_calls.specs.declared.call.Call.{Call}
 use Rattle.textarea_calls.specs.declared.call.Call.TheVariants as call
-use Rattle.textarea_calls.specs.declared.kind.Edit.TheVariants as edit
 use Rattle.textarea_data.specs.declared.range.AtomicRange.{AtomicRange}
 use Rattle.textarea_ranges.specs.Moved.{Disturbs, moved_range, moved_ranges}
 use Rattle.textarea_ranges.proofs.Moving.{dropped}
@@ -51,8 +50,8 @@ of_past [] = refl
 of_past (splice ∷ splices) = ap (λ (rest : List Splice). splice ∷ rest) (of_past splices)
 
 of_action : (asked : Action) (splices : List Splice) → map underlying (marked_by asked splices) ≡ splices
-of_action (action.Edit edit.Undo) splices = of_past splices
-of_action (action.Edit edit.Redo) splices = of_past splices
+of_action action.Undo splices = of_past splices
+of_action action.Redo splices = of_past splices
 of_action asked splices = of_edits splices
 
 of_call : (state : State) (made : Call) → map underlying (marked_splices state made) ≡ splices_of state made
@@ -105,8 +104,8 @@ goes_by_past old new splices h = record {
 }
 
 goes_by_action : (asked : Action) (old new : DocumentState) (splices : List Splice) → RangesFollowAction asked old splices new → Goes old (marked_by asked splices) new
-goes_by_action (action.Edit edit.Undo) old new splices h = goes_by_past old new splices h
-goes_by_action (action.Edit edit.Redo) old new splices h = goes_by_past old new splices h
+goes_by_action action.Undo old new splices h = goes_by_past old new splices h
+goes_by_action action.Redo old new splices h = goes_by_past old new splices h
 goes_by_action asked old new splices h = goes_by_edits old new splices h
 
 -- a call that does not replace the ranges

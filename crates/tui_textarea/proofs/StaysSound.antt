@@ -42,10 +42,8 @@ use Rattle.textarea_calls.specs.declared.action.Action.{Action}
 use Rattle.textarea_calls.specs.declared.action.Action.TheVariants as action
 use Rattle.textarea_calls.specs.declared.call.Call.{Call}
 use Rattle.textarea_calls.specs.declared.call.Call.TheVariants as call
-use Rattle.textarea_calls.specs.declared.kind.Edit.TheVariants as edit
-use Rattle.textarea_calls.specs.declared.kind.Write.TheVariants as write
 use Rattle.tui_textarea.specs.CallResults.{CallResult, PatternRejected}
-use Rattle.tui_textarea.specs.Calls.{rejected_ranges, with_ranges_if}
+use Rattle.tui_textarea.specs.Calls.{rejected_ranges, state_after, with_ranges_if}
 use Rattle.tui_textarea.specs.Drawing.{viewport_scrolled}
 use Rattle.tui_textarea.specs.Edits.{breaks_line, char_or_break_inserted, line_broken, spaces_to_stop, tab_or_spaces_inserted, typed_character_inserted}
 use Rattle.tui_textarea.specs.Input.{IsAfterAction, IsInputOutOfMemory, asked_by, asked_without_shortcuts}
@@ -57,6 +55,7 @@ use Rattle.tui_textarea.specs.Search.{after_search, next_match, previous_match}
 use Rattle.tui_textarea.specs.Selection.{selection_copied, selection_cut, unselected}
 use Rattle.tui_textarea.specs.Selection as selection
 use Rattle.tui_textarea.specs.State.{State}
+use Rattle.tui_textarea.proofs.Acting.{the_call}
 use Rattle.tui_textarea.proofs.FoundPlaces.{match_is_place}
 use Rattle.tui_textarea.proofs.Frames.{drawn_document}
 use Rattle.tui_textarea.proofs.Removing.{ahead_made, line_end_made, line_head_made, range_removal_made, whole_made, word_end_made, word_start_made}
@@ -271,6 +270,55 @@ sound_ranges (range ∷ rejected) state ranges h some = h
 sound_settings : (document : DocumentState) (settings : LayoutSettings) → IsSound document → IsSound (with_layout_settings document settings)
 sound_settings document settings h = resound document (with_layout_settings document settings).layout h
 
+-- ---- the state after each call
+
+state_stays_sound : (old : State) (made : Call) → HasSound old → CanBeMade made → HasSound (state_after old made)
+state_stays_sound old (call.InsertChar c) h can = sound_char (unselected old) c (sound_unselected old h)
+state_stays_sound old (call.InsertStr text) h can = sound_symbols (unselected old).document (fragment_symbols (chars text.now)) old.time (sound_unselected old h)
+state_stays_sound old (call.InsertPasted text) h can = sound_symbols (unselected old).document (pasted_symbols (chars text.now)) old.time (sound_unselected old h)
+state_stays_sound old call.InsertTab h can = sound_tab (unselected old) (tab_length old.document) (sound_unselected old h)
+state_stays_sound old call.InsertNewline h can = sound_broken (unselected old) (sound_unselected old h)
+state_stays_sound old call.Paste h can = sound_symbols (unselected old).document old.yank old.time (sound_unselected old h)
+state_stays_sound old (call.DeleteStr count) h can = sound_unselected_or old (symbols_ahead_removed old count) h (sound_ahead old count h)
+state_stays_sound old call.DeleteNewline h can = sound_unselected_or old (break_before_removed old) h (sound_break old.document old.time h)
+state_stays_sound old call.DeleteChar h can = sound_unselected_or old (symbol_before_removed old) h (sound_before old.document old.settings.undo_coalescing old.time h)
+state_stays_sound old call.DeleteNextChar h can = sound_unselected_or old (symbol_after_removed old) h (sound_after_cursor old.document old.settings.undo_coalescing old.time h)
+state_stays_sound old call.DeleteLineByEnd h can = sound_unselected_or old (line_end_removed old) h (sound_line_end old h)
+state_stays_sound old call.DeleteLineByHead h can = sound_unselected_or old (line_head_removed old) h (sound_line_head old h)
+state_stays_sound old call.DeleteWord h can = sound_unselected_or old (word_before_removed old) h (sound_range_or old (back_to_word_removed old) Backward (range_before old.document) h refl (sound_back_to_word old h))
+state_stays_sound old call.DeleteNextWord h can = sound_unselected_or old (word_after_removed old) h (sound_range_or old (on_to_word_end_removed old) Forward (range_after old.document) h refl (sound_on_to_word_end old h))
+state_stays_sound old call.Clear h can = sound_cleared old h
+state_stays_sound old call.Cut h can = sound_cut old h
+state_stays_sound old call.Copy h can = sound_copied old h
+state_stays_sound old call.Undo h can = sound_undo old.document (newest old.document.log) h refl
+state_stays_sound old call.Redo h can = sound_redo old.document (next old.document.log) h refl
+state_stays_sound old (call.DeleteAtomicRangeAtCursor direction) h can = sound_range_removed old.document direction (range_at_cursor old.document direction) old.time h refl
+state_stays_sound old (call.GoTo place) h can =
+    let rows = lines old.document.text in
+    let near = clip_is_place rows place (omega (arith, h.cursor.0)) in
+    sound_goes old (is_some old.document.anchor) (Some (moved_out old.document.ranges (clip rows place) BiasForward)) h
+    (IsPlaceOf-moved_out rows old.document.ranges (clip rows place) BiasForward h.ranges near)
+state_stays_sound old call.StartSelection h can = sound_from old.document (Some old.document.cursor) h h.cursor
+state_stays_sound old call.CancelSelection h can = sound_unanchored old.document h
+state_stays_sound old call.SelectAll h can = sound_at old.document (place_of old.document.text (length old.document.text)) (Some (0, 0)) h (index_is_place old.document.text (length old.document.text)) (start_is_place old.document.text)
+state_stays_sound old (call.SearchForward at_cursor) h can = sound_search old (next_match old at_cursor) h (match_is_place toward.Forward old at_cursor)
+state_stays_sound old (call.SearchBack at_cursor) h can = sound_search old (previous_match old at_cursor) h (match_is_place toward.Back old at_cursor)
+state_stays_sound old (call.SetLines items cursor) h can =
+    let place = clip (lines_of items.now) cursor in
+    sound_fresh (text_of items.now) old.document.layout.settings old.document.layout.count place old.document.log.maximum
+    (text_place items.now place (clip_is_place (lines_of items.now) cursor (omega (arith, can, length-map items.now characters_of))))
+state_stays_sound old (call.TrySetAtomicRanges ranges) h can = sound_ranges (rejected_ranges old ranges.now) old ranges.now h refl
+state_stays_sound old call.ClearAtomicRanges h can = record { cursor = h.cursor; anchor = h.anchor; ranges = valid_none (lines old.document.text); in_order = refl; undo = h.undo; redo = h.redo; bounded = h.bounded }
+state_stays_sound old (call.NormalizeCursorAroundAtomicRanges bias) h can = sound_cursor old.document bias h
+state_stays_sound old (call.SetMaxHistories maximum) h can = record { cursor = h.cursor; anchor = h.anchor; ranges = h.ranges; in_order = h.in_order; undo = tt; redo = tt; bounded = omega arith }
+state_stays_sound old (call.SetUndoCoalescing joins) h can = record { cursor = h.cursor; anchor = h.anchor; ranges = h.ranges; in_order = h.in_order; undo = h.undo; redo = h.redo; bounded = h.bounded }
+state_stays_sound old (call.SetTabLength columns) h can = sound_settings old.document (tab_length_set old columns) h
+state_stays_sound old (call.SetWrapMode mode) h can = sound_settings old.document (mode_set old mode) h
+state_stays_sound old (call.SetLineNumberStyle style) h can = sound_settings old.document (line_numbers_set old true) h
+state_stays_sound old call.RemoveLineNumber h can = sound_settings old.document (line_numbers_set old false) h
+state_stays_sound old (call.SetAlignment alignment) h can = sound_settings old.document (alignment_set old alignment) h
+state_stays_sound old made h can = h
+
 -- ---- each call
 
 module _ (leads : LeadsToPlaces) where
@@ -280,85 +328,22 @@ module _ (leads : LeadsToPlaces) where
       (pushed_is_place old.document.text old.document.ranges cursor_move k.found h.ranges (target_is_place leads old cursor_move k.found h.cursor k.target_is)))
 
   act_stays_sound : (old new : State) (asked : Action) → HasSound old → IsAfterAction old asked new → HasSound new
-  act_stays_sound old new action.Nothing h k = subst HasSound (sym k) h
-  act_stays_sound old new (action.Write (write.InsertChar c)) h k = subst HasSound (sym k) (sound_char (unselected old) c (sound_unselected old h))
-  act_stays_sound old new (action.Write write.InsertNewline) h k = subst HasSound (sym k) (sound_broken (unselected old) (sound_unselected old h))
-  act_stays_sound old new (action.Write write.Copy) h k = subst HasSound (sym k) (sound_copied old h)
-  act_stays_sound old new (action.Edit edit.InsertTab) h k = subst HasSound (sym k) (sound_tab (unselected old) (tab_length old.document) (sound_unselected old h))
-  act_stays_sound old new (action.Edit edit.DeleteNewline) h k = subst HasSound (sym k) (sound_unselected_or old (break_before_removed old) h (sound_break old.document old.time h))
-  act_stays_sound old new (action.Edit edit.DeleteChar) h k = subst HasSound (sym k) (sound_unselected_or old (symbol_before_removed old) h (sound_before old.document old.settings.undo_coalescing old.time h))
-  act_stays_sound old new (action.Edit edit.DeleteNextChar) h k = subst HasSound (sym k) (sound_unselected_or old (symbol_after_removed old) h (sound_after_cursor old.document old.settings.undo_coalescing old.time h))
-  act_stays_sound old new (action.Edit edit.DeleteLineByEnd) h k = subst HasSound (sym k) (sound_unselected_or old (line_end_removed old) h (sound_line_end old h))
-  act_stays_sound old new (action.Edit edit.DeleteLineByHead) h k = subst HasSound (sym k) (sound_unselected_or old (line_head_removed old) h (sound_line_head old h))
-  act_stays_sound old new (action.Edit edit.DeleteWord) h k = subst HasSound (sym k) (sound_unselected_or old (word_before_removed old) h (sound_range_or old (back_to_word_removed old) Backward (range_before old.document) h refl (sound_back_to_word old h)))
-  act_stays_sound old new (action.Edit edit.DeleteNextWord) h k = subst HasSound (sym k) (sound_unselected_or old (word_after_removed old) h (sound_range_or old (on_to_word_end_removed old) Forward (range_after old.document) h refl (sound_on_to_word_end old h)))
-  act_stays_sound old new (action.Edit edit.Clear) h k = subst HasSound (sym k) (sound_cleared old h)
-  act_stays_sound old new (action.Edit edit.Cut) h k = subst HasSound (sym k) (sound_cut old h)
-  act_stays_sound old new (action.Edit edit.Paste) h k = subst HasSound (sym k) (sound_symbols (unselected old).document old.yank old.time (sound_unselected old h))
-  act_stays_sound old new (action.Edit edit.Undo) h k = subst HasSound (sym k) (sound_undo old.document (newest old.document.log) h refl)
-  act_stays_sound old new (action.Edit edit.Redo) h k = subst HasSound (sym k) (sound_redo old.document (next old.document.log) h refl)
   act_stays_sound old new (action.MoveWithShift cursor_move shift) h k = sound_moved old new shift cursor_move h k
   act_stays_sound old new (action.ScrollWithShift scrolling shift) h k = sound_moved (viewport_scrolled old scrolling) new shift move.InViewport h k
   act_stays_sound old new (action.Scroll scrolling) h k = sound_moved (viewport_scrolled old scrolling) new (is_some old.document.anchor) move.InViewport h k
+  act_stays_sound old new action.Nothing h k = subst HasSound (sym k) h
+  act_stays_sound old new asked h k = subst HasSound (sym k) (state_stays_sound old (the_call asked) h tt)
 
   pub call_stays_sound : (old new : State) (made : Call) (returned : CallResult) → HasSound old → CanBeMade made → IsAfterCall old made returned new → HasSound new
-  call_stays_sound old new (call.InsertChar c) returned h can k = act_stays_sound old new (action.Write (write.InsertChar c)) h k
-  call_stays_sound old new (call.InsertStr text) returned h can k = subst HasSound (sym k) (sound_symbols (unselected old).document (fragment_symbols (chars text.now)) old.time (sound_unselected old h))
-  call_stays_sound old new (call.InsertPasted text) returned h can k = subst HasSound (sym k) (sound_symbols (unselected old).document (pasted_symbols (chars text.now)) old.time (sound_unselected old h))
-  call_stays_sound old new call.InsertTab returned h can k = act_stays_sound old new (action.Edit edit.InsertTab) h k
-  call_stays_sound old new call.InsertNewline returned h can k = act_stays_sound old new (action.Write write.InsertNewline) h k
-  call_stays_sound old new call.Paste returned h can k = act_stays_sound old new (action.Edit edit.Paste) h k
-  call_stays_sound old new (call.DeleteStr count) returned h can k = subst HasSound (sym k) (sound_unselected_or old (symbols_ahead_removed old count) h (sound_ahead old count h))
-  call_stays_sound old new call.DeleteNewline returned h can k = act_stays_sound old new (action.Edit edit.DeleteNewline) h k
-  call_stays_sound old new call.DeleteChar returned h can k = act_stays_sound old new (action.Edit edit.DeleteChar) h k
-  call_stays_sound old new call.DeleteNextChar returned h can k = act_stays_sound old new (action.Edit edit.DeleteNextChar) h k
-  call_stays_sound old new call.DeleteLineByEnd returned h can k = act_stays_sound old new (action.Edit edit.DeleteLineByEnd) h k
-  call_stays_sound old new call.DeleteLineByHead returned h can k = act_stays_sound old new (action.Edit edit.DeleteLineByHead) h k
-  call_stays_sound old new call.DeleteWord returned h can k = act_stays_sound old new (action.Edit edit.DeleteWord) h k
-  call_stays_sound old new call.DeleteNextWord returned h can k = act_stays_sound old new (action.Edit edit.DeleteNextWord) h k
-  call_stays_sound old new call.Clear returned h can k = act_stays_sound old new (action.Edit edit.Clear) h k
-  call_stays_sound old new call.Cut returned h can k = act_stays_sound old new (action.Edit edit.Cut) h k
-  call_stays_sound old new call.Copy returned h can k = act_stays_sound old new (action.Write write.Copy) h k
-  call_stays_sound old new call.Undo returned h can k = act_stays_sound old new (action.Edit edit.Undo) h k
-  call_stays_sound old new call.Redo returned h can k = act_stays_sound old new (action.Edit edit.Redo) h k
-  call_stays_sound old new (call.DeleteAtomicRangeAtCursor direction) returned h can k = subst HasSound (sym k) (sound_range_removed old.document direction (range_at_cursor old.document direction) old.time h refl)
   call_stays_sound old new (call.Input input) returned h can k = act_stays_sound old new (asked_by input.now) h k
   call_stays_sound old new (call.InputWithoutShortcuts input) returned h can k = act_stays_sound old new (asked_without_shortcuts input.now) h k
   call_stays_sound old new (call.Move cursor_move) returned h can k = act_stays_sound old new (action.MoveWithShift cursor_move (is_some old.document.anchor)) h k
   call_stays_sound old new (call.Scroll scrolling) returned h can k = act_stays_sound old new (action.Scroll scrolling) h k
-  call_stays_sound old new (call.GoTo place) returned h can k =
-      let rows = lines old.document.text in
-      let near = clip_is_place rows place (omega (arith, h.cursor.0)) in
-      subst HasSound (sym k) (sound_goes old (is_some old.document.anchor) (Some (moved_out old.document.ranges (clip rows place) BiasForward)) h
-      (IsPlaceOf-moved_out rows old.document.ranges (clip rows place) BiasForward h.ranges near))
-  call_stays_sound old new call.StartSelection returned h can k = subst HasSound (sym k) (sound_from old.document (Some old.document.cursor) h h.cursor)
-  call_stays_sound old new call.CancelSelection returned h can k = subst HasSound (sym k) (sound_unanchored old.document h)
-  call_stays_sound old new call.SelectAll returned h can k =
-      subst HasSound (sym k) (sound_at old.document (place_of old.document.text (length old.document.text)) (Some (0, 0)) h (index_is_place old.document.text (length old.document.text)) (start_is_place old.document.text))
-  call_stays_sound old new (call.SearchForward at_cursor) returned h can k = subst HasSound (sym k) (sound_search old (next_match old at_cursor) h (match_is_place toward.Forward old at_cursor))
-  call_stays_sound old new (call.SearchBack at_cursor) returned h can k = subst HasSound (sym k) (sound_search old (previous_match old at_cursor) h (match_is_place toward.Back old at_cursor))
   call_stays_sound old new (call.SetSearchPattern text) PatternRejected h can k = subst HasSound (sym k) h
   call_stays_sound old new (call.SetSearchPattern text) returned h can k = subst HasSound (sym k) h
-  call_stays_sound old new (call.SetLines items cursor) returned h can k =
-      let place = clip (lines_of items.now) cursor in
-      subst HasSound (sym k) (sound_fresh (text_of items.now) old.document.layout.settings old.document.layout.count place old.document.log.maximum
-      (text_place items.now place (clip_is_place (lines_of items.now) cursor (omega (arith, can, length-map items.now characters_of)))))
-  call_stays_sound old new (call.TrySetAtomicRanges ranges) returned h can k = subst HasSound (sym k) (sound_ranges (rejected_ranges old ranges.now) old ranges.now h refl)
-  call_stays_sound old new call.ClearAtomicRanges returned h can k =
-      subst HasSound (sym k) (record { cursor = h.cursor; anchor = h.anchor; ranges = valid_none (lines old.document.text); in_order = refl; undo = h.undo; redo = h.redo; bounded = h.bounded })
-  call_stays_sound old new (call.NormalizeCursorAroundAtomicRanges bias) returned h can k = subst HasSound (sym k) (sound_cursor old.document bias h)
-  call_stays_sound old new (call.SetMaxHistories maximum) returned h can k =
-      subst HasSound (sym k) (record { cursor = h.cursor; anchor = h.anchor; ranges = h.ranges; in_order = h.in_order; undo = tt; redo = tt; bounded = omega arith })
-  call_stays_sound old new (call.SetUndoCoalescing joins) returned h can k =
-      subst HasSound (sym k) (record { cursor = h.cursor; anchor = h.anchor; ranges = h.ranges; in_order = h.in_order; undo = h.undo; redo = h.redo; bounded = h.bounded })
-  call_stays_sound old new (call.SetTabLength columns) returned h can k = subst HasSound (sym k) (sound_settings old.document (tab_length_set old columns) h)
-  call_stays_sound old new (call.SetWrapMode mode) returned h can k = subst HasSound (sym k) (sound_settings old.document (mode_set old mode) h)
-  call_stays_sound old new (call.SetLineNumberStyle style) returned h can k = subst HasSound (sym k) (sound_settings old.document (line_numbers_set old true) h)
-  call_stays_sound old new call.RemoveLineNumber returned h can k = subst HasSound (sym k) (sound_settings old.document (line_numbers_set old false) h)
-  call_stays_sound old new (call.SetAlignment alignment) returned h can k = subst HasSound (sym k) (sound_settings old.document (alignment_set old alignment) h)
   call_stays_sound old new (call.Render area) returned h can k =
       subst IsSound (sym (drawn_document old new area k)) (sound_settings old.document (at_width (text_and_layout old.document) (width_inside old.surround.block area.width)) h)
-  call_stays_sound old new made returned h can k = subst HasSound (sym k) h
+  call_stays_sound old new made returned h can k = subst HasSound (sym k) (state_stays_sound old made h can)
 
 -- ---- calls that run out of memory
 
@@ -366,10 +351,10 @@ sound_left : (old new : State) → HasSound old → selection.IsInsertOutOfMemor
 sound_left old new h k = ⊎_elim (λ same. subst HasSound (sym same) h) (λ gone. subst HasSound (sym gone) (sound_unselected old h)) k
 
 act_left_sound : (old new : State) (asked : Action) → HasSound old → IsInputOutOfMemory old asked new → HasSound new
-act_left_sound old new (action.Write (write.InsertChar c)) h k = sound_left old new h k
-act_left_sound old new (action.Write write.InsertNewline) h k = sound_left old new h k
-act_left_sound old new (action.Edit edit.InsertTab) h k = sound_left old new h k
-act_left_sound old new (action.Edit edit.Paste) h k = sound_left old new h k
+act_left_sound old new (action.InsertChar c) h k = sound_left old new h k
+act_left_sound old new action.InsertNewline h k = sound_left old new h k
+act_left_sound old new action.InsertTab h k = sound_left old new h k
+act_left_sound old new action.Paste h k = sound_left old new h k
 act_left_sound old new asked h k = subst HasSound (sym k) h
 
 pub out_of_memory_stays_sound : (old new : State) (made : Call) → HasSound old → IsAfterOutOfMemory old made new → HasSound new

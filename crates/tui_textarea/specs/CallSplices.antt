@@ -1,16 +1,14 @@
 -- The splices by which each call changes the text: a list for a state and a call, and for a run.
-use Rattle.std.specs.Prelude.{◌≡◌, ◌⊎◌, List, [], ◌∷◌, ◌++◌, map}
+use Rattle.std.specs.Prelude.{◌≡◌, ◌⊎◌, List, [], ◌∷◌, ◌++◌, map, Option, None, Some}
 use Rattle.std.specs.Str.{chars}
 use Rattle.textarea_text.specs.Splice.{Splice}
 use Rattle.textarea_text.specs.Fragment.{fragment_symbols, pasted_symbols}
 use Rattle.textarea_text.specs.Text.{Break}
 use Rattle.textarea_calls.specs.declared.action.Action.TheVariants as action
-use Rattle.textarea_calls.specs.declared.kind.Edit.TheVariants as edit
 use Rattle.textarea_screen.specs.declared.screen.buffer.Buffer.{Buffer}
 use Rattle.textarea_document.specs.Splices.{after_splices, before_splices, break_splices, cursor_range_splices, redo_splices, selected_splices, undo_splices}
-use Rattle.textarea_calls.specs.CallGroups.{call_of_edit, call_of_write}
 use Rattle.textarea_calls.specs.declared.action.Action.{Action}
-use Rattle.tui_textarea.specs.Input.{asked_by, asked_without_shortcuts}
+use Rattle.tui_textarea.specs.Input.{asked_by, asked_without_shortcuts, call_of_action}
 use Rattle.tui_textarea.specs.Splices.{ahead_splices, char_splices, clear_splices, line_end_splices, line_head_splices, selected_splices_or, str_splices, tab_splices, word_after_splices, word_before_splices}
 use Rattle.tui_textarea.specs.State.{State}
 use Rattle.tui_textarea.specs.Run.{CallLeads}
@@ -44,11 +42,14 @@ call_splices state Redo = redo_splices state.document
 call_splices state (DeleteAtomicRangeAtCursor direction) = cursor_range_splices state.document direction
 call_splices state call = []
 
+-- those of the call, if there is one
+abbrev pub any_splices : State → Option Call → List Splice
+any_splices state None = []
+any_splices state (Some call) = call_splices state call
+
 -- the splices of an input with this action: those of the action's call
 abbrev pub splices_by : State → Action → List Splice
-splices_by state (action.Edit edit) = call_splices state (call_of_edit edit)
-splices_by state (action.Write write) = call_splices state (call_of_write write)
-splices_by state asked = []
+splices_by state asked = any_splices state (call_of_action asked)
 
 -- the splices of any call in this state; of an input, those of its action
 abbrev pub splices_of : State → Call → List Splice
@@ -68,8 +69,8 @@ underlying (OfEdit splice) = splice
 
 -- the splices of an input with this action, as those of an undo or a redo, or of an edit
 abbrev pub marked_by : Action → List Splice → List CallSplice
-marked_by (action.Edit edit.Undo) splices = map OfUndoOrRedo splices
-marked_by (action.Edit edit.Redo) splices = map OfUndoOrRedo splices
+marked_by action.Undo splices = map OfUndoOrRedo splices
+marked_by action.Redo splices = map OfUndoOrRedo splices
 marked_by asked splices = map OfEdit splices
 
 -- the splices of any call in this state, as those of an undo or a redo, or of an edit

@@ -1,14 +1,15 @@
 -- The states after inputs. Each input has an action, by one of the two key tables. The action's
 -- result, the state after it, and where it may run out of memory, are those of its call.
-use Rattle.std.specs.Prelude.{◌≡◌, Bool, false}
+use Rattle.std.specs.Prelude.{◌≡◌, Bool, false, Option, None, Some}
 use Rattle.textarea_data.specs.declared.input.Input.{Input}
 use Rattle.textarea_calls.specs.FlagRule as flag_rules
 use Rattle.textarea_calls.specs.FlagRule.{result_flag}
 use Rattle.textarea_calls.specs.Keys.{keys_with_shortcuts, keys_without_shortcuts}
-use Rattle.textarea_calls.specs.CallGroups.{call_of_edit, call_of_write}
 use Rattle.textarea_calls.specs.Table.{action_by}
 use Rattle.textarea_calls.specs.declared.action.Action.{Action}
-use Rattle.textarea_calls.specs.declared.action.Action.TheVariants.{Nothing, Edit, Write, MoveWithShift, ScrollWithShift, Scroll}
+use Rattle.textarea_calls.specs.declared.action.Action.TheVariants as action
+use Rattle.textarea_calls.specs.declared.call.Call.{Call}
+use Rattle.textarea_calls.specs.declared.call.Call.TheVariants as call
 use Rattle.tui_textarea.specs.Calls.{StateOutOfMemory, NeedsMemory, result_of_call, state_after}
 use Rattle.tui_textarea.specs.Moves.{IsMovedWith, IsScrolled, IsScrolledWith}
 use Rattle.tui_textarea.specs.CallResults.{CallResult, Flag}
@@ -26,33 +27,60 @@ abbrev pub flag_of : CallResult → Bool
 flag_of (Flag found) = found
 flag_of other = false
 
--- the result of the call, if it returns itself whether it changed the text
-abbrev pub call_flag : State → Action → Bool
-call_flag state (Edit edit) = flag_of (result_of_call state (call_of_edit edit))
-call_flag state action = false
+-- the call of an action; no action has none, and a move or a scroll is not defined by a call
+abbrev pub call_of_action : Action → Option Call
+call_of_action (action.InsertChar c) = Some (call.InsertChar c)
+call_of_action action.InsertNewline = Some call.InsertNewline
+call_of_action action.InsertTab = Some call.InsertTab
+call_of_action action.Paste = Some call.Paste
+call_of_action action.DeleteChar = Some call.DeleteChar
+call_of_action action.DeleteNextChar = Some call.DeleteNextChar
+call_of_action action.DeleteLineByEnd = Some call.DeleteLineByEnd
+call_of_action action.DeleteLineByHead = Some call.DeleteLineByHead
+call_of_action action.DeleteWord = Some call.DeleteWord
+call_of_action action.DeleteNextWord = Some call.DeleteNextWord
+call_of_action action.Cut = Some call.Cut
+call_of_action action.Copy = Some call.Copy
+call_of_action action.Undo = Some call.Undo
+call_of_action action.Redo = Some call.Redo
+call_of_action other = None
+
+-- the result of the call, if it returns whether there was something to do
+abbrev pub call_flag : State → Option Call → Bool
+call_flag state None = false
+call_flag state (Some made) = flag_of (result_of_call state made)
 
 -- the result of an input with this action: true for a character or a line break; false for a copy,
 -- a move, a scroll or no action; otherwise the result of the call
 abbrev pub action_flag : State → Action → Bool
-action_flag state action = result_flag (flag_rules.flag_rule_of action) (call_flag state action)
+action_flag state asked = result_flag (flag_rules.flag_rule_of asked) (call_flag state (call_of_action asked))
+
+-- the state after the call, if there is one
+abbrev pub state_after_any : State → Option Call → State
+state_after_any state None = state
+state_after_any state (Some made) = state_after state made
 
 -- the state after an input with this action
 abbrev pub IsAfterAction : State → Action → State → Type 0
-IsAfterAction old Nothing new = new ≡ old
-IsAfterAction old (Edit edit) new = new ≡ state_after old (call_of_edit edit)
-IsAfterAction old (Write write) new = new ≡ state_after old (call_of_write write)
-IsAfterAction old (MoveWithShift cursor_move shift) new = IsMovedWith old shift cursor_move new
-IsAfterAction old (ScrollWithShift scrolling shift) new = IsScrolledWith old shift scrolling new
-IsAfterAction old (Scroll scrolling) new = IsScrolled old scrolling new
+IsAfterAction old (action.MoveWithShift cursor_move shift) new = IsMovedWith old shift cursor_move new
+IsAfterAction old (action.ScrollWithShift scrolling shift) new = IsScrolledWith old shift scrolling new
+IsAfterAction old (action.Scroll scrolling) new = IsScrolled old scrolling new
+IsAfterAction old asked new = new ≡ state_after_any old (call_of_action asked)
+
+-- the call, if there is one, may need memory
+abbrev pub AnyNeedsMemory : State → Option Call → Type 0
+AnyNeedsMemory state None = ⊥
+AnyNeedsMemory state (Some made) = NeedsMemory state made
 
 -- an input with this action may run out of memory, because its call may
 abbrev pub ActMayRunOutOfMemory : State → Action → Type 0
-ActMayRunOutOfMemory state (Edit edit) = NeedsMemory state (call_of_edit edit)
-ActMayRunOutOfMemory state (Write write) = NeedsMemory state (call_of_write write)
-ActMayRunOutOfMemory state action = ⊥
+ActMayRunOutOfMemory state asked = AnyNeedsMemory state (call_of_action asked)
+
+-- the state after the call, if there is one, ran out of memory
+abbrev pub IsAnyOutOfMemory : State → Option Call → State → Type 0
+IsAnyOutOfMemory old None new = new ≡ old
+IsAnyOutOfMemory old (Some made) new = StateOutOfMemory old made new
 
 -- the state after an input that ran out of memory: that of its call
 abbrev pub IsInputOutOfMemory : State → Action → State → Type 0
-IsInputOutOfMemory old (Edit edit) new = StateOutOfMemory old (call_of_edit edit) new
-IsInputOutOfMemory old (Write write) new = StateOutOfMemory old (call_of_write write) new
-IsInputOutOfMemory old action new = new ≡ old
+IsInputOutOfMemory old asked new = IsAnyOutOfMemory old (call_of_action asked) new

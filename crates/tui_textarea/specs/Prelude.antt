@@ -42,7 +42,7 @@ pub use Rattle.textarea_view.specs.Outcomes.{with_max_rows, with_min_rows, with_
 pub use Rattle.textarea_view.specs.Placements.{cell_of_position}
 pub use Rattle.textarea_view.specs.SurroundState.{AreBounds, first_bytes, style_with_lines}
 pub use Rattle.textarea_data.specs.declared.measure.TextAreaMeasure.{TextAreaMeasure}
-pub use Rattle.textarea_calls.specs.CallGroups.{call_of_edit}
+pub use Rattle.textarea_calls.specs.Edits.{edits}
 pub use Rattle.textarea_calls.specs.Possible.{CanBeMade}
 pub use Rattle.textarea_calls.specs.declared.action.Action.{Action}
 pub use Rattle.textarea_calls.specs.declared.answer.Answer.{Answer}

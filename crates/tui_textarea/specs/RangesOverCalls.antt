@@ -13,7 +13,6 @@ use Rattle.textarea_ranges.specs.Order.{in_order}
 use Rattle.textarea_screen.specs.declared.screen.buffer.Buffer.{Buffer}
 use Rattle.textarea_calls.specs.declared.action.Action.{Action}
 use Rattle.textarea_calls.specs.declared.action.Action.TheVariants as action
-use Rattle.textarea_calls.specs.declared.kind.Edit.TheVariants as edit
 use Rattle.tui_textarea.specs.RangesOverActions.{RangesFollowAction}
 use Rattle.tui_textarea.specs.Input.{asked_by, asked_without_shortcuts}
 use Rattle.tui_textarea.specs.State.{State}
@@ -163,8 +162,8 @@ RangesOfRun old buffer calls results new =
 
 -- the call is an undo or a redo, which may split a range
 abbrev pub IsUndoOrRedoAct : Action → Type 0
-IsUndoOrRedoAct (action.Edit edit.Undo) = Unit {0}
-IsUndoOrRedoAct (action.Edit edit.Redo) = Unit {0}
+IsUndoOrRedoAct action.Undo = Unit {0}
+IsUndoOrRedoAct action.Redo = Unit {0}
 IsUndoOrRedoAct asked = ⊥
 
 abbrev pub IsUndoOrRedo : Call → Type 0

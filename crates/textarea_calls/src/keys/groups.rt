@@ -8,7 +8,6 @@ ghost use Rattle.textarea_calls.specs.Table.{action_by, pressed, any_modifiers};
 
 use super::{ONE_DOWN, ONE_UP};
 use crate::action::Action;
-use crate::kind::{Edit, Write};
 use textarea_data::cursor::CursorMove;
 use textarea_data::input::Key;
 use textarea_data::scroll::Scrolling;
@@ -18,11 +17,11 @@ pub(super) fn plain(key: Key, shift: bool) -> Action
     ensures { result ≡ action_by keys_with_shortcuts (pressed key false false shift) }
 {
     match key {
-        Key::Char('\n' | '\r') => Action::Write(Write::InsertNewline),
-        Key::Char(character) => Action::Write(Write::InsertChar(character)),
-        Key::Tab => Action::Edit(Edit::InsertTab),
-        Key::Backspace => Action::Edit(Edit::DeleteChar),
-        Key::Delete => Action::Edit(Edit::DeleteNextChar),
+        Key::Char('\n' | '\r') => Action::InsertNewline,
+        Key::Char(character) => Action::InsertChar(character),
+        Key::Tab => Action::InsertTab,
+        Key::Backspace => Action::DeleteChar,
+        Key::Delete => Action::DeleteNextChar,
         Key::Down => Action::MoveWithShift(CursorMove::Down, shift),
         Key::Up => Action::MoveWithShift(CursorMove::Up, shift),
         Key::Right => Action::MoveWithShift(CursorMove::Forward, shift),
@@ -50,23 +49,23 @@ fn character_with_ctrl(character: char, shift: bool) -> Action
     ensures { result ≡ action_by keys_with_shortcuts (pressed (Char character) true false shift) }
 {
     match character {
-        'm' => Action::Write(Write::InsertNewline),
-        'h' => Action::Edit(Edit::DeleteChar),
-        'd' => Action::Edit(Edit::DeleteNextChar),
-        'k' => Action::Edit(Edit::DeleteLineByEnd),
-        'j' => Action::Edit(Edit::DeleteLineByHead),
-        'w' => Action::Edit(Edit::DeleteWord),
+        'm' => Action::InsertNewline,
+        'h' => Action::DeleteChar,
+        'd' => Action::DeleteNextChar,
+        'k' => Action::DeleteLineByEnd,
+        'j' => Action::DeleteLineByHead,
+        'w' => Action::DeleteWord,
         'n' => Action::MoveWithShift(CursorMove::Down, shift),
         'p' => Action::MoveWithShift(CursorMove::Up, shift),
         'f' => Action::MoveWithShift(CursorMove::Forward, shift),
         'b' => Action::MoveWithShift(CursorMove::Back, shift),
         'a' => Action::MoveWithShift(CursorMove::Head, shift),
         'e' => Action::MoveWithShift(CursorMove::End, shift),
-        'u' => Action::Edit(Edit::Undo),
-        'r' => Action::Edit(Edit::Redo),
-        'y' => Action::Edit(Edit::Paste),
-        'x' => Action::Edit(Edit::Cut),
-        'c' => Action::Write(Write::Copy),
+        'u' => Action::Undo,
+        'r' => Action::Redo,
+        'y' => Action::Paste,
+        'x' => Action::Cut,
+        'c' => Action::Copy,
         'v' => Action::ScrollWithShift(Scrolling::PageDown, shift),
         _ => Action::Nothing,
     }
@@ -78,8 +77,8 @@ pub(super) fn with_alt(key: Key, shift: bool) -> Action
 {
     match key {
         Key::Char(character) => character_with_alt(character, shift),
-        Key::Backspace => Action::Edit(Edit::DeleteWord),
-        Key::Delete => Action::Edit(Edit::DeleteNextWord),
+        Key::Backspace => Action::DeleteWord,
+        Key::Delete => Action::DeleteNextWord,
         _ => action_with_modifiers(key, shift),
     }
 }
@@ -89,8 +88,8 @@ fn character_with_alt(character: char, shift: bool) -> Action
     ensures { result ≡ action_by keys_with_shortcuts (pressed (Char character) false true shift) }
 {
     match character {
-        'h' => Action::Edit(Edit::DeleteWord),
-        'd' => Action::Edit(Edit::DeleteNextWord),
+        'h' => Action::DeleteWord,
+        'd' => Action::DeleteNextWord,
         '<' => Action::MoveWithShift(CursorMove::Top, shift),
         '>' => Action::MoveWithShift(CursorMove::Bottom, shift),
         'f' => Action::MoveWithShift(CursorMove::WordForward, shift),
@@ -121,12 +120,12 @@ fn action_with_modifiers(key: Key, shift: bool) -> Action
         (pressed key false false shift) }
 {
     match key {
-        Key::Enter => Action::Write(Write::InsertNewline),
+        Key::Enter => Action::InsertNewline,
         Key::Home => Action::MoveWithShift(CursorMove::Head, shift),
         Key::End => Action::MoveWithShift(CursorMove::End, shift),
-        Key::Paste => Action::Edit(Edit::Paste),
-        Key::Cut => Action::Edit(Edit::Cut),
-        Key::Copy => Action::Write(Write::Copy),
+        Key::Paste => Action::Paste,
+        Key::Cut => Action::Cut,
+        Key::Copy => Action::Copy,
         Key::PageDown => Action::ScrollWithShift(Scrolling::PageDown, shift),
         Key::PageUp => Action::ScrollWithShift(Scrolling::PageUp, shift),
         Key::MouseScrollDown => Action::ScrollWithShift(ONE_DOWN, shift),

@@ -36,9 +36,9 @@ impl Draft {
             (FailsIn self.old (selection_calls selects (is_selecting self.old.area)) self.new) }
     {
         if !selects {
-            self.set(&[Call::CancelSelection])?;
+            self.make(&[Call::CancelSelection])?;
         } else if !self.area().is_selecting() {
-            self.set(&[Call::StartSelection])?;
+            self.make(&[Call::StartSelection])?;
         }
         Ok(())
     }
@@ -48,7 +48,7 @@ impl Draft {
         ensures ok { OnOk result (Makes self.old (GoTo place ∷ []) self.new) }
         ensures err { OnErr result (FailsIn self.old (GoTo place ∷ []) self.new) }
     {
-        self.set(&[Call::GoTo(place)])?;
+        self.make(&[Call::GoTo(place)])?;
         Ok(())
     }
 
@@ -57,7 +57,7 @@ impl Draft {
         ensures ok { OnOk result (Makes self.old (row_calls (Some row)) self.new) }
         ensures err { OnErr result (FailsIn self.old (row_calls (Some row)) self.new) }
     {
-        self.set(&[Call::CancelSelection, Call::GoTo((row, 0))])?;
+        self.make(&[Call::CancelSelection, Call::GoTo((row, 0))])?;
         Ok(())
     }
 
@@ -67,7 +67,7 @@ impl Draft {
         ensures ok { OnOk result (Makes self.old (look_calls origin pattern.now) self.new) }
         ensures err { OnErr result (FailsIn self.old (look_calls origin pattern.now) self.new) }
     {
-        self.set(&[
+        self.make(&[
             Call::GoTo(origin),
             Call::SetSearchPattern(pattern),
             Call::SearchForward(true),

@@ -3,7 +3,7 @@ ghost use Rattle.std.specs.Prelude.{◌≡◌, ◌∷◌, [], IfOk, IsTrue, OnEr
 ghost use Rattle.std.specs.List.{list_all};
 ghost use Rattle.textarea_calls.specs.declared.call.Call.TheVariants as call;
 ghost use Rattle.textarea_editor.specs.Controls.{after_command, prompt_opened};
-ghost use Rattle.textarea_editor.specs.Draft.{FailsIn, Makes, leaves_text, may_edit, plain_calls};
+ghost use Rattle.textarea_editor.specs.Draft.{FailsIn, Makes, is_made, plain_calls};
 ghost use Rattle.textarea_editor.specs.Editor.{MayQuit};
 ghost use Rattle.textarea_editor.specs.Effects.{Carries};
 ghost use Rattle.textarea_editor.specs.EventCalls.{command_calls, find_calls, is_selecting, numbers_call, wrap_mode};
@@ -42,19 +42,19 @@ impl Editor {
             Command::GoToLine => self.open_prompt(Asked::Line),
             Command::FindNext => self.find(true),
             Command::FindPrevious => self.find(false),
-            Command::Undo => self.edit(&[Call::Undo]),
-            Command::Redo => self.edit(&[Call::Redo]),
-            Command::Paste => self.edit(&[Call::Paste]),
+            Command::Undo => self.make(&[Call::Undo]),
+            Command::Redo => self.make(&[Call::Redo]),
+            Command::Paste => self.make(&[Call::Paste]),
             Command::Cut => self.cut(),
             Command::Copy => self.copy(),
-            Command::SelectAll => self.set(&[Call::SelectAll]),
-            Command::Cancel => self.set(&[Call::CancelSelection, Call::SetSearchPattern("")]),
-            Command::TextStart => self.set(&[
+            Command::SelectAll => self.make(&[Call::SelectAll]),
+            Command::Cancel => self.make(&[Call::CancelSelection, Call::SetSearchPattern("")]),
+            Command::TextStart => self.make(&[
                 Call::CancelSelection,
                 Call::Move(CursorMove::Top),
                 Call::Move(CursorMove::Head),
             ]),
-            Command::TextEnd => self.set(&[
+            Command::TextEnd => self.make(&[
                 Call::CancelSelection,
                 Call::Move(CursorMove::Bottom),
                 Call::Move(CursorMove::End),
@@ -68,9 +68,9 @@ impl Editor {
         }
     }
 
-    // Makes calls that leave the text as it is.
-    pub(super) fn set(&mut self, calls: &[Call<'_>]) -> Result<Effect, AllocError>
-        requires { IsTrue (list_all leaves_text calls.now) }
+    // Makes calls on the draft.
+    pub(super) fn make(&mut self, calls: &[Call<'_>]) -> Result<Effect, AllocError>
+        requires { IsTrue (list_all is_made calls.now) }
         ensures ok { OnOk result (Makes self.old.draft (plain_calls calls.now) self.new.draft) }
         ensures err { OnErr result (FailsIn self.old.draft (plain_calls calls.now) self.new.draft) }
         ensures carries { IfOk result
@@ -78,21 +78,7 @@ impl Editor {
         ensures end { self.new.line_end ≡ self.old.line_end }
         ensures controls { self.new.controls ≡ self.old.controls }
     {
-        self.draft.set(calls)?;
-        Ok(Effect::Nothing)
-    }
-
-    // Makes calls that may edit the text.
-    pub(super) fn edit(&mut self, calls: &[Call<'_>]) -> Result<Effect, AllocError>
-        requires { IsTrue (list_all may_edit calls.now) }
-        ensures ok { OnOk result (Makes self.old.draft (plain_calls calls.now) self.new.draft) }
-        ensures err { OnErr result (FailsIn self.old.draft (plain_calls calls.now) self.new.draft) }
-        ensures carries { IfOk result
-            (Carries (MayQuit self.old) self.new.draft.area self.new.line_end) }
-        ensures end { self.new.line_end ≡ self.old.line_end }
-        ensures controls { self.new.controls ≡ self.old.controls }
-    {
-        self.draft.edit(calls)?;
+        self.draft.make(calls)?;
         Ok(Effect::Nothing)
     }
 
@@ -123,7 +109,7 @@ impl Editor {
         if !self.draft.area().is_selecting() {
             return Ok(Effect::Nothing);
         }
-        self.draft.set(&[Call::Copy])?;
+        self.draft.make(&[Call::Copy])?;
         Ok(self.clipboard())
     }
 
@@ -141,7 +127,7 @@ impl Editor {
         if !self.draft.area().is_selecting() {
             return Ok(Effect::Nothing);
         }
-        self.draft.edit(&[Call::Cut])?;
+        self.draft.make(&[Call::Cut])?;
         Ok(self.clipboard())
     }
 
@@ -170,7 +156,7 @@ impl Editor {
         } else {
             Call::SearchBack(false)
         };
-        if !self.draft.set(&[call])? {
+        if !self.draft.make(&[call])? {
             self.message = Message::NoMatch;
         }
         Ok(Effect::Nothing)
@@ -189,7 +175,7 @@ impl Editor {
             (self.new.controls ≡ record self.old.controls { wraps = wraps }) }
         ensures kept { OnErr result (self.new.controls ≡ self.old.controls) }
     {
-        self.draft.set(&[Call::SetWrapMode(wrap_mode(wraps))])?;
+        self.draft.make(&[Call::SetWrapMode(wrap_mode(wraps))])?;
         self.controls.wraps = wraps;
         Ok(Effect::Nothing)
     }
@@ -207,7 +193,7 @@ impl Editor {
             (self.new.controls ≡ record self.old.controls { numbers = numbers }) }
         ensures kept { OnErr result (self.new.controls ≡ self.old.controls) }
     {
-        self.draft.set(&[numbers_call(numbers)])?;
+        self.draft.make(&[numbers_call(numbers)])?;
         self.controls.numbers = numbers;
         Ok(Effect::Nothing)
     }

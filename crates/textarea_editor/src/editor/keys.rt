@@ -14,7 +14,7 @@ use crate::keys::command_of;
 use std::alloc::AllocError;
 use textarea_calls::Call;
 use textarea_data::input::{Input, Key};
-use textarea_modal::{Modal, ModalStop};
+use textarea_modal::Modal;
 
 impl Editor {
     // Takes a key in the text: one of the table, of the modal editor, or of the text area.
@@ -65,8 +65,8 @@ impl Editor {
     {
         match input.key {
             Key::MouseScrollDown if fits => Ok(Effect::Nothing),
-            Key::MouseScrollDown => self.set(&[Call::Scroll(WHEEL_DOWN)]),
-            Key::MouseScrollUp => self.set(&[Call::Scroll(WHEEL_UP)]),
+            Key::MouseScrollDown => self.make(&[Call::Scroll(WHEEL_DOWN)]),
+            Key::MouseScrollUp => self.make(&[Call::Scroll(WHEEL_UP)]),
             _ => self.take_typed(input),
         }
     }
@@ -107,16 +107,15 @@ impl Editor {
         ensures kept { OnErr result (self.new.controls ≡ self.old.controls) }
     {
         let mut modal = modal;
-        let is_copied = copies(&modal, input);
-        let stop = self.draft.take_key(&mut modal, input);
-        if stop == ModalStop::Memory {
-            return Err(AllocError);
-        }
+        let reaction = modal.reaction(input);
+        let quits = self.draft.react(&mut modal, reaction)?;
         self.controls.modal = Some(modal);
-        match stop {
-            ModalStop::Quit => Ok(self.quit()),
-            _ if is_copied => Ok(self.clipboard()),
-            _ => Ok(Effect::Nothing),
+        if quits {
+            Ok(self.quit())
+        } else if copies(&reaction) {
+            Ok(self.clipboard())
+        } else {
+            Ok(Effect::Nothing)
         }
     }
 
@@ -129,6 +128,6 @@ impl Editor {
         ensures end { self.new.line_end ≡ self.old.line_end }
         ensures controls { self.new.controls ≡ self.old.controls }
     {
-        self.edit(&[Call::InsertPasted(text)])
+        self.make(&[Call::InsertPasted(text)])
     }
 }

@@ -37,7 +37,7 @@ pub fn opened(alloc: Global, lines: Vec<String>, wraps: bool) -> Result<Draft, A
 {
     let mut area = TextArea::new(lines)?;
     let set = set_up(&mut area, wraps);
-    set.and_then(|()| Draft::new(alloc, area))
+    set.map(|()| Draft::new(area))
 }
 
 // Sets up a new text area.

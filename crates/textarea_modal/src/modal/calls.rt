@@ -1,20 +1,19 @@
 // Makes the calls of keys on a text area.
-ghost use Rattle.std.specs.Prelude.{◌≡◌, ◌∷◌, [], map, IfOk, OnErr, OnOk};
+ghost use Rattle.std.specs.Prelude.{◌≡◌, ◌∷◌, [], map, OnErr, OnOk};
 ghost use Rattle.textarea_calls.specs.declared.call.Call.TheVariants.{Move};
 ghost use Rattle.textarea_modal.specs.Calls.{key_call, step_calls};
 ghost use Rattle.textarea_modal.specs.Runs.{AllMade, OneRunsOut};
 ghost use Rattle.textarea_modal.specs.Table.{passed_on};
-ghost use Rattle.tui_textarea.specs.Outcomes.{IsResultOf, IsAfterCall, RanOutOfMemory};
-ghost use Rattle.tui_textarea.specs.CallResults.{call_result};
+ghost use Rattle.textarea_data.specs.declared.input.Input.{Input};
+ghost use Rattle.tui_textarea.specs.Input.{asked_by};
 
 use crate::step::{KeyCall, Step};
 use std::alloc::AllocError;
-use textarea_calls::Answer;
+use textarea_calls::Action;
 use textarea_data::cursor::CursorMove;
-use textarea_data::input::Input;
-use textarea_run::perform::write;
-use textarea_run::settings::set;
+use textarea_run::perform::make;
 use tui_textarea::TextArea;
+use tui_textarea::outcomes::laws::others_edit_nothing;
 
 // Makes the calls of the step, until one runs out of memory.
 pub fn make_step(area: &mut TextArea<'_>, step: &Step) -> Result<(), AllocError>
@@ -38,6 +37,7 @@ fn move_and_make(
     ensures err { OnErr result
         (OneRunsOut area.old (Move cursor_move ∷ map key_call calls.now) area.new) }
 {
+    others_edit_nothing();
     area.move_cursor(cursor_move);
     make_all(area, calls)
 }
@@ -47,37 +47,21 @@ fn make_all(area: &mut TextArea<'_>, calls: &[KeyCall]) -> Result<(), AllocError
     ensures ok { OnOk result (AllMade area.old (map key_call calls.now) area.new) }
     ensures err { OnErr result (OneRunsOut area.old (map key_call calls.now) area.new) }
 {
+    others_edit_nothing();
     for call in calls {
-        make(area, *call)?;
+        make(area, call.call())?;
     }
     Ok(())
 }
 
-// Makes one call and returns its result.
-fn make(area: &mut TextArea<'_>, call: KeyCall) -> Result<Answer, AllocError>
-    ensures answer { IfOk result
-        (λ answer. IsResultOf area.old (key_call call) (call_result answer)) }
-    ensures ok { IfOk result
-        (λ answer. IsAfterCall area.old (key_call call) (call_result answer) area.new) }
-    ensures err { OnErr result (RanOutOfMemory area.old (key_call call) area.new) }
+/// Makes the text area's action for an input, and returns whether the text changed. It is the run of
+/// one call, `Call::Input`, for each input of that action.
+pub fn pass_on(area: &mut TextArea<'_>, action: Action) -> Result<bool, AllocError>
+    ensures ok { OnOk result ((input : Input) → asked_by input ≡ action →
+        AllMade area.old (passed_on input ∷ []) area.new) }
+    ensures err { OnErr result ((input : Input) → asked_by input ≡ action →
+        OneRunsOut area.old (passed_on input ∷ []) area.new) }
 {
-    match call {
-        KeyCall::Edit(edit) => area.edit(edit).map(Answer::Flag),
-        KeyCall::Write(call) => write(area, call).map(|()| Answer::Done),
-        KeyCall::Set(setting) => {
-            set(area, setting);
-            Ok(Answer::Done)
-        }
-        KeyCall::SearchForward(at_cursor) => area.search_forward(at_cursor).map(Answer::Flag),
-        KeyCall::SearchBack(at_cursor) => area.search_back(at_cursor).map(Answer::Flag),
-    }
-}
-
-// Passes an input to the text area.
-pub fn pass_on(area: &mut TextArea<'_>, input: &Input) -> Result<(), AllocError>
-    ensures ok { OnOk result (AllMade area.old (passed_on input.now ∷ []) area.new) }
-    ensures err { OnErr result (OneRunsOut area.old (passed_on input.now ∷ []) area.new) }
-{
-    area.input(Input { ..*input })?;
-    Ok(())
+    others_edit_nothing();
+    area.act(action)
 }

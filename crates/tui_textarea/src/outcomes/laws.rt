@@ -1,6 +1,6 @@
 //! Laws of runs of calls, each the contract of a function that does nothing.
-ghost use Rattle.std.specs.Prelude.{◌≡◌, ◌≤◌, ℕ, All, List, Option};
-ghost use Rattle.tui_textarea.specs.Prelude.{Answer, CanApply, CanBeMade, RangesOfRun, Run, SplicedBy, SplitNoRange, RangesStayWhole, IsSound, Buffer, State, WrapsByCall, Call, RangesFollowCall, IsUndoOrRedo, IsResultOf, IsAfterCall, IsAfterOutOfMemory, Leads, ShowsSame, CallResult, OfSplicesOutOfMemory, splices_of};
+ghost use Rattle.std.specs.Prelude.{◌≡◌, ◌≤◌, ℕ, false, [], All, List, Option};
+ghost use Rattle.tui_textarea.specs.Prelude.{Answer, CanApply, CanBeMade, RangesOfRun, Run, SplicedBy, SplitNoRange, RangesStayWhole, IsSound, Buffer, State, WrapsByCall, Call, RangesFollowCall, IsUndoOrRedo, IsResultOf, IsAfterCall, IsAfterOutOfMemory, Leads, ShowsSame, CallResult, OfSplicesOutOfMemory, edits, splices_of};
 
 use crate::drawing::laws::{one_drawing, one_rendering};
 use crate::laws::{one_input, one_move};
@@ -89,6 +89,15 @@ pub fn splices_split_no_range()
 {
     ranges_follow_splices();
 }
+
+/// A call that doesn't edit, by `Call::edits`, makes no splice in any state, and leaves the text as it
+/// is.
+pub fn others_edit_nothing()
+    ensures no_splice { (state : State) (call : Call) → edits call ≡ false →
+        splices_of state call ≡ [] }
+    ensures text { (old new : State) (call : Call) (returned : CallResult) → edits call ≡ false →
+        IsAfterCall old call returned new → new.document.text ≡ old.document.text }
+{}
 
 /// Every call that can be made keeps the invariant of documents, in every state: cursor and anchor
 /// stay positions of the text, ranges valid for it and sorted, and both history lists such that

@@ -1,0 +1,159 @@
+-- Written by tools/calls from crates/textarea_calls/calls.txt.
+-- The call of each member of a topic, and which calls draw.
+use Rattle.std.specs.Prelude.{Bool, true, false}
+use Rattle.textarea_calls.specs.declared.call.Call.{Call}
+use Rattle.textarea_calls.specs.declared.call.Call.TheVariants as call
+use Rattle.textarea_calls.specs.declared.topic.Topic.{Topic}
+use Rattle.textarea_calls.specs.declared.topic.Topic.TheVariants as topic
+use Rattle.textarea_calls.specs.declared.topic.Insert.{Insert}
+use Rattle.textarea_calls.specs.declared.topic.Insert.TheVariants as insert
+use Rattle.textarea_calls.specs.declared.topic.Remove.{Remove}
+use Rattle.textarea_calls.specs.declared.topic.Remove.TheVariants as remove
+use Rattle.textarea_calls.specs.declared.topic.History.{History}
+use Rattle.textarea_calls.specs.declared.topic.History.TheVariants as history
+use Rattle.textarea_calls.specs.declared.topic.Select.{Select}
+use Rattle.textarea_calls.specs.declared.topic.Select.TheVariants as select
+use Rattle.textarea_calls.specs.declared.topic.Move.{Move}
+use Rattle.textarea_calls.specs.declared.topic.Move.TheVariants as move
+use Rattle.textarea_calls.specs.declared.topic.Search.{Search}
+use Rattle.textarea_calls.specs.declared.topic.Search.TheVariants as search
+use Rattle.textarea_calls.specs.declared.topic.Ranges.{Ranges}
+use Rattle.textarea_calls.specs.declared.topic.Ranges.TheVariants as ranges
+use Rattle.textarea_calls.specs.declared.topic.Options.{Options}
+use Rattle.textarea_calls.specs.declared.topic.Options.TheVariants as options
+use Rattle.textarea_calls.specs.declared.topic.Appearance.{Appearance}
+use Rattle.textarea_calls.specs.declared.topic.Appearance.TheVariants as appearance
+use Rattle.textarea_calls.specs.declared.topic.Keys.{Keys}
+use Rattle.textarea_calls.specs.declared.topic.Keys.TheVariants as keys
+use Rattle.textarea_calls.specs.declared.topic.Read.{Read}
+use Rattle.textarea_calls.specs.declared.topic.Read.TheVariants as read
+
+abbrev pub call_of_insert : Insert → Call
+call_of_insert (insert.InsertChar c) = call.InsertChar c
+call_of_insert insert.InsertNewline = call.InsertNewline
+call_of_insert (insert.InsertStr text) = call.InsertStr text
+call_of_insert (insert.InsertPasted text) = call.InsertPasted text
+call_of_insert insert.InsertTab = call.InsertTab
+call_of_insert insert.Paste = call.Paste
+call_of_insert (insert.SetLines lines cursor) = call.SetLines lines cursor
+
+abbrev pub call_of_remove : Remove → Call
+call_of_remove remove.DeleteChar = call.DeleteChar
+call_of_remove remove.DeleteNextChar = call.DeleteNextChar
+call_of_remove remove.DeleteNewline = call.DeleteNewline
+call_of_remove (remove.DeleteStr count) = call.DeleteStr count
+call_of_remove remove.DeleteLineByEnd = call.DeleteLineByEnd
+call_of_remove remove.DeleteLineByHead = call.DeleteLineByHead
+call_of_remove remove.DeleteWord = call.DeleteWord
+call_of_remove remove.DeleteNextWord = call.DeleteNextWord
+call_of_remove remove.Clear = call.Clear
+call_of_remove remove.Cut = call.Cut
+
+abbrev pub call_of_history : History → Call
+call_of_history history.Undo = call.Undo
+call_of_history history.Redo = call.Redo
+call_of_history (history.SetMaxHistories maximum) = call.SetMaxHistories maximum
+call_of_history (history.SetUndoCoalescing joins) = call.SetUndoCoalescing joins
+call_of_history (history.SetNow time) = call.SetNow time
+
+abbrev pub call_of_select : Select → Call
+call_of_select select.StartSelection = call.StartSelection
+call_of_select select.CancelSelection = call.CancelSelection
+call_of_select select.SelectAll = call.SelectAll
+call_of_select select.Copy = call.Copy
+call_of_select (select.SetYankText text) = call.SetYankText text
+
+abbrev pub call_of_move : Move → Call
+call_of_move (move.Move cursor_move) = call.Move cursor_move
+call_of_move (move.GoTo place) = call.GoTo place
+call_of_move (move.Scroll scrolling) = call.Scroll scrolling
+
+abbrev pub call_of_search : Search → Call
+call_of_search (search.SetSearchPattern pattern) = call.SetSearchPattern pattern
+call_of_search (search.SearchForward match_cursor) = call.SearchForward match_cursor
+call_of_search (search.SearchBack match_cursor) = call.SearchBack match_cursor
+
+abbrev pub call_of_ranges : Ranges → Call
+call_of_ranges (ranges.TrySetAtomicRanges ranges) = call.TrySetAtomicRanges ranges
+call_of_ranges ranges.ClearAtomicRanges = call.ClearAtomicRanges
+call_of_ranges (ranges.NormalizeCursorAroundAtomicRanges bias) = call.NormalizeCursorAroundAtomicRanges bias
+call_of_ranges (ranges.AtomicRangeAtCursor direction) = call.AtomicRangeAtCursor direction
+call_of_ranges (ranges.DeleteAtomicRangeAtCursor direction) = call.DeleteAtomicRangeAtCursor direction
+
+abbrev pub call_of_options : Options → Call
+call_of_options (options.SetTabLength columns) = call.SetTabLength columns
+call_of_options (options.SetHardTabIndent hard) = call.SetHardTabIndent hard
+call_of_options (options.SetWrapMode mode) = call.SetWrapMode mode
+call_of_options (options.SetLineNumberStyle style) = call.SetLineNumberStyle style
+call_of_options options.RemoveLineNumber = call.RemoveLineNumber
+call_of_options (options.SetAlignment alignment) = call.SetAlignment alignment
+call_of_options (options.SetMinRows rows) = call.SetMinRows rows
+call_of_options (options.SetMaxRows rows) = call.SetMaxRows rows
+
+abbrev pub call_of_appearance : Appearance → Call
+call_of_appearance (appearance.SetBlock block) = call.SetBlock block
+call_of_appearance appearance.RemoveBlock = call.RemoveBlock
+call_of_appearance (appearance.SetPlaceholderText text) = call.SetPlaceholderText text
+call_of_appearance (appearance.SetStyledPlaceholder text) = call.SetStyledPlaceholder text
+call_of_appearance (appearance.SetPlaceholderStyle style) = call.SetPlaceholderStyle style
+call_of_appearance (appearance.SetStyle style) = call.SetStyle style
+call_of_appearance (appearance.SetCursorStyle style) = call.SetCursorStyle style
+call_of_appearance (appearance.SetCursorLineStyle style) = call.SetCursorLineStyle style
+call_of_appearance (appearance.SetSelectionStyle style) = call.SetSelectionStyle style
+call_of_appearance (appearance.SetSearchStyle style) = call.SetSearchStyle style
+call_of_appearance (appearance.SetMaskChar mask) = call.SetMaskChar mask
+call_of_appearance appearance.ClearMaskChar = call.ClearMaskChar
+call_of_appearance (appearance.SetCursorRenderMode mode) = call.SetCursorRenderMode mode
+call_of_appearance (appearance.CustomHighlight range style priority) = call.CustomHighlight range style priority
+call_of_appearance appearance.ClearCustomHighlight = call.ClearCustomHighlight
+
+abbrev pub call_of_keys : Keys → Call
+call_of_keys (keys.Input input) = call.Input input
+call_of_keys (keys.InputWithoutShortcuts input) = call.InputWithoutShortcuts input
+
+abbrev pub call_of_read : Read → Call
+call_of_read read.Text = call.Text
+call_of_read read.Cursor = call.Cursor
+call_of_read read.IsEmpty = call.IsEmpty
+call_of_read read.IsSelecting = call.IsSelecting
+call_of_read read.SelectionRange = call.SelectionRange
+call_of_read read.YankText = call.YankText
+call_of_read read.MaxHistories = call.MaxHistories
+call_of_read read.UndoCoalescing = call.UndoCoalescing
+call_of_read read.TabLength = call.TabLength
+call_of_read read.HardTabIndent = call.HardTabIndent
+call_of_read read.WrapMode = call.WrapMode
+call_of_read read.LineNumberStyle = call.LineNumberStyle
+call_of_read read.Alignment = call.Alignment
+call_of_read read.MinRows = call.MinRows
+call_of_read read.MaxRows = call.MaxRows
+call_of_read (read.Measure width) = call.Measure width
+call_of_read read.PlaceholderStyle = call.PlaceholderStyle
+call_of_read read.Style = call.Style
+call_of_read read.CursorStyle = call.CursorStyle
+call_of_read read.CursorLineStyle = call.CursorLineStyle
+call_of_read read.SelectionStyle = call.SelectionStyle
+call_of_read read.SearchStyle = call.SearchStyle
+call_of_read read.MaskChar = call.MaskChar
+call_of_read read.CursorRenderMode = call.CursorRenderMode
+call_of_read read.RenderedCursorPosition = call.RenderedCursorPosition
+call_of_read (read.CursorAtPosition position) = call.CursorAtPosition position
+
+-- the call of a topic, with its arguments
+abbrev pub call_of : Topic → Call
+call_of (topic.Insert asked) = call_of_insert asked
+call_of (topic.Remove asked) = call_of_remove asked
+call_of (topic.History asked) = call_of_history asked
+call_of (topic.Select asked) = call_of_select asked
+call_of (topic.Move asked) = call_of_move asked
+call_of (topic.Search asked) = call_of_search asked
+call_of (topic.Ranges asked) = call_of_ranges asked
+call_of (topic.Options asked) = call_of_options asked
+call_of (topic.Appearance asked) = call_of_appearance asked
+call_of (topic.Keys asked) = call_of_keys asked
+call_of (topic.Read asked) = call_of_read asked
+
+-- whether the call draws
+abbrev pub draws : Call → Bool
+draws (call.Render area) = true
+draws other = false

@@ -1,0 +1,27 @@
+use Rattle.std.proofs.Common.{◌≡◌, ◌∙◌, refl, sym}
+use Rattle.std.specs.List.{list_any}
+use Rattle.textarea_calls.specs.Edits.{edits}
+use Rattle.textarea_editor.proofs.Drafts.{any_edits_plain, changed_noted, fails_noted, makes_noted}
+use Rattle.textarea_editor.proofs.draft.Draft.make.Goals as goal
+use Rattle.textarea_editor.specs.Draft.{plain_calls}
+use Rattle.textarea_editor.specs.declared.draft.Draft.{Draft}
+
+-- the draft before it is noted
+left : goal.After-note → Draft
+left c = record c.args.self.now { area = c.make_all-made.new.area }
+
+pub returns-clause-ok : goal.returns-clause-ok
+unfolding left
+returns-clause-ok c =
+    makes_noted c.note.result c.make_all-made.result c.args.self.now (left c) c.note.new.self (plain_calls c.args.calls.now) c.any_edits-may_change.result c.note.ensures.made refl c.note.ensures.noted
+    (c.any_edits-may_change.ensures ∙ sym (any_edits_plain c.args.calls.now)) c.make_all-made.ensures.ok
+
+pub returns-clause-changed : goal.returns-clause-changed
+unfolding left
+returns-clause-changed c =
+    changed_noted c.note.result c.make_all-made.result (left c) c.note.new.self c.args.calls.now c.any_edits-may_change.result c.note.ensures.made c.note.ensures.noted c.any_edits-may_change.ensures
+
+pub returns-clause-err : goal.returns-clause-err
+unfolding left
+returns-clause-err c =
+    fails_noted c.note.result c.make_all-made.result c.args.self.now (left c) c.note.new.self (plain_calls c.args.calls.now) c.any_edits-may_change.result c.note.ensures.made c.note.ensures.noted c.make_all-made.ensures.err
