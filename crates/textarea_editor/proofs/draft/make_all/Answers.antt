@@ -1,4 +1,4 @@
-use Rattle.std.proofs.Common.{◌≡◌, ◌<◌, ℕ, List, ap, length, get_or, subst, sym, ◌∙◌}
+use Rattle.std.proofs.Common.{◌≡◌, ◌<◌, ℕ, List, ap, length, get_or, rules, subst, sym, ◌∙◌}
 use Rattle.std.proofs.lemmas.List.{get_or-map, length-map}
 use Rattle.textarea_calls.specs.declared.call.Call.{Call}
 use Rattle.textarea_editor.proofs.Drafts.{after_plain, draws_plain, edits_plain, ran_out_plain, result_plain}
@@ -21,7 +21,7 @@ returns-in_err-make-clause-err c =
     let here = c.loop-call-test.true in
     let this = c.call-item.result in
     on_err c.from_residual.result
-    (ran_out_here c.args.area.now c.loop-call.area c.make.new.area (plain_calls calls) index (plain_call this) (within calls index here) (is_call calls index this here c.call-item.is) c.loop-call.invariant (ran_out_plain this c.loop-call.area c.make.new.area c.in_err-make.ensures.err) (draws_nothing_of (plain_call this) ?))
+    (ran_out_here c.args.area.now c.loop-call.area c.make.new.area (plain_calls calls) index (plain_call this) (within calls index here) (is_call calls index this here c.call-item.is) c.loop-call.invariant (ran_out_plain this c.loop-call.area c.make.new.area c.in_err-make.ensures.err) (draws_nothing_of (plain_call this) (search (rules, draws_plain))))
 
 pub loop-call-preserved : goal.loop-call-preserved
 loop-call-preserved c =
@@ -33,5 +33,5 @@ loop-call-preserved c =
     made_more c.args.area.now c.loop-call.area c.make.new.area (plain_calls calls) index (plain_call this) answer (within calls index here) (is_call calls index this here c.call-item.is) c.loop-call.invariant
     (result_plain c.loop-call.area this (call_result answer) c.in_ok-make.ensures.answer)
     (after_plain c.loop-call.area this (call_result answer) c.make.new.area c.in_ok-make.ensures.ok)
-    (draws_nothing_of (plain_call this) ?)
+    (draws_nothing_of (plain_call this) (search (rules, draws_plain)))
     (λ none. c.others_edit_nothing.ensures.text c.loop-call.area c.make.new.area this (call_result answer) (sym (edits_plain this) ∙ none) c.in_ok-make.ensures.ok)

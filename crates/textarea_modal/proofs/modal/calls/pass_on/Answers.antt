@@ -1,4 +1,4 @@
-use Rattle.std.proofs.Common.{◌≡◌, ◌∙◌, Bool, [], ◌∷◌, IfOk, OnErr, OnOk, Result, Ok, Err, lit<, ap, refl, subst, sym}
+use Rattle.std.proofs.Common.{◌≡◌, ◌∙◌, Bool, [], ◌∷◌, IfOk, OnErr, OnOk, Result, Ok, Err, false, lit<, ap, refl, subst, sym}
 use Rattle.textarea_calls.specs.Edits.{edits}
 use Rattle.textarea_calls.specs.declared.action.Action.{Action}
 use Rattle.textarea_calls.specs.declared.answer.Answer.TheVariants as answer
