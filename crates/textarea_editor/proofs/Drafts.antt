@@ -123,8 +123,8 @@ pub noted_made : (old left : Draft) (calls : List Call) (may : Bool) → left.is
 noted_made old left calls may same edit led = record {
   made = led;
   honest = λ none.
-    let apart = or_apart left.is_changed (may || false) none in
-    (sym same ∙ apart.0, led.text (sym edit ∙ (or_apart may false apart.1).0));
+      let apart = or_apart left.is_changed (may || false) none in
+      (sym same ∙ apart.0, led.text (sym edit ∙ (or_apart may false apart.1).0));
 }
 
 -- memory ran out in them
@@ -132,7 +132,7 @@ pub noted_failed : (old left : Draft) (calls : List Call) (may : Bool) → OneRu
 noted_failed old left calls may ran = record {
   short = record { index = ran.index; within = omega (arith, ran.ran_out.within); made = inr ran.ran_out };
   honest = λ none.
-    absurd (false≢true (sym (or_apart may true (or_apart left.is_changed (may || true) none).1).1));
+      absurd (false≢true (sym (or_apart may true (or_apart left.is_changed (may || true) none).1).1));
 }
 
 -- of either result

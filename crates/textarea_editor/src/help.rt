@@ -6,7 +6,6 @@ use crate::keys::{BINDINGS, command_of};
 use std::alloc::{AllocError, Global};
 use textarea_calls::Action;
 use textarea_calls::keys::action_of;
-use textarea_calls::kind::{Edit, Write};
 use textarea_data::cursor::CursorMove;
 use textarea_data::input::{Input, Key};
 use textarea_data::scroll::Scrolling;
@@ -138,32 +137,24 @@ fn about_input(input: &Input) -> Option<&'static str> {
 fn about_action(action: Action) -> Option<&'static str> {
     match action {
         Action::Nothing => None,
-        Action::Edit(edit) => Some(about_edit(edit)),
-        Action::Write(Write::InsertChar(_)) => Some("insert the character"),
-        Action::Write(Write::InsertNewline) => Some("break the line"),
-        Action::Write(Write::Copy) => Some("copy the selected text"),
+        Action::InsertChar(_) => Some("insert the character"),
+        Action::InsertNewline => Some("break the line"),
+        Action::InsertTab => Some("insert a tab"),
+        Action::Paste => Some("paste"),
+        Action::DeleteChar => Some("delete the character before"),
+        Action::DeleteNextChar => Some("delete the next character"),
+        Action::DeleteLineByEnd => Some("delete to the line's end"),
+        Action::DeleteLineByHead => Some("delete to the line's start"),
+        Action::DeleteWord => Some("delete the word before"),
+        Action::DeleteNextWord => Some("delete the next word"),
+        Action::Cut => Some("cut the selected text"),
+        Action::Copy => Some("copy the selected text"),
+        Action::Undo => Some("undo"),
+        Action::Redo => Some("redo"),
         Action::MoveWithShift(cursor_move, _) => Some(about_move(cursor_move)),
         Action::ScrollWithShift(scrolling, _) | Action::Scroll(scrolling) => {
             Some(about_scrolling(scrolling))
         }
-    }
-}
-
-fn about_edit(edit: Edit) -> &'static str {
-    match edit {
-        Edit::InsertTab => "insert a tab",
-        Edit::Paste => "paste",
-        Edit::DeleteChar => "delete the character before",
-        Edit::DeleteNextChar => "delete the next character",
-        Edit::DeleteNewline => "join with the line before",
-        Edit::DeleteLineByEnd => "delete to the line's end",
-        Edit::DeleteLineByHead => "delete to the line's start",
-        Edit::DeleteWord => "delete the word before",
-        Edit::DeleteNextWord => "delete the next word",
-        Edit::Clear => "delete all",
-        Edit::Cut => "cut the selected text",
-        Edit::Undo => "undo",
-        Edit::Redo => "redo",
     }
 }
 
