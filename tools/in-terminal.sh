@@ -4,7 +4,9 @@
 #     run_in_terminal NAME ENTER LEAVE PROGRAM [ARGUMENT ..]
 #
 # NAME is what the user knows the program by; ENTER and LEAVE are for `printf`: what the terminal is sent
-# before and after. LINES and COLUMNS tell the program the size at first. TEXTAREA_SIZE names a private
+# before and after. With `program_enters=yes` the program sends ENTER first, once it has read its file;
+# if it says that this was `not opened:`, it has not. What it says on standard error is printed once the
+# terminal is restored. LINES and COLUMNS tell the program the size at first. TEXTAREA_SIZE names a private
 # file, which has the size whenever it may have changed; where there can be none, the terminal is asked,
 # and replies with bytes that are no key. Ctrl T suspends the program.
 
@@ -16,11 +18,10 @@ tell_size() {
 # Gives the terminal to the program: a read returns after a tenth of a second if nothing comes, and of
 # the keys that send signals only Ctrl T is left, which suspends.
 take_terminal() {
-    printf "$enter"
     stty raw -echo isig noflsh intr undef quit undef susp '^T' min 0 time 1
 }
 give_terminal_back() {
-    printf "$leave"
+    grep -q 'not opened:' "$errors" 2> /dev/null || printf "$leave"
     stty "$settings"
 }
 restore_terminal() {
@@ -29,6 +30,9 @@ restore_terminal() {
     [ -z "$child" ] || kill "$child" 2> /dev/null
     give_terminal_back
     [ -z "$TEXTAREA_SIZE" ] || rm -f "$TEXTAREA_SIZE"
+    [ -f "$errors" ] || return
+    sed "s/^Error: /$name: /" "$errors" >&2
+    rm -f "$errors"
 }
 # The program stops and goes on with the script.
 suspend() {
@@ -38,6 +42,7 @@ suspend() {
 }
 # The terminal's size may be another one now, and the program draws all again.
 go_on() {
+    printf "$enter"
     take_terminal
     [ -z "$child" ] || kill -CONT "$child" 2> /dev/null
     tell_size
@@ -52,6 +57,7 @@ run_in_terminal() {
     [ "$LINES" -gt 0 ] 2> /dev/null && [ "$COLUMNS" -gt 0 ] || { LINES=24 COLUMNS=80; }
     TEXTAREA_SIZE=$(mktemp "${TMPDIR:-/tmp}/$name-size-XXXXXX" 2> /dev/null)
     export LINES COLUMNS TEXTAREA_SIZE
+    errors=$(mktemp "${TMPDIR:-/tmp}/$name-errors-XXXXXX" 2> /dev/null) || errors=/dev/null
     writes=0 child=
     trap restore_terminal EXIT
     for signal in HUP:129 INT:130 QUIT:131 ABRT:134 BUS:135 USR1:138 SEGV:139 USR2:140 PIPE:141 ALRM:142 TERM:143; do
@@ -60,11 +66,12 @@ run_in_terminal() {
     trap suspend TSTP
     trap go_on CONT
     trap tell_size WINCH
+    [ "$program_enters" = yes ] || printf "$enter"
     take_terminal
     [ "$size" != "0 0" ] || printf '\033[18t'
     # In the background, so that signals reach the script at once; the terminal stays its input.
     exec 3<&0
-    "$@" <&3 3<&- &
+    "$@" <&3 3<&- 2> "$errors" &
     child=$!
     wait $child
     status=$?

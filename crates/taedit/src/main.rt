@@ -3,52 +3,18 @@
 #![tactic(auto)]
 
 use anyhow::{Result, bail};
+use std::env;
 use std::io::{Read, Write};
 use std::time::{Duration, Instant};
-use std::{env, fs};
 use textarea_editor::message::Message;
 use textarea_editor::screen::Colors;
 use textarea_editor::terminal_colors::terminal_colors;
 use textarea_editor::{Arguments, DiskFile, Editor, Effect, Event, Screen};
-
-// The file that `bin/taedit` writes the terminal's size to when it may have changed: the rows, the
-// columns, and a number that differs from the one before.
-#[derive(Drop)]
-struct SizeFile {
-    name: Option<String>,
-    text: String,
-}
-
-impl SizeFile {
-    fn new(rt: &HostRuntime) -> SizeFile {
-        SizeFile {
-            name: env::var(rt, "TAEDIT_SIZE").ok(),
-            text: String::new(rt.alloc()),
-        }
-    }
-
-    // Returns the size if the file has been written since the last call.
-    fn news(&mut self, rt: &HostRuntime) -> Option<Event> {
-        let text = fs::read_to_string(rt, self.name.as_ref()?.as_str()).ok()?;
-        if text.as_str() == self.text.as_str() {
-            return None;
-        }
-        let size = size_of(text.as_str());
-        self.text = text;
-        size
-    }
-}
+use textarea_host::{SizeFile, size_in};
 
 // The alternate screen, reports of the mouse with its buttons down, in SGR's form, and bracketed
 // paste. `bin/taedit` restores the terminal.
 const ENTER: &[u8] = b"\x1b[?1049h\x1b[?1002h\x1b[?1006h\x1b[?2004h";
-
-fn size_of(text: &str) -> Option<Event> {
-    let mut words = text.split(' ');
-    let rows = words.next()?.parse::<u16>().ok()?;
-    let columns = words.next()?.parse::<u16>().ok()?;
-    Some(Event::Size { columns, rows })
-}
 
 fn main(rt: HostRuntime) -> Result<()> {
     let words: Vec<String> = env::args(&rt)?.skip(1).collect(rt.alloc())?;
@@ -66,13 +32,6 @@ fn edit(rt: &HostRuntime, arguments: Arguments<'_>) -> Result<()> {
     let outcome = edit_with(rt, &mut editor, arguments);
     drop(editor);
     outcome
-}
-
-fn size_in(rt: &HostRuntime, variable: &str, other: u16) -> u16 {
-    match env::var(rt, variable) {
-        Ok(text) => text.parse::<u16>().unwrap_or(other),
-        Err(_) => other,
-    }
 }
 
 // Whether the terminal is the Linux console.
@@ -158,8 +117,8 @@ fn take_size(
     time: Duration,
     sizes: &mut SizeFile,
 ) -> Result<()> {
-    if let Some(size) = sizes.news(rt) {
-        let _ = editor.step(time, &size);
+    if let Some((columns, rows)) = sizes.news(rt) {
+        let _ = editor.step(time, &Event::Size { columns, rows });
         screen.forget();
         show(rt, editor, screen)?;
     }
