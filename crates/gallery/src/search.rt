@@ -85,8 +85,8 @@ fn count(alloc: Global, text: &TextArea<'_>) -> Result<String> {
     }
     let first = copy.cursor();
     let (mut number, mut all) = (0usize, 0usize);
-    for _ in 0..usize::MAX {
-        all += 1;
+    for before in 0..usize::MAX {
+        all = before + 1;
         if copy.cursor() == text.cursor() {
             number = all;
         }

@@ -3,11 +3,11 @@ use Rattle.textarea_view.specs.Measure.{width_inside}
 use Rattle.tui_textarea.specs.Drawing.{IsRendered}
 use Rattle.tui_textarea.specs.Measure.{IsMeasured}
 use Rattle.tui_textarea.specs.State.{State}
-use Rattle.gallery.proofs.prompt.Prompt.draw.Goals as goal
+use Rattle.gallery.proofs.prompt.draw_prompt.Goals as goal
 
 pub returns : goal.returns
 returns c =
-    let old = c.args.self.now.area in
+    let old = c.args.text.now in
     let new = c.render.new.self in
     let screen = c.args.screen in
     let area = c.new-area.result in
