@@ -10,7 +10,7 @@ use textarea_editor::message::Message;
 use textarea_editor::screen::Colors;
 use textarea_editor::terminal_colors::terminal_colors;
 use textarea_editor::{Arguments, DiskFile, Editor, Effect, Event, Screen};
-use textarea_host::{SizeFile, size_in};
+use textarea_host::{SizeFile, Watch, size_in};
 
 // The alternate screen, reports of the mouse with its buttons down, in SGR's form, and bracketed
 // paste. `bin/taedit` restores the terminal.
@@ -89,6 +89,7 @@ fn run(
 ) -> Result<()> {
     let begin = Instant::now(rt)?;
     let mut sizes = SizeFile::new(rt);
+    let mut watch = Watch::default();
     write(rt, ENTER)?;
     show(rt, editor, screen)?;
     for _ in 0..u64::MAX {
@@ -97,12 +98,13 @@ fn run(
         let count = rt.stdin().read(&mut bytes)?;
         let now = Instant::now(rt)?;
         let waited = now.duration_since(asked);
-        let is_gone = screen.is_gone(count, waited);
         let time = now.duration_since(begin);
         if count == 0 {
             take_size(rt, editor, screen, time, &mut sizes)?;
         }
-        if is_gone || !take(rt, editor, screen, file, time, waited, &bytes[..count])? {
+        if watch.is_gone(count, waited)
+            || !take(rt, editor, screen, file, time, waited, &bytes[..count])?
+        {
             break;
         }
     }

@@ -20,15 +20,7 @@ pub struct Screen {
     area: Rect,
     /// The next frame draws all cells.
     is_stale: bool,
-    /// The number of reads without bytes or time, one after another.
-    empty_reads: u32,
 }
-
-// A read without bytes takes a tenth of a second. It takes fewer milliseconds than these only if
-// the terminal is gone.
-const LEAST_WAIT: u128 = 5;
-
-const MOST_EMPTY_READS: u32 = 100;
 
 impl Screen {
     /// Returns a terminal of which nothing is known but its size.
@@ -39,19 +31,7 @@ impl Screen {
             painter: Painter::new(alloc, area)?,
             area,
             is_stale: false,
-            empty_reads: 0,
         })
-    }
-
-    /// Returns whether the terminal is gone, after a read of this number of bytes that took this
-    /// time.
-    pub fn is_gone(&mut self, count: usize, waited: Duration) -> bool {
-        self.empty_reads = if count > 0 || waited.as_millis() >= LEAST_WAIT {
-            0
-        } else {
-            self.empty_reads.saturating_add(1)
-        };
-        self.empty_reads > MOST_EMPTY_READS
     }
 
     /// Tells whether the terminal is the Linux console.

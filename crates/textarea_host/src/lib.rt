@@ -1,14 +1,18 @@
 //! What a program learns of the terminal that it runs in: its size, and that it is gone.
 #![tactic(auto)]
 
-ghost use Rattle.std.specs.Prelude.{◌≡◌, ◌<◌, false};
+ghost use Rattle.std.specs.Duration.{as_nanos};
+ghost use Rattle.std.specs.Prelude.{◌≡◌, nat_lt};
+ghost use Rattle.textarea_host.specs.Watch.{unanswered_after};
 
 use std::time::Duration;
 use std::{env, fs};
 
-/// The number of reads without bytes, one after another, that took no time, after which the terminal
-/// is gone.
-const MOST_EMPTY_READS: u32 = 100;
+// A read of this many nanoseconds is one that waited.
+const LEAST_WAIT: u128 = 5_000_000;
+
+// After more unanswered reads than these, one after another, the terminal is gone.
+const MOST_UNANSWERED: u32 = 100;
 
 /// Returns the number that an environment variable has, such as `COLUMNS`, or another one if it has
 /// none.
@@ -59,22 +63,24 @@ fn columns_and_rows(text: &str) -> Option<(u16, u16)> {
 /// Watches whether the terminal is still there.
 #[derive(Clone, Copy, Debug, Default, PartialEq, Eq)]
 pub struct Watch {
-    empty_reads: u32,
+    /// The reads, one after another, that got no byte and took no time.
+    unanswered: u32,
 }
 
 impl Watch {
     /// Returns whether the terminal is gone, after a read that got this number of bytes and took this
-    /// time. A terminal that is there lets an empty read wait.
+    /// time: more than 100 reads, one after another, got none in less than 5 milliseconds. A terminal
+    /// that is there lets an empty read wait.
     pub fn is_gone(&mut self, count: usize, taken: Duration) -> bool
-        ensures bytes { 0 < count → result ≡ false }
-        ensures patience { self.old.empty_reads < 100 → result ≡ false }
+        ensures reads { self.new.unanswered
+            ≡ unanswered_after self.old.unanswered count (as_nanos taken) }
+        ensures gone { result ≡ nat_lt 100 self.new.unanswered }
     {
-        let is_there = count > 0 || taken > Duration::from_millis(5);
-        self.empty_reads = if is_there {
+        self.unanswered = if count > 0 || taken.as_nanos() >= LEAST_WAIT {
             0
         } else {
-            self.empty_reads.saturating_add(1)
+            self.unanswered.saturating_add(1)
         };
-        self.empty_reads > MOST_EMPTY_READS
+        self.unanswered > MOST_UNANSWERED
     }
 }
