@@ -37,34 +37,34 @@ least-same distance count nearest least new is least_is new_is most =
 module _ (parts g k : Parts) (gray red green blue to_gray to_cube : ℕ) (gray_is : gray ≡ gray_of parts) (red_is : red ≡ level_of parts.red)
     (green_is : green ≡ level_of parts.green) (blue_is : blue ≡ level_of parts.blue) (g_is : g ≡ gray_parts gray) (k_is : k ≡ cube_parts red green blue)
     (to_gray_is : to_gray ≡ distance_between parts g) (to_cube_is : to_cube ≡ distance_between parts k) where
-  D1 : ℕ
-  D1 = distance_between parts (gray_parts (gray_of parts))
+  to_nearest_gray : ℕ
+  to_nearest_gray = distance_between parts (gray_parts (gray_of parts))
 
-  D2 : ℕ
-  D2 = distance_between parts (cube_parts (level_of parts.red) (level_of parts.green) (level_of parts.blue))
+  to_nearest_cube : ℕ
+  to_nearest_cube = distance_between parts (cube_parts (level_of parts.red) (level_of parts.green) (level_of parts.blue))
 
-  gray-distance : to_gray ≡ D1
-  unfolding D1
+  gray-distance : to_gray ≡ to_nearest_gray
+  unfolding to_nearest_gray
   gray-distance = to_gray_is ∙ ap (distance_between parts) (g_is ∙ ap gray_parts gray_is)
 
-  cube-distance : to_cube ≡ D2
-  unfolding D2
+  cube-distance : to_cube ≡ to_nearest_cube
+  unfolding to_nearest_cube
   cube-distance =
       to_cube_is
       ∙ ap (distance_between parts)
       (k_is ∙ ap (λ x. cube_parts x green blue) red_is ∙ ap (λ x. cube_parts (level_of parts.red) x blue) green_is ∙ ap (λ x. cube_parts (level_of parts.red) (level_of parts.green) x) blue_is)
 
   pub nearest-gray : to_gray < to_cube → 232 + gray ≡ nearest_indexed parts
-  unfolding nearest_indexed D1 D2
+  unfolding nearest_indexed to_nearest_gray to_nearest_cube
   nearest-gray less =
-      let less' : D1 < D2 = omega (arith, gray-distance, cube-distance) in
+      let less' : to_nearest_gray < to_nearest_cube = omega (arith, gray-distance, cube-distance) in
       ap (λ n. 232 + n) gray_is
-      ∙ sym (cond-true (ltb D1 D2) (232 + gray_of parts) (16 + 36 * level_of parts.red + 6 * level_of parts.green + level_of parts.blue) (lt-ltb _ _ less'))
+      ∙ sym (cond-true (ltb to_nearest_gray to_nearest_cube) (232 + gray_of parts) (16 + 36 * level_of parts.red + 6 * level_of parts.green + level_of parts.blue) (lt-ltb _ _ less'))
 
   pub nearest-cube : to_cube ≤ to_gray → 16 + 36 * red + 6 * green + blue ≡ nearest_indexed parts
-  unfolding nearest_indexed D1 D2
+  unfolding nearest_indexed to_nearest_gray to_nearest_cube
   nearest-cube most =
-      let most' : D2 ≤ D1 = omega (arith, gray-distance, cube-distance) in
-      let test : ltb D1 D2 ≡ false = grind (arith, nat_tests, most') in
+      let most' : to_nearest_cube ≤ to_nearest_gray = omega (arith, gray-distance, cube-distance) in
+      let test : ltb to_nearest_gray to_nearest_cube ≡ false = grind (arith, nat_tests, most') in
       ap (λ n. 16 + 36 * n + 6 * green + blue) red_is ∙ ap (λ n. 16 + 36 * level_of parts.red + 6 * n + blue) green_is ∙ ap (λ n. 16 + 36 * level_of parts.red + 6 * level_of parts.green + n) blue_is
-      ∙ sym (cond-false (ltb D1 D2) (232 + gray_of parts) (16 + 36 * level_of parts.red + 6 * level_of parts.green + level_of parts.blue) test)
+      ∙ sym (cond-false (ltb to_nearest_gray to_nearest_cube) (232 + gray_of parts) (16 + 36 * level_of parts.red + 6 * level_of parts.green + level_of parts.blue) test)
