@@ -1,5 +1,5 @@
 -- The keys that end programs. A program returns whether it goes on.
-use Rattle.std.specs.Prelude.{◌≡◌, Bool, true, false, not, Result, IfOk, IsTrue}
+use Rattle.std.specs.Prelude.{◌≡◌, Bool, true, false, not, Result, IfOk}
 use Rattle.textarea_data.specs.declared.input.Key.{Key}
 use Rattle.textarea_data.specs.declared.input.Key.TheVariants.{Esc, Enter}
 
@@ -21,6 +21,11 @@ EndsByEsc key result = IfOk result (λ goes_on. goes_on ≡ not (is_esc key))
 abbrev pub EndsByEscOrEnter : {E : Type 0} → Key → Result Bool E → Type 0
 EndsByEscOrEnter key result = IfOk result (λ goes_on. goes_on ≡ not (is_esc_or_enter key))
 
--- only Esc and Enter may end the program
-abbrev pub EndsOnlyByEscOrEnter : {E : Type 0} → Key → Result Bool E → Type 0
-EndsOnlyByEscOrEnter key result = IfOk result (λ goes_on. goes_on ≡ false → IsTrue (is_esc_or_enter key))
+-- whether the key is Enter
+abbrev pub is_enter : Key → Bool
+is_enter Enter = true
+is_enter other = false
+
+-- the program ends by Esc, perhaps by Enter, and by no other key
+abbrev pub EndsByEscPerhapsEnter : {E : Type 0} → Key → Result Bool E → Type 0
+EndsByEscPerhapsEnter key result = IfOk result (λ goes_on. is_enter key ≡ false → goes_on ≡ not (is_esc key))

@@ -1,5 +1,5 @@
 //! A form: three fields of one line, each of which checks itself.
-ghost use Rattle.gallery.specs.Ends.{EndsOnlyByEscOrEnter};
+ghost use Rattle.gallery.specs.Ends.{EndsByEscPerhapsEnter};
 
 use crate::program::{checked_style, cursor_style, field, say, titled};
 use std::alloc::{AllocError, Global};
@@ -51,7 +51,7 @@ impl Form {
     /// Enter sends the form, which ends the program, or goes to the first field that isn't right.
     /// Esc ends the program.
     pub fn take(&mut self, input: Input) -> Result<bool, AllocError>
-        ensures ends { EndsOnlyByEscOrEnter input.key result }
+        ensures ends { EndsByEscPerhapsEnter input.key result }
     {
         match input.key {
             Key::Esc => return Ok(false),

@@ -1,5 +1,5 @@
 //! A password: one masked line in a block with a title, and a placeholder while it is empty.
-ghost use Rattle.gallery.specs.Ends.{EndsOnlyByEscOrEnter};
+ghost use Rattle.gallery.specs.Ends.{EndsByEscPerhapsEnter};
 
 use crate::program::{checked_style, say, titled};
 use anyhow::Result;
@@ -29,7 +29,7 @@ impl Password {
 
     /// Tab shows the text or masks it. Enter ends the program if the text is long enough, and Esc.
     pub fn take(&mut self, input: Input) -> Result<bool, AllocError>
-        ensures ends { EndsOnlyByEscOrEnter input.key result }
+        ensures ends { EndsByEscPerhapsEnter input.key result }
     {
         match (input.key, self.area.mask_char()) {
             (Key::Esc, _) => return Ok(false),
