@@ -7,12 +7,19 @@
 # before and after. With `program_enters=yes` the program sends ENTER first, once it has read its file;
 # if it says that this was `not opened:`, it has not. What it says on standard error is printed once the
 # terminal is restored. LINES and COLUMNS tell the program the size at first. TEXTAREA_SIZE names a private
-# file, which has the size whenever it may have changed; where there can be none, the terminal is asked,
-# and replies with bytes that are no key. Ctrl T suspends the program.
+# file, which has the size whenever it may have changed; where there can be none, the size stays the first
+# one. The terminal is never asked while the program draws, since the question could get into a frame.
+# Ctrl T suspends the program.
 
+# Prints the name of a new private file, in the first folder that can have one.
+private_file() {
+    for folder in "${TMPDIR:-/tmp}" /tmp "$XDG_RUNTIME_DIR" "$HOME"; do
+        [ -n "$folder" ] && mktemp "$folder/$name-$1-XXXXXX" 2> /dev/null && return
+    done
+}
 tell_size() {
     writes=$((writes + 1))
-    { [ -n "$TEXTAREA_SIZE" ] && echo "$(stty size) $writes" > "$TEXTAREA_SIZE"; } 2> /dev/null || printf '\033[18t'
+    [ -z "$TEXTAREA_SIZE" ] || { echo "$(stty size) $writes" > "$TEXTAREA_SIZE"; } 2> /dev/null
 }
 
 # Gives the terminal to the program: a read returns after a tenth of a second if nothing comes, and of
@@ -55,9 +62,10 @@ run_in_terminal() {
     size=$(stty size)
     LINES=${size% *} COLUMNS=${size#* }
     [ "$LINES" -gt 0 ] 2> /dev/null && [ "$COLUMNS" -gt 0 ] || { LINES=24 COLUMNS=80; }
-    TEXTAREA_SIZE=$(mktemp "${TMPDIR:-/tmp}/$name-size-XXXXXX" 2> /dev/null)
+    TEXTAREA_SIZE=$(private_file size)
     export LINES COLUMNS TEXTAREA_SIZE
-    errors=$(mktemp "${TMPDIR:-/tmp}/$name-errors-XXXXXX" 2> /dev/null) || errors=/dev/null
+    errors=$(private_file errors)
+    errors=${errors:-/dev/null}
     writes=0 child=
     trap restore_terminal EXIT
     for signal in HUP:129 INT:130 QUIT:131 ABRT:134 BUS:135 USR1:138 SEGV:139 USR2:140 PIPE:141 ALRM:142 TERM:143; do
