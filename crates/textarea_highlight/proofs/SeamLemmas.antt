@@ -7,7 +7,7 @@ use Rattle.std.proofs.lemmas.List.{append-nil, get_or-drop, get_or-take, length-
 use Rattle.std.proofs.Math.Seq.{take-append_seam}
 use Rattle.std.proofs.lemmas.Str.{chars-nil, chars_past_char, IsCharBoundary-after_ascii, IsCharBoundary-past_char, IsUtf8-between, IsUtf8-drop, len_utf8_bounds, length-encode}
 use Rattle.textarea_wrap.specs.Columns.{IsVisible, IsVisibleCount, end_column}
-use Rattle.textarea_wrap.proofs.Alls.{all_at}
+use Rattle.textarea_util.proofs.Alls.{all_at}
 use Rattle.textarea_wrap.proofs.VisibleLemmas.{visible-column}
 use Rattle.textarea_highlight.specs.Columns.{column_of}
 use Rattle.textarea_highlight.specs.Plain.{is_plain}
@@ -16,7 +16,8 @@ use Rattle.textarea_highlight.specs.Split.{segment_of}
 use Rattle.textarea_highlight.specs.declared.highlight.seams.RowOffset.{RowOffset}
 use Rattle.textarea_highlight.proofs.PlainLemmas.{begins_plain, ends_plain, visible-plain}
 use Rattle.textarea_highlight.proofs.SplitLemmas.{column_to}
-use Rattle.textarea_highlight.proofs.SpanLemmas.{slice_range-one, visible-chars}
+use Rattle.textarea_highlight.proofs.SpanLemmas.{visible-chars}
+use Rattle.textarea_screen.proofs.BufferLemmas.{slice_range-one}
 
 -- a text further
 pub known_after : (row : List ℕ) (tab_len : ℕ) (at : RowOffset) (end column : ℕ) → IsUtf8 row → IsColumnAt row tab_len at → IsCharBoundary row end → at.offset ≤ end →

@@ -4,7 +4,7 @@ use Rattle.std.specs.List.{All, filter}
 use Rattle.std.specs.Str.{chars, all_scalars}
 use Rattle.std.proofs.lemmas.Bool.{cases_lt, and_parts}
 use Rattle.std.proofs.lemmas.Bool.Decides.{nat_tests}
-use Rattle.std.proofs.lemmas.List.{drop-drop, drop-take, drop_more, length-take-le, get_or-take, take-append-drop, take-take}
+use Rattle.std.proofs.lemmas.List.{drop-drop, drop-take, length-take-le, get_or-take, take-append-drop, take-take}
 use Rattle.std.proofs.lemmas.List.Elements.{All-cons, All-head, All-nil, All-tail}
 use Rattle.std.proofs.lemmas.List.Sums.{sum_by-append, sum_by-cons}
 use Rattle.std.proofs.lemmas.Str.{chars-append, chars-encodes, encodes-append, scalars-chars, IsCharBoundary-end, IsUtf8-between, chars-IsAscii}
@@ -48,11 +48,6 @@ module _ {X : Type 0} where
       ∙ ap₂ (λ (a : List X) (b : List X). a ++ b) (take-take (mid - from) (to - from) (drop from xs) (omega arith))
       (ap (λ k. drop (mid - from) (take k (drop from xs))) sum ∙ drop-take (mid - from) (to - mid) (drop from xs)
       ∙ ap (take (to - mid)) (drop-drop (mid - from) from xs ∙ ap (λ k. drop k xs) at))
-
-pub slice_range-one : (xs : List ℕ) (at : ℕ) → at < length xs → slice_range xs at (at + 1) ≡ get_or xs at 0 ∷ []
-slice_range-one xs at below =
-    let one : (at + 1) - at ≡ 1 = omega arith in
-    ap (λ k. take k (drop at xs)) one ∙ ap (take 1) (drop_more xs at 0 below)
 
 -- ---- the text of a row up to an offset
 

@@ -1,6 +1,7 @@
 -- The indices of a rectangle's cells in the list of all of them, and the effect of a write.
 use Rattle.std.proofs.lemmas.Grind.{common_steps}
-use Rattle.std.proofs.Common.{◌≡◌, ◌≢◌, ℕ, zero, suc, ◌+◌, ◌-◌, ◌*◌, ◌/◌, ◌%◌, ◌<◌, ◌≤◌, min, max, Bool, true, false, cond, eqb, leb, ltb, ◌&&◌, ◌||◌, List, [], ◌∷◌, length, get_or, set, take, slice_range, Option, None, Some, refl, sym, ap, ap₂, ◌∙◌, arith}
+use Rattle.std.proofs.Common.{◌≡◌, ◌≢◌, ℕ, zero, suc, ◌+◌, ◌-◌, ◌*◌, ◌/◌, ◌%◌, ◌<◌, ◌≤◌, min, max, Bool, true, false, cond, eqb, leb, ltb, ◌&&◌, ◌||◌}
+use Rattle.std.proofs.Common.{List, [], ◌∷◌, length, get_or, set, take, slice_range, Option, None, Some, refl, sym, ap, ap₂, ◌∙◌, arith}
 use Rattle.std.specs.Vec.{vec_len}
 use Rattle.std.specs.List.{slice_get, All}
 use Rattle.std.specs.Option.{option_map}
@@ -118,8 +119,8 @@ cell_at-listed buffer cells x y inside is =
 -- ---- cells that follow each other are changed, each by a function of its column
 
 -- one character of a text
-pub slice_one : (text : List ℕ) (at : ℕ) → at < length text → slice_range text at (at + 1) ≡ get_or text at 0 ∷ []
-slice_one text at below = let one : (at + 1) - at ≡ 1 = omega arith in ap₂ (λ (n : ℕ) (rest : List ℕ). take n rest) one (drop_more text at 0 below)
+pub slice_range-one : (text : List ℕ) (at : ℕ) → at < length text → slice_range text at (at + 1) ≡ get_or text at 0 ∷ []
+slice_range-one text at below = let one : (at + 1) - at ≡ 1 = omega arith in ap₂ (λ (n : ℕ) (rest : List ℕ). take n rest) one (drop_more text at 0 below)
 
 -- the cells from column `from` up to column `to` of a row, each changed by a function of its column
 abbrev pub change_between : (row from to : ℕ) (f : ℕ → CellView → CellView) → Change
@@ -198,18 +199,11 @@ cell_at-fresh buffer x y room fresh = grind (arith, common_steps, slice_get-fres
 abbrev pub is_before_row : Rect → ℕ → ℕ → ℕ → Bool
 is_before_row area row x y = leb area.x x && ltb x (area.x + area.width) && leb area.y y && ltb y row
 
-pub is_between-none : (row at x y : ℕ) → is_between row at at x y ≡ false
-is_between-none row at x y = grind (arith, nat_tests)
-
 pub is_between-apart : (row from at x y : ℕ) → (eqb x at && eqb y row) ≡ true → is_between row from at x y ≡ false
 is_between-apart row from at x y here = grind (arith, nat_tests)
 
 pub is_between-next : (row from at x y : ℕ) → from ≤ at → (is_between row from at x y || (eqb x at && eqb y row)) ≡ is_between row from (at + 1) x y
 is_between-next row from at x y begun = grind (arith, nat_tests)
-
-pub is_between-row : (area : Rect) (row x y : ℕ) → area.y ≤ row → row < area.y + area.height →
-    is_between row area.x (area.x + area.width) x y ≡ is_in_row area row x y
-is_between-row area row x y first last = grind (arith, nat_tests)
 
 pub in_row : (area : Rect) (row x : ℕ) → area.y ≤ row → row < area.y + area.height → area.x ≤ x → x < area.x + area.width → contains area x row ≡ true
 in_row area row x top bottom left right = grind (arith, nat_tests)

@@ -16,9 +16,10 @@ use Rattle.textarea_screen_map.specs.declared.layout.Wrapping.{Wrapping}
 use Rattle.textarea_screen_map.specs.LineRows.{AreRowsOf}
 use Rattle.textarea_blocks.specs.Sums.{range_at, ranges_at, row_total}
 use Rattle.textarea_screen_map.specs.VisualRows.{VisualRow, column_at, greatest_column, row_at, row_width}
-use Rattle.textarea_screen_map.proofs.Holding.{all_at, wrapped_at, rows_at}
+use Rattle.textarea_screen_map.proofs.Holding.{wrapped_at, rows_at}
 use Rattle.textarea_screen_map.proofs.Layouts.{length-AreRowsOf}
 use Rattle.textarea_screen_map.proofs.VisualRows.{IsNumbered, line_of, row_count, row_numbered, row_of}
+use Rattle.textarea_util.proofs.Alls.{all_at}
 
 abbrev bytes_between : List ℕ → ℕ × ℕ → List ℕ
 bytes_between line range = take (range.1 - range.0) (drop range.0 line)

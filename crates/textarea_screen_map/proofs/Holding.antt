@@ -4,7 +4,7 @@ use Rattle.std.proofs.lemmas.Bool.{cases_lt}
 use Rattle.std.proofs.lemmas.List.{length-append}
 use Rattle.std.proofs.Math.ListN.{get_or-map}
 use Rattle.std.proofs.lemmas.Str.{encodes-chars, IsUtf8-string_bytes}
-use Rattle.std.specs.List.{concat, AllByRecursion}
+use Rattle.std.specs.List.{concat}
 use Rattle.textarea_text.specs.Text.{lines_of}
 use Rattle.textarea_text.proofs.StringRows.{line_at}
 use Rattle.textarea_wrap.specs.RowsView.{RowsView}
@@ -15,6 +15,7 @@ use Rattle.textarea_wrap.proofs.FewestRowLemmas.{length-ranges_from}
 use Rattle.textarea_screen_map.specs.declared.layout.Wrapping.{Wrapping}
 use Rattle.textarea_screen_map.specs.LineRows.{AreRowsOf, AreRowsOfLine}
 use Rattle.textarea_blocks.specs.Sums.{ranges_at, range_at}
+use Rattle.textarea_util.proofs.Alls.{all_at}
 
 -- a row begins where the one before it ends
 next_range : (at : ℕ) (texts : List (List ℕ)) (k : ℕ) → k + 1 < length (ranges_from at texts) → (range_at (ranges_from at texts) (k + 1)).0 ≡ (range_at (ranges_from at texts) k).1
@@ -90,11 +91,6 @@ rows_at w (line ∷ lines) (r ∷ rows) (suc i) h within = rows_at w lines rows 
 
 pub wrapped_at : (w : Wrapping) (lines : List (List ℕ)) (rows : List RowsView) (i : ℕ) → AreRowsOf w lines rows → i < length lines → IsWrapped w.mode w.tab_len (max w.width 1) (encode_utf8_all (get_or lines i [])) (ranges_at rows i)
 wrapped_at w lines rows i h within = rw (get_or-map (λ (r : RowsView). r.ranges) rows i (record { ranges = []; marks = []; tick = 0 })) (rows_at w lines rows i h within).wrapped
-
-pub all_at : {X : Type 0} (P : X → Type 0) (items : List X) (i : ℕ) (d : X) → AllByRecursion P items → i < length items → P (get_or items i d)
-all_at P [] i d h within = absurd (omega arith)
-all_at P (item ∷ items) zero d h within = h.0
-all_at P (item ∷ items) (suc i) d h within = all_at P items i d h.1 (omega arith)
 
 pub range_is : (mode : WrapMode) (tab_len width : ℕ) (line : List ℕ) (ranges : List (ℕ × ℕ)) (row : ℕ) → IsWrapped mode tab_len width line ranges → row < length ranges → IsRowRange line (range_at ranges row)
 range_is mode tab_len width line ranges row h within = all_at (IsRowRange line) ranges row (0, 0) h.placed within

@@ -16,9 +16,10 @@ use Rattle.textarea_blocks.specs.Sums.{marks_at}
 use Rattle.textarea_screen_map.specs.KnownColumns.{AreColumnsAtBytes, IsColumnAtByte}
 use Rattle.textarea_screen_map.specs.LineRows.{AreRowsOf}
 use Rattle.textarea_screen_map.specs.declared.layout.Wrapping.{Wrapping}
-use Rattle.textarea_screen_map.proofs.Holding.{all_at, bytes_of_line, rows_at}
+use Rattle.textarea_screen_map.proofs.Holding.{bytes_of_line, rows_at}
 use Rattle.textarea_screen_map.proofs.Layouts.{length-AreRowsOf}
 use Rattle.textarea_screen_map.proofs.RowSlices.{row_slice_of, row_within}
+use Rattle.textarea_util.proofs.Alls.{all_at}
 
 -- ---- marks of a line
 

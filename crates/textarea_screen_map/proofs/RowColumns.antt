@@ -12,7 +12,7 @@ use Rattle.textarea_wrap.specs.Columns.{plain_width, next_stop, column_after, di
 use Rattle.textarea_wrap.proofs.ColumnLemmas.{end_column-append, end_column-after}
 use Rattle.textarea_screen_map.specs.VisualRows.{column_at, reachable_text}
 use Rattle.textarea_screen_map.specs.VisualPositions.{HasNoZeroWidth, LeadsTo}
-use Rattle.textarea_screen_map.proofs.Holding.{all_at}
+use Rattle.textarea_util.proofs.Alls.{all_at}
 
 -- columns never decrease along a row
 pub column_at-le : (tab_len : ℕ) (text : List ℕ) (i j : ℕ) → i ≤ j → column_at tab_len text i ≤ column_at tab_len text j

@@ -7,7 +7,7 @@ use Rattle.std.proofs.lemmas.Str.{encodes-IsAscii, encodes-append}
 use Rattle.std.specs.List.{AllByRecursion}
 use Rattle.std.specs.Str.{IsUtf8, chars}
 use Rattle.textarea_wrap.specs.Columns.{IsVisible, end_column}
-use Rattle.textarea_wrap.proofs.Alls.{all_split}
+use Rattle.textarea_util.proofs.Alls.{all_split}
 use Rattle.textarea_wrap.proofs.ColumnLemmas.{end_column-append}
 use Rattle.textarea_wrap.proofs.VisibleLemmas.{past_visible, visible-ascii, visible-columns}
 use Rattle.textarea_screen_map.specs.declared.line_marks.Mark.{Mark}

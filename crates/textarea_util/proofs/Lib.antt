@@ -1,1 +1,4 @@
+pub mod Alls
+pub mod Characters
+pub mod Options
 pub mod Replacing

@@ -16,7 +16,8 @@ length-replaced items start count new within =
     omega (arith, length-append (take start items) (new ++ drop (start + count) items), length-append new (drop (start + count) items), length-take-le start items (omega arith), length-drop (start + count) items)
 
 -- fewer new items than old ones: the rest of the old ones is removed
-pub replaced_by_fewer : {X : Type 0} (items new : List X) (start count shared : ℕ) → start + count ≤ length items → shared ≤ count → shared ≡ length new → take (start + shared) (replaced items start shared (take shared new)) ++ drop (start + count) (replaced items start shared (take shared new)) ≡ replaced items start count new
+pub replaced_by_fewer : {X : Type 0} (items new : List X) (start count shared : ℕ) → start + count ≤ length items → shared ≤ count → shared ≡ length new →
+    take (start + shared) (replaced items start shared (take shared new)) ++ drop (start + count) (replaced items start shared (take shared new)) ≡ replaced items start count new
 replaced_by_fewer items new start count shared within few all =
     let above = take start items in
     let below = drop (start + shared) items in
@@ -35,7 +36,9 @@ replaced_by_fewer items new start count shared within few all =
     ∙ append_assoc above new (drop (start + count) items)
 
 -- more new items than old ones: the rest is appended, and the items below are moved after it
-pub replaced_by_more : {X : Type 0} (items new : List X) (start count shared below : ℕ) → start + count ≤ length items → shared ≡ count → shared ≤ length new → below ≡ length items - (start + shared) → take (start + shared) (replaced items start shared (take shared new) ++ drop shared new) ++ (drop (start + shared + below) (replaced items start shared (take shared new) ++ drop shared new) ++ take below (drop (start + shared) (replaced items start shared (take shared new) ++ drop shared new))) ≡ replaced items start count new
+pub replaced_by_more : {X : Type 0} (items new : List X) (start count shared below : ℕ) → start + count ≤ length items → shared ≡ count → shared ≤ length new →
+    below ≡ length items - (start + shared) →
+    take (start + shared) (replaced items start shared (take shared new) ++ drop shared new) ++ (drop (start + shared + below) (replaced items start shared (take shared new) ++ drop shared new) ++ take below (drop (start + shared) (replaced items start shared (take shared new) ++ drop shared new))) ≡ replaced items start count new
 replaced_by_more items new start count shared below within all some size =
     let above = take start items in
     let first = take shared new in

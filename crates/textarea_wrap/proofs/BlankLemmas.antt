@@ -11,7 +11,7 @@ use Rattle.unicode_segmentation.specs.Grapheme.{graphemes, is_grapheme_break, br
 use Rattle.unicode_segmentation.specs.Segments.{prepend, cut, segments}
 use Rattle.unicode_segmentation.specs.Word.{word_bounds}
 use Rattle.unicode_segmentation.proofs.Computing.{unicode_segmentation}
-use Rattle.textarea_wrap.proofs.Alls.{all_append}
+use Rattle.textarea_util.proofs.Alls.{all_append}
 use Rattle.textarea_wrap.proofs.FewestWordLemmas.{AreBlanksClusters, BlankIsCluster}
 
 -- no rule that reads further back joins the character to another
@@ -51,7 +51,8 @@ line_ends = (plain 133 refl refl refl refl, plain 160 refl refl refl refl, plain
 wide_spaces : AreAllPlain 8192 11
 unfolding unicode_segmentation
 wide_spaces =
-    (plain 8192 refl refl refl refl, (plain 8193 refl refl refl refl, (plain 8194 refl refl refl refl, (plain 8195 refl refl refl refl, (plain 8196 refl refl refl refl, (plain 8197 refl refl refl refl, (plain 8198 refl refl refl refl, (plain 8199 refl refl refl refl, (plain 8200 refl refl refl refl, (plain 8201 refl refl refl refl, (plain 8202 refl refl refl refl, tt)))))))))))
+    let last : AreAllPlain 8198 5 = (plain 8198 refl refl refl refl, (plain 8199 refl refl refl refl, (plain 8200 refl refl refl refl, (plain 8201 refl refl refl refl, (plain 8202 refl refl refl refl, tt))))) in
+    (plain 8192 refl refl refl refl, (plain 8193 refl refl refl refl, (plain 8194 refl refl refl refl, (plain 8195 refl refl refl refl, (plain 8196 refl refl refl refl, (plain 8197 refl refl refl refl, last))))))
 
 others : IsPlain 8232 × IsPlain 8233 × IsPlain 8239 × IsPlain 8287 × IsPlain 12288
 unfolding unicode_segmentation

@@ -20,7 +20,7 @@ fronts (x ∷ a) b (y ∷ c) d h =
 pub not_shorter : (t w : ℕ) (stretch later front rest : Stretch) (next : List ℕ) (row : Stretch) → IsGlyphRow t w stretch later → later ≡ next ∷ rest → (back : Stretch)
     → row ≡ front ++ (stretch ++ next ∷ back) → (stretch_width t row ≤ w) ⊎ (length row ≡ 1) → ⊥
 not_shorter t w stretch later front rest next row greedy later_is back row_is fits =
-    grind (arith, common_steps, append_assoc stretch (next ∷ []) back, stretch_width-front t (stretch ++ next ∷ []) back, stretch_width-back t front (stretch ++ next ∷ back), length-append front (stretch ++ next ∷ back), length-append stretch (next ∷ back))
+    grind (arith, common_steps, append_assoc stretch (next ∷ []) back, stretch_width-front t (stretch ++ next ∷ []) back, stretch_width-back t front (stretch ++ next ∷ back), length-append)
 
 -- so a fitting row that continues after a greedy one ends with it
 ended : (t w : ℕ) (stretch left rest row front back over : Stretch) → IsGlyphRow t w stretch (left ++ []) → row ≡ front ++ back → back ≡ stretch ++ over → left ≡ over ++ rest

@@ -1,9 +1,10 @@
 -- Greedy wrapping at unit ends has the fewest rows, if whitespace units are grapheme clusters.
 use Rattle.textarea_wrap.proofs.Prelude.{common_steps, cases_lt, length-map, nil_from_length}
 use Rattle.std.proofs.Common.{◌≡◌, ℕ, ◌<◌, ◌≤◌, ◌⊎◌, inl, inr, true, List, [], ◌∷◌, ◌++◌, length, refl, sym, ap, subst, ◌∙◌, ⊎_elim, append_assoc, append-nil, length-append, arith}
-use Rattle.textarea_wrap.specs.Prelude.{concat, flat_map, AllByRecursion, stretch_width, is_blank, line_units, Stretch, UnitBlock, shared, split, stretches_of, units_of, rows_of, FitsAfter, IsFittingStretch, IsBlock, AreBlocks, IsGlyphWrapping, IsWordWrapping, AreFittingRows, IsFittingBlock, AreFittingBlocks, HasFewestWordRows}
+use Rattle.textarea_wrap.specs.Prelude.{concat, flat_map, AllByRecursion, stretch_width, is_blank, line_units, Stretch, UnitBlock, shared, split, stretches_of, units_of, rows_of, FitsAfter}
+use Rattle.textarea_wrap.specs.Prelude.{IsFittingStretch, IsBlock, AreBlocks, IsGlyphWrapping, IsWordWrapping, AreFittingRows, IsFittingBlock, AreFittingBlocks, HasFewestWordRows}
 use Rattle.unicode_segmentation.specs.Grapheme.{graphemes}
-use Rattle.textarea_wrap.proofs.Alls.{all_split}
+use Rattle.textarea_util.proofs.Alls.{all_split}
 use Rattle.textarea_wrap.proofs.ColumnLemmas.{stretch_width-front, stretch_width-back}
 use Rattle.textarea_wrap.proofs.FewestLemmas.{fronts, greedy_ahead}
 

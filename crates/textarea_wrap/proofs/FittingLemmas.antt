@@ -1,12 +1,15 @@
 -- If the grapheme clusters of a line fit the width, no cursor is in a column past it.
 use Rattle.textarea_wrap.proofs.Prelude.{common_steps, nat_tests, flat_map-append, chars-nil, take_at, take-append-drop}
-use Rattle.std.proofs.Common.{◌≡◌, ◌≢◌, ℕ, zero, suc, ◌+◌, ◌-◌, ◌*◌, ◌^◌, ◌<◌, ◌≤◌, true, false, cond, nat_eq, List, [], ◌∷◌, ◌++◌, map, length, take, drop, get_or, refl, sym, ap, subst, ◌∙◌, ⊎_elim, append-nil, length-append, le_trans, arith}
-use Rattle.textarea_wrap.specs.Prelude.{concat, flat_map, AllByRecursion, IsUtf8, chars, plain_width, column_after, end_column, stretch_width, Stretch, UnitBlock, shared, split, stretches_of, units_of, rows_of, begins_with_content, AreGlyphRows, IsGlyphWrapping, HangsOver, IsBlock, AreBlocks, IsWordWrapping, full_width, IsFittingCluster, AreFittingClusters, HasFittingClusters, is_blank, AreRowTexts, IsWrapping, WrapMode}
+use Rattle.std.proofs.Common.{◌≡◌, ◌≢◌, ℕ, zero, suc, ◌+◌, ◌-◌, ◌*◌, ◌^◌, ◌<◌, ◌≤◌, true, false, cond, nat_eq, List, [], ◌∷◌, ◌++◌, map, length}
+use Rattle.std.proofs.Common.{take, drop, get_or, refl, sym, ap, subst, ◌∙◌, ⊎_elim, append-nil, length-append, le_trans, arith}
+use Rattle.textarea_wrap.specs.Prelude.{concat, flat_map, AllByRecursion, IsUtf8, chars, plain_width, column_after, end_column, stretch_width, Stretch, UnitBlock, shared}
+use Rattle.textarea_wrap.specs.Prelude.{split, stretches_of, units_of, rows_of, begins_with_content, AreGlyphRows, IsGlyphWrapping, HangsOver, IsBlock, AreBlocks}
+use Rattle.textarea_wrap.specs.Prelude.{IsWordWrapping, full_width, IsFittingCluster, AreFittingClusters, HasFittingClusters, is_blank, AreRowTexts, IsWrapping, WrapMode}
 use Rattle.unicode_segmentation.specs.Grapheme.{graphemes, is_grapheme_break}
 use Rattle.unicode_segmentation.proofs.SegmentsLemmas.{concat-segments}
 use Rattle.unicode_width.proofs.Rules.{width_or_zero-le}
 use Rattle.textarea_wrap.specs.declared.wrap.WrapMode.TheVariants as mode
-use Rattle.textarea_wrap.proofs.Alls.{all_split}
+use Rattle.textarea_util.proofs.Alls.{all_split}
 use Rattle.textarea_wrap.proofs.BlankLemmas.{AreBlanksClusters-line_units}
 use Rattle.textarea_wrap.proofs.ColumnLemmas.{end_column-append, end_column-after, stretch_width-one, stretch_width-push}
 use Rattle.textarea_wrap.proofs.FewestWordLemmas.{BlankIsCluster}
@@ -65,7 +68,8 @@ one_fits t w [] e all = absurd (omega (arith, e))
 one_fits t w (cluster ∷ []) e all = fits_anyhow t w cluster all.0
 one_fits t w (cluster ∷ next ∷ rest) e all = absurd (omega (arith, e))
 
-glyph_rows_within : (t w : ℕ) (stretches : List Stretch) (later : Stretch) → AreGlyphRows t w stretches later → AllByRecursion (IsFittingCluster t w) (stretches_of stretches) → AreSegments (stretches_of stretches) → AllByRecursion (λ text. end_of t text ≤ w) (map concat stretches)
+glyph_rows_within : (t w : ℕ) (stretches : List Stretch) (later : Stretch) → AreGlyphRows t w stretches later → AllByRecursion (IsFittingCluster t w) (stretches_of stretches) →
+    AreSegments (stretches_of stretches) → AllByRecursion (λ text. end_of t text ≤ w) (map concat stretches)
 glyph_rows_within t w [] later wrapped all p = tt
 glyph_rows_within t w (stretch ∷ stretches) later wrapped all p =
     let clusters = all_split (IsFittingCluster t w) stretch (stretches_of stretches) all in
@@ -75,7 +79,9 @@ glyph_rows_within t w (stretch ∷ stretches) later wrapped all p =
 
 glyphs_within : (t w : ℕ) (text : List ℕ) (rows : List (List ℕ)) → IsUtf8 text → AreFittingClusters t w text → IsGlyphWrapping t w text rows → AllByRecursion (λ row. end_of t row ≤ w) rows
 glyphs_within t w text rows u all wrapped =
-    grind (arith, common_steps, glyph_rows_within t w wrapped.stretches [] wrapped.wrapped (subst (AllByRecursion (IsFittingCluster t w)) (sym wrapped.whole) all) (subst AreSegments (sym wrapped.whole) (AreSegments-segments (is_grapheme_break true) text u)), AreSegments-segments (is_grapheme_break true) text u)
+    let segments = AreSegments-segments (is_grapheme_break true) text u in
+    let clusters = subst (AllByRecursion (IsFittingCluster t w)) (sym wrapped.whole) all in
+    rw wrapped.rows_are (glyph_rows_within t w wrapped.stretches [] wrapped.wrapped clusters (subst AreSegments (sym wrapped.whole) segments))
 
 -- ---- rows of units
 
@@ -103,7 +109,8 @@ without_last : (t : ℕ) (front : Stretch) (last : List ℕ) → AreSegments (fr
 without_last t front last p one =
     grind (arith, common_steps, chars-word_segments (front ++ last ∷ []) p, flat_map-append chars front (last ∷ []), append-nil (chars last), length-append (flat_map chars front) (chars last), take_at)
 
-hangs_within : (t w : ℕ) (front : Stretch) (last : List ℕ) (later : Stretch) → AreSegments (front ++ last ∷ []) → stretch_width t front ≤ w → HangsOver w (stretch_width t (front ++ last ∷ [])) last later → IsFittingCluster t w last → last_of t (concat (front ++ last ∷ [])) ≤ w
+hangs_within : (t w : ℕ) (front : Stretch) (last : List ℕ) (later : Stretch) → AreSegments (front ++ last ∷ []) → stretch_width t front ≤ w →
+    HangsOver w (stretch_width t (front ++ last ∷ [])) last later → IsFittingCluster t w last → last_of t (concat (front ++ last ∷ [])) ≤ w
 hangs_within t w front last later p fits over cluster =
     grind (arith, common_steps, stretch_width-push t front last, end_column-full t (stretch_width t front) (chars last), without_last)
 
@@ -138,7 +145,9 @@ blocks_within t w (block ∷ blocks) wrapped p blanks all =
 
 words_within : (t w : ℕ) (line : List ℕ) (rows : List (List ℕ)) → IsUtf8 line → HasFittingClusters t w line → IsWordWrapping t w line rows → AreWithin t w rows
 words_within t w line rows u all wrapped =
-    grind (arith, common_steps, blocks_within t w wrapped.blocks wrapped.wrapped (subst AreSegments (sym wrapped.whole) (AreSegments-line_units line u)) (subst (AllByRecursion BlankIsCluster) (sym wrapped.whole) (AreBlanksClusters-line_units line)) (subst (AllByRecursion (AreFittingClusters t w)) (sym wrapped.whole) all.of_units), AreSegments-line_units line u, AreBlanksClusters-line_units line)
+    let segments = subst AreSegments (sym wrapped.whole) (AreSegments-line_units line u) in
+    let blanks = subst (AllByRecursion BlankIsCluster) (sym wrapped.whole) (AreBlanksClusters-line_units line) in
+    rw wrapped.rows_are (blocks_within t w wrapped.blocks wrapped.wrapped segments blanks (subst (AllByRecursion (AreFittingClusters t w)) (sym wrapped.whole) all.of_units))
 
 -- ---- in each mode that wraps
 

@@ -1,10 +1,21 @@
 -- A walk over the grapheme clusters of a text, with the rows that are full and the open row.
-use Rattle.textarea_wrap.proofs.Prelude.{common_steps, map-append, concat-append}
-use Rattle.std.proofs.Common.{◌≡◌, ℕ, ◌+◌, ◌<◌, ◌≤◌, ◌⊎◌, inl, inr, true, List, [], ◌∷◌, ◌++◌, map, length, refl, sym, ap, subst, ◌∙◌, ⊎_elim, append_assoc, append-nil, length-append, arith}
+use Rattle.textarea_wrap.proofs.Prelude.{cases_lt, common_steps, map-append, concat-append}
+use Rattle.std.proofs.lemmas.Result.{on_ok_weaker}
+use Rattle.std.specs.Result.{OnOk}
+use Rattle.std.proofs.Common.{◌≡◌, ℕ, ◌+◌, ◌<◌, ◌≤◌, ◌⊎◌, inl, inr, true, Result, List, [], ◌∷◌, ◌++◌, map, length, refl, sym, ap, subst, ◌∙◌, ⊎_elim, append_assoc, append-nil, length-append, arith}
 use Rattle.textarea_wrap.specs.Prelude.{concat, chars, IsUtf8, end_column, stretch_width, Stretch, stretches_of, ranges_from, IsGlyphRow, AreGlyphRows, IsGlyphWrapping}
 use Rattle.unicode_segmentation.specs.Grapheme.{graphemes, is_grapheme_break}
 use Rattle.unicode_segmentation.proofs.SegmentsLemmas.{AllPieces, concat-segments}
 use Rattle.textarea_wrap.proofs.ColumnLemmas.{stretch_width-one, stretch_width-push}
+
+-- what holds after a row's range is pushed, unless the row is empty
+pub nonempty_pushed : {T E : Type 0} (P : List (ℕ × ℕ) → Type 0) (rows new : List (ℕ × ℕ)) (start end : ℕ) (pushed : Result T E) →
+    (start < end → P (rows ++ (start, end) ∷ [])) → (end ≤ start → P rows) →
+    (start < end → OnOk pushed (new ≡ rows ++ (start, end) ∷ [])) → (end ≤ start → OnOk pushed (new ≡ rows)) → OnOk pushed (P new)
+nonempty_pushed P rows new start end pushed open_row no_row some none = elim (cases_lt start end) [
+  | inl lt ↦ on_ok_weaker pushed (λ (is : new ≡ rows ++ (start, end) ∷ []). subst P (sym is) (open_row lt)) (some lt)
+  | inr le ↦ on_ok_weaker pushed (λ (is : new ≡ rows). subst P (sym is) (no_row le)) (none le)
+]
 
 pub stretches_of-append : (stretches others : List Stretch) → stretches_of (stretches ++ others) ≡ stretches_of stretches ++ stretches_of others
 stretches_of-append [] others = refl
@@ -127,10 +138,11 @@ module _ (tab_len width start : ℕ) (clusters : Stretch) (before : List (ℕ ×
 
   module _ (rows : List (ℕ × ℕ)) (row_start row_end column : ℕ) (text : List ℕ) (utf8 : IsUtf8 text) (whole : clusters ≡ graphemes true text)
       (w : IsGlyphWalk tab_len width start clusters before rows [] row_start row_end column) where
-    -- no cluster remains, and the open row is closed
-    pub IsGlyphWalk-end_open : row_start < row_end
-        → (texts : List (List ℕ)) × IsGlyphWrapping tab_len width text texts × (concat texts ≡ text) × (rows ++ (row_start, row_end) ∷ [] ≡ before ++ ranges_from start texts)
-    IsGlyphWalk-end_open started =
+    abbrev Ends : List (ℕ × ℕ) → Type 0
+    Ends new = (texts : List (List ℕ)) × IsGlyphWrapping tab_len width text texts × (concat texts ≡ text) × (new ≡ before ++ ranges_from start texts)
+
+    end_open : row_start < row_end → Ends (rows ++ (row_start, row_end) ∷ [])
+    end_open started =
         let all = sym (append-nil _) ∙ stretches_of-push w.full w.open_stretch [] ∙ w.joined ∙ whole in (
           map concat (w.full ++ w.open_stretch ∷ []),
           record {
@@ -147,10 +159,8 @@ module _ (tab_len width start : ℕ) (clusters : Stretch) (before : List (ℕ ×
           ranges_from-push start before rows w.full w.open_stretch row_start row_end w.rows_are w.begins w.ends,
         )
 
-    -- no cluster remains, and no row is open
-    pub IsGlyphWalk-end_closed : row_end ≤ row_start
-        → (texts : List (List ℕ)) × IsGlyphWrapping tab_len width text texts × (concat texts ≡ text) × (rows ≡ before ++ ranges_from start texts)
-    IsGlyphWalk-end_closed none =
+    end_closed : row_end ≤ row_start → Ends rows
+    end_closed none =
         let empty = ap (λ t. t ++ []) (w.closed none) in
         let all = sym (append-nil _) ∙ ap (λ t. stretches_of w.full ++ t) (sym empty) ∙ w.joined ∙ whole in (
           map concat w.full,
@@ -163,3 +173,8 @@ module _ (tab_len width start : ℕ) (clusters : Stretch) (before : List (ℕ ×
           concat-stretches_of w.full ∙ ap concat all ∙ concat-segments (is_grapheme_break true) text utf8,
           w.rows_are,
         )
+
+    -- no cluster remains, and the open row is closed if there is one
+    pub IsGlyphWalk-end : {T E : Type 0} (pushed : Result T E) (new : List (ℕ × ℕ)) → (row_start < row_end → OnOk pushed (new ≡ rows ++ (row_start, row_end) ∷ [])) →
+        (row_end ≤ row_start → OnOk pushed (new ≡ rows)) → OnOk pushed (Ends new)
+    IsGlyphWalk-end pushed new = nonempty_pushed Ends rows new row_start row_end pushed end_open end_closed

@@ -1,5 +1,4 @@
 mod Prelude
-pub mod Alls
 pub mod BlankLemmas
 pub mod ColumnLemmas
 pub mod DigitLemmas

@@ -1,6 +1,6 @@
 -- Marks: where they are among the items of `Rows`, and one mark more.
 use Rattle.std.proofs.Common.{◌≡◌, ℕ, zero, suc, ◌+◌, ◌-◌, ◌*◌, ◌/◌, ◌<◌, ◌≤◌, List, [], ◌∷◌, ◌++◌, length, map, take, drop, get_or, sym, ap, ap₂, ◌∙◌, arith}
-use Rattle.textarea_wrap.proofs.Prelude.{take-add, append_assoc, drop_at, length-append, take_at, length-map-range_with_len, map-range_with_len_more, IsUtf8-take, chars-append, encodes-chars, length-le-encodes}
+use Rattle.textarea_wrap.proofs.Prelude.{take-add, append_assoc, drop_at, length-append, take_at, length-map-range_with_len, map-range_with_len_more, IsUtf8-take, chars-append}
 use Rattle.textarea_wrap.specs.Prelude.{range_with_len, IsCharBoundary, IsUtf8, chars, mark_at, marks_of, range_count, ranges_from, IsWrapped, WrapMode}
 
 -- ---- ranges and marks together
@@ -43,19 +43,19 @@ rows_ordered kind tab_len width line ranges h i j up within =
 
 -- ---- the characters before a later offset
 
-pub characters_more : (line slice : List ℕ) (from start : ℕ) → IsUtf8 line → from ≤ start → IsCharBoundary line from → slice ≡ take (start - from) (drop from line) → length (chars (take from line)) + length (chars slice) ≡ length (chars (take start line))
+pub characters_more : (line slice : List ℕ) (from start : ℕ) → IsUtf8 line → from ≤ start → IsCharBoundary line from → slice ≡ take (start - from) (drop from line) →
+    length (chars (take from line)) + length (chars slice) ≡ length (chars (take start line))
 characters_more line slice from start u up boundary is =
     let sum : from + (start - from) ≡ start = omega arith in
     let joined : take start line ≡ take from line ++ slice =
     ap (λ n. take n line) (sym sum) ∙ take-add from (start - from) line ∙ ap (λ t. take from line ++ t) (sym is) in
     omega (arith, ap (λ t. length (chars t)) joined, ap length (chars-append (take from line) slice (IsUtf8-take line from u boundary)), length-append (chars (take from line)) (chars slice))
 
-pub characters_few : (text : List ℕ) → IsUtf8 text → length (chars text) ≤ length text
-characters_few text u = omega (arith, length-le-encodes (chars text), ap length (encodes-chars text u))
-
 -- ---- one mark more
 
-pub items_more : (line : List ℕ) (old items now : List (ℕ × ℕ)) (index column start : ℕ) → items ≡ old ++ map (mark_at line old) (range_with_len 0 index) → now ≡ items ++ (column, start) ∷ [] → start ≡ (get_or old (8 * index + 7) (0, 0)).0 → column ≡ length (chars (take start line)) → now ≡ old ++ map (mark_at line old) (range_with_len 0 (index + 1))
+pub items_more : (line : List ℕ) (old items now : List (ℕ × ℕ)) (index column start : ℕ) → items ≡ old ++ map (mark_at line old) (range_with_len 0 index) →
+    now ≡ items ++ (column, start) ∷ [] → start ≡ (get_or old (8 * index + 7) (0, 0)).0 → column ≡ length (chars (take start line)) →
+    now ≡ old ++ map (mark_at line old) (range_with_len 0 (index + 1))
 items_more line old items now index column start so_far is start_is column_is =
     let marks = map (mark_at line old) (range_with_len 0 index) in
     let mark : (column, start) ≡ mark_at line old index =

@@ -1,6 +1,7 @@
 -- A text has one greedy wrapping: of two rows that begin together neither ends before the other.
 use Rattle.std.proofs.Common.{◌≡◌, ℕ, ◌≤◌, ◌⊎◌, List, [], ◌∷◌, ◌++◌, map, length, refl, sym, ap, ap₂, subst, ◌∙◌, ⊎_elim, append-nil, length-append, arith}
-use Rattle.textarea_wrap.specs.Prelude.{concat, flat_map, stretch_width, Stretch, UnitBlock, shared, split, stretches_of, units_of, rows_of, ranges_from, IsGlyphRow, AreGlyphRows, IsGlyphWrapping, AreFittingRows, IsBlock, AreBlocks, IsWordWrapping, IsFittingBlock, WrapMode, AreRowTexts, IsWrapping, IsWrapped}
+use Rattle.textarea_wrap.specs.Prelude.{concat, flat_map, stretch_width, Stretch, UnitBlock, shared, split, stretches_of, units_of, rows_of, ranges_from, IsGlyphRow, AreGlyphRows}
+use Rattle.textarea_wrap.specs.Prelude.{IsGlyphWrapping, AreFittingRows, IsBlock, AreBlocks, IsWordWrapping, IsFittingBlock, WrapMode, AreRowTexts, IsWrapping, IsWrapped}
 use Rattle.textarea_wrap.specs.declared.wrap.WrapMode.TheVariants as mode
 use Rattle.textarea_wrap.proofs.FewestLemmas.{fronts, not_shorter}
 use Rattle.textarea_wrap.proofs.FewestWordLemmas.{block_reaches, block_some, wide_ends}
@@ -36,7 +37,8 @@ block_fits : (t w : ℕ) (block : UnitBlock) (later : Stretch) → IsBlock t w b
 block_fits t w (shared stretch) later h = h.0
 block_fits t w (split unit rows) later h = (h.0, (h.1.stretches, h.1.whole, rows_fit t w h.1.stretches [] h.1.wrapped, h.1.rows_are))
 
-block_ends : (t w : ℕ) (block other : UnitBlock) (left rest over : Stretch) → IsBlock t w block (left ++ []) → IsBlock t w other (rest ++ []) → units_of other ≡ units_of block ++ over → left ≡ over ++ rest → (units_of other ≡ units_of block) × (left ≡ rest)
+block_ends : (t w : ℕ) (block other : UnitBlock) (left rest over : Stretch) → IsBlock t w block (left ++ []) → IsBlock t w other (rest ++ []) →
+    units_of other ≡ units_of block ++ over → left ≡ over ++ rest → (units_of other ≡ units_of block) × (left ≡ rest)
 block_ends t w block other left rest [] h k other_is left_is = (other_is ∙ append-nil (units_of block), left_is)
 block_ends t w block other left rest (next ∷ over) h k other_is left_is =
     absurd (block_reaches t w block other left rest [] next over h (block_fits t w other (rest ++ []) k) other_is left_is)

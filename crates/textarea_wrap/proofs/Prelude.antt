@@ -10,4 +10,5 @@ pub use Rattle.std.proofs.lemmas.List.Elements.{All-head, All-rest}
 pub use Rattle.std.proofs.lemmas.List.Folds.{concat-append}
 pub use Rattle.std.proofs.lemmas.List.FromFn.{length-map-range_with_len, map-range_with_len_more}
 pub use Rattle.std.proofs.lemmas.Nat.{le-div, mod_below}
-pub use Rattle.std.proofs.lemmas.Str.{IsCharBoundary-at_seam, IsCharBoundary-end, IsCharBoundary-start, IsUtf8-append, IsUtf8-between, IsUtf8-nil, IsUtf8-past_char, IsUtf8-take, chars-append, chars-encodes, chars-nil, chars_past_char, encodes-chars, len_utf8_bounds, length-encode, length-le-encodes}
+pub use Rattle.std.proofs.lemmas.Str.{IsCharBoundary-at_seam, IsCharBoundary-end, IsCharBoundary-start, IsUtf8-append, IsUtf8-between, IsUtf8-nil, IsUtf8-past_char}
+pub use Rattle.std.proofs.lemmas.Str.{IsUtf8-take, chars-append, chars-encodes, chars-nil, chars_past_char, encodes-chars, len_utf8_bounds, length-encode, length-le-encodes}

@@ -1,13 +1,14 @@
 -- The visual rows of a line make it up, begin and end between characters, and are not empty.
 use Rattle.std.proofs.Common.{◌≡◌, ℕ, ◌+◌, ◌<◌, true, List, [], ◌∷◌, ◌++◌, map, length, refl, sym, ap, ap₂, subst, ◌∙◌, append_assoc, append-nil, length-append, arith}
 use Rattle.textarea_wrap.proofs.Prelude.{IsUtf8-nil, IsUtf8-append, IsUtf8-between, IsCharBoundary-at_seam, IsCharBoundary-end, cond_both, concat-append, All-head, All-rest}
-use Rattle.textarea_wrap.specs.Prelude.{concat, flat_map, All, AllByRecursion, IsUtf8, IsCharBoundary, is_blank, units_of_segment, line_units, Stretch, UnitBlock, shared, split, stretches_of, units_of, rows_of, ranges_from, AreGlyphRows, IsGlyphWrapping, IsBlock, AreBlocks, IsWordWrapping, WrapMode, IsWrapping, IsRowRange, IsWrapped}
+use Rattle.textarea_wrap.specs.Prelude.{concat, flat_map, All, AllByRecursion, IsUtf8, IsCharBoundary, is_blank, units_of_segment, line_units, Stretch, UnitBlock, shared, split, stretches_of}
+use Rattle.textarea_wrap.specs.Prelude.{units_of, rows_of, ranges_from, AreGlyphRows, IsGlyphWrapping, IsBlock, AreBlocks, IsWordWrapping, WrapMode, IsWrapping, IsRowRange, IsWrapped}
 use Rattle.unicode_segmentation.specs.Grapheme.{graphemes, is_grapheme_break}
 use Rattle.unicode_segmentation.specs.Segments.{Rule, segments, with_offsets}
 use Rattle.unicode_segmentation.specs.Word.{word_bounds, is_word_break}
 use Rattle.unicode_segmentation.proofs.SegmentsLemmas.{AllPieces, IsPieceOf, All-IsPieceOf, segments_nonempty, concat-segments}
 use Rattle.textarea_wrap.specs.declared.wrap.WrapMode.TheVariants as mode
-use Rattle.textarea_wrap.proofs.Alls.{all_append, all_split}
+use Rattle.textarea_util.proofs.Alls.{all_append, all_split}
 use Rattle.textarea_wrap.proofs.GlyphLemmas.{concat-stretches_of}
 
 -- a text that is not empty

@@ -7,7 +7,7 @@ use Rattle.std.proofs.lemmas.Str.Ascii.{IsAscii-from_all}
 use Rattle.unicode_width.specs.Width.{char_width}
 use Rattle.textarea_wrap.proofs.Prelude.{IsUtf8-past_char, chars-append, chars-nil, chars_past_char, length-take-le, nat_tests, nil_from_length, take-add, take-append-drop}
 use Rattle.textarea_wrap.specs.Prelude.{AllByRecursion, IsCharBoundary, IsUtf8, IsVisible, IsVisibleCount, chars, column_after, end_column}
-use Rattle.textarea_wrap.proofs.Alls.{all_append}
+use Rattle.textarea_util.proofs.Alls.{all_append}
 use Rattle.textarea_wrap.proofs.ColumnLemmas.{end_column-append, shorter_after}
 
 all_bytes : (bs : List ℕ) → AllByRecursion IsVisible bs → AllByRecursion (λ b. b < 128) bs
@@ -27,7 +27,8 @@ visible-columns tab_len column [] h = omega arith
 visible-columns tab_len column (b ∷ bs) h =
     omega (arith, visible-columns tab_len (column_after tab_len column b) bs h.1, visible-column tab_len column b h.0)
 
-pub visible_further : (bytes text : List ℕ) (count more : ℕ) → AllByRecursion IsVisible (take count bytes) → text ≡ slice_range bytes count (count + more) → AllByRecursion IsVisible text → AllByRecursion IsVisible (take (count + more) bytes)
+pub visible_further : (bytes text : List ℕ) (count more : ℕ) → AllByRecursion IsVisible (take count bytes) → text ≡ slice_range bytes count (count + more) →
+    AllByRecursion IsVisible text → AllByRecursion IsVisible (take (count + more) bytes)
 visible_further bytes text count more front is back =
     let size : count + more - count ≡ more = omega arith in
     subst (AllByRecursion IsVisible) (sym (take-add count more bytes))
@@ -72,7 +73,8 @@ left_past tab_len from text rest most count column valid counted rest_is column_
     }
 
 -- after one character more
-pub left_next : (tab_len from : ℕ) (text rest later : List ℕ) (column next c : ℕ) → IsLeft tab_len from text column rest → rest ≡ encode_utf8 c ++ later → next ≡ column_after tab_len column c → column ≤ next → next ≤ column + 255 → IsLeft tab_len from text next later
+pub left_next : (tab_len from : ℕ) (text rest later : List ℕ) (column next c : ℕ) → IsLeft tab_len from text column rest → rest ≡ encode_utf8 c ++ later →
+    next ≡ column_after tab_len column c → column ≤ next → next ≤ column + 255 → IsLeft tab_len from text next later
 left_next tab_len from text rest later column next c left is next_is after near = record {
   valid = IsUtf8-past_char rest later c left.valid is;
   end = rw next_is (rw (chars_past_char rest later c left.valid is) at left.end);

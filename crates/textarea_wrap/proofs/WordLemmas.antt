@@ -1,9 +1,12 @@
 -- A walk over the units of a line, with the blocks that are full and the row that is open.
 use Rattle.textarea_wrap.proofs.Prelude.{common_steps, flat_map-append, concat-append}
-use Rattle.std.proofs.Common.{◌≡◌, ℕ, ◌+◌, ◌<◌, ◌≤◌, ◌⊎◌, inl, inr, true, List, [], ◌∷◌, ◌++◌, length, refl, sym, ap, subst, ◌∙◌, ⊎_elim, append_assoc, append-nil, length-append, arith, map, ◌-◌, add-one, take, take_all, drop, drop-cons, length-drop, get_or, Bor}
-use Rattle.textarea_wrap.specs.Prelude.{concat, flat_map, AllByRecursion, chars, end_column, stretch_width, is_blank, Stretch, UnitBlock, shared, split, units_of, rows_of, ranges_from, HangsOver, IsBlock, AreBlocks, IsGlyphWrapping, IsWordWalk}
+use Rattle.std.proofs.Common.{◌≡◌, ℕ, ◌+◌, ◌<◌, ◌≤◌, ◌⊎◌, inl, inr, true, List, [], ◌∷◌, ◌++◌, length, refl, sym, ap, subst, ◌∙◌, ⊎_elim, append_assoc}
+use Rattle.std.specs.Result.{OnOk}
+use Rattle.std.proofs.Common.{append-nil, length-append, Result, rules, arith, map, ◌-◌, add-one, take, take_all, drop, drop-cons, length-drop, get_or, Bor}
+use Rattle.textarea_wrap.specs.Prelude.{concat, flat_map, AllByRecursion, chars, end_column, stretch_width, is_blank, Stretch, UnitBlock, shared}
+use Rattle.textarea_wrap.specs.Prelude.{split, units_of, rows_of, ranges_from, HangsOver, IsBlock, AreBlocks, IsGlyphWrapping, IsWordWalk}
 use Rattle.textarea_wrap.proofs.ColumnLemmas.{stretch_width-one, stretch_width-push}
-use Rattle.textarea_wrap.proofs.GlyphLemmas.{ranges_from-append, length-concat-push, nonempty_from_bytes}
+use Rattle.textarea_wrap.proofs.GlyphLemmas.{ranges_from-append, length-concat-push, nonempty_from_bytes, nonempty_pushed}
 
 pub units_of-push : (blocks : List UnitBlock) (block : UnitBlock) (later : Stretch) → flat_map units_of (blocks ++ block ∷ []) ++ later ≡ flat_map units_of blocks ++ (units_of block ++ later)
 units_of-push blocks block later = simp (flat_map-append, append-nil, append_assoc)
@@ -152,11 +155,11 @@ module _ (tab_len width : ℕ) (units : Stretch) (before : List (ℕ × ℕ)) wh
 
   module _ (rows : List (ℕ × ℕ)) (row_start row_end column : ℕ)
       (w : IsWordWalk tab_len width units before rows [] row_start row_end column) where
-    -- no unit remains, and the open row is closed
-    pub IsWordWalk-end_open : row_start < row_end
-        → (blocks : List UnitBlock) × (flat_map units_of blocks ≡ units) × AreBlocks tab_len width blocks []
-        × (rows ++ (row_start, row_end) ∷ [] ≡ before ++ ranges_from 0 (flat_map rows_of blocks))
-    IsWordWalk-end_open started =
+    abbrev Ends : List (ℕ × ℕ) → Type 0
+    Ends new = (blocks : List UnitBlock) × (flat_map units_of blocks ≡ units) × AreBlocks tab_len width blocks [] × (new ≡ before ++ ranges_from 0 (flat_map rows_of blocks))
+
+    end_open : row_start < row_end → Ends (rows ++ (row_start, row_end) ∷ [])
+    end_open started =
         let block = shared w.open_stretch in
         let range : (row_start, row_end) ∷ [] ≡ ranges_from row_start (rows_of block) = ap (λ n. (row_start, n) ∷ []) w.ends in (
           w.blocks ++ block ∷ [],
@@ -164,6 +167,14 @@ module _ (tab_len width : ℕ) (units : Stretch) (before : List (ℕ × ℕ)) wh
           AreBlocks-push tab_len width w.blocks block [] w.wrapped (w.opened started, tt),
           ap (λ t. rows ++ t) range ∙ ranges-push before rows w.blocks block row_start w.rows_are w.begins,
         )
+
+    end_closed : row_end ≤ row_start → Ends rows
+    end_closed none = search (rules, append-nil, w.closed none, w.joined, w.wrapped, w.rows_are)
+
+    -- no unit remains, and the open row is closed if there is one
+    pub IsWordWalk-end : {T E : Type 0} (pushed : Result T E) (new : List (ℕ × ℕ)) → (row_start < row_end → OnOk pushed (new ≡ rows ++ (row_start, row_end) ∷ [])) →
+        (row_end ≤ row_start → OnOk pushed (new ≡ rows)) → OnOk pushed (Ends new)
+    IsWordWalk-end pushed new = nonempty_pushed Ends rows new row_start row_end pushed end_open end_closed
 
 -- ---- units in a slice
 

@@ -16,5 +16,6 @@ pub use Rattle.textarea_wrap.specs.RowsView.{RowsView}
 pub use Rattle.textarea_wrap.specs.Units.{is_blank, line_units, units_of_segment}
 pub use Rattle.textarea_wrap.specs.WordWalk.{IsWordWalk}
 pub use Rattle.textarea_wrap.specs.WrapResult.{AreRowTexts, HasFewestRows, IsRowRange, IsWrapped, IsWrapping, TakesOneRow}
-pub use Rattle.textarea_wrap.specs.WrapRules.{AreBlocks, AreFittingBlocks, AreFittingRows, AreGlyphRows, FitsAfter, HangsOver, HasFewestGlyphRows, HasFewestWordRows, IsBlankCluster, IsBlock, IsFittingBlock, IsFittingRow, IsFittingStretch, IsGlyphRow, IsGlyphWrapping, IsWordWrapping, Stretch, UnitBlock, begins_with_content, ranges_from, rows_of, shared, split, stretches_of, units_of}
+pub use Rattle.textarea_wrap.specs.WrapRules.{AreBlocks, AreFittingBlocks, AreFittingRows, AreGlyphRows, FitsAfter, HangsOver, HasFewestGlyphRows, HasFewestWordRows, IsBlankCluster, IsBlock, IsFittingBlock, IsFittingRow}
+pub use Rattle.textarea_wrap.specs.WrapRules.{IsFittingStretch, IsGlyphRow, IsGlyphWrapping, IsWordWrapping, Stretch, UnitBlock, begins_with_content, ranges_from, rows_of, shared, split, stretches_of, units_of}
 pub use Rattle.textarea_wrap.specs.declared.wrap.WrapMode.{WrapMode}

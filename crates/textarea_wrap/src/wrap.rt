@@ -1,5 +1,5 @@
 //! Wrapping of one line into visual rows.
-ghost use Rattle.std.specs.Prelude.{◌≡◌, ◌+◌, ◌<◌, ◌≤◌, ◌↔◌, ◌++◌, ℕ, List, max, length, IsTrue, IsOk, IfOk, OnOk};
+ghost use Rattle.std.specs.Prelude.{◌≡◌, ◌+◌, ◌<◌, ◌≤◌, ◌↔◌, ◌∷◌, ◌++◌, ℕ, List, [], max, length, IsTrue, IsOk, IfOk, OnOk};
 ghost use Rattle.textarea_wrap.specs.Prelude.{size_limit, marks_of, HasFewestRows, IsWrapped, TakesOneRow};
 
 use self::columns::fits_width;
@@ -116,13 +116,26 @@ fn wrap_line(
         return Err(AllocError);
     }
     let mut ranges = Ranges::new(alloc);
+    let is_glyph = mode == WrapMode::Glyph;
     if mode == WrapMode::None || fits_width(line, width, tab_len) {
         ranges.push((0, line.len()))?;
-    } else if mode == WrapMode::Glyph {
+    } else if is_glyph {
         push_glyph_rows(&mut ranges, line, 0, width, tab_len)?;
     } else {
         let units = collect_units(alloc, line)?;
         push_word_rows(&mut ranges, units.as_slice(), width, tab_len)?;
     }
     Ok(ranges)
+}
+
+// Appends a row's byte range, unless the row is empty.
+fn push_nonempty(rows: &mut Ranges, start: usize, end: usize) -> Result<(), AllocError>
+    ensures some { start < end
+        → OnOk result (rows.new.items ≡ rows.old.items ++ (start, end) ∷ []) }
+    ensures none { end ≤ start → OnOk result (rows.new.items ≡ rows.old.items) }
+{
+    if start < end {
+        rows.push((start, end))?;
+    }
+    Ok(())
 }

@@ -2,8 +2,8 @@
 ghost use Rattle.std.specs.Prelude.{◌≡◌, ℕ, ◌+◌, ◌*◌, ◌^◌, ◌<◌, ◌≤◌, List, ◌++◌, length, OnOk};
 ghost use Rattle.textarea_wrap.specs.Prelude.{concat, IsGlyphWrapping, ranges_from};
 
-use super::Ranges;
 use super::columns::column_after_text;
+use super::{Ranges, push_nonempty};
 use std::alloc::AllocError;
 use unicode_segmentation::UnicodeSegmentation;
 
@@ -34,8 +34,5 @@ pub fn push_glyph_rows(
         }
         row_end += cluster.len();
     }
-    if row_start < row_end {
-        rows.push((row_start, row_end))?;
-    }
-    Ok(())
+    push_nonempty(rows, row_start, row_end)
 }

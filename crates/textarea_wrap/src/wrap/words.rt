@@ -2,10 +2,10 @@
 ghost use Rattle.std.specs.Prelude.{◌≡◌, ℕ, ◌+◌, ◌*◌, ◌^◌, ◌<◌, ◌≤◌, ◌↔◌, List, [], ◌∷◌, ◌++◌, length, map, IsTrue, IfOk, OnOk};
 ghost use Rattle.textarea_wrap.specs.Prelude.{concat, flat_map, AllByRecursion, Stretch, UnitBlock, AreBlocks, HangsOver, begins_with_content, units_of, rows_of, ranges_from, IsWordWalk};
 
-use super::Ranges;
 use super::columns::column_after_text;
 use super::glyphs::push_glyph_rows;
 use super::units::is_all_whitespace;
+use super::{Ranges, push_nonempty};
 use std::alloc::AllocError;
 
 /// Returns whether there is a unit and the first is not all whitespace.
@@ -18,19 +18,25 @@ fn starts_with_content(units: &[&str]) -> bool
     }
 }
 
-/// Returns whether the unit is whitespace that ends one column past the width, before content.
-fn hangs_over(unit: &str, later: &[&str], end: usize, width: usize) -> bool
-    ensures { IsTrue result ↔ HangsOver width end unit.now (map (λ unit. unit.now) later.now) }
-{
-    width < end && end - 1 == width && is_all_whitespace(unit) && starts_with_content(later)
-}
-
 // A visual row that is being filled: its first offset, and the offset and column after it.
 #[derive(Clone, Copy)]
 struct OpenRow {
     start: usize,
     end: usize,
     column: usize,
+}
+
+/// Returns whether the row has a unit, and `unit` is whitespace after it that ends one column past
+/// the width, before content.
+fn hangs_over(row: OpenRow, unit: &str, later: &[&str], end: usize, width: usize) -> bool
+    ensures { IsTrue result ↔ (row.start < row.end)
+        × HangsOver width end unit.now (map (λ unit. unit.now) later.now) }
+{
+    row.start < row.end
+        && width < end
+        && end - 1 == width
+        && is_all_whitespace(unit)
+        && starts_with_content(later)
 }
 
 // Puts a unit into the open row or the next, or gives it rows of its own. Returns the open row.
@@ -55,17 +61,14 @@ fn place_unit(
 {
     let end = row.end + unit.len();
     let joined = column_after_text(unit, row.column, tab_len);
-    let is_open = row.start < row.end;
-    if joined <= width || is_open && hangs_over(unit, later, joined, width) {
+    if joined <= width || hangs_over(row, unit, later, joined, width) {
         return Ok(OpenRow {
             start: row.start,
             end,
             column: joined,
         });
     }
-    if is_open {
-        rows.push((row.start, row.end))?;
-    }
+    push_nonempty(rows, row.start, row.end)?;
     let single = column_after_text(unit, 0, tab_len);
     if single <= width {
         return Ok(OpenRow {
@@ -105,8 +108,5 @@ pub fn push_word_rows(
     for (i, unit) in units.iter().enumerate() {
         row = place_unit(rows, row, unit, &units[i + 1..], width, tab_len)?;
     }
-    if row.start < row.end {
-        rows.push((row.start, row.end))?;
-    }
-    Ok(())
+    push_nonempty(rows, row.start, row.end)
 }

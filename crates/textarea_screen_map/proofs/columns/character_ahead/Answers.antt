@@ -4,7 +4,7 @@ use Rattle.std.proofs.lemmas.Str.{chars-nil}
 use Rattle.std.specs.Str.{IsCharBoundary, chars}
 use Rattle.std.specs.Str.Iter.{chars_rest}
 use Rattle.textarea_text.proofs.Columns.{IsCharBoundary-column}
-use Rattle.textarea_wrap.proofs.MarkLemmas.{characters_few}
+use Rattle.textarea_util.proofs.Characters.{length-chars}
 use Rattle.textarea_screen_map.proofs.RowColumns.{column_at-le, leads_to_covering, leads_to_first, leads_to_least, leads_to_width}
 use Rattle.textarea_screen_map.proofs.MarkLemmas.{IsWalked, walk_from, walk_more}
 use Rattle.textarea_screen_map.proofs.columns.character_ahead.Goals as goal
@@ -28,7 +28,7 @@ loop-c-init c =
 
 pub overflow_add-index : goal.overflow_add-index
 overflow_add-index c =
-    omega (arith, c.loop-c.invariant.walked.within, characters_few c.args.text.now c.utf8.text, c.requires.short)
+    omega (arith, c.loop-c.invariant.walked.within, length-chars c.args.text.now c.utf8.text, c.requires.short)
 
 -- the position after the character
 next : (c : After-display_column_after-next) → (c.loop-c.index < length (chars c.args.text.now)) × IsWalked c.args.tab_len c.args.text.now (chars_rest c.next.new.self) (c.loop-c.index + 1) c.display_column_after-next.result

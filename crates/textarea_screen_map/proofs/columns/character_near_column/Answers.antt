@@ -1,7 +1,7 @@
 use Rattle.std.proofs.Common.{◌+◌, arith, subst, sym}
 use Rattle.std.specs.Str.{IsCharBoundary, chars}
 use Rattle.textarea_text.proofs.Columns.{IsCharBoundary-column}
-use Rattle.textarea_wrap.proofs.MarkLemmas.{characters_few}
+use Rattle.textarea_util.proofs.Characters.{length-chars}
 use Rattle.textarea_screen_map.specs.LineMarks.{IsMark}
 use Rattle.textarea_screen_map.proofs.VisibleMarks.{mark_further}
 use Rattle.textarea_screen_map.proofs.columns.character_near_column.Goals as goal
@@ -21,4 +21,4 @@ character_ahead-requires-clause-known c = further (goal.at.character_ahead-requi
 
 pub overflow_add-further : goal.overflow_add-further
 overflow_add-further c =
-    omega (arith, (further (goal.at.overflow_add-further c).After-visible_count-count).within, characters_few c.args.text.now c.utf8.text, c.requires.short)
+    omega (arith, (further (goal.at.overflow_add-further c).After-visible_count-count).within, length-chars c.args.text.now c.utf8.text, c.requires.short)

@@ -4,13 +4,13 @@ use Rattle.std.proofs.lemmas.Str.{length-encode}
 use Rattle.std.specs.Str.Iter.{chars_rest}
 use Rattle.std.specs.Str.{IsCharBoundary}
 use Rattle.textarea_text.proofs.Columns.{IsCharBoundary-column}
-use Rattle.textarea_wrap.proofs.MarkLemmas.{characters_few}
+use Rattle.textarea_util.proofs.Characters.{length-chars}
 use Rattle.textarea_screen_map.proofs.MarkLemmas.{IsWalked, walk_from, walk_mark, walk_more}
 use Rattle.textarea_screen_map.proofs.line_marks.mark_after.Goals as goal
 use Rattle.textarea_screen_map.proofs.line_marks.mark_after.Goals.{After-display_column_after-display, After-len_utf8}
 
 pub overflow_add-least : goal.overflow_add-least
-overflow_add-least c = omega (arith, c.requires.known.within, characters_few c.args.line.now c.utf8.line, c.requires.short)
+overflow_add-least c = omega (arith, c.requires.known.within, length-chars c.args.line.now c.utf8.line, c.requires.short)
 
 pub range_from-requires : goal.range_from-requires
 range_from-requires c = λ _.

@@ -1,6 +1,6 @@
 use Rattle.std.proofs.Common.{◌≡◌, ◌+◌, ◌≤◌, ap, arith, length}
 use Rattle.std.specs.Str.{chars}
-use Rattle.textarea_wrap.proofs.MarkLemmas.{characters_few}
+use Rattle.textarea_util.proofs.Characters.{length-chars}
 use Rattle.textarea_screen_map.proofs.KnownColumns.{IsSplitAt, split_at}
 use Rattle.textarea_screen_map.proofs.marks.columns_of_front.Goals as goal
 use Rattle.textarea_screen_map.proofs.marks.columns_of_front.Goals.{After-last_mark-column, After-column_count}
@@ -19,7 +19,7 @@ range_from-requires c = λ some. (split (goal.at.range_from-requires c).After-la
 pub overflow_add-result : goal.overflow_add-result
 overflow_add-result c =
     let at = goal.at.overflow_add-result c in
-    omega (arith, all at.After-column_count (split at.After-last_mark-column), characters_few c.args.front.now c.utf8.front)
+    omega (arith, all at.After-column_count (split at.After-last_mark-column), length-chars c.args.front.now c.utf8.front)
 
 pub returns : goal.returns
 returns c = let at = goal.at.returns c in all at.After-column_count (split at.After-last_mark-column)

@@ -9,20 +9,27 @@ use Rattle.textarea_wrap.proofs.wrap.line_ranges.Goals.{After-counted}
 abbrev AreMarked : (line : List ℕ) → (List (ℕ × ℕ) → Type 0) → RowsView → Type 0
 AreMarked line P rows = P rows.ranges × (rows.marks ≡ marks_of line rows.ranges)
 
-marked : (line : List ℕ) (P : List (ℕ × ℕ) → Type 0) (items ranges : List (ℕ × ℕ)) (rows : RowsView) → P ranges → items ≡ ranges ++ marks_of line ranges → rows.ranges ≡ take (range_count (length items)) items → rows.marks ≡ drop (range_count (length items)) items → AreMarked line P rows
+marked : (line : List ℕ) (P : List (ℕ × ℕ) → Type 0) (items ranges : List (ℕ × ℕ)) (rows : RowsView) → P ranges → items ≡ ranges ++ marks_of line ranges →
+    rows.ranges ≡ take (range_count (length items)) items → rows.marks ≡ drop (range_count (length items)) items → AreMarked line P rows
 marked line P items ranges rows right is first rest =
     let same : rows.ranges ≡ ranges = first ∙ ranges_among line items ranges is in
     (subst P (sym same) right, subst (λ t. rows.marks ≡ marks_of line t) (sym same) (rest ∙ marks_among line items ranges is))
 
 -- what holds for the items holds for the rows that have them
-if_counted : {T E : Type 0} (wrapped : Result T E) (rows : Result RowsView E) (items : T → List (ℕ × ℕ)) (line : List ℕ) (P : List (ℕ × ℕ) → Type 0) → IfOk wrapped (λ t. (ranges : List (ℕ × ℕ)) × P ranges × (items t ≡ ranges ++ marks_of line ranges)) → IfOk wrapped (λ t. IfOk rows (λ r. r.ranges ≡ take (range_count (length (items t))) (items t))) → IfOk wrapped (λ t. IfOk rows (λ r. r.marks ≡ drop (range_count (length (items t))) (items t))) → IsOk rows ↔ IsOk wrapped → IfOk rows (AreMarked line P)
+if_counted : {T E : Type 0} (wrapped : Result T E) (rows : Result RowsView E) (items : T → List (ℕ × ℕ)) (line : List ℕ) (P : List (ℕ × ℕ) → Type 0) →
+    IfOk wrapped (λ t. (ranges : List (ℕ × ℕ)) × P ranges × (items t ≡ ranges ++ marks_of line ranges)) →
+    IfOk wrapped (λ t. IfOk rows (λ r. r.ranges ≡ take (range_count (length (items t))) (items t))) →
+    IfOk wrapped (λ t. IfOk rows (λ r. r.marks ≡ drop (range_count (length (items t))) (items t))) → IsOk rows ↔ IsOk wrapped → IfOk rows (AreMarked line P)
 if_counted wrapped (Err e) items line P p first rest ok = tt
 if_counted (Ok t) (Ok r) items line P p first rest ok = marked line P (items t) p.0 r p.1 p.2 first rest
 if_counted (Err e) (Ok r) items line P p first rest ok = let no = ok.0 refl in absurd cc
 
 counted : (c : After-counted) → IfOk c.counted.result (AreMarked c.args.line.now (IsWrapped c.args.mode c.args.tab_len (max c.args.width 1) c.args.line.now))
 counted c =
-    if_counted c.wrap_and_mark-wrapped.result c.counted.result (λ t. t.items) c.args.line.now _ (subst (λ width. IfOk c.wrap_and_mark-wrapped.result (λ t. (ranges : List (ℕ × ℕ)) × IsWrapped c.args.mode c.args.tab_len width c.args.line.now ranges × (t.items ≡ ranges ++ marks_of c.args.line.now ranges))) c.max.ensures c.wrap_and_mark-wrapped.ensures.rows)
+    let line = c.args.line.now in
+    let wrapped = c.wrap_and_mark-wrapped in
+    let rows = rw c.max.ensures at wrapped.ensures.rows in
+    if_counted wrapped.result c.counted.result (λ t. t.items) line (IsWrapped c.args.mode c.args.tab_len (max c.args.width 1) line) rows
     c.counted.ensures.ranges c.counted.ensures.marks c.counted.ensures.out_of_memory
 
 -- a fact about each result

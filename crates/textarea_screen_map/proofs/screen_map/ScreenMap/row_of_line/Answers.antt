@@ -8,9 +8,7 @@ use Rattle.textarea_screen_map.proofs.Layouts.{length-AreRowsOf}
 use Rattle.textarea_screen_map.proofs.VisualRows.{IsFoundRow, found_row, row_displayed}
 use Rattle.textarea_screen_map.proofs.screen_map.ScreenMap.row_of_line.Goals as goal
 use Rattle.textarea_screen_map.proofs.screen_map.ScreenMap.row_of_line.Goals.{After-as_slice-ranges, After-as_str-text}
-
-minus-zero : (n : ℕ) → n - 0 ≡ n
-minus-zero n = omega arith
+use Rattle.std.proofs.Math.Nat.{sub-zero}
 
 within : (c : After-as_slice-ranges) → c.args.line < length c.args.lines.now
 within c =
@@ -43,7 +41,7 @@ returns c =
     let text = c.as_str-text.result.now in
     record {
       displayed = row_displayed _ _ _ _ _ _ is.line_is (omega (arith, c.range.ensures.len, is.start_is))
-          (ap (λ t. length (chars t)) (c.range.ensures.value ∙ ap (λ n. take n text) (minus-zero _)) ∙ is.first_is)
+          (ap (λ t. length (chars t)) (c.range.ensures.value ∙ ap (λ n. take n text) (sub-zero _)) ∙ is.first_is)
           (ap chars c.range-2.ensures.value ∙ is.text_is) is.last_is;
       number = refl;
       line = c.requires.line;

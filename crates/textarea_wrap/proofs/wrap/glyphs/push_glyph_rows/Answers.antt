@@ -3,9 +3,10 @@ use Rattle.std.specs.List.{concat}
 use Rattle.unicode_segmentation.specs.Grapheme.{is_grapheme_break}
 use Rattle.unicode_segmentation.specs.Iter.{graphemes_left}
 use Rattle.unicode_segmentation.proofs.SegmentsLemmas.{concat-segments, segments_nonempty}
-use Rattle.textarea_wrap.proofs.GlyphLemmas.{IsGlyphWalk-start, IsGlyphWalk-extend, IsGlyphWalk-break, IsGlyphWalk-end_open, IsGlyphWalk-end_closed}
+use Rattle.textarea_wrap.proofs.GlyphLemmas.{IsGlyphWalk-start, IsGlyphWalk-extend, IsGlyphWalk-break, IsGlyphWalk-end}
 use Rattle.textarea_wrap.proofs.wrap.glyphs.push_glyph_rows.Goals as goal
-use Rattle.textarea_wrap.proofs.wrap.glyphs.push_glyph_rows.Goals.{then-row_start-row_end+then-width-end+in_ok-push, else-row_start-row_end, else-row_start-row_end-via-then-row_start-row_end+else-width-end, else-row_start-row_end-via-else-row_start-row_end}
+use Rattle.textarea_wrap.proofs.wrap.glyphs.push_glyph_rows.Goals.{then-row_start-row_end+then-width-end+in_ok-push, else-row_start-row_end}
+use Rattle.textarea_wrap.proofs.wrap.glyphs.push_glyph_rows.Goals.{else-row_start-row_end-via-then-row_start-row_end+else-width-end, else-row_start-row_end-via-else-row_start-row_end}
 
 pub loop-cluster-init : goal.loop-cluster-init
 loop-cluster-init c =
@@ -49,10 +50,6 @@ loop-cluster-preserved c =
           }
     ]
 
-pub returns-in_ok-push-2 : goal.returns-in_ok-push-2
-returns-in_ok-push-2 c =
-    rw c.in_ok-push-2.ensures.ok (IsGlyphWalk-end_open _ _ _ _ _ _ _ _ _ c.args.text.now c.utf8.text refl (rw c.in-None.ensures.steps.0 at c.loop-cluster.invariant.walk) c.if-row_start-row_end-2.true)
-
-pub returns-else-row_start-row_end-2 : goal.returns-else-row_start-row_end-2
-returns-else-row_start-row_end-2 c =
-    IsGlyphWalk-end_closed _ _ _ _ _ _ _ _ _ c.args.text.now c.utf8.text refl (rw c.in-None.ensures.steps.0 at c.loop-cluster.invariant.walk) c.if-row_start-row_end-2.false
+pub returns : goal.returns
+returns c =
+    IsGlyphWalk-end _ _ _ _ _ _ _ _ _ c.args.text.now c.utf8.text refl (rw c.in-None.ensures.steps.0 at c.loop-cluster.invariant.walk) _ _ c.push_nonempty.ensures.some c.push_nonempty.ensures.none

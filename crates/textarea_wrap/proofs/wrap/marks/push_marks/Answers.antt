@@ -1,8 +1,9 @@
 use Rattle.std.proofs.Common.{◌≡◌, ℕ, ◌+◌, ◌*◌, ◌<◌, ◌≤◌, List, get_or, length, map, take, sym, subst, ap, ◌∙◌, arith}
 use Rattle.textarea_wrap.proofs.Prelude.{append-nil, get_or_append_left, length-take-le, IsCharBoundary-start, IsUtf8-take, chars-nil}
 use Rattle.textarea_wrap.specs.Prelude.{range_with_len, IsCharBoundary, chars, mark_at, IsRowRange}
-use Rattle.textarea_wrap.proofs.Alls.{all_at}
-use Rattle.textarea_wrap.proofs.MarkLemmas.{characters_few, characters_more, items_more, marks_all}
+use Rattle.textarea_util.proofs.Alls.{all_at}
+use Rattle.textarea_util.proofs.Characters.{length-chars}
+use Rattle.textarea_wrap.proofs.MarkLemmas.{characters_more, items_more, marks_all}
 use Rattle.textarea_wrap.proofs.wrap.marks.push_marks.Goals as goal
 use Rattle.textarea_wrap.proofs.wrap.marks.push_marks.Goals.{After-character_count-column}
 
@@ -36,7 +37,7 @@ marked c =
       start_is = is;
       boundary = boundary;
       column_is = column;
-      few = omega (arith, column, characters_few (take start line) (IsUtf8-take line start c.utf8.line boundary), length-take-le start line boundary.0, boundary.0);
+      few = omega (arith, column, length-chars (take start line) (IsUtf8-take line start c.utf8.line boundary), length-take-le start line boundary.0, boundary.0);
     }
 
 pub loop-index-init : goal.loop-index-init

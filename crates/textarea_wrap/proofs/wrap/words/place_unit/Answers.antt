@@ -1,10 +1,11 @@
-use Rattle.std.proofs.Common.{ℕ, ◌<◌, ◌≤◌, ◌⊎◌, le_refl, List, ◌∷◌, map, inl, inr, sym, ◌∙◌, arith, Bor}
+use Rattle.std.proofs.Common.{ℕ, ◌<◌, ◌≤◌, ◌⊎◌, le_refl, List, ◌∷◌, map, inl, inr, sym, ◌∙◌, Ok, Bor}
 use Rattle.std.proofs.lemmas.Bool.{false≢true}
-use borrow.Author.Tests.{ltb-true}
+use Rattle.textarea_wrap.proofs.GlyphLemmas.{nonempty_pushed}
 use Rattle.textarea_wrap.specs.Prelude.{HangsOver, Stretch, IsWordWalk}
 use Rattle.textarea_wrap.proofs.WordLemmas.{IsWordWalk-join, IsWordWalk-close, IsWordWalk-empty, IsWordWalk-split}
 use Rattle.textarea_wrap.proofs.wrap.words.place_unit.Goals as goal
-use Rattle.textarea_wrap.proofs.wrap.words.place_unit.Goals.{After-column_after_text-single, then-joined-width-via-then-joined-width, then-joined-width-via-else-joined-width+then-hangs_over, then-is_open, else-is_open, then-is_open-2+in_ok-push, else-is_open-2}
+use Rattle.textarea_wrap.proofs.wrap.words.place_unit.Goals.{After-column_after_text-single, then-joined-width-via-then-joined-width}
+use Rattle.textarea_wrap.proofs.wrap.words.place_unit.Goals.{then-joined-width-via-else-joined-width+then-hangs_over}
 
 pub returns-then-joined-width-clause-placed : goal.returns-then-joined-width-clause-placed
 returns-then-joined-width-clause-placed c = λ units before walk.
@@ -15,30 +16,25 @@ returns-then-joined-width-clause-placed c = λ units before walk.
     let room : (joined.result ≤ c.args.width) ⊎ ((start < end) × HangsOver c.args.width joined.result c.args.unit.now left) =
     elim c.then-joined-width.branch [
       | then-joined-width-via-then-joined-width w ↦ inl w.if-joined-width.true
-      | then-joined-width-via-else-joined-width+then-hangs_over w ↦
-          elim w.if-is_open.branch [
-            | then-is_open v ↦ inr (v.if-is_open.true, v.hangs_over.ensures.0 (sym v.value-is ∙ w.if-hangs_over.true))
-            | else-is_open v ↦ let started : start < end = ltb-true _ _ (sym v.value-is ∙ w.if-hangs_over.true) in let closed = v.if-is_open.false in absurd (omega arith)
-          ]
+      | then-joined-width-via-else-joined-width+then-hangs_over w ↦ inr (w.hangs_over.ensures.0 w.if-hangs_over.true)
     ] in
     IsWordWalk-join _ _ units before _ _ left _ _ _ _ walk joined.ensures.value room
 
+abbrev IsBeforeUnit : After-column_after_text-single → Stretch → List (ℕ × ℕ) → ℕ → ℕ → ℕ → List (ℕ × ℕ) → Type 0
+IsBeforeUnit c units before start end column rows =
+    IsWordWalk c.args.tab_len c.args.width units before rows (c.args.unit.now ∷ map (λ (unit : Bor (List ℕ)). unit.now) c.args.later.now) start end column
+
 -- after the open row, if there is one, the unit is before an empty row
-empty : (c : After-column_after_text-single) (units : Stretch) (before : List (ℕ × ℕ)) → IsWordWalk c.args.tab_len c.args.width units before c.args.rows.now.items (c.args.unit.now ∷ map (λ (unit : Bor (List ℕ)). unit.now) c.args.later.now) c.args.row.start c.args.row.end c.args.row.column
-    → IsWordWalk c.args.tab_len c.args.width units before c.if-is_open-2.rows.items (c.args.unit.now ∷ map (λ (unit : Bor (List ℕ)). unit.now) c.args.later.now) c.args.row.end c.args.row.end 0
+empty : (c : After-column_after_text-single) (units : Stretch) (before : List (ℕ × ℕ)) →
+    IsBeforeUnit c units before c.args.row.start c.args.row.end c.args.row.column c.args.rows.now.items →
+    IsBeforeUnit c units before c.args.row.end c.args.row.end 0 c.push_nonempty.new.rows.items
 empty c units before walk =
-    let left = map (λ (unit : Bor (List ℕ)). unit.now) c.args.later.now in
-    let occurs : c.args.row.start < c.args.row.end → HangsOver c.args.width c.column_after_text-joined.result c.args.unit.now left → ⊥ = λ started h.
-    elim c.if-is_open.branch [
-      | then-is_open v ↦ false≢true (sym c.if-hangs_over.false ∙ v.value-is ∙ v.hangs_over.ensures.1 h)
-      | else-is_open v ↦ let closed = v.if-is_open.false in absurd (omega arith)
-    ] in
-    elim c.if-is_open-2.branch [
-      | then-is_open-2+in_ok-push v ↦
-          rw (v.rows-is, v.in_ok-push.ensures.ok)
-          (IsWordWalk-close _ _ units before _ _ left _ _ _ _ walk c.column_after_text-joined.ensures.value v.if-is_open-2.true c.if-joined-width.false (occurs v.if-is_open-2.true))
-      | else-is_open-2 v ↦ rw v.rows-is (IsWordWalk-empty _ _ units before _ _ left _ _ _ walk v.if-is_open-2.false)
-    ]
+    let row = c.args.row in
+    let pushed = c.in_ok-push_nonempty.ensures in
+    nonempty_pushed {T = ℕ} {E = ℕ} (IsBeforeUnit c units before row.end row.end 0) _ _ row.start row.end (Ok 0)
+    (λ some. IsWordWalk-close _ _ units before _ _ _ _ _ _ _ walk c.column_after_text-joined.ensures.value some c.if-joined-width.false
+    (λ h. false≢true (sym c.if-hangs_over.false ∙ c.hangs_over.ensures.1 (some, h))))
+    (λ none. IsWordWalk-empty _ _ units before _ _ _ _ _ _ walk none) pushed.some pushed.none
 
 pub returns-then-single-width-clause-placed : goal.returns-then-single-width-clause-placed
 returns-then-single-width-clause-placed c = λ units before walk.

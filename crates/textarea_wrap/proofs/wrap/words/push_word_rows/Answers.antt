@@ -1,6 +1,6 @@
 use Rattle.textarea_wrap.proofs.Prelude.{common_steps, drop_all}
 use Rattle.std.proofs.Common.{◌≡◌, ℕ, List, [], map, ap, arith, drop, Bor}
-use Rattle.textarea_wrap.proofs.WordLemmas.{IsWordWalk-start, IsWordWalk-end_open, IsWordWalk-later, units_at, length-units_at}
+use Rattle.textarea_wrap.proofs.WordLemmas.{IsWordWalk-start, IsWordWalk-end, IsWordWalk-later, units_at, length-units_at}
 use Rattle.textarea_wrap.proofs.wrap.words.push_word_rows.Goals as goal
 
 pub loop-i-init : goal.loop-i-init
@@ -33,8 +33,8 @@ loop-i-preserved c =
       narrow = omega (arith, was.narrow, placed.near);
     }
 
-pub returns-in_ok-push : goal.returns-in_ok-push
-returns-in_ok-push c =
-    let units = c.args.units.now in
-    let none : map (λ (unit : Bor (List ℕ)). unit.now) (drop c.loop-i.i units) ≡ [] = ap (map (λ (unit : Bor (List ℕ)). unit.now)) (drop_all c.loop-i.i units c.loop-i-test.false) in
-    rw c.in_ok-push.ensures.ok (IsWordWalk-end_open _ _ _ _ _ _ _ _ (rw none at c.loop-i.invariant.walk) c.if-row.true)
+pub returns : goal.returns
+returns c =
+    let none : map (λ (unit : Bor (List ℕ)). unit.now) (drop c.loop-i.i c.args.units.now) ≡ [] =
+    ap (map (λ (unit : Bor (List ℕ)). unit.now)) (drop_all c.loop-i.i c.args.units.now c.loop-i-test.false) in
+    IsWordWalk-end _ _ _ _ _ _ _ _ (rw none at c.loop-i.invariant.walk) _ _ c.push_nonempty.ensures.some c.push_nonempty.ensures.none

@@ -1,7 +1,7 @@
 use Rattle.std.proofs.Common.{ℕ, ◌+◌, ◌-◌, List, [], ◌∷◌, length, get_or, refl, ap, ap₂, ◌∙◌, arith, rules}
 use Rattle.textarea_screen.specs.Cell.{with_symbol, cell_view}
 use Rattle.textarea_screen.specs.declared.screen.cell.Cell.{Cell}
-use Rattle.textarea_screen.proofs.BufferLemmas.{Changes-next, Changes-clipped, Changes-apart, place-right, slice_one}
+use Rattle.textarea_screen.proofs.BufferLemmas.{Changes-next, Changes-clipped, Changes-apart, place-right, slice_range-one}
 use Rattle.textarea_screen.proofs.screen.buffer.Buffer.put_ascii.Goals as goal
 
 pub loop-column-preserved : goal.loop-column-preserved
@@ -15,7 +15,7 @@ loop-column-preserved c =
           c.index_mut-cell.result.now c.put_inline.new.self c.loop-column.invariant.written (search rules) (omega arith) (omega arith) (omega arith) refl refl
           (c.put_inline.ensures
           ∙ ap₂ (λ (t : List ℕ) (cell : Cell). with_symbol t style (cell_view cell))
-          (c.range.ensures.value ∙ slice_one text c.from-at.result (omega arith) ∙ ap (λ n. get_or text n 0 ∷ []) (omega arith)) c.index_mut-cell.ensures.value);
+          (c.range.ensures.value ∙ slice_range-one text c.from-at.result (omega arith) ∙ ap (λ n. get_or text n 0 ∷ []) (omega arith)) c.index_mut-cell.ensures.value);
       after = omega arith;
     }
 

@@ -6,7 +6,8 @@ use Rattle.textarea_screen.specs.declared.screen.cell.Cell.{Cell}
 use Rattle.textarea_screen.proofs.BufferLemmas.{change_between, change_between-none, Changes-next, Changes-clipped, Changes-apart, place-right}
 use Rattle.textarea_screen.proofs.ChangeLemmas.{Changes-none}
 use Rattle.textarea_screen.proofs.screen.buffer.Buffer.put_wide.Goals as goal
-use Rattle.textarea_screen.proofs.screen.buffer.Buffer.put_wide.Goals.{then-is_whole+then-x-start+in_ok-set_symbol, else-is_whole, else-is_whole-via-then-is_whole+else-x-start, else-is_whole-via-else-is_whole, else-start-end-via-then-start-end+else-contains, else-start-end-via-else-start-end}
+use Rattle.textarea_screen.proofs.screen.buffer.Buffer.put_wide.Goals.{then-is_whole+then-x-start+in_ok-set_symbol, else-is_whole, else-is_whole-via-then-is_whole+else-x-start}
+use Rattle.textarea_screen.proofs.screen.buffer.Buffer.put_wide.Goals.{else-is_whole-via-else-is_whole, else-start-end-via-then-start-end+else-contains, else-start-end-via-else-start-end}
 
 pub loop-column-init : goal.loop-column-init
 loop-column-init c =

@@ -1,4 +1,4 @@
--- Properties of each element of a list, and of two lists together.
+-- Properties of each element of a list, and of two lists together, which any crate may cite.
 use Rattle.std.proofs.Common.{ℕ, zero, suc, ◌<◌, List, [], ◌∷◌, ◌++◌, length, get_or, arith}
 use Rattle.std.specs.List.{AllByRecursion}
 
@@ -16,3 +16,13 @@ pub all_at : {X : Type 0} (P : X → Type 0) (items : List X) (i : ℕ) (d : X) 
 all_at P [] i d h within = absurd (omega arith)
 all_at P (item ∷ items) zero d h within = h.0
 all_at P (item ∷ items) (suc i) d h within = all_at P items i d h.1 (omega arith)
+
+-- a property of each element follows from another one, or from two
+pub all_weaker : {X : Type 0} (P Q : X → Type 0) → ((x : X) → P x → Q x) → (xs : List X) → AllByRecursion P xs → AllByRecursion Q xs
+all_weaker P Q weaker [] all = tt
+all_weaker P Q weaker (x ∷ xs) all = (weaker x all.0, all_weaker P Q weaker xs all.1)
+
+pub all_both : {X : Type 0} (P Q R : X → Type 0) → ((x : X) → P x → Q x → R x) → (xs : List X) →
+    AllByRecursion P xs → AllByRecursion Q xs → AllByRecursion R xs
+all_both P Q R both [] p q = tt
+all_both P Q R both (x ∷ xs) p q = (both x p.0 q.0, all_both P Q R both xs p.1 q.1)
