@@ -6,9 +6,10 @@ use Rattle.std.proofs.lemmas.List.{nil_from_length}
 use Rattle.std.specs.Char.Unicode.Uppercase.{is_uppercase}
 use Rattle.std.specs.List.{flat_map, list_any}
 use Rattle.std.specs.Str.{IsUtf8}
-use Rattle.std.proofs.lemmas.Str.{IsUtf8-string_bytes, chars-IsAscii, chars-nil, chars_from_encodes, encodes-append, encodes-chars}
+use Rattle.std.proofs.lemmas.Str.{chars-IsAscii, chars-nil, encodes-chars}
 use Rattle.textarea_editor.specs.Patterns.{case_mark, ends_line, escaped, first_line, is_special, pattern_of}
 use Rattle.textarea_text.specs.Text.{characters_of}
+use Rattle.textarea_text.proofs.StringRows.{characters_of-pushed}
 
 -- a part is added, and the rest is what is left after it
 pub moved_on : (before now part left rest whole : List ℕ) → now ≡ before ++ part → left ≡ part ++ rest → before ++ left ≡ whole → now ++ rest ≡ whole
@@ -18,13 +19,6 @@ moved_on before now part left rest whole added first was =
 -- nothing is left
 pub none_left : (now rest whole : List ℕ) → rest ≡ [] → now ++ rest ≡ whole → now ≡ whole
 none_left now rest whole none was = sym (append-nil now) ∙ ap (λ l. now ++ l) (sym none) ∙ was
-
-pub characters_of-pushed : {Z : Type 0} (old new : String Z) (c : ℕ) → string_bytes new ≡ string_bytes old ++ encode_utf8 c → characters_of new ≡ characters_of old ++ c ∷ []
-characters_of-pushed old new c e =
-    sym (chars_from_encodes (characters_of old ++ c ∷ []) (string_bytes new) (IsUtf8-string_bytes new)
-    (encodes-append (characters_of old) (c ∷ [])
-    ∙ ap (λ t. t ++ encode_utf8_all (c ∷ [])) (encodes-chars (string_bytes old) (IsUtf8-string_bytes old))
-    ∙ ap (λ t. string_bytes old ++ t) (append-nil (encode_utf8 c)) ∙ sym e))
 
 -- a character is added, unless memory runs out
 pub pushed_on_ok : {Z E T : Type 0} (old new : String Z) (c : ℕ) (result : Result T E) → string_bytes new ≡ (if is_ok result then string_bytes old ++ encode_utf8 c else string_bytes old) → OnOk result (characters_of new ≡ characters_of old ++ c ∷ [])

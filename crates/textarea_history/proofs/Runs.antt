@@ -1,21 +1,12 @@
 -- The characters of a run as it grows, and of an edit that has just one.
 use Rattle.std.proofs.Common.{◌≡◌, ℕ, ◌+◌, ◌-◌, ◌≤◌, Bool, true, false, cond, List, [], ◌∷◌, ◌++◌, length, reverse, sym, ap, refl, ◌∙◌, arith, subst, encode_utf8, encode_utf8_all, String, string_bytes, Result, is_ok, Some, None}
 use Rattle.std.proofs.lemmas.List.{append-nil, append_assoc, reverse-append, reverse-reverse, length-append, length-reverse, nil_from_length}
-use Rattle.std.proofs.lemmas.Str.{encodes-append, encodes-chars, IsUtf8-string_bytes, IsUtf8-past_char, chars_past_char, chars-nil}
+use Rattle.std.proofs.lemmas.Str.{IsUtf8-string_bytes, IsUtf8-past_char, chars_past_char, chars-nil}
 use Rattle.textarea_history.specs.Prelude.{IfSome, Global, chars, IsUtf8, string_len, string_capacity, Symbol, Character, characters, characters_of, following, joined, Place, end, Splice, place_before, place_after, Stored, IsWellFormed, line_count_in, stored_of, symbols_in, character_of, merged, Content, Typed}
 use Rattle.textarea_history.specs.declared.edit.Content.TheVariants as content
 use Rattle.textarea_text.proofs.Columns.{chars_from_bytes}
 use Rattle.textarea_text.proofs.Splices.{characters-append, end-append}
-
--- ---- one character more
-
-pub characters_of-pushed : {Z : Type 0} (old new : String Z) (c : ℕ) → string_bytes new ≡ string_bytes old ++ encode_utf8 c → characters_of new ≡ characters_of old ++ c ∷ []
-characters_of-pushed old new c e =
-    chars_from_bytes (string_bytes new) (characters_of old ++ c ∷ []) (IsUtf8-string_bytes new)
-    (e
-    ∙ ap (λ t. t ++ encode_utf8 c) (sym (encodes-chars (string_bytes old) (IsUtf8-string_bytes old)))
-    ∙ ap (λ t. encode_utf8_all (characters_of old) ++ t) (sym (append-nil (encode_utf8 c)))
-    ∙ sym (encodes-append (characters_of old) (c ∷ [])))
+use Rattle.textarea_text.proofs.StringRows.{characters_of-pushed}
 
 -- the first character of an empty text
 pub characters_of-first : {Z : Type 0} (new : String Z) (c : ℕ) → string_bytes new ≡ encode_utf8 c → characters_of new ≡ c ∷ []

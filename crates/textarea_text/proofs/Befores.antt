@@ -1,6 +1,7 @@
 -- The symbol before a position of lines.
 use Rattle.std.proofs.Common.{◌≡◌, ℕ, ◌+◌, ◌-◌, ◌<◌, ◌≤◌, List, [], ◌∷◌, ◌++◌, length, take, drop, sym, ap, refl, ◌∙◌, arith, get_or, subst, String, encode_utf8_all, encode_utf8, Option, Some, None, MatchOption}
-use Rattle.textarea_text.proofs.Prelude.{common_steps, append-nil, length-take-le, length-map, drop_more, take_at, get_or-take, get_or_at, take-append-drop, drop-drop, cons_from_encodes, chars-append, IsUtf8-encode, IsUtf8-take, IsCharBoundary-at_seam}
+use Rattle.textarea_text.proofs.Prelude.{common_steps, append-nil, length-take-le, length-map, drop_more, take_at, get_or-take, get_or_at}
+use Rattle.textarea_text.proofs.Prelude.{take-append-drop, drop-drop, cons_from_encodes, chars-append, IsUtf8-encode, IsUtf8-take, IsCharBoundary-at_seam}
 use Rattle.textarea_text.specs.Prelude.{IsSome, IsScalar, chars, IsUtf8, Character, Break, characters, characters_of, joined, lines_of, text_of, Place, IsPlace, IsPlaceOf, IsSymbolBefore, OccursAt}
 use Rattle.textarea_text.proofs.Columns.{offset_in, take_offset, length-offset, chars-take, chars_from_bytes}
 use Rattle.textarea_text.proofs.Splices.{lines-joined}
@@ -13,7 +14,8 @@ pub text_place : {Z : Type 0} (items : List (String Z)) (place : Place) → IsPl
 text_place items place h =
     subst (λ (rows : List (List ℕ)). IsPlaceOf rows place) (sym (lines-joined (lines_of items) (omega (arith, h.0)))) h
 
-pub character_occurs : (rows : List (List ℕ)) (row column c : ℕ) → row < length rows → column ≤ length (get_or rows row []) → drop column (get_or rows row []) ≡ c ∷ drop (column + 1) (get_or rows row []) → OccursAt (joined rows) (row, column) (Character c ∷ [])
+pub character_occurs : (rows : List (List ℕ)) (row column c : ℕ) → row < length rows → column ≤ length (get_or rows row []) →
+    drop column (get_or rows row []) ≡ c ∷ drop (column + 1) (get_or rows row []) → OccursAt (joined rows) (row, column) (Character c ∷ [])
 character_occurs rows row column c within inside found =
     let here = get_or rows row [] in
     let was : joined (here ∷ []) ≡ characters (take column here) ++ (Character c ∷ characters (drop (column + 1) here)) =
@@ -35,7 +37,9 @@ pub pair_is : (place : Place) (row column : ℕ) → place.0 ≡ row → place.1
 pair_is place row column e e' = ap (λ (n : ℕ). (n, place.1)) e ∙ ap (λ (n : ℕ). (row, n)) e'
 
 -- before a position inside a line there is a character
-pub character_before : {Z : Type 0} (items : List (String Z)) (place : Place) (line : String Z) (c : ℕ) → IsPlaceOf (lines_of items) place → 0 < place.1 → line ≡ get_or items place.0 line → drop (place.1 - 1) (characters_of line) ≡ c ∷ drop (place.1 - 1 + 1) (characters_of line) → IsSymbolBefore (text_of items) place (place.0, place.1 - 1) (Character c)
+pub character_before : {Z : Type 0} (items : List (String Z)) (place : Place) (line : String Z) (c : ℕ) → IsPlaceOf (lines_of items) place → 0 < place.1 →
+    line ≡ get_or items place.0 line → drop (place.1 - 1) (characters_of line) ≡ c ∷ drop (place.1 - 1 + 1) (characters_of line) →
+    IsSymbolBefore (text_of items) place (place.0, place.1 - 1) (Character c)
 character_before items place line c h some read found =
     let rows = lines_of items in
     let here : get_or rows place.0 [] ≡ characters_of line = line_at items place.0 line (omega (arith, h.0, length-map items characters_of)) read in
@@ -45,7 +49,8 @@ character_before items place line c h some read found =
     (pair_is place place.0 (place.1 - 1 + 1) refl (omega arith))
 
 -- before a position at the start of a line below another there is a break
-pub break_before : {Z : Type 0} (items : List (String Z)) (place : Place) (line : String Z) (column : ℕ) → IsPlaceOf (lines_of items) place → place.1 ≡ 0 → 0 < place.0 → line ≡ get_or items (place.0 - 1) line → column ≡ length (characters_of line) → IsSymbolBefore (text_of items) place (place.0 - 1, column) Break
+pub break_before : {Z : Type 0} (items : List (String Z)) (place : Place) (line : String Z) (column : ℕ) → IsPlaceOf (lines_of items) place → place.1 ≡ 0 → 0 < place.0 →
+    line ≡ get_or items (place.0 - 1) line → column ≡ length (characters_of line) → IsSymbolBefore (text_of items) place (place.0 - 1, column) Break
 break_before items place line column h none some read e =
     let rows = lines_of items in
     let here : get_or rows (place.0 - 1) [] ≡ characters_of line = line_at items (place.0 - 1) line (omega (arith, h.0, length-map items characters_of)) read in
@@ -56,7 +61,8 @@ break_before items place line column h none some read e =
     (pair_is place (place.0 - 1 + 1) 0 (omega arith) none)
 
 -- a call of `next` that returns a character
-pub next_is : (Same : Type 0) (cs was rest : List ℕ) (column c : ℕ) (found : Option ℕ) → was ≡ encode_utf8_all (drop column cs) → MatchOption found ((length was ≡ 0) × Same) (λ d. was ≡ encode_utf8 d ++ rest) → found ≡ Some c → drop column cs ≡ c ∷ drop (column + 1) cs
+pub next_is : (Same : Type 0) (cs was rest : List ℕ) (column c : ℕ) (found : Option ℕ) → was ≡ encode_utf8_all (drop column cs) →
+    MatchOption found ((length was ≡ 0) × Same) (λ d. was ≡ encode_utf8 d ++ rest) → found ≡ Some c → drop column cs ≡ c ∷ drop (column + 1) cs
 next_is Same cs was rest column c found e h is =
     grind (arith, common_steps, cons_from_encodes, drop-drop 1 column cs)
 
@@ -74,10 +80,14 @@ pub some_before : (bs before : List ℕ) (column : ℕ) → IsUtf8 bs → 0 < co
 some_before bs before column text some within e =
     omega (arith, ap length (e ∙ take_offset bs column text), length-offset bs column text within)
 
-pub last_before : (bs before rest : List ℕ) (column c : ℕ) → IsUtf8 bs → IsUtf8 before → IsScalar c → 0 < column → column ≤ length (chars bs) → before ≡ take (offset_in (chars bs) column) bs → before ≡ rest ++ encode_utf8 c → drop (column - 1) (chars bs) ≡ c ∷ drop (column - 1 + 1) (chars bs)
+pub last_before : (bs before rest : List ℕ) (column c : ℕ) → IsUtf8 bs → IsUtf8 before → IsScalar c → 0 < column → column ≤ length (chars bs) →
+    before ≡ take (offset_in (chars bs) column) bs → before ≡ rest ++ encode_utf8 c → drop (column - 1) (chars bs) ≡ c ∷ drop (column - 1 + 1) (chars bs)
 last_before bs before rest column c text text' scalar some within is e =
     let cs = chars bs in
     let one = IsUtf8-encode c scalar in
     let seam = IsCharBoundary-at_seam before rest (encode_utf8 c) e one in
     let text'' : IsUtf8 rest = subst IsUtf8 (ap (take (length rest)) e ∙ take_at rest (encode_utf8 c) (length rest) refl) (IsUtf8-take before (length rest) text' seam) in
-    grind (arith, common_steps, take_at rest (encode_utf8 c) (length rest) refl, IsUtf8-take before (length rest) text' seam, chars-take bs before column text text' is, chars-append rest (encode_utf8 c) text'', chars_from_bytes (encode_utf8 c) (c ∷ []) one (sym (append-nil (encode_utf8 c))), get_or-take column cs (column - 1) 0 (omega arith), get_or_at (chars rest) c, drop_more cs (column - 1) 0 (omega arith))
+    let one_is = chars_from_bytes (encode_utf8 c) (c ∷ []) one (sym (append-nil (encode_utf8 c))) in
+    let ends = get_or-take column cs (column - 1) 0 (omega arith) in
+    let next = drop_more cs (column - 1) 0 (omega arith) in
+    grind (arith, common_steps, chars-take bs before column text text' is, chars-append rest (encode_utf8 c) text'', get_or_at (chars rest) c)

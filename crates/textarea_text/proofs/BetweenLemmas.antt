@@ -92,7 +92,8 @@ lines_between rows from to = lines_from_column from.1 (drop from.0 (lines_until 
 pub between_within : (rows : List (List ℕ)) (from to : Place) → to.0 < length rows → from.0 ≡ to.0 → lines_between rows from to ≡ drop from.1 (take to.1 (get_or rows to.0 [])) ∷ []
 between_within rows from to within same = grind (arith, common_steps, nat_tests)
 
-pub between_apart : (rows : List (List ℕ)) (from to : Place) → to.0 < length rows → from.0 < to.0 → lines_between rows from to ≡ drop from.1 (get_or rows from.0 []) ∷ (take (to.0 - (from.0 + 1)) (drop (from.0 + 1) rows) ++ take to.1 (get_or rows to.0 []) ∷ [])
+pub between_apart : (rows : List (List ℕ)) (from to : Place) → to.0 < length rows → from.0 < to.0 →
+    lines_between rows from to ≡ drop from.1 (get_or rows from.0 []) ∷ (take (to.0 - (from.0 + 1)) (drop (from.0 + 1) rows) ++ take to.1 (get_or rows to.0 []) ∷ [])
 between_apart rows from to within below =
     let until = lines_until rows to in
     let next = from.0 + 1 in
@@ -103,11 +104,15 @@ between_apart rows from to within below =
     ∙ ap (λ line. drop from.1 line ∷ drop next until) first
     ∙ ap (λ t. drop from.1 (get_or rows from.0 []) ∷ t) (drop-append-le next (take to.0 rows) last (omega (arith, length-take to.0 rows)) ∙ ap (λ t. t ++ last) middle)
 
-pub between_from_lines : {Z : Type 0} (lines fragment_lines : List (String Z)) (from to : Place) → IsPlaceOf (lines_of lines) from → IsPlaceOf (lines_of lines) to → IsUpTo from to → lines_of fragment_lines ≡ lines_between (lines_of lines) from to → text_of fragment_lines ≡ symbols_between (text_of lines) from to
+pub between_from_lines : {Z : Type 0} (lines fragment_lines : List (String Z)) (from to : Place) → IsPlaceOf (lines_of lines) from → IsPlaceOf (lines_of lines) to →
+    IsUpTo from to → lines_of fragment_lines ≡ lines_between (lines_of lines) from to → text_of fragment_lines ≡ symbols_between (text_of lines) from to
 between_from_lines lines fragment_lines from to h h' before e = ap joined e ∙ sym (between (lines_of lines) from to h h' before).between_is
 
 -- the first and the last line are parts of lines, and those between them are copies
-pub copied_between : {Z : Type 0} (lines one all new copies : List (String Z)) (from to : Place) (first last : List ℕ) → to.0 < length (lines_of lines) → from.0 < to.0 → lines_of one ≡ first ∷ [] → all ≡ one ++ copies → AllZip (λ s t. string_bytes t ≡ string_bytes s) (take (to.0 - (from.0 + 1)) (drop (from.0 + 1) lines)) copies → lines_of new ≡ lines_of all ++ last ∷ [] → first ≡ drop from.1 (get_or (lines_of lines) from.0 []) → last ≡ take to.1 (get_or (lines_of lines) to.0 []) → lines_of new ≡ lines_between (lines_of lines) from to
+pub copied_between : {Z : Type 0} (lines one all new copies : List (String Z)) (from to : Place) (first last : List ℕ) → to.0 < length (lines_of lines) → from.0 < to.0 →
+    lines_of one ≡ first ∷ [] → all ≡ one ++ copies → AllZip (λ s t. string_bytes t ≡ string_bytes s) (take (to.0 - (from.0 + 1)) (drop (from.0 + 1) lines)) copies →
+    lines_of new ≡ lines_of all ++ last ∷ [] → first ≡ drop from.1 (get_or (lines_of lines) from.0 []) → last ≡ take to.1 (get_or (lines_of lines) to.0 []) →
+    lines_of new ≡ lines_between (lines_of lines) from to
 copied_between lines one all new copies from to first last within below begins more same ends is_first is_last =
     let middle : lines_of copies ≡ take (to.0 - (from.0 + 1)) (drop (from.0 + 1) (lines_of lines)) = lines_copied (take (to.0 - (from.0 + 1)) (drop (from.0 + 1) lines)) copies same
     ∙ grind (arith, common_steps, take-map characters_of (to.0 - (from.0 + 1)) (drop (from.0 + 1) lines), drop-map characters_of (from.0 + 1) lines) in

@@ -30,7 +30,9 @@ continues : (b : ℕ) → 128 ≤ b → b < 192 → is_char_start b ≡ false
 continues b l h = grind (arith, nat_tests)
 
 -- the bytes of a character: the first begins it, and the others continue it
-by_width : (a b d : Bool) (c w x y z u v : ℕ) → (a ≡ true → is_char_start c ≡ true) → is_char_start w ≡ true → is_char_start y ≡ true → is_char_start v ≡ true → is_char_start x ≡ false → is_char_start z ≡ false → is_char_start u ≡ false → char_count (cond a (c ∷ []) (cond b (w ∷ x ∷ []) (cond d (y ∷ z ∷ x ∷ []) (v ∷ u ∷ z ∷ x ∷ [])))) ≡ 1
+by_width : (a b d : Bool) (c w x y z u v : ℕ) → (a ≡ true → is_char_start c ≡ true) → is_char_start w ≡ true → is_char_start y ≡ true → is_char_start v ≡ true →
+    is_char_start x ≡ false → is_char_start z ≡ false → is_char_start u ≡ false →
+    char_count (cond a (c ∷ []) (cond b (w ∷ x ∷ []) (cond d (y ∷ z ∷ x ∷ []) (v ∷ u ∷ z ∷ x ∷ [])))) ≡ 1
 unfolding char_count
 by_width true b d c w x y z u v hc hw hy hv hx hz hu = rw (hc refl) refl
 by_width false true d c w x y z u v hc hw hy hv hx hz hu = rw (hw, hx) refl

@@ -1,9 +1,11 @@
 -- Texts that are split at their first line feed, and fragments that are joined to one text.
 use Rattle.std.proofs.Common.{◌≡◌, ◌≢◌, ℕ, ◌+◌, ◌-◌, ◌<◌, ◌≤◌, true, false, nat_eq, encode_utf8_all, List, [], ◌∷◌, ◌++◌, length, take, drop, get_or, refl, sym, ap, subst, ◌∙◌, arith, Option, Some, None, MatchOption, String}
 use denote.Ref.{Bor}
-use Rattle.textarea_text.specs.Prelude.{unwrap_or, chars, IsUtf8, NonePass, NoCharPasses, HasCharAt, Symbol, Character, Break, characters, characters_of, following, joined, leading, lines_of, text_of, fragment_symbols, fragment_text, symbols_for, begins_with_line_feed, unified, unified_after, without_last_break}
+use Rattle.textarea_text.specs.Prelude.{unwrap_or, chars, IsUtf8, NonePass, NoCharPasses, HasCharAt, Symbol, Character, Break, characters, characters_of, following, joined, leading}
+use Rattle.textarea_text.specs.Prelude.{lines_of, text_of, fragment_symbols, fragment_text, symbols_for, begins_with_line_feed, unified, unified_after, without_last_break}
 use Rattle.std.specs.Prelude.{encode_utf8}
-use Rattle.textarea_text.proofs.Prelude.{common_steps, nat_tests, length-map, append-nil, append_assoc, take-append-drop, length-take-le, map-append, take_all, take_more, chars-append, encodes-append, encodes-chars, encodes_same, IsUtf8-take, IsUtf8-drop, IsUtf8-past_char, IsCharBoundary-before_ascii, chars_past_char, encode_ascii}
+use Rattle.textarea_text.proofs.Prelude.{common_steps, nat_tests, length-map, append-nil, append_assoc, take-append-drop, length-take-le, map-append, take_all, take_more, chars-append}
+use Rattle.textarea_text.proofs.Prelude.{encodes-append, encodes-chars, encodes_same, IsUtf8-take, IsUtf8-drop, IsUtf8-past_char, IsCharBoundary-before_ascii, chars_past_char, encode_ascii}
 use Rattle.textarea_text.proofs.Splices.{joined-append, following-append}
 
 -- ---- a text with line feeds, from its first line on
@@ -57,14 +59,19 @@ unfolding chars
 chars_return bs text = chars-append bs (13 ∷ []) text
 
 -- a line without the carriage return at its end, if it has one
-fragment_symbols-stripped : (rest_after : List ℕ) (whole : Bor (List ℕ)) (stripped : Option (Bor (List ℕ))) → IsUtf8 whole.now → IsUtf8 (unwrap_or stripped whole).now → HasNoLineFeed (chars whole.now) → MatchOption stripped ((front : List ℕ) → whole.now ≢ front ++ 13 ∷ []) (λ x. whole.now ≡ x.now ++ 13 ∷ []) → fragment_symbols (chars whole.now ++ 10 ∷ rest_after) ≡ characters (chars (unwrap_or stripped whole).now) ++ (Break ∷ fragment_symbols rest_after)
+fragment_symbols-stripped : (rest_after : List ℕ) (whole : Bor (List ℕ)) (stripped : Option (Bor (List ℕ))) → IsUtf8 whole.now → IsUtf8 (unwrap_or stripped whole).now →
+    HasNoLineFeed (chars whole.now) → MatchOption stripped ((front : List ℕ) → whole.now ≢ front ++ 13 ∷ []) (λ x. whole.now ≡ x.now ++ 13 ∷ []) →
+    fragment_symbols (chars whole.now ++ 10 ∷ rest_after) ≡ characters (chars (unwrap_or stripped whole).now) ++ (Break ∷ fragment_symbols rest_after)
 fragment_symbols-stripped rest_after whole None text text' none h =
     grind (arith, common_steps, fragment_symbols-line, encodes-chars whole.now text, encodes-append, encode_ascii)
 fragment_symbols-stripped rest_after whole (Some line) text text' none h =
     grind (arith, common_steps, chars_return line.now text', append_assoc (chars line.now) (13 ∷ []) (10 ∷ rest_after), fragment_symbols-line_with_return, front-none)
 
 -- a text, split at its first line feed
-pub fragment_symbols-split_text : (bs rest_after : List ℕ) (i j : ℕ) (line : Bor (List ℕ)) (stripped : Option (Bor (List ℕ))) → IsUtf8 bs → IsUtf8 (unwrap_or stripped line).now → NoCharPasses (λ d. nat_eq d 10) (take i bs) → HasCharAt 10 bs i j → line.now ≡ take i bs → rest_after ≡ drop j bs → MatchOption stripped ((front : List ℕ) → line.now ≢ front ++ 13 ∷ []) (λ x. line.now ≡ x.now ++ 13 ∷ []) → fragment_symbols (chars bs) ≡ characters (chars (unwrap_or stripped line).now) ++ (Break ∷ fragment_symbols (chars rest_after))
+pub fragment_symbols-split_text : (bs rest_after : List ℕ) (i j : ℕ) (line : Bor (List ℕ)) (stripped : Option (Bor (List ℕ))) → IsUtf8 bs → IsUtf8 (unwrap_or stripped line).now →
+    NoCharPasses (λ d. nat_eq d 10) (take i bs) → HasCharAt 10 bs i j → line.now ≡ take i bs → rest_after ≡ drop j bs →
+    MatchOption stripped ((front : List ℕ) → line.now ≢ front ++ 13 ∷ []) (λ x. line.now ≡ x.now ++ 13 ∷ []) →
+    fragment_symbols (chars bs) ≡ characters (chars (unwrap_or stripped line).now) ++ (Break ∷ fragment_symbols (chars rest_after))
 fragment_symbols-split_text bs rest_after i j line stripped text text' none at front_is symbol_after_is h =
     let within : i < length bs = omega (arith, at.after.0) in
     let boundary = IsCharBoundary-before_ascii bs i within (omega (arith, at.byte (omega arith))) in
@@ -81,13 +88,13 @@ pub leading-append : (xs ys : List (List ℕ)) → leading (xs ++ ys) ≡ leadin
 leading-append [] ys = refl
 leading-append (x ∷ xs) ys = rw (leading-append xs ys) (simp append_assoc)
 
-pub fragment_more : {Z : Type 0} (fragment_lines more : List (String Z)) (fragment_line : String Z) (rest line rest_after : List ℕ) (whole : List Symbol) → leading (lines_of fragment_lines) ++ fragment_symbols rest ≡ whole → fragment_symbols rest ≡ characters line ++ (Break ∷ fragment_symbols rest_after) → characters_of fragment_line ≡ line → more ≡ fragment_lines ++ fragment_line ∷ [] → leading (lines_of more) ++ fragment_symbols rest_after ≡ whole
-fragment_more fragment_lines more fragment_line rest line rest_after whole h split_text e is =
-    rw (is, map-append, leading-append, append_assoc, append_assoc, e, ← split_text) h
+pub fragment_more : (old more : List (List ℕ)) (rest line after : List ℕ) (whole : List Symbol) → leading old ++ fragment_symbols rest ≡ whole →
+    fragment_symbols rest ≡ characters line ++ (Break ∷ fragment_symbols after) → more ≡ old ++ line ∷ [] → leading more ++ fragment_symbols after ≡ whole
+fragment_more old more rest line after whole h split_text is = rw (is, leading-append, append_assoc, append_assoc, ← split_text) h
 
-pub fragment_done : {Z : Type 0} (fragment_lines more : List (String Z)) (fragment_line : String Z) (rest : List ℕ) (whole : List Symbol) → leading (lines_of fragment_lines) ++ fragment_symbols rest ≡ whole → fragment_symbols rest ≡ characters rest → characters_of fragment_line ≡ rest → more ≡ fragment_lines ++ fragment_line ∷ [] → text_of more ≡ whole
-fragment_done fragment_lines more fragment_line rest whole h last e is =
-    rw (is, map-append, joined-append (lines_of fragment_lines) (characters_of fragment_line ∷ []) (omega arith), append-nil, e, ← last) h
+pub fragment_done : (old : List (List ℕ)) (rest : List ℕ) (whole : List Symbol) → leading old ++ fragment_symbols rest ≡ whole →
+    fragment_symbols rest ≡ characters rest → (more : List (List ℕ)) → more ≡ old ++ rest ∷ [] → joined more ≡ whole
+fragment_done old rest whole h last more is = rw (is, joined-append old (rest ∷ []) (omega arith), append-nil, ← last) h
 
 -- ---- lines, joined by line feeds
 
@@ -105,11 +112,15 @@ pub chars_line_feed : (bs new : List ℕ) → IsUtf8 bs → new ≡ bs ++ encode
 unfolding chars
 chars_line_feed bs new text e = ap chars e ∙ ap (λ t. chars (bs ++ t)) (encode_ascii 10 (omega arith)) ∙ chars-append bs (10 ∷ []) text
 
-pub written_more : {Z : Type 0} (first text next_text fragment_line : List ℕ) (rest : List (String Z)) (number : ℕ) → text ≡ first ++ fragment_text (following (take number (lines_of rest))) → number < length rest → next_text ≡ (text ++ 10 ∷ []) ++ fragment_line → fragment_line ≡ get_or (lines_of rest) number [] → next_text ≡ first ++ fragment_text (following (take (number + 1) (lines_of rest)))
+pub written_more : {Z : Type 0} (first text next_text fragment_line : List ℕ) (rest : List (String Z)) (number : ℕ) →
+    text ≡ first ++ fragment_text (following (take number (lines_of rest))) → number < length rest → next_text ≡ (text ++ 10 ∷ []) ++ fragment_line →
+    fragment_line ≡ get_or (lines_of rest) number [] → next_text ≡ first ++ fragment_text (following (take (number + 1) (lines_of rest)))
 written_more first text next_text fragment_line rest number h within now e =
     grind (arith, common_steps, take_more, length-map rest characters_of, following-append, written-append, written-characters, append-nil, append_assoc)
 
-pub written_done : {Z : Type 0} (first : String Z) (fragment_lines rest : List (String Z)) (begins text : List ℕ) (number : ℕ) → text ≡ begins ++ fragment_text (following (take number (lines_of rest))) → take number (lines_of rest) ≡ lines_of rest → begins ≡ characters_of first → fragment_lines ≡ first ∷ rest → text ≡ fragment_text (text_of fragment_lines)
+pub written_done : {Z : Type 0} (first : String Z) (fragment_lines rest : List (String Z)) (begins text : List ℕ) (number : ℕ) →
+    text ≡ begins ++ fragment_text (following (take number (lines_of rest))) → take number (lines_of rest) ≡ lines_of rest → begins ≡ characters_of first →
+    fragment_lines ≡ first ∷ rest → text ≡ fragment_text (text_of fragment_lines)
 written_done first fragment_lines rest begins text number h all e is = rw (h, all, e, is, written-append, written-characters) refl
 
 -- ---- line ends of pasted texts
@@ -141,14 +152,18 @@ pub unified-last_text : (bs : List ℕ) → IsUtf8 bs → NoCharPasses (λ d. na
 unified-last_text bs text none = unified-last (chars bs) (no_return bs text none)
 
 -- what follows a carriage return, without the line feed at its start, if it has one
-unified-stripped : (whole : Bor (List ℕ)) (stripped : Option (Bor (List ℕ))) → IsUtf8 whole.now → MatchOption stripped ((after : List ℕ) → whole.now ≢ 10 ∷ after) (λ x. whole.now ≡ 10 ∷ x.now) → unified_after true (chars whole.now) ≡ unified (chars (unwrap_or stripped whole).now)
+unified-stripped : (whole : Bor (List ℕ)) (stripped : Option (Bor (List ℕ))) → IsUtf8 whole.now →
+    MatchOption stripped ((after : List ℕ) → whole.now ≢ 10 ∷ after) (λ x. whole.now ≡ 10 ∷ x.now) →
+    unified_after true (chars whole.now) ≡ unified (chars (unwrap_or stripped whole).now)
 unified-stripped whole None text other =
     unified-behind (chars whole.now) (λ after e. other (encode_utf8_all after) (sym (encodes-chars whole.now text) ∙ ap encode_utf8_all e ∙ ap (λ t. t ++ encode_utf8_all after) (encode_ascii 10 (omega arith))))
 unified-stripped whole (Some rest) text is =
     ap (unified_after true) (chars_past_char whole.now rest.now 10 text (is ∙ ap (λ t. t ++ rest.now) (sym (encode_ascii 10 (omega arith)))))
 
 -- a text, split at its first carriage return
-pub unified-split_text : (bs : List ℕ) (i j : ℕ) (front after : Bor (List ℕ)) (stripped : Option (Bor (List ℕ))) → IsUtf8 bs → NoCharPasses (λ d. nat_eq d 13) (take i bs) → HasCharAt 13 bs i j → front.now ≡ take i bs → after.now ≡ drop j bs → MatchOption stripped ((rest : List ℕ) → after.now ≢ 10 ∷ rest) (λ x. after.now ≡ 10 ∷ x.now) → unified (chars bs) ≡ chars front.now ++ (10 ∷ unified (chars (unwrap_or stripped after).now))
+pub unified-split_text : (bs : List ℕ) (i j : ℕ) (front after : Bor (List ℕ)) (stripped : Option (Bor (List ℕ))) → IsUtf8 bs → NoCharPasses (λ d. nat_eq d 13) (take i bs) →
+    HasCharAt 13 bs i j → front.now ≡ take i bs → after.now ≡ drop j bs → MatchOption stripped ((rest : List ℕ) → after.now ≢ 10 ∷ rest) (λ x. after.now ≡ 10 ∷ x.now) →
+    unified (chars bs) ≡ chars front.now ++ (10 ∷ unified (chars (unwrap_or stripped after).now))
 unified-split_text bs i j front after stripped text none at front_is after_is h =
     let within : i < length bs = omega (arith, at.after.0) in
     let boundary = IsCharBoundary-before_ascii bs i within (omega (arith, at.byte (omega arith))) in

@@ -11,7 +11,8 @@ pub column_within : {Z : Type 0} (items : List (String Z)) (place : Place) (line
 column_within items place line h read = omega (arith, h.1, ap length (line_at items place.0 line (row_within items place h) read))
 
 -- the characters of a line once a text replaced those between two columns
-pub chars_between : (bs more new : List ℕ) (column later from to : ℕ) → IsUtf8 bs → IsUtf8 more → IsUtf8 new → from ≡ offset_in (chars bs) column → to ≡ offset_in (chars bs) later → new ≡ (take from bs ++ more) ++ drop to bs → chars new ≡ take column (chars bs) ++ (chars more ++ drop later (chars bs))
+pub chars_between : (bs more new : List ℕ) (column later from to : ℕ) → IsUtf8 bs → IsUtf8 more → IsUtf8 new → from ≡ offset_in (chars bs) column →
+    to ≡ offset_in (chars bs) later → new ≡ (take from bs ++ more) ++ drop to bs → chars new ≡ take column (chars bs) ++ (chars more ++ drop later (chars bs))
 chars_between bs more new column later from to text text' text'' e e' is =
     let head = take column (chars bs) in
     let tail = drop later (chars bs) in
@@ -25,7 +26,10 @@ chars_between bs more new column later from to text text' text'' e e' is =
     ∙ sym (encodes-append head (chars more ++ tail)))
 
 -- the text after the replacement
-pub line_changed : {Z : Type 0} (items : List (String Z)) (line new : String Z) (start : Place) (later : ℕ) (more : List ℕ) → IsPlaceOf (lines_of items) start → IsPlaceOf (lines_of items) (start.0, later) → line ≡ get_or items start.0 line → characters_of new ≡ take start.1 (characters_of line) ++ (more ++ drop later (characters_of line)) → text_of (set items start.0 new) ≡ changed (text_of items) start (start.0, later) (characters more)
+pub line_changed : {Z : Type 0} (items : List (String Z)) (line new : String Z) (start : Place) (later : ℕ) (more : List ℕ) → IsPlaceOf (lines_of items) start →
+    IsPlaceOf (lines_of items) (start.0, later) → line ≡ get_or items start.0 line →
+    characters_of new ≡ take start.1 (characters_of line) ++ (more ++ drop later (characters_of line)) →
+    text_of (set items start.0 new) ≡ changed (text_of items) start (start.0, later) (characters more)
 line_changed items line new start later more h h' read e =
     let within = row_within items start h in
     let here : get_or (lines_of items) start.0 [] ≡ characters_of line = line_at items start.0 line within read in
@@ -39,19 +43,27 @@ line_changed items line new start later more h h' read e =
     ∙ rows_in_place items (new ∷ []) start (start.0, later) start.0 1 (characters more) h h' (omega arith) (omega arith) (omega arith, is)
 
 -- the byte offset of a position, as `byte_offset` returns it, in the line that was read
-pub offset_read : {Z : Type 0} (items : List (String Z)) (place : Place) (line : String Z) (text : List ℕ) (offset : ℕ) → IsPlaceOf (lines_of items) place → line ≡ get_or items place.0 line → text ≡ string_bytes line → offset ≡ length (encode_utf8_all (take place.1 (chars text))) → offset ≡ offset_at (lines_of items) place
+pub offset_read : {Z : Type 0} (items : List (String Z)) (place : Place) (line : String Z) (text : List ℕ) (offset : ℕ) → IsPlaceOf (lines_of items) place →
+    line ≡ get_or items place.0 line → text ≡ string_bytes line → offset ≡ length (encode_utf8_all (take place.1 (chars text))) → offset ≡ offset_at (lines_of items) place
 offset_read items place line text offset h read same e =
     e ∙ ap (λ t. offset_in (chars t) place.1) same ∙ ap (λ t. offset_in t place.1) (sym (line_at items place.0 line (row_within items place h) read))
 
 -- the byte offset of a position in the line that was read
-pub offset_of_place : {Z : Type 0} (items : List (String Z)) (place : Place) (line : String Z) (offset : ℕ) → IsPlaceOf (lines_of items) place → line ≡ get_or items place.0 line → offset ≡ offset_at (lines_of items) place → offset ≡ offset_in (characters_of line) place.1
+pub offset_of_place : {Z : Type 0} (items : List (String Z)) (place : Place) (line : String Z) (offset : ℕ) → IsPlaceOf (lines_of items) place → line ≡ get_or items place.0 line →
+    offset ≡ offset_at (lines_of items) place → offset ≡ offset_in (characters_of line) place.1
 offset_of_place items place line offset h read e =
     e ∙ ap (λ t. offset_in t place.1) (line_at items place.0 line (row_within items place h) read)
 
 -- the position where the replacement begins stays one, with the same byte offset
-pub place_unchanged : {Z : Type 0} (items : List (String Z)) (line new : String Z) (start : Place) (later : ℕ) (more : List ℕ) (offset : ℕ) → IsPlaceOf (lines_of items) start → line ≡ get_or items start.0 line → offset ≡ offset_at (lines_of items) start → characters_of new ≡ take start.1 (characters_of line) ++ (more ++ drop later (characters_of line)) → IsPlaceOf (lines_of (set items start.0 new)) start × (offset ≡ offset_at (lines_of (set items start.0 new)) start)
+pub place_unchanged : {Z : Type 0} (items : List (String Z)) (line new : String Z) (start : Place) (later : ℕ) (more : List ℕ) (offset : ℕ) → IsPlaceOf (lines_of items) start →
+    line ≡ get_or items start.0 line → offset ≡ offset_at (lines_of items) start →
+    characters_of new ≡ take start.1 (characters_of line) ++ (more ++ drop later (characters_of line)) →
+    IsPlaceOf (lines_of (set items start.0 new)) start × (offset ≡ offset_at (lines_of (set items start.0 new)) start)
 place_unchanged items line new start later more offset h read e is =
-    grind (arith, common_steps, row_within items start h, length-set items start.0 new, line_at, get_or-set_at items start.0 start.0 new new, length-take-le start.1 (characters_of line) (column_within items start line h read), column_within items start line h read, take_at, length-map, length-append, offset_of_place items start line offset h read e)
+    let within = column_within items start line h read in
+    let offset_is = offset_of_place items start line offset h read e in
+    let here = get_or-set_at items start.0 start.0 new new in
+    grind (arith, common_steps, row_within items start h, length-set, line_at, here, length-take-le start.1 (characters_of line) within, take_at, length-map, length-append)
 
 -- what the calls of `String` require
 pub split_point : (bs : List ℕ) (column offset : ℕ) → IsUtf8 bs → offset ≡ offset_in (chars bs) column → IsCharBoundary bs offset

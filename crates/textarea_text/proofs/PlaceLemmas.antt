@@ -49,12 +49,15 @@ row_start-next rows row within =
 
 -- ---- symbols ahead: if the rest ends in the row, and if the row is the last one
 
-pub ahead_inside : (rows : List (List ℕ)) (row column left wanted : ℕ) → row < length rows → column + left ≤ length (get_or rows row []) → row_start (joined rows) row + column + left ≡ wanted → IsAt rows (row, column + left) (min wanted (length (joined rows)))
+pub ahead_inside : (rows : List (List ℕ)) (row column left wanted : ℕ) → row < length rows → column + left ≤ length (get_or rows row []) →
+    row_start (joined rows) row + column + left ≡ wanted → IsAt rows (row, column + left) (min wanted (length (joined rows)))
 ahead_inside rows row column left wanted within inside e =
     let at = is_at rows (row, column + left) wanted (within, inside) (omega arith) in
     is_at rows (row, column + left) (min wanted (length (joined rows))) (within, inside) (omega (arith, at.within))
 
-pub ahead_last : (rows : List (List ℕ)) (row last column left step wanted : ℕ) → last + 1 ≡ length rows → row ≡ last → column ≤ length (get_or rows row []) → step ≡ min left (length (get_or rows last []) - column) → row_start (joined rows) row + column + left ≡ wanted → IsAt rows (last, column + step) (min wanted (length (joined rows)))
+pub ahead_last : (rows : List (List ℕ)) (row last column left step wanted : ℕ) → last + 1 ≡ length rows → row ≡ last → column ≤ length (get_or rows row []) →
+    step ≡ min left (length (get_or rows last []) - column) → row_start (joined rows) row + column + left ≡ wanted →
+    IsAt rows (last, column + step) (min wanted (length (joined rows)))
 ahead_last rows row last column left step wanted all same inside stepped e =
     let end_at = (is_at_end rows last (length (get_or rows last [])) all refl).index_is in
     let line = ap (λ n. length (get_or rows n [])) same in

@@ -13,6 +13,8 @@ pub wrap_line : (line : List ℕ) (column : ℕ) → joined (line ∷ []) ≡ ch
 wrap_line line column =
     grind (arith, common_steps, append-nil (characters line), take-append-drop column line, characters-append (take column line) (drop column line))
 
-pub rows_stand : (rows middle below : List (List ℕ)) (start : List ℕ) (row column : ℕ) (symbols rest : List Symbol) → row < length rows → rows ≡ take row rows ++ (middle ++ below) → length start ≡ column → 0 < length middle → joined middle ≡ characters start ++ (symbols ++ rest) → OccursAt (joined rows) (row, column) symbols
+pub rows_stand : (rows middle below : List (List ℕ)) (start : List ℕ) (row column : ℕ) (symbols rest : List Symbol) → row < length rows →
+    rows ≡ take row rows ++ (middle ++ below) → length start ≡ column → 0 < length middle → joined middle ≡ characters start ++ (symbols ++ rest) →
+    OccursAt (joined rows) (row, column) symbols
 rows_stand rows middle below start row column symbols rest within components at some was =
     grind (arith, common_steps, length-take-le, spliced_occurs)

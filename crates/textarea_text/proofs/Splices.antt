@@ -79,7 +79,8 @@ row_start-characters (c ∷ line) rest row = omega (arith, row_start-characters 
 row_start-leading : (above : List (List ℕ)) (rest : List Symbol) → row_start (leading above ++ rest) (length above) ≡ length (leading above)
 row_start-leading [] rest = refl
 row_start-leading (line ∷ above) rest =
-    grind (arith, common_steps, append_assoc (characters line) (Break ∷ leading above) rest, row_start-characters line (Break ∷ (leading above ++ rest)) (length above), row_start-leading above rest, length-append (characters line) (Break ∷ leading above), length-characters line)
+    let further = row_start-leading above rest in
+    grind (arith, common_steps, append_assoc (characters line) (Break ∷ leading above) rest, row_start-characters line (Break ∷ (leading above ++ rest)) (length above), length-append, length-characters)
 
 -- the index of that position is the length of the text before it
 pub index_of_front : (above : List (List ℕ)) (line : List ℕ) (rest : List Symbol) → index_of (leading above ++ (characters line ++ rest)) (length above, length line) ≡ length (leading above ++ characters line)
@@ -103,7 +104,8 @@ occurs_at xs ys symbols place e =
 -- ---- the one lemma of all edits: of neighbouring lines the middle ones change
 
 -- the whole text, split at a position of the middle lines
-pub whole : (above middle below : List (List ℕ)) (start : List ℕ) (rest : List Symbol) → 0 < length middle → joined middle ≡ characters start ++ rest → joined (above ++ (middle ++ below)) ≡ (leading above ++ characters start) ++ (rest ++ following below)
+pub whole : (above middle below : List (List ℕ)) (start : List ℕ) (rest : List Symbol) → 0 < length middle → joined middle ≡ characters start ++ rest →
+    joined (above ++ (middle ++ below)) ≡ (leading above ++ characters start) ++ (rest ++ following below)
 whole above middle below start rest some e =
     grind (arith, common_steps, joined_three above middle below some, append_assoc (characters start) rest (following below), append_assoc (leading above) (characters start) (rest ++ following below))
 
@@ -111,6 +113,11 @@ pub index_after_rows : (above : List (List ℕ)) (start : List ℕ) (rest : List
 index_after_rows above start rest =
     grind (arith, common_steps, append_assoc (leading above) (characters start) rest, index_of_front above start rest)
 
-pub spliced_occurs : (above middle below : List (List ℕ)) (start : List ℕ) (symbols rest : List Symbol) → 0 < length middle → joined middle ≡ characters start ++ (symbols ++ rest) → OccursAt (joined (above ++ (middle ++ below))) (length above, length start) symbols
+pub spliced_occurs : (above middle below : List (List ℕ)) (start : List ℕ) (symbols rest : List Symbol) → 0 < length middle →
+    joined middle ≡ characters start ++ (symbols ++ rest) → OccursAt (joined (above ++ (middle ++ below))) (length above, length start) symbols
 spliced_occurs above middle below start symbols rest some was =
-    grind (arith, common_steps, whole above middle below start (symbols ++ rest) some was, append_assoc symbols rest (following below), occurs_at (leading above ++ characters start) (rest ++ following below) symbols (length above, length start) (index_after_rows above start (symbols ++ (rest ++ following below))), index_after_rows above start (symbols ++ (rest ++ following below)))
+    let front = leading above ++ characters start in
+    let after = rest ++ following below in
+    let index = index_after_rows above start (symbols ++ after) in
+    let text = whole above middle below start (symbols ++ rest) some was in
+    grind (arith, common_steps, text, append_assoc symbols rest (following below), occurs_at front after symbols (length above, length start) index)

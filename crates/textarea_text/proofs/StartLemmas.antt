@@ -1,5 +1,6 @@
 -- The byte offset of a column, found by counting the bytes that begin characters.
 use Rattle.std.proofs.Common.{true, ◌≡◌, ℕ, ◌+◌, ◌-◌, ◌<◌, ◌≤◌, List, length, min, sym, ap, subst, refl, ◌∙◌, arith, slice_index_or, take, drop, encode_utf8_all}
+use Rattle.textarea_util.proofs.Characters.{length-chars}
 use Rattle.textarea_text.proofs.Prelude.{common_steps, take_all, take-take, length-take, length-append, take-add, encodes-append, encodes-chars}
 use Rattle.textarea_text.specs.Prelude.{char_count, is_char_start, chars, IsCharBoundary, IsUtf8}
 use Rattle.textarea_text.proofs.CharCounts.{begins-ascii, begins-wide, char_count-append, char_count-encodes, char_count-is, char_count-le-length, char_count-more, char_count-parts}
@@ -45,9 +46,6 @@ pub offset_by_count : (bs : List ℕ) (found column : ℕ) → IsUtf8 bs → fou
 offset_by_count bs found column text within starts counted =
     same_start bs found (offset_in (chars bs) column) within (omega (arith, length_split bs column text)) starts
     (starts_at bs (offset_in (chars bs) column) (IsCharBoundary-column bs column text)) (counted ∙ sym (count_before bs column text))
-
-pub length-chars : (bs : List ℕ) → IsUtf8 bs → length (chars bs) ≤ length bs
-length-chars bs text = omega (arith, char_count-is bs text, char_count-le-length bs)
 
 -- a column past the end, whose line's characters are fewer than its bytes
 pub offset_past : (bs : List ℕ) (column : ℕ) → IsUtf8 bs → length bs ≤ column → length bs ≡ offset_in (chars bs) column

@@ -5,7 +5,8 @@ use Rattle.textarea_text.specs.Prelude.{unwrap_or, width_of}
 use Rattle.unicode_width.specs.Width.{char_width}
 
 -- one character more
-pub width_of_more : (stop was now width c : ℕ) (text cs : List ℕ) (whole : ℕ) → (was + width_of text) % stop ≡ whole % stop → text ≡ c ∷ cs → width ≡ unwrap_or (char_width false c) 0 → now ≡ (was + width) % stop → (now + width_of cs) % stop ≡ whole % stop
+pub width_of_more : (stop was now width c : ℕ) (text cs : List ℕ) (whole : ℕ) → (was + width_of text) % stop ≡ whole % stop → text ≡ c ∷ cs →
+    width ≡ unwrap_or (char_width false c) 0 → now ≡ (was + width) % stop → (now + width_of cs) % stop ≡ whole % stop
 width_of_more stop was now width c text cs whole h read e is =
     rw (is, mod-add-mod, add_assoc, e) (rw read at h)
 

@@ -1,7 +1,8 @@
 -- Positions of a text, and what a splice and its inverse do there.
 use Rattle.std.proofs.Common.{◌≤◌, ◌≡◌, ℕ, ◌+◌, ◌-◌, ◌<◌, Bool, true, false, List, [], ◌∷◌, ◌++◌, length, take, drop, sym, ap, refl, ◌∙◌, arith, get_or, subst}
 use Rattle.textarea_text.proofs.Prelude.{common_steps, append_assoc, length-append, take-append-drop, length-take-le, take_at, drop_at, get_or_at}
-use Rattle.textarea_text.specs.Prelude.{Symbol, Character, Break, characters, following, leading, joined, lines, on_first, Place, end, index_of, place_of, inserted, removed, OccursAt, IsPlaceOf, IsPlace, IsSymbolBefore, Splice, Fits, Allows, applied, inverse, place_after}
+use Rattle.textarea_text.specs.Prelude.{Symbol, Character, Break, characters, following, leading, joined, lines, on_first, Place, end, index_of, place_of}
+use Rattle.textarea_text.specs.Prelude.{inserted, removed, OccursAt, IsPlaceOf, IsPlace, IsSymbolBefore, Splice, Fits, Allows, applied, inverse, place_after}
 use Rattle.textarea_text.proofs.Splices.{whole, index_after_rows, end_of_front, end-append, inserted_at, removed_at, occurs_at}
 use Rattle.textarea_text.proofs.RowEdits.{rows_around, wrap_line}
 
@@ -44,7 +45,12 @@ pub IsPlace-end : (front back : List Symbol) → IsPlace (front ++ back) (end (0
 IsPlace-end front back =
     let components = split_text front in
     let found = first_line components.start back in
-    grind (arith, common_steps, append_assoc (leading components.above) (characters components.start) back, lines-leading components.above (characters components.start ++ back), end_of_front components.above components.start, get_or_at components.above (components.start ++ found.0) found.1, length-append components.above ((components.start ++ found.0) ∷ found.1), length-append components.start found.0)
+    let above = components.above in
+    let line = components.start ++ found.0 in
+    let split = append_assoc (leading above) (characters components.start) back in
+    let rows = lines-leading above (characters components.start ++ back) in
+    let ends = end_of_front above components.start in
+    grind (arith, common_steps, split, rows, ends, get_or_at above line found.1, length-append above (line ∷ found.1), length-append components.start found.0)
 
 pub index_of-end : (front back : List Symbol) → index_of (front ++ back) (end (0, 0) front) ≡ length front
 index_of-end front back =
@@ -152,7 +158,8 @@ takes_back_inserted text place symbols components some =
       is_place = subst (λ t. IsPlace t (end place symbols)) (append_assoc components.front symbols components.back ∙ sym now) ended;
     }
 
-takes_back_removed : (text : List Symbol) (place : Place) (symbols : List Symbol) (components : Parted text place) → 0 < length symbols → OccursAt text place symbols → TakesBack text (record { place = place; symbols = symbols; inserts = false })
+takes_back_removed : (text : List Symbol) (place : Place) (symbols : List Symbol) (components : Parted text place) → 0 < length symbols → OccursAt text place symbols →
+    TakesBack text (record { place = place; symbols = symbols; inserts = false })
 takes_back_removed text place symbols components some occurs =
     let rest = drop (length symbols) components.back in
     let was : text ≡ components.front ++ (symbols ++ rest) =
@@ -165,7 +172,8 @@ takes_back_removed text place symbols components some occurs =
       is_place = subst (λ t. IsPlace t place) (sym now) whole_place;
     }
 
-takes_back_by : (inserts : Bool) (text : List Symbol) (place : Place) (symbols : List Symbol) → 0 < length symbols → IsPlace text place → Allows inserts text place symbols → TakesBack text (record { place = place; symbols = symbols; inserts = inserts })
+takes_back_by : (inserts : Bool) (text : List Symbol) (place : Place) (symbols : List Symbol) → 0 < length symbols → IsPlace text place → Allows inserts text place symbols →
+    TakesBack text (record { place = place; symbols = symbols; inserts = inserts })
 takes_back_by true text place symbols some h allowed = takes_back_inserted text place symbols (parted text place h) some
 takes_back_by false text place symbols some h allowed = takes_back_removed text place symbols (parted text place h) some allowed
 

@@ -1,7 +1,8 @@
 -- Where words begin and end, by the classes of two neighbouring characters.
 use Rattle.std.proofs.Common.{Option, Some, None, ◌≡◌, ℕ, zero, suc, ◌+◌, ◌-◌, ◌<◌, ◌≤◌, Bool, true, false, not, ◌&&◌, nat_lt, nat_le, List, length, get_or, take, drop, min, ◌++◌, ◌∷◌, [], arith, refl, sym, ◌∙◌, ap, add-one, zero-add}
 use Rattle.textarea_text.proofs.Prelude.{common_steps, and-true, and-false, cases_lt, ltb-true, length_push, get_or_default, get_or-take, get_or-drop, length-take, length-drop, nat_tests, get_or-enumerate_from, length-enumerate_from}
-use Rattle.textarea_text.specs.Prelude.{IfSome, IsGreatest, IsLeast, enumerate_from, class_of, class_at, is_space_class, begins, ends, is_edge, is_word_start, is_past_word, is_word_last, is_later_edge, is_word_last_from, is_earlier_word_start, lies_between, CharKind, Space, Punct, Other, Edge, Start, Past}
+use Rattle.textarea_text.specs.Prelude.{IfSome, IsGreatest, IsLeast, enumerate_from, class_of, class_at, is_space_class, begins, ends, is_edge, is_word_start, is_past_word}
+use Rattle.textarea_text.specs.Prelude.{is_word_last, is_later_edge, is_word_last_from, is_earlier_word_start, lies_between, CharKind, Space, Punct, Other, Edge, Start, Past}
 use Rattle.textarea_text.proofs.NearestLemmas.{IsFound, IsFound-shifted, from_start}
 
 -- the class of the character before a column, or Space at the line's start
@@ -82,11 +83,13 @@ is_word_last-last line e last =
 
 -- ---- the test of each search in an iteration
 
-pub is_earlier_word_start-turn : (line : List ℕ) (start n column : ℕ) (before kind : CharKind) (b : Bool) → n < start → IsTurn line n column kind → before ≡ class_before line n → begins before kind ≡ b → is_earlier_word_start line start n ≡ b
+pub is_earlier_word_start-turn : (line : List ℕ) (start n column : ℕ) (before kind : CharKind) (b : Bool) → n < start → IsTurn line n column kind → before ≡ class_before line n →
+    begins before kind ≡ b → is_earlier_word_start line start n ≡ b
 is_earlier_word_start-turn line start n column before kind b earlier turn is_after shows =
     grind (arith, common_steps, is_word_start-class_before line n turn.within)
 
-pub is_later_edge-turn : (edge : Edge) (line : List ℕ) (start n column : ℕ) (before kind : CharKind) (b : Bool) → start < column → IsTurn line n column kind → before ≡ class_before line n → lies_between edge before kind ≡ b → is_later_edge edge line start n ≡ b
+pub is_later_edge-turn : (edge : Edge) (line : List ℕ) (start n column : ℕ) (before kind : CharKind) (b : Bool) → start < column → IsTurn line n column kind →
+    before ≡ class_before line n → lies_between edge before kind ≡ b → is_later_edge edge line start n ≡ b
 is_later_edge-turn edge line start n column before kind b later turn is_after shows =
     grind (arith, common_steps, is_edge-class_before edge line n turn.within)
 
@@ -113,7 +116,8 @@ is_earlier_word_start-past line start e past =
 
 -- ---- the column before an iteration's, which may be a word's last
 
-pub is_word_last_from-turn : (line : List ℕ) (start column : ℕ) (before kind : CharKind) (b : Bool) → start < column → IsTurn line column column kind → before ≡ class_before line column → ends before kind ≡ b → is_word_last_from line start (column - 1) ≡ b
+pub is_word_last_from-turn : (line : List ℕ) (start column : ℕ) (before kind : CharKind) (b : Bool) → start < column → IsTurn line column column kind →
+    before ≡ class_before line column → ends before kind ≡ b → is_word_last_from line start (column - 1) ≡ b
 is_word_last_from-turn line start zero before kind b later turn is_after shows = absurd (omega arith)
 is_word_last_from-turn line start (suc m) before kind b later turn is_after shows =
     let at : suc m - 1 ≡ m = omega arith in
@@ -126,7 +130,8 @@ last_before_space Space = refl
 last_before_space Punct = refl
 last_before_space Other = refl
 
-pub is_word_last_from-end : (line : List ℕ) (start column : ℕ) (before : CharKind) (b : Bool) → start < column → column ≡ length line → before ≡ class_before line column → ends before Space ≡ b → is_word_last_from line start (column - 1) ≡ b
+pub is_word_last_from-end : (line : List ℕ) (start column : ℕ) (before : CharKind) (b : Bool) → start < column → column ≡ length line → before ≡ class_before line column →
+    ends before Space ≡ b → is_word_last_from line start (column - 1) ≡ b
 is_word_last_from-end line start zero before b later whole is_after shows = absurd (omega arith)
 is_word_last_from-end line start (suc m) before b later whole is_after shows =
     grind (arith, common_steps, is_word_last-last line m whole, last_before_space before)

@@ -23,7 +23,8 @@ pub use Rattle.textarea_text.specs.Splice.{Allows, Fits, Splice, applied, invers
 pub use Rattle.textarea_text.specs.Tab.{width_of}
 pub use Rattle.textarea_text.specs.Text.{Break, Character, Symbol, characters, characters_of, following, joined, leading, lines, lines_of, on_first, symbol_in, text_of}
 pub use Rattle.textarea_text.specs.Touched.{ReplacesBetween, breaks_of}
-pub use Rattle.textarea_text.specs.Words.{begins, class_at, class_of, ends, is_earlier_word_start, is_edge, is_later_edge, is_later_past_word, is_later_word_start, is_past_word, is_space_class, is_word_last, is_word_last_from, is_word_start, lies_between, next_edge, next_past_word, next_word_last, next_word_start, previous_word_start}
+pub use Rattle.textarea_text.specs.Words.{begins, class_at, class_of, ends, is_earlier_word_start, is_edge, is_later_edge, is_later_past_word, is_later_word_start, is_past_word, is_space_class}
+pub use Rattle.textarea_text.specs.Words.{is_word_last, is_word_last_from, is_word_start, lies_between, next_edge, next_past_word, next_word_last, next_word_start, previous_word_start}
 pub use Rattle.textarea_text.specs.declared.word.CharKind.{CharKind}
 pub use Rattle.textarea_text.specs.declared.word.CharKind.TheVariants.{Other, Punct, Space}
 pub use Rattle.textarea_text.specs.declared.word.Edge.{Edge}

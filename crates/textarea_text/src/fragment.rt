@@ -2,6 +2,7 @@
 ghost use Rattle.std.specs.Prelude.{◌≡◌, ◌<◌, ◌++◌, ◌∷◌, [], length, vec_len, string_bytes, IfOk, OnOk, MatchOption};
 ghost use Rattle.textarea_text.specs.Prelude.{chars, Break, characters, lines_of, text_of, fragment_symbols, fragment_text, unified, without_last_break};
 
+use crate::text_slice::push_line;
 use std::alloc::{AllocError, Global};
 
 /// Splits a text at each line feed into lines. A carriage return directly before a line feed is
@@ -14,10 +15,10 @@ pub fn fragment_of(alloc: Global, text: &str) -> Result<Vec<String>, AllocError>
     let mut fragment_lines = Vec::new(alloc);
     let mut rest = text;
     while let Some((line, after)) = first_line(rest) {
-        fragment_lines.push(String::from_str(alloc, line)?)?;
+        push_line(&mut fragment_lines, line)?;
         rest = after;
     }
-    fragment_lines.push(String::from_str(alloc, rest)?)?;
+    push_line(&mut fragment_lines, rest)?;
     Ok(fragment_lines)
 }
 

@@ -25,8 +25,8 @@ pub fn ahead(lines: &[String], place: (usize, usize), count: usize) -> (usize, u
         left -= room + 1;
         column = 0;
     }
-    let room = line_length(lines, last) - column;
-    (last, column + left.min(room))
+    let length = line_length(lines, last);
+    (last, column + left.min(length - column))
 }
 
 /// Returns the end of the text: the end of its last line.

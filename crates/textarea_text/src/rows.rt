@@ -1,6 +1,7 @@
 //! Lines that replace others: built beside the old lines, then put in without allocating.
 ghost use Rattle.std.specs.Prelude.{◌≡◌, ◌+◌, ◌-◌, ◌<◌, ◌≤◌, ◌++◌, ◌∷◌, ◌↔◌, [], length, string_bytes, take, drop, MatchOption, encode_utf8_all, vec_len, vec_capacity, min, IfOk, IsOk, OnOk, OnErr, slice_index, true};
-ghost use Rattle.textarea_text.specs.Prelude.{chars, char_count, is_char_start, size_limit, characters, following, joined, lines_of, symbol_in, text_of, offset_at, IsPlaceOf, IsSymbolBefore, ReplacesRows, index_of, replaced, size_of, ReplacesBetween};
+ghost use Rattle.textarea_text.specs.Prelude.{chars, char_count, is_char_start, size_limit, characters, following, joined, lines_of, symbol_in, text_of};
+ghost use Rattle.textarea_text.specs.Prelude.{offset_at, IsPlaceOf, IsSymbolBefore, ReplacesRows, index_of, replaced, size_of, ReplacesBetween};
 
 use std::alloc::{AllocError, Global};
 use textarea_util::limit::within_limit;
@@ -116,7 +117,8 @@ pub fn column_count(line: &str) -> usize
         count += usize::from(count_of_starts(front));
         rest = after;
     }
-    count + usize::from(count_of_starts(rest))
+    let last = count_of_starts(rest);
+    count + usize::from(last)
 }
 
 // The number of bytes whose count is a byte. A processor adds many of them at once.
@@ -176,8 +178,10 @@ pub fn symbol_before(lines: &[String], place: (usize, usize), offset: usize) -> 
     if row == 0 {
         return None;
     }
+    let above = row - 1;
+    let line = lines[above].as_str();
     Some(SymbolBefore {
-        start: (row - 1, column_count(lines[row - 1].as_str())),
+        start: (above, column_count(line)),
         character: None,
     })
 }
@@ -285,7 +289,8 @@ fn push_rows(
         ++ characters (chars tail.now))) }
     ensures len { OnOk result (vec_len rows.new ≡ length rest.now + 1) }
 {
-    rows.push(put_together(*rows.allocator(), head, first)?)?;
+    let line = put_together(*rows.allocator(), head, first)?;
+    rows.push(line)?;
     rows.extend_from_slice(rest)?;
     let mut last = rows.pop().unwrap();
     last.push_str(tail)?;

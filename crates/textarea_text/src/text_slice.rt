@@ -32,8 +32,8 @@ pub fn between(
     Ok(fragment_lines)
 }
 
-// Appends a copy of the text.
-fn push_line(fragment_lines: &mut Vec<String>, text: &str) -> Result<(), AllocError>
+/// Appends a copy of the text.
+pub(crate) fn push_line(fragment_lines: &mut Vec<String>, text: &str) -> Result<(), AllocError>
     ensures rows { OnOk result
         (lines_of fragment_lines.new.items ≡ lines_of fragment_lines.old.items ++ chars text.now ∷
         []) }

@@ -5,7 +5,8 @@
 //! or back from there, and accepts any start column, even past the line's end.
 
 ghost use Rattle.std.specs.Prelude.{◌≡◌, ◌<◌, ◌≤◌, length, IfSome};
-ghost use Rattle.textarea_text.specs.Prelude.{chars, IsLeast, IsGreatest, class_of, begins, ends, lies_between, is_later_edge, next_edge, is_later_word_start, next_word_start, is_later_past_word, next_past_word, is_word_last_from, next_word_last, is_earlier_word_start, previous_word_start};
+ghost use Rattle.textarea_text.specs.Prelude.{chars, IsLeast, IsGreatest, class_of, begins, ends, lies_between, is_later_edge, next_edge, is_later_word_start, next_word_start};
+ghost use Rattle.textarea_text.specs.Prelude.{is_later_past_word, next_past_word, is_word_last_from, next_word_last, is_earlier_word_start, previous_word_start};
 
 use crate::text_slice::text_from;
 
@@ -142,7 +143,8 @@ fn find_word_last(text: &str) -> Option<usize>
         before = kind;
         count += 1;
     }
-    if 0 < count && before.ends_word(CharKind::Space) {
+    let is_word = before.ends_word(CharKind::Space);
+    if is_word && count != 0 {
         Some(count - 1)
     } else {
         None

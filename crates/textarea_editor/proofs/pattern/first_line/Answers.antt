@@ -5,7 +5,8 @@ use Rattle.std.specs.Str.{chars}
 use Rattle.std.specs.Str.Iter.{chars_rest}
 use Rattle.textarea_editor.specs.Patterns.{first_line}
 use Rattle.textarea_text.specs.Text.{characters_of}
-use Rattle.textarea_editor.proofs.Texts.{characters_of-pushed, line_ends, line_goes_on, moved_on, none_left, start_of}
+use Rattle.textarea_text.proofs.StringRows.{characters_of-pushed}
+use Rattle.textarea_editor.proofs.Texts.{line_ends, line_goes_on, moved_on, none_left, start_of}
 use Rattle.textarea_editor.proofs.pattern.first_line.Goals as goal
 
 pub loop-c-init : goal.loop-c-init

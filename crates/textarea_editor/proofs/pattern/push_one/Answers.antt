@@ -4,7 +4,8 @@ use Rattle.std.specs.declared.alloc.Global.{Global}
 use Rattle.std.proofs.lemmas.Result.{on_ok_weaker}
 use Rattle.textarea_editor.specs.Patterns.{escaped}
 use Rattle.textarea_text.specs.Text.{characters_of}
-use Rattle.textarea_editor.proofs.Texts.{characters_of-pushed, escaped_plain, escaped_special, pushed_on_ok}
+use Rattle.textarea_text.proofs.StringRows.{characters_of-pushed}
+use Rattle.textarea_editor.proofs.Texts.{escaped_plain, escaped_special, pushed_on_ok}
 use Rattle.textarea_editor.proofs.pattern.push_one.Goals as goal
 use Rattle.textarea_editor.proofs.pattern.push_one.Goals.{then-is_special+in_ok-push, else-is_special}
 

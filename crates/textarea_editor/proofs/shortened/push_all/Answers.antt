@@ -1,6 +1,6 @@
 use Rattle.std.proofs.Common.{arith}
 use Rattle.std.proofs.lemmas.Grind.{common_steps}
-use Rattle.textarea_editor.proofs.Texts.{characters_of-pushed}
+use Rattle.textarea_text.proofs.StringRows.{characters_of-pushed}
 use Rattle.textarea_editor.proofs.shortened.push_all.Goals as goal
 
 pub loop-c-preserved : goal.loop-c-preserved

@@ -1,7 +1,7 @@
 use Rattle.std.proofs.Common.{◌≡◌, ◌∙◌, ◌∷◌, ◌++◌, ℕ, List, [], ap, append_assoc}
 use Rattle.std.proofs.lemmas.Result.{on_ok_weaker}
 use Rattle.textarea_text.specs.Text.{characters_of}
-use Rattle.textarea_editor.proofs.Texts.{characters_of-pushed}
+use Rattle.textarea_text.proofs.StringRows.{characters_of-pushed}
 use Rattle.textarea_editor.proofs.shortened.push_ends.Goals as goal
 
 ends_pushed : (old first second new start end : List ℕ) → first ≡ old ++ start → second ≡ first ++ 8230 ∷ [] → new ≡ second ++ end → new ≡ old ++ (start ++ 8230 ∷ end)

@@ -1,7 +1,8 @@
 use Rattle.std.proofs.Common.{◌∙◌, ap}
 use Rattle.textarea_history.specs.Prelude.{chars, characters_of, chars_rest}
 use Rattle.std.proofs.lemmas.Str.{chars-nil}
-use Rattle.textarea_history.proofs.Runs.{characters_of-pushed, written_none, written_more, written_all}
+use Rattle.textarea_text.proofs.StringRows.{characters_of-pushed}
+use Rattle.textarea_history.proofs.Runs.{written_none, written_more, written_all}
 use Rattle.textarea_history.proofs.texts.reverse_text.Goals as goal
 
 pub loop-c-init : goal.loop-c-init

@@ -12,13 +12,14 @@ returns-in_default c =
 
 pub loop-fragment_line-preserved : goal.loop-fragment_line-preserved
 loop-fragment_line-preserved c =
-    let text = string_bytes c.loop-fragment_line.text in
-    let fed = chars_line_feed text (string_bytes c.push.new.self) (IsUtf8-string_bytes c.loop-fragment_line.text) c.in_ok-push.ensures.bytes in
-    let put = chars-push_str (string_bytes c.push.new.self) (string_bytes c.fragment_line-item.result) (string_bytes c.push_str.new.self) (IsUtf8-string_bytes c.push.new.self) (IsUtf8-string_bytes c.fragment_line-item.result) (IsUtf8-string_bytes c.push_str.new.self)
-    (c.in_ok-push_str.ensures.bytes ∙ ap (λ t. string_bytes c.push.new.self ++ t) c.as_str-in-loop-fragment_line.ensures.value) in
-    written_more (characters_of c.in_ok-text.text) (chars text) (characters_of c.push_str.new.self) (characters_of c.fragment_line-item.result) c.in-Some.rest.now c.loop-fragment_line.fragment_line-index c.loop-fragment_line.invariant (omega arith)
-    (put ∙ ap (λ t. t ++ characters_of c.fragment_line-item.result) fed)
-    (sym (line_at c.in-Some.rest.now c.loop-fragment_line.fragment_line-index c.fragment_line-item.result (omega arith) c.fragment_line-item.is))
+    let line = c.fragment_line-item.result in
+    let ended = c.push.new.self in
+    let longer = c.push_str.new.self in
+    let fed = chars_line_feed (string_bytes c.loop-fragment_line.text) (string_bytes ended) (IsUtf8-string_bytes c.loop-fragment_line.text) c.in_ok-push.ensures.bytes in
+    let put = chars-push_str (string_bytes ended) (string_bytes line) (string_bytes longer) (IsUtf8-string_bytes ended) (IsUtf8-string_bytes line) (IsUtf8-string_bytes longer)
+    (c.in_ok-push_str.ensures.bytes ∙ ap (λ t. string_bytes ended ++ t) c.as_str-in-loop-fragment_line.ensures.value) in
+    written_more (characters_of c.in_ok-text.text) _ _ (characters_of line) c.in-Some.rest.now c.loop-fragment_line.fragment_line-index c.loop-fragment_line.invariant (omega arith)
+    (put ∙ ap (λ t. t ++ characters_of line) fed) (sym (line_at c.in-Some.rest.now c.loop-fragment_line.fragment_line-index line (omega arith) c.fragment_line-item.is))
 
 pub returns : goal.returns
 returns c =

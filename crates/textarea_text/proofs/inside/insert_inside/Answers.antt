@@ -16,16 +16,18 @@ insert_str-requires c =
 -- the line's characters after the call
 now : (c : After-insert_str) → characters_of c.insert_str.new.self ≡ take c.args.place.1 (characters_of c.index_mut-line.result.now) ++ (chars c.args.text.now ++ drop c.args.place.1 (characters_of c.index_mut-line.result.now))
 now c =
-    grind (arith, common_steps, offset_of_place c.args.lines.now.items c.args.place c.index_mut-line.result.now c.args.offset c.requires.place c.index_mut-line.ensures.value c.requires.offset, offset_in, always_ok, on_err_weaker, chars_between, IsUtf8-string_bytes)
+    let line = c.index_mut-line.result.now in
+    let here = offset_of_place c.args.lines.now.items c.args.place line c.args.offset c.requires.place c.index_mut-line.ensures.value c.requires.offset in
+    grind (arith, common_steps, here, offset_in, always_ok, on_err_weaker, chars_between, IsUtf8-string_bytes)
 
 pub returns-clause-ok : goal.returns-clause-ok
 returns-clause-ok c =
-    line_changed c.args.lines.now.items c.index_mut-line.result.now c.insert_str.new.self c.args.place c.args.place.1 (chars c.args.text.now) c.requires.place c.requires.place c.index_mut-line.ensures.value (now (goal.at.returns-clause-ok c).After-insert_str)
+    line_changed _ _ _ _ _ (chars c.args.text.now) c.requires.place c.requires.place c.index_mut-line.ensures.value (now (goal.at.returns-clause-ok c).After-insert_str)
 
 pub returns-clause-place : goal.returns-clause-place
 returns-clause-place c =
-    (place_unchanged c.args.lines.now.items c.index_mut-line.result.now c.insert_str.new.self c.args.place c.args.place.1 (chars c.args.text.now) c.args.offset c.requires.place c.index_mut-line.ensures.value c.requires.offset (now (goal.at.returns-clause-place c).After-insert_str)).0
+    (place_unchanged _ _ _ _ _ (chars c.args.text.now) _ c.requires.place c.index_mut-line.ensures.value c.requires.offset (now (goal.at.returns-clause-place c).After-insert_str)).0
 
 pub returns-clause-offset : goal.returns-clause-offset
 returns-clause-offset c =
-    (place_unchanged c.args.lines.now.items c.index_mut-line.result.now c.insert_str.new.self c.args.place c.args.place.1 (chars c.args.text.now) c.args.offset c.requires.place c.index_mut-line.ensures.value c.requires.offset (now (goal.at.returns-clause-offset c).After-insert_str)).1
+    (place_unchanged _ _ _ _ _ (chars c.args.text.now) _ c.requires.place c.index_mut-line.ensures.value c.requires.offset (now (goal.at.returns-clause-offset c).After-insert_str)).1

@@ -37,7 +37,7 @@ last c =
     let last_is = c.last_row-last.ensures.value in
     let was = c.loop-row.invariant in
     ahead_last (lines_of c.args.lines.now) c.loop-row.row c.last_row-last.result c.loop-row.column c.loop-row.left c.min.result (index_of (text_of c.args.lines.now) c.args.place + c.args.count)
-    (omega (arith, c.requires.0)) (omega (arith, c.requires.0)) was.inside (c.min.ensures ∙ ap (λ n. min c.loop-row.left (n - c.loop-row.column)) c.line_length-2.ensures) was.left
+    (omega (arith, c.requires.0)) (omega (arith, c.requires.0)) was.inside (c.min.ensures ∙ ap (λ n. min c.loop-row.left (n - c.loop-row.column)) c.line_length-length.ensures) was.left
 
 pub returns-clause-value : goal.returns-clause-value
 returns-clause-value c = (last c).value

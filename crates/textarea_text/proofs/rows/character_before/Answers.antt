@@ -1,12 +1,9 @@
-use Rattle.std.proofs.Common.{◌≡◌, ◌-◌, arith, subst, sym, ℕ}
-use Rattle.std.proofs.lemmas.Grind.{common_steps}
+use Rattle.std.proofs.Common.{arith, subst, sym}
+use Rattle.textarea_text.proofs.Prelude.{common_steps, sub-zero}
 use Rattle.std.specs.Str.{IsCharBoundary}
 use Rattle.textarea_text.proofs.Columns.{IsCharBoundary-column}
 use Rattle.textarea_text.proofs.Befores.{back_some, back_is, some_before, last_before}
 use Rattle.textarea_text.proofs.rows.character_before.Goals as goal
-
-sub-zero : (n : ℕ) → n - 0 ≡ n
-sub-zero n = omega arith
 
 pub range-requires-clause-end_boundary : goal.range-requires-clause-end_boundary
 range-requires-clause-end_boundary c =

@@ -19,7 +19,7 @@ counting-preserved c =
     grind (arith, common_steps, char_count-parts c.counting.rest.now c.split_at.result.0.now c.split_at.result.1.now 192 c.split_at.ensures.front c.split_at.ensures.back)
 
 pub overflow_add-result : goal.overflow_add-result
-overflow_add-result c = omega (arith, c.counting.invariant, c.count_of_starts-2.ensures, c.from.ensures, char_count-le-length c.args.line.now)
+overflow_add-result c = omega (arith, c.counting.invariant, c.count_of_starts-last.ensures, c.from.ensures, char_count-le-length c.args.line.now)
 
 pub returns : goal.returns
-returns c = omega (arith, c.counting.invariant, c.count_of_starts-2.ensures, c.from.ensures, char_count-is c.args.line.now c.utf8.line)
+returns c = omega (arith, c.counting.invariant, c.count_of_starts-last.ensures, c.from.ensures, char_count-is c.args.line.now c.utf8.line)

@@ -1,4 +1,4 @@
-use Rattle.std.proofs.Common.{◌+◌, ◌-◌, ◌++◌, arith, refl}
+use Rattle.std.proofs.Common.{◌++◌, arith, refl}
 use Rattle.std.proofs.lemmas.List.{length-map}
 use Rattle.textarea_text.specs.Prelude.{chars, characters, characters_of, following, lines_of}
 use Rattle.textarea_text.proofs.StringRows.{rows_in_place}
@@ -14,5 +14,5 @@ returns c =
       removed_lines = omega arith;
       coming = omega (arith, c.in_ok-new.ensures.len, breaks_of-append first (following rest), breaks_of-characters (chars c.args.first.now), breaks_of-following rest, length-map c.args.rest.now characters_of);
       within = omega (arith, c.requires.to.0, length-map c.args.lines.now characters_of);
-      text = rows_in_place c.args.lines.now c.in_ok-new.new.items c.args.from c.args.to c.args.from.0 (c.args.to.0 + 1 - c.args.from.0) (first ++ following rest) c.requires.from c.requires.to (omega arith) (omega arith) c.in_ok-new.ensures.rows;
+      text = rows_in_place c.args.lines.now _ c.args.from c.args.to _ _ (first ++ following rest) c.requires.from c.requires.to (omega arith) (omega arith) c.in_ok-new.ensures.rows;
     }

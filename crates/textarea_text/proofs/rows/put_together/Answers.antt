@@ -5,4 +5,7 @@ use Rattle.textarea_text.proofs.rows.put_together.Goals as goal
 
 pub returns : goal.returns
 returns c =
-    grind (arith, common_steps, chars-push_str (string_bytes c.in_ok-line.line) c.args.back.now (string_bytes c.push_str.new.self) (IsUtf8-string_bytes c.in_ok-line.line) c.utf8.back (IsUtf8-string_bytes c.push_str.new.self) c.in_ok-push_str.ensures.bytes, IsUtf8-string_bytes c.in_ok-line.line, IsUtf8-string_bytes c.push_str.new.self)
+    let line = IsUtf8-string_bytes c.in_ok-line.line in
+    let longer = IsUtf8-string_bytes c.push_str.new.self in
+    let pushed = chars-push_str (string_bytes c.in_ok-line.line) c.args.back.now (string_bytes c.push_str.new.self) line c.utf8.back longer c.in_ok-push_str.ensures.bytes in
+    grind (arith, common_steps)

@@ -11,5 +11,5 @@ returns-then-column-gt0 c =
 
 pub returns : goal.returns
 returns c =
-    break_before c.args.lines.now c.args.place c.index-lines-row-2.result c.column_count.result c.requires.place (omega arith) (omega arith) c.index-lines-row-2.is
-    (c.column_count.ensures ∙ ap (λ (t : List ℕ). length (chars t)) c.as_str-2.ensures.value)
+    break_before c.args.lines.now c.args.place c.index-lines-above.result c.column_count.result c.requires.place (omega arith) (omega arith) c.index-lines-above.is
+    (c.column_count.ensures ∙ ap (λ (t : List ℕ). length (chars t)) c.as_str-line.ensures.value)

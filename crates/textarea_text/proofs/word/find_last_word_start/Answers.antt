@@ -1,4 +1,4 @@
-use Rattle.std.proofs.Common.{◌≡◌, true, false, Some, length, take, min, subst, arith, sym, ◌∙◌, ap}
+use Rattle.std.proofs.Common.{◌≡◌, ◌≤◌, ℕ, true, false, Some, length, take, min, subst, arith, sym, ◌∙◌, ap}
 use Rattle.textarea_text.proofs.Prelude.{YieldsList-from_chars, YieldsList-from_take, YieldsList-turn, YieldsList-end, YieldsList-from_enumerate, length_push, length-take, length-enumerate_from}
 use Rattle.textarea_text.specs.Prelude.{IsGreatest, chars, is_earlier_word_start}
 use Rattle.textarea_text.proofs.NearestLemmas.{IsGreatest-greatest_below, greatest_below-here, greatest_below-more, greatest_below-past}
@@ -8,7 +8,8 @@ use Rattle.textarea_text.proofs.word.find_last_word_start.Goals as goal
 pub loop-column-preserved-then-begins_word : goal.loop-column-preserved-then-begins_word
 loop-column-preserved-then-begins_word c =
     let line = chars c.args.text.now in
-    let t = YieldsList-turn (YieldsList-from_enumerate (YieldsList-from_take c.args.end (YieldsList-from_chars c.args.text.now c.utf8.text cc) cc) cc) c.loop-column.yielded _ c.loop-column.yielded_by _ _ (c.in-Some.column, c.in-Some.c) c.in-Some.is c.next.ensures.steps in
+    let walk = YieldsList-from_enumerate (YieldsList-from_take c.args.end (YieldsList-from_chars c.args.text.now c.utf8.text cc) cc) cc in
+    let t = YieldsList-turn walk c.loop-column.yielded _ c.loop-column.yielded_by _ _ (c.in-Some.column, c.in-Some.c) c.in-Some.is c.next.ensures.steps in
     let front = IsTurn-enumerate_from (take c.args.end line) (length c.loop-column.yielded) c.in-Some.column c.in-Some.c c.new-kind.result t.0 t.1 c.new-kind.ensures in
     let turn = IsTurn-take line c.args.end _ _ _ front in
     let tells = is_earlier_word_start-turn line c.args.end _ _ _ _ true turn.0 turn.1 c.loop-column.invariant.before (sym c.begins_word.ensures ∙ c.if-begins_word.true) in
@@ -20,7 +21,8 @@ loop-column-preserved-then-begins_word c =
 pub loop-column-preserved : goal.loop-column-preserved
 loop-column-preserved c =
     let line = chars c.args.text.now in
-    let t = YieldsList-turn (YieldsList-from_enumerate (YieldsList-from_take c.args.end (YieldsList-from_chars c.args.text.now c.utf8.text cc) cc) cc) c.loop-column.yielded _ c.loop-column.yielded_by _ _ (c.in-Some.column, c.in-Some.c) c.in-Some.is c.next.ensures.steps in
+    let walk = YieldsList-from_enumerate (YieldsList-from_take c.args.end (YieldsList-from_chars c.args.text.now c.utf8.text cc) cc) cc in
+    let t = YieldsList-turn walk c.loop-column.yielded _ c.loop-column.yielded_by _ _ (c.in-Some.column, c.in-Some.c) c.in-Some.is c.next.ensures.steps in
     let front = IsTurn-enumerate_from (take c.args.end line) (length c.loop-column.yielded) c.in-Some.column c.in-Some.c c.new-kind.result t.0 t.1 c.new-kind.ensures in
     let turn = IsTurn-take line c.args.end _ _ _ front in
     let tells = is_earlier_word_start-turn line c.args.end _ _ _ _ false turn.0 turn.1 c.loop-column.invariant.before (sym c.begins_word.ensures ∙ c.if-begins_word.false) in
@@ -32,11 +34,15 @@ loop-column-preserved c =
 pub returns : goal.returns
 returns c =
     let line = chars c.args.text.now in
-    let t = YieldsList-end (YieldsList-from_enumerate (YieldsList-from_take c.args.end (YieldsList-from_chars c.args.text.now c.utf8.text cc) cc) cc) c.loop-column.yielded _ c.loop-column.yielded_by _ _ c.in-None.is c.next.ensures.steps in
+    let walk = YieldsList-from_enumerate (YieldsList-from_take c.args.end (YieldsList-from_chars c.args.text.now c.utf8.text cc) cc) cc in
+    let t = YieldsList-end walk c.loop-column.yielded _ c.loop-column.yielded_by _ _ c.in-None.is c.next.ensures.steps in
     let whole : length c.loop-column.yielded ≡ min c.args.end (length line) = t.1 ∙ length-enumerate_from 0 (take c.args.end line) ∙ length-take c.args.end line in
-    let greatest : IsGreatest (is_earlier_word_start line c.args.end) c.loop-column.found = subst (IsGreatest (is_earlier_word_start line c.args.end)) (sym c.loop-column.invariant.found) (IsGreatest-greatest_below (is_earlier_word_start line c.args.end) (length c.loop-column.yielded) (λ e past. is_earlier_word_start-past line c.args.end e (omega arith))) in
+    let count = length c.loop-column.yielded in
+    let test = is_earlier_word_start line c.args.end in
+    let past : (e : ℕ) → count ≤ e → test e ≡ false = λ e le. is_earlier_word_start-past line c.args.end e (omega arith) in
+    let greatest = subst (IsGreatest test) (sym c.loop-column.invariant.found) (IsGreatest-greatest_below test count past) in
     record {
       greatest = greatest;
-      value = c.loop-column.invariant.found ∙ sym (greatest_below-past (is_earlier_word_start line c.args.end) (length c.loop-column.yielded) (length line) (omega arith) (λ e past. is_earlier_word_start-past line c.args.end e (omega arith)));
+      value = c.loop-column.invariant.found ∙ sym (greatest_below-past test count (length line) (omega arith) past);
       within = IsGreatest-within line c.args.end c.loop-column.found greatest;
     }

@@ -1,7 +1,7 @@
 use Rattle.std.proofs.Common.{◌+◌, ◌<◌, Some, None, length, ap, arith}
 use Rattle.std.proofs.lemmas.List.{length-drop}
 use Rattle.std.specs.Str.{chars}
-use Rattle.textarea_text.proofs.StartLemmas.{length-chars}
+use Rattle.textarea_util.proofs.Characters.{length-chars}
 use Rattle.textarea_text.proofs.WordLemmas.{word_last-found}
 use Rattle.textarea_text.proofs.word.find_word_inclusive_end_forward.Goals as goal
 

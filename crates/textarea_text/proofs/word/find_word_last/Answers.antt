@@ -4,7 +4,8 @@ use Rattle.textarea_text.specs.Prelude.{chars, is_word_last_from}
 use Rattle.textarea_text.proofs.NearestLemmas.{failed_before, IsLeast-none}
 use Rattle.textarea_text.proofs.WordLemmas.{IsTurn-chars, class_before-after, is_word_last_from-turn, is_word_last_from-end, is_word_last_from-early, is_word_last_from-past}
 use Rattle.textarea_text.proofs.word.find_word_last.Goals as goal
-use Rattle.textarea_text.proofs.word.find_word_last.Goals.{else-count-gt0-via-then-count-gt0+else-ends_word, else-count-gt0-via-else-count-gt0, else-count-gt0-2-via-then-count-gt0-2+else-ends_word-2, else-count-gt0-2-via-else-count-gt0-2}
+use Rattle.textarea_text.proofs.word.find_word_last.Goals.{else-count-gt0-via-then-count-gt0+else-ends_word, else-count-gt0-via-else-count-gt0}
+use Rattle.textarea_text.proofs.word.find_word_last.Goals.{else-is_word-via-then-is_word+else-count-ne0, else-is_word-via-else-is_word}
 
 pub loop-c-preserved : goal.loop-c-preserved
 loop-c-preserved c =
@@ -35,28 +36,28 @@ returns-then-ends_word c =
       within = omega (arith, turn.within, c.if-count-gt0.true);
     }
 
-pub returns-then-ends_word-2 : goal.returns-then-ends_word-2
-returns-then-ends_word-2 c =
+pub returns-then-count-ne0 : goal.returns-then-count-ne0
+returns-then-count-ne0 c =
     let line = chars c.args.text.now in
     let t = YieldsList-end (YieldsList-from_chars c.args.text.now c.utf8.text cc) c.loop-c.yielded _ c.loop-c.yielded_by _ _ c.in-None.is c.next.ensures.steps in
     let whole : c.loop-c.count ≡ length line = c.loop-c.invariant.count ∙ t.1 in
-    let here = is_word_last_from-end line 0 c.loop-c.count _ true c.if-count-gt0-2.true whole c.loop-c.invariant.before (sym c.ends_word-then-count-gt0-2.ensures ∙ c.if-ends_word-2.true) in
+    let here = is_word_last_from-end line 0 c.loop-c.count _ true (omega arith) whole c.loop-c.invariant.before (sym c.ends_word-is_word.ensures ∙ c.if-is_word.true) in
     record {
       least = (here, λ e earlier. c.loop-c.invariant.failed e (omega arith));
-      within = omega (arith, whole, c.if-count-gt0-2.true);
+      within = omega arith;
     }
 
-pub returns-else-count-gt0-2 : goal.returns-else-count-gt0-2
-returns-else-count-gt0-2 c =
+pub returns-else-is_word : goal.returns-else-is_word
+returns-else-is_word c =
     let line = chars c.args.text.now in
     let t = YieldsList-end (YieldsList-from_chars c.args.text.now c.utf8.text cc) c.loop-c.yielded _ c.loop-c.yielded_by _ _ c.in-None.is c.next.ensures.steps in
     let whole : c.loop-c.count ≡ length line = c.loop-c.invariant.count ∙ t.1 in
     let failed : (e : ℕ) → e < c.loop-c.count → is_word_last_from line 0 e ≡ false =
-    elim c.else-count-gt0-2.branch [
-      | else-count-gt0-2-via-then-count-gt0-2+else-ends_word-2 w ↦
+    elim c.else-is_word.branch [
+      | else-is_word-via-then-is_word+else-count-ne0 w ↦ λ e below. absurd (omega (arith, w.if-count-ne0.false))
+      | else-is_word-via-else-is_word w ↦ λ e below.
           failed_before (is_word_last_from line 0) c.loop-c.count c.loop-c.invariant.failed
-          (is_word_last_from-end line 0 c.loop-c.count _ false w.if-count-gt0-2.true whole c.loop-c.invariant.before (sym w.ends_word-then-count-gt0-2.ensures ∙ w.if-ends_word-2.false))
-      | else-count-gt0-2-via-else-count-gt0-2 w ↦ λ e below. is_word_last_from-early line 0 e (omega (arith, w.if-count-gt0-2.false))
+          (is_word_last_from-end line 0 c.loop-c.count _ false (omega arith) whole c.loop-c.invariant.before (sym c.ends_word-is_word.ensures ∙ w.if-is_word.false)) e below
     ] in
     record {
       least = IsLeast-none (is_word_last_from line 0) c.loop-c.count failed (λ e past. is_word_last_from-past line 0 e (omega (arith, whole)));
