@@ -1,11 +1,11 @@
 -- How the atomic ranges of a document move with its text, over one splice after another.
 use Rattle.std.proofs.Common.{◌≡◌, ℕ, zero, suc, Bool, true, false, List, [], ◌∷◌, ◌++◌, get_or, filter_map, Contains, Option, None, Some, sym, ap, refl, subst, ◌∙◌, arith, inl, inr, ◌⊎◌, suc-le-suc}
-use Rattle.std.proofs.lemmas.Bool.Decides.{nat_tests}
 use Rattle.std.proofs.lemmas.List.Elements.{All-cons, All-contains, All-nil, Contains-get_or}
-use Rattle.textarea_document.specs.Prelude.{cons_option, Symbol, lines, Place, end, CanApply, Fits, Splice, IsTextBefore, applied, applied_all, inverse, newest, next, AtomicRange, IsBeside, IsInside, TakesRange, Overlaps, CoversTheSame, DisturbsBy, moved_range, moved_ranges, AreValid, IsRangeOfLine, HasEffect, EditStep, splice_of_step, stepped, AllStayOrAreDropped, AllStemFrom, SplitNoRange, RangesFollowSplices, RangesStayWhole, IsDroppedBy, StemsFrom, carried_range, ranges_over, SplitsNoRange, SplitsNoRangeBy, after_redo, after_redo_by, after_undo, after_undo_by, IsSound, DocumentState}
+use Rattle.textarea_document.specs.Prelude.{cons_option, Symbol, lines, Place, end, CanApply, Fits, Splice, IsTextBefore, applied, applied_all, inverse, newest, next, AtomicRange, IsBeside, IsInside, TakesRange, CoversTheSame, DisturbsBy, moved_range, moved_ranges, AreValid, IsRangeOfLine, HasEffect, EditStep, splice_of_step, stepped, AllStayOrAreDropped, AllStemFrom, SplitNoRange, RangesFollowSplices, RangesStayWhole, IsDroppedBy, StemsFrom, carried_range, ranges_over, SplitsNoRange, SplitsNoRangeBy, after_redo, after_redo_by, after_undo, after_undo_by, IsSound, DocumentState}
 use Rattle.textarea_ranges.proofs.Moving.{covers_the_same, dropped, valid_moved}
 use Rattle.textarea_document.proofs.Sounds.{newest_fits, next_fits}
 use Rattle.textarea_document.proofs.StepLaw.{step_keeps}
+use Rattle.textarea_ranges.proofs.LookupLemmas.{not_beside}
 
 -- ---- one splice
 
@@ -168,10 +168,6 @@ all_stay_or_are_dropped old new splices h k d within =
     ]
 
 -- ---- which ranges an edit drops
-
-not_beside : (from to : Place) (range : AtomicRange) → Overlaps from to range → IsBeside from to range → ⊥
-not_beside from to range h (inl up) = grind (arith, nat_tests)
-not_beside from to range h (inr up) = grind (arith, nat_tests)
 
 removed_by : (inserts : Bool) (place to : Place) (range : AtomicRange) → SplitsNoRangeBy inserts (range ∷ []) place to → DisturbsBy inserts place to range → (inserts ≡ false) × TakesRange place to range
 removed_by true place to range cuts disturbs = absurd (cuts 0 range (omega arith) disturbs)

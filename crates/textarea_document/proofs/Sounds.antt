@@ -1,11 +1,12 @@
 -- Each step preserves the invariant of documents.
-use Rattle.std.proofs.Common.{◌≡◌, ℕ, Bool, true, false, cond, List, [], length, Option, Some, None, Result, Ok, Err, sym, ap, refl, ◌∙◌, subst, arith}
-use Rattle.textarea_document.specs.Prelude.{OnErr, OnOk, Symbol, lines, Place, IsPlace, Splice, Fits, applied, inverse, place_after, Log, empty_log, redone_log, newest, next, recorded, undone_log, AtomicRange, moved_ranges, LayoutSettings, TextAndLayout, Layout, all_wrapped, applied_to, layout_from_scratch, with_settings, wrapping_of, is_same_wrapping, wrapping_for, DocumentState, document_of, fresh_document, logged, after_change, after_edit, after_redo_by, after_undo_by, text_and_layout, with_layout_settings, IsSound}
+use Rattle.std.proofs.Common.{◌≡◌, ℕ, Bool, List, [], length, Option, Some, None, Result, Ok, Err, sym, ap, refl, ◌∙◌, subst, arith}
+use Rattle.textarea_document.specs.Prelude.{OnErr, OnOk, Symbol, lines, Place, IsPlace, Splice, Fits, applied, inverse, place_after, Log, empty_log, redone_log, newest, next, recorded, undone_log, AtomicRange, moved_ranges, LayoutSettings, TextAndLayout, Layout, all_wrapped, applied_to, layout_from_scratch, with_settings, DocumentState, document_of, fresh_document, logged, after_change, after_edit, after_redo_by, after_undo_by, text_and_layout, with_layout_settings, IsSound}
 use Rattle.textarea_text.proofs.TextPlaces.{IsPlace-end, takes_back}
 use Rattle.textarea_history.specs.HistoryLaw.{IsSoundLog as LogIsSound}
 use Rattle.textarea_history.proofs.LogLaws.{each_fits, newest_back, sound_redone_by, sound_undone_by, sound_edited as log_edited}
 use Rattle.textarea_ranges.proofs.Moving.{in_order_moved, valid_moved}
 use Rattle.textarea_document.proofs.Ranges.{valid_none}
+use Rattle.textarea_lines.proofs.PutSettings.{text_stays}
 
 pub logged_sound : (document : DocumentState) → IsSound document → LogIsSound (logged document)
 logged_sound document h = record { undo = h.undo; redo = h.redo; bounded = h.bounded }
@@ -71,19 +72,8 @@ start_is_place text = IsPlace-end [] text
 
 -- ---- other settings
 
--- other settings leave the text
-text_with_settings : (text_layout : TextAndLayout) (settings : LayoutSettings) → (with_settings text_layout settings).text ≡ text_layout.text
-text_with_settings text_layout settings = by (is_same_wrapping (wrapping_for settings (length (lines text_layout.text))) (wrapping_of text_layout))
-  where
-    as_it_was : TextAndLayout
-    as_it_was = record { text = text_layout.text; layout = record { settings = settings; count = text_layout.layout.count; ticks = text_layout.layout.ticks } }
-
-    by : (b : Bool) → (cond b as_it_was (layout_from_scratch settings text_layout.layout.count text_layout.text)).text ≡ text_layout.text
-    by true = refl
-    by false = refl
-
 text_viewed : {T E : Type 0} (r : Result T E) (text_layout new : TextAndLayout) (settings : LayoutSettings) → OnOk r (new ≡ with_settings text_layout settings) → OnErr r (new ≡ text_layout) → new.text ≡ text_layout.text
-text_viewed (Ok x) text_layout new settings ok err = ap (λ (l : TextAndLayout). l.text) ok ∙ text_with_settings text_layout settings
+text_viewed (Ok x) text_layout new settings ok err = ap (λ (l : TextAndLayout). l.text) ok ∙ text_stays text_layout settings
 text_viewed (Err e) text_layout new settings ok err = ap (λ (l : TextAndLayout). l.text) err
 
 pub sound_viewed : {T E : Type 0} (r : Result T E) (text_layout new : TextAndLayout) (settings : LayoutSettings) (cursor : Place) (anchor : Option Place) (ranges : List AtomicRange) (log : Log) → OnOk r (new ≡ with_settings text_layout settings) → OnErr r (new ≡ text_layout) → IsSound (document_of text_layout cursor anchor ranges log) → IsSound (document_of new cursor anchor ranges log)
@@ -95,7 +85,7 @@ sound_viewed r text_layout new settings cursor anchor ranges log ok err h =
 pub layout_with_settings : (document : DocumentState) (settings : LayoutSettings) → with_settings (text_and_layout document) settings ≡ text_and_layout (with_layout_settings document settings)
 layout_with_settings document settings =
     let after = with_settings (text_and_layout document) settings in
-    ap (λ (t : List Symbol). record { text = t; layout = after.layout }) (text_with_settings (text_and_layout document) settings)
+    ap (λ (t : List Symbol). record { text = t; layout = after.layout }) (text_stays (text_and_layout document) settings)
 
 -- a document whose lines have other settings
 pub settings_put : (text_layout new : TextAndLayout) (settings : LayoutSettings) (cursor : Place) (anchor : Option Place) (ranges : List AtomicRange) (log : Log) → new ≡ with_settings text_layout settings → document_of new cursor anchor ranges log ≡ with_layout_settings (document_of text_layout cursor anchor ranges log) settings

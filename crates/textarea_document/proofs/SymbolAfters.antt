@@ -1,12 +1,10 @@
 -- The symbol directly after a position.
-use Rattle.std.proofs.Common.{◌≡◌, ◌≢◌, ℕ, Bool, false, cond, ◌+◌, ◌≤◌, ◌<◌, List, [], ◌∷◌, ◌++◌, length, take, drop, get_or, sym, ap, refl, ◌∙◌, arith, subst, Option, Some, None, encode_utf8, encode_utf8_all}
-use Rattle.std.specs.Str.{IsCharBoundary}
+use Rattle.std.proofs.Common.{◌≡◌, ◌≢◌, ℕ, Bool, false, cond, ◌+◌, ◌≤◌, ◌<◌, List, [], ◌∷◌, ◌++◌, length, take, drop, get_or, ap, refl, ◌∙◌, arith, subst, Option, Some, None, encode_utf8, encode_utf8_all}
 use Rattle.std.proofs.lemmas.Bool.{ne_eqb}
 use Rattle.std.proofs.lemmas.List.{drop_all, length-drop}
 use Rattle.std.proofs.lemmas.Str.{length-le-encodes}
-use Rattle.textarea_text.proofs.Columns.{IsCharBoundary-column, offset_in}
 use Rattle.textarea_text.proofs.Befores.{next_is}
-use Rattle.textarea_document.specs.Prelude.{MatchOption, chars, IsUtf8, Symbol, Character, Break, joined, lines, Place, IsPlace, IsPlaceOf, OccursAt, index_of, line_end, Fits, inserts_of, symbols_of, EditKind, DocumentState, after_edit, IsSymbolAfter, break_removal, symbol_removed_after}
+use Rattle.textarea_document.specs.Prelude.{MatchOption, Symbol, Character, Break, joined, lines, Place, IsPlace, IsPlaceOf, OccursAt, index_of, line_end, Fits, inserts_of, symbols_of, EditKind, DocumentState, after_edit, IsSymbolAfter, break_removal, symbol_removed_after}
 use Rattle.textarea_text.proofs.Befores.{break_occurs, character_occurs}
 use Rattle.textarea_history.specs.Edit.{splice_of}
 use Rattle.textarea_text.proofs.TextPlaces.{joined-lines, place_of-index}
@@ -27,9 +25,6 @@ break_is_after rows row column within e =
     record { index = not_end (joined rows) (index_of (joined rows) (row, column)) Break occurs; symbol_is = occurs; ends = refl }
 
 -- ---- of strings
-
-pub boundary_of : (line : List ℕ) (column offset : ℕ) → IsUtf8 line → offset ≡ offset_in (chars line) column → IsCharBoundary line offset
-boundary_of line column offset utf8 e = subst (IsCharBoundary line) (sym e) (IsCharBoundary-column line column utf8)
 
 -- a call of `next` after the column
 pub symbol_after_is : (Same : Type 0) (cs was rest : List ℕ) (column : ℕ) (found : Option ℕ) → column ≤ length cs → was ≡ encode_utf8_all (drop column cs) → MatchOption found ((length was ≡ 0) × Same) (λ d. was ≡ encode_utf8 d ++ rest) → MatchOption found (column ≡ length cs) (λ c. drop column cs ≡ c ∷ drop (column + 1) cs)

@@ -20,7 +20,8 @@ closes_none f xs all retained index d within found h =
     ∙ ap (λ o. take retained xs ++ cons_option o (filter_map f (drop (index + 1) xs))) found)
     ∙ h
 
-pub closes_some : {X : Type 0} (f : X → Option X) (xs all : List X) (retained index : ℕ) (d y : X) → retained ≤ index → index < length xs → f (get_or xs index d) ≡ Some y → Closes f xs retained index all → Closes f (set xs retained y) (retained + 1) (index + 1) all
+pub closes_some : {X : Type 0} (f : X → Option X) (xs all : List X) (retained index : ℕ) (d y : X) → retained ≤ index → index < length xs → f (get_or xs index d) ≡ Some y →
+    Closes f xs retained index all → Closes f (set xs retained y) (retained + 1) (index + 1) all
 closes_some f xs all retained index d y after within found h =
     grind (arith, common_steps, take_more_set xs retained y (omega arith), drop-set-lt (index + 1) xs retained y (omega arith), append_assoc (take retained xs) (y ∷ []) (filter_map f (drop (index + 1) xs)), drop_more xs index d within)
 
@@ -44,7 +45,8 @@ pub record Closing {X : Type 0} (f : X → Option X) (P : X → Type 0) (xs : Li
   pub rest : drop index xs ≡ drop index all
   pub closes : Closes f xs retained index (closed f first all)
 
-pub closing_none : {X : Type 0} (f : X → Option X) (P : X → Type 0) (xs all : List X) (retained index first : ℕ) (d : X) → index < length xs → f (get_or xs index d) ≡ None → Closing f P xs retained index first all → Closing f P xs retained (index + 1) first all
+pub closing_none : {X : Type 0} (f : X → Option X) (P : X → Type 0) (xs all : List X) (retained index first : ℕ) (d : X) → index < length xs → f (get_or xs index d) ≡ None →
+    Closing f P xs retained index first all → Closing f P xs retained (index + 1) first all
 closing_none f P xs all retained index first d within found h = record {
   ordered = omega (arith, h.ordered);
   len = h.len;
@@ -53,7 +55,8 @@ closing_none f P xs all retained index first d within found h = record {
   closes = closes_none f xs (closed f first all) retained index d within found h.closes;
 }
 
-pub closing_some : {X : Type 0} (f : X → Option X) (P : X → Type 0) (xs all : List X) (retained index first : ℕ) (d y : X) → index < length xs → f (get_or xs index d) ≡ Some y → Closing f P xs retained index first all → Closing f P (set xs retained y) (retained + 1) (index + 1) first all
+pub closing_some : {X : Type 0} (f : X → Option X) (P : X → Type 0) (xs all : List X) (retained index first : ℕ) (d y : X) → index < length xs → f (get_or xs index d) ≡ Some y →
+    Closing f P xs retained index first all → Closing f P (set xs retained y) (retained + 1) (index + 1) first all
 closing_some f P xs all retained index first d y within found h =
     let same : drop (index + 1) (set xs retained y) ≡ drop (index + 1) xs = drop-set-lt (index + 1) xs retained y (omega (arith, h.ordered)) in
     record {

@@ -22,10 +22,6 @@ first_retained {X} P test (y ∷ ys) x rest all e =
       | inr dropped ↦ first_retained P test ys x rest all.1 (sym (filter-dropped test y ys dropped) ∙ e)
     ]
 
-pub each_both : {X : Type 0} (P Q R : X → Type 0) → ((x : X) → P x → Q x → R x) → (xs : List X) → AllByRecursion P xs → AllByRecursion Q xs → AllByRecursion R xs
-each_both P Q R both [] p q = tt
-each_both P Q R both (x ∷ xs) p q = (both x p.0 q.0, each_both P Q R both xs p.1 q.1)
-
 -- the relation of each element to each later one
 abbrev pub EachLater : {X : Type 0} → (X → X → Type 0) → List X → Type 0
 EachLater R [] = Unit {0}
@@ -43,7 +39,3 @@ later-AllPairs R (x ∷ xs) pairs = (
   recursion_from_All (R x) xs (λ k d within. pairs zero (suc k) d (omega arith) (suc-le-suc within)),
   later-AllPairs R xs (λ i j d before within. pairs (suc i) (suc j) d (suc-le-suc before) (suc-le-suc within)),
 )
-
-pub each_weaker : {X : Type 0} (P Q : X → Type 0) → ((x : X) → P x → Q x) → (xs : List X) → AllByRecursion P xs → AllByRecursion Q xs
-each_weaker P Q weaker [] all = tt
-each_weaker P Q weaker (x ∷ xs) all = (weaker x all.0, each_weaker P Q weaker xs all.1)

@@ -4,7 +4,8 @@ use Rattle.std.proofs.lemmas.Bool.{cases_lt}
 use Rattle.std.proofs.lemmas.List.{get_or_default}
 use Rattle.std.proofs.lemmas.Bool.Decides.{nat_tests}
 use Rattle.std.proofs.lemmas.List.Elements.{All-contains}
-use Rattle.textarea_ranges.specs.Prelude.{Place, IsBefore, IsPlaceOf, IsUpTo, AtomicRange, AtomicCursorBias, Backward, Forward, AtomicDeleteDirection, IsRangeAtPlace, range_at_place, is_range_at_place, IsInside, is_inside, range_start, range_end, range_around, range_edge, range_edge_or, moved_out, TakesRange, IsBeside, Overlaps, TakesWhole, widened, IsWidened, IsRangeOfLine, AreDisjoint, AreValid}
+use Rattle.textarea_ranges.specs.Prelude.{Place, IsBefore, IsPlaceOf, IsUpTo, AtomicRange, AtomicCursorBias, Backward, Forward, AtomicDeleteDirection, IsRangeAtPlace, range_at_place, is_range_at_place, IsInside, is_inside}
+use Rattle.textarea_ranges.specs.Prelude.{range_start, range_end, range_around, range_edge, range_edge_or, moved_out, TakesRange, IsBeside, Overlaps, TakesWhole, widened, IsWidened, IsRangeOfLine, AreDisjoint, AreValid}
 use Rattle.textarea_data.specs.declared.range.AtomicDeleteDirection.TheVariants.{Backward as DeleteBackward, Forward as DeleteForward}
 use Rattle.textarea_ranges.proofs.Finds.{IsFirstFound, IsFirstFound-find, fails-find}
 
@@ -40,7 +41,8 @@ border_own range Forward h = omega arith
 
 -- ---- a position that is moved out
 
-outside_of : (rows : List (List ℕ)) (ranges : List AtomicRange) (place : Place) (bias : AtomicCursorBias) → AreValid rows ranges → (found : Option AtomicRange) → range_around ranges place ≡ found → All (λ range. ¬ IsInside (range_edge_or found place bias) range) ranges
+outside_of : (rows : List (List ℕ)) (ranges : List AtomicRange) (place : Place) (bias : AtomicCursorBias) → AreValid rows ranges → (found : Option AtomicRange) →
+    range_around ranges place ≡ found → All (λ range. ¬ IsInside (range_edge_or found place bias) range) ranges
 outside_of rows ranges place bias valid None e k d within h =
     let passes = is_inside-IsInside place (get_or ranges k d) h in
     let fails = fails-find (is_inside place) ranges e k d within in
@@ -63,7 +65,8 @@ place_of_border : (rows : List (List ℕ)) (range : AtomicRange) (bias : AtomicC
 place_of_border rows range Backward in_line = (in_line.0, omega arith)
 place_of_border rows range Forward in_line = (in_line.0, in_line.2)
 
-place_of_result : (rows : List (List ℕ)) (ranges : List AtomicRange) (place : Place) (bias : AtomicCursorBias) → AreValid rows ranges → IsPlaceOf rows place → (found : Option AtomicRange) → range_around ranges place ≡ found → IsPlaceOf rows (range_edge_or found place bias)
+place_of_result : (rows : List (List ℕ)) (ranges : List AtomicRange) (place : Place) (bias : AtomicCursorBias) → AreValid rows ranges → IsPlaceOf rows place →
+    (found : Option AtomicRange) → range_around ranges place ≡ found → IsPlaceOf rows (range_edge_or found place bias)
 place_of_result rows ranges place bias valid h None e = h
 place_of_result rows ranges place bias valid h (Some range) e =
     let found = IsFirstFound-find (is_inside place) ranges range e in
@@ -85,13 +88,10 @@ up_to_before one two three h k = (omega arith, λ same. omega arith)
 before_up_to : (one two three : Place) → IsBefore one two → IsUpTo two three → IsBefore one three
 before_up_to one two three h k = (omega arith, λ same. omega arith)
 
-never : (one other : Place) → IsBefore one other → IsUpTo other one → ⊥
-never one other h k = grind (arith, nat_tests)
-
 -- a range beside a removal does not overlap it
-not_beside : (from to : Place) (range : AtomicRange) → Overlaps from to range → IsBeside from to range → ⊥
-not_beside from to range h (inl up) = never (range_start range) to h.0 up
-not_beside from to range h (inr up) = never from (range_end range) h.1 up
+pub not_beside : (from to : Place) (range : AtomicRange) → Overlaps from to range → IsBeside from to range → ⊥
+not_beside from to range h (inl up) = grind (arith, nat_tests)
+not_beside from to range h (inr up) = grind (arith, nat_tests)
 
 overlaps_more : (from to first last : Place) (range : AtomicRange) → IsUpTo first from → IsUpTo to last → Overlaps from to range → Overlaps first last range
 overlaps_more from to first last range starts ends h = (before_up_to (range_start range) to last h.0 ends, up_to_before first from (range_end range) starts h.1)
@@ -124,16 +124,19 @@ overlaps_at_end : (from to : Place) (range : AtomicRange) → IsUpTo from to →
 overlaps_at_end from to range up h = grind (arith, nat_tests)
 
 -- what a removal overlaps, a larger one takes whole if it takes each range whole or not at all
-removed_over : (ranges : List AtomicRange) (from to first last : Place) (test : AtomicRange → Bool) (range : AtomicRange) → IsUpTo first from → IsUpTo to last → TakesWhole ranges first last → IsFirstFound test ranges range → Overlaps from to range → TakesRange first last range
+removed_over : (ranges : List AtomicRange) (from to first last : Place) (test : AtomicRange → Bool) (range : AtomicRange) → IsUpTo first from → IsUpTo to last →
+    TakesWhole ranges first last → IsFirstFound test ranges range → Overlaps from to range → TakesRange first last range
 removed_over ranges from to first last test range starts ends whole found overlap = grind (arith, nat_tests)
 
-least_start : (ranges : List AtomicRange) (from to first last : Place) → IsUpTo from to → IsUpTo first from → IsUpTo to last → TakesWhole ranges first last → (found : Option AtomicRange) → range_around ranges from ≡ found → IsUpTo first (range_edge_or found from Backward)
+least_start : (ranges : List AtomicRange) (from to first last : Place) → IsUpTo from to → IsUpTo first from → IsUpTo to last → TakesWhole ranges first last →
+    (found : Option AtomicRange) → range_around ranges from ≡ found → IsUpTo first (range_edge_or found from Backward)
 least_start ranges from to first last up starts ends whole None e = starts
 least_start ranges from to first last up starts ends whole (Some range) e =
     let found = IsFirstFound-find (is_inside from) ranges range e in
     (removed_over ranges from to first last (is_inside from) range starts ends whole found (overlaps_at_start from to range up (IsInside-is_inside from range found.passes))).0
 
-least_end : (ranges : List AtomicRange) (from to first last : Place) → IsUpTo from to → IsUpTo first from → IsUpTo to last → TakesWhole ranges first last → (found : Option AtomicRange) → range_around ranges to ≡ found → IsUpTo (range_edge_or found to Forward) last
+least_end : (ranges : List AtomicRange) (from to first last : Place) → IsUpTo from to → IsUpTo first from → IsUpTo to last → TakesWhole ranges first last →
+    (found : Option AtomicRange) → range_around ranges to ≡ found → IsUpTo (range_edge_or found to Forward) last
 least_end ranges from to first last up starts ends whole None e = ends
 least_end ranges from to first last up starts ends whole (Some range) e =
     let found = IsFirstFound-find (is_inside to) ranges range e in
@@ -152,7 +155,7 @@ IsWidened-widened rows ranges from to valid up =
     record {
       starts = starts;
       ends = ends;
-      overlapping = λ k d within h. within_from (moved_out ranges from Backward) (moved_out ranges to Forward) (get_or ranges k d) (overlaps_more from to (moved_out ranges from Backward) (moved_out ranges to Forward) (get_or ranges k d) starts ends h) (whole k d within);
+      overlapping = λ k d within h. within_from _ _ _ (overlaps_more from to _ _ (get_or ranges k d) starts ends h) (whole k d within);
       whole = whole;
       least = λ first last before after all. (least_start ranges from to first last up before after all (range_around ranges from) refl, least_end ranges from to first last up before after all (range_around ranges to) refl);
     }
@@ -196,7 +199,8 @@ module _ (test : AtomicRange → Bool) (Holds : AtomicRange → Type 0) (holds :
       let found = IsFirstFound-find test ranges range e in
       ((found.index, found.within, found.at range), holds range found.passes)
 
-  only_one : (rows : List (List ℕ)) (range : AtomicRange) → AreValid rows ranges → ((one other : AtomicRange) → Holds one → Holds other → ¬ AreDisjoint one other) → Contains ranges range → Holds range → (found : Option AtomicRange) → find test ranges ≡ found → found ≡ Some range
+  only_one : (rows : List (List ℕ)) (range : AtomicRange) → AreValid rows ranges → ((one other : AtomicRange) → Holds one → Holds other → ¬ AreDisjoint one other) →
+      Contains ranges range → Holds range → (found : Option AtomicRange) → find test ranges ≡ found → found ≡ Some range
   only_one rows range valid share within h None e = absurd (All-contains (λ r. ¬ Holds r) ranges range (find_cases None e) within h)
   only_one rows range valid share within h (Some other) e =
       let found = find_cases (Some other) e in
@@ -211,9 +215,14 @@ inside-only rows ranges place range valid within h =
     only_one (is_inside place) (IsInside place) (IsInside-is_inside place) (is_inside-IsInside place) ranges rows range valid (inside_shares place) within h (range_around ranges place) refl
 
 -- the same for the range at a position
-pub MatchOption-at_place : (ranges : List AtomicRange) (place : Place) (direction : AtomicDeleteDirection) → MatchOption (range_at_place ranges place direction) (All (λ range. ¬ IsRangeAtPlace place direction range) ranges) (λ range. Contains ranges range × IsRangeAtPlace place direction range)
-MatchOption-at_place ranges place direction = find_cases (is_range_at_place place direction) (IsRangeAtPlace place direction) (IsRangeAtPlace-is_range_at_place place direction) (is_range_at_place-IsRangeAtPlace place direction) ranges (range_at_place ranges place direction) refl
+pub MatchOption-at_place : (ranges : List AtomicRange) (place : Place) (direction : AtomicDeleteDirection) →
+    MatchOption (range_at_place ranges place direction) (All (λ range. ¬ IsRangeAtPlace place direction range) ranges) (λ range. Contains ranges range × IsRangeAtPlace place direction range)
+MatchOption-at_place ranges place direction =
+    find_cases (is_range_at_place place direction) (IsRangeAtPlace place direction) (IsRangeAtPlace-is_range_at_place place direction)
+    (is_range_at_place-IsRangeAtPlace place direction) ranges (range_at_place ranges place direction) refl
 
-pub at_place-only : (rows : List (List ℕ)) (ranges : List AtomicRange) (place : Place) (direction : AtomicDeleteDirection) (range : AtomicRange) → AreValid rows ranges → Contains ranges range → IsRangeAtPlace place direction range → range_at_place ranges place direction ≡ Some range
+pub at_place-only : (rows : List (List ℕ)) (ranges : List AtomicRange) (place : Place) (direction : AtomicDeleteDirection) (range : AtomicRange) → AreValid rows ranges →
+    Contains ranges range → IsRangeAtPlace place direction range → range_at_place ranges place direction ≡ Some range
 at_place-only rows ranges place direction range valid within h =
-    only_one (is_range_at_place place direction) (IsRangeAtPlace place direction) (IsRangeAtPlace-is_range_at_place place direction) (is_range_at_place-IsRangeAtPlace place direction) ranges rows range valid (ranges_share place direction) within h (range_at_place ranges place direction) refl
+    only_one (is_range_at_place place direction) (IsRangeAtPlace place direction) (IsRangeAtPlace-is_range_at_place place direction)
+    (is_range_at_place-IsRangeAtPlace place direction) ranges rows range valid (ranges_share place direction) within h (range_at_place ranges place direction) refl

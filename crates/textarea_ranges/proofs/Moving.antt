@@ -4,11 +4,15 @@ use Rattle.std.proofs.lemmas.Bool.{cases_Bool}
 use Rattle.std.proofs.lemmas.Bool.Decides.{nat_tests}
 use Rattle.std.proofs.lemmas.List.{append_assoc, length-append, length-drop, length-take-le, take-append-drop, take_at, drop_at, get_or_at}
 use Rattle.std.proofs.lemmas.List.Elements.{All-from_recursion, recursion_from_All}
-use Rattle.textarea_ranges.specs.Prelude.{AllByRecursion, cons_option, Symbol, Character, Break, characters, following, joined, leading, lines, on_first, Place, IsUpTo, end, line_of, Splice, Fits, applied, place_after, place_before, is_up_to, shifted, AtomicRange, range_end, range_start, CoversTheSame, Disturbs, DisturbsBy, covered_characters, moved_range, moved_ranges, shifted_range, AreInOrder, is_range_before, AreDisjoint, AreValid, IsRangeOfLine}
+use Rattle.textarea_ranges.specs.Prelude.{AllByRecursion, cons_option, Symbol, Character, Break, characters, following, joined, leading, lines, on_first, Place, IsUpTo, end, line_of}
+use Rattle.textarea_ranges.specs.Prelude.{Splice, Fits, applied, place_after, place_before, is_up_to, shifted, AtomicRange, range_end, range_start, CoversTheSame, Disturbs, DisturbsBy}
+use Rattle.textarea_ranges.specs.Prelude.{covered_characters, moved_range, moved_ranges, shifted_range, AreInOrder, is_range_before, AreDisjoint, AreValid, IsRangeOfLine}
 use Rattle.textarea_text.proofs.Splices.{characters-append, end-append, end_of_front, end-characters, joined-append, lines-joined}
 use Rattle.textarea_text.proofs.TextPlaces.{Parted, split_text, joined-lines, parted_rows}
 use Rattle.textarea_text.proofs.PlacesAfterSplice.{back_stays, end_from, front_stays}
-use Rattle.textarea_ranges.proofs.Lists.{AllPairs-later, EachLater, each_both, later-AllPairs}
+use Rattle.textarea_ranges.proofs.Lists.{AllPairs-later, EachLater, later-AllPairs}
+use Rattle.textarea_util.proofs.Alls.{all_both}
+use Rattle.textarea_ranges.proofs.Searching.{up_to-not_before}
 use Rattle.textarea_ranges.proofs.OrderLemmas.{in_order-sorted, sorted-in_order}
 use Rattle.textarea_ranges.proofs.Sorts.{NotBefore}
 
@@ -52,7 +56,8 @@ pub record OccursInLine (text : List Symbol) (range : AtomicRange) (cs : List �
   pub in_line : IsRangeOfLine (lines text) range
   pub is : covered_characters (lines text) range ≡ cs
 
-occurs_in : (rows above rest : List (List ℕ)) (before cs after : List ℕ) (range : AtomicRange) → rows ≡ above ++ ((before ++ (cs ++ after)) ∷ rest) → range.row ≡ length above → range.start_col ≡ length before → range.end_col ≡ length before + length cs → 0 < length cs → IsRangeOfLine rows range × (covered_characters rows range ≡ cs)
+occurs_in : (rows above rest : List (List ℕ)) (before cs after : List ℕ) (range : AtomicRange) → rows ≡ above ++ ((before ++ (cs ++ after)) ∷ rest) → range.row ≡ length above →
+    range.start_col ≡ length before → range.end_col ≡ length before + length cs → 0 < length cs → IsRangeOfLine rows range × (covered_characters rows range ≡ cs)
 occurs_in rows above rest before cs after range e row start to some =
     let line = before ++ (cs ++ after) in
     let here : line_of rows range.row ≡ line =
@@ -68,7 +73,8 @@ occurs_in rows above rest before cs after range e row start to some =
           ∙ take_at cs after (length cs) refl,
     )
 
-pub occurs : (text front back : List Symbol) (cs : List ℕ) (range : AtomicRange) → text ≡ front ++ (characters cs ++ back) → end (0, 0) front ≡ range_start range → range.start_col + length cs ≡ range.end_col → 0 < length cs → OccursInLine text range cs
+pub occurs : (text front back : List Symbol) (cs : List ℕ) (range : AtomicRange) → text ≡ front ++ (characters cs ++ back) → end (0, 0) front ≡ range_start range →
+    range.start_col + length cs ≡ range.end_col → 0 < length cs → OccursInLine text range cs
 occurs text front back cs range e starts ends some =
     let components = split_text front in
     let next = filled back in
@@ -181,17 +187,19 @@ later_cons : {X : Type 0} (R : X → X → Type 0) (found : Option X) (rest : Li
 later_cons R None rest here later = later
 later_cons R (Some y) rest here later = (here y refl, later)
 
-later_left : {X : Type 0} (P : X → Type 0) (R Q : X → X → Type 0) (f : X → Option X) → ((x z y w : X) → P x → P z → R x z → f x ≡ Some y → f z ≡ Some w → Q y w) → (xs : List X) → AllByRecursion P xs → EachLater R xs → EachLater Q (filter_map f xs)
+later_left : {X : Type 0} (P : X → Type 0) (R Q : X → X → Type 0) (f : X → Option X) → ((x z y w : X) → P x → P z → R x z → f x ≡ Some y → f z ≡ Some w → Q y w) → (xs : List X) →
+    AllByRecursion P xs → EachLater R xs → EachLater Q (filter_map f xs)
 later_left P R Q f keeps [] all later = tt
 later_left {X} P R Q f keeps (x ∷ xs) all later =
     later_cons Q (f x) (filter_map f xs)
-    (λ y e. each_left (λ (z : X). P z × R x z) (Q y) f (λ z w h k. keeps x z y w all.0 h.0 h.1 e k) xs (each_both P (R x) (λ (z : X). P z × R x z) (λ z p r. (p, r)) xs all.1 later.0))
+    (λ y e. each_left (λ (z : X). P z × R x z) (Q y) f (λ z w h k. keeps x z y w all.0 h.0 h.1 e k) xs (all_both P (R x) (λ (z : X). P z × R x z) (λ z p r. (p, r)) xs all.1 later.0))
     (later_left P R Q f keeps xs all.1 later.1)
 
 -- ---- two ranges that are left
 
 -- the splice's start is at or before both ends of what changes
-starts_by : (inserts : Bool) (place : Place) (symbols : List Symbol) → IsUpTo place (place_before (record { place = place; symbols = symbols; inserts = inserts })) × IsUpTo place (place_after (record { place = place; symbols = symbols; inserts = inserts }))
+starts_by : (inserts : Bool) (place : Place) (symbols : List Symbol) →
+    IsUpTo place (place_before (record { place = place; symbols = symbols; inserts = inserts })) × IsUpTo place (place_after (record { place = place; symbols = symbols; inserts = inserts }))
 starts_by true place symbols = (end_from place [], end_from place symbols)
 starts_by false place symbols = (end_from place symbols, end_from place [])
 
@@ -233,7 +241,8 @@ go_apart old new one other there away apart (inr h) (inl k) same = absurd (omega
 go_apart old new one other there away apart (inr h) (inr k) same =
     elim (apart (omega (arith, h.row, k.row, same))) [ inl before ↦ inl (omega (arith, h.to, k.start, before)) | inr after ↦ inr (omega (arith, k.to, h.start, after)) ]
 
-go_in_order : (old new : Place) (one other there away : AtomicRange) → IsUpTo (range_start one) (range_start other) → InRow old new one there ⊎ BelowRow old new one there → InRow old new other away ⊎ BelowRow old new other away → IsUpTo (range_start there) (range_start away)
+go_in_order : (old new : Place) (one other there away : AtomicRange) → IsUpTo (range_start one) (range_start other) → InRow old new one there ⊎ BelowRow old new one there →
+    InRow old new other away ⊎ BelowRow old new other away → IsUpTo (range_start there) (range_start away)
 go_in_order old new one other there away up (inl h) (inl k) = (omega (arith, h.row, k.row), λ same. omega (arith, h.start, k.start, h.row_was, k.row_was, up.1))
 go_in_order old new one other there away up (inl h) (inr k) = (omega (arith, h.row, k.row, k.row_was), λ same. absurd (omega (arith, h.row, k.row, k.row_was, same)))
 go_in_order old new one other there away up (inr h) (inl k) = absurd (omega (arith, up.0, h.row_was, k.row_was))
@@ -241,11 +250,14 @@ go_in_order old new one other there away up (inr h) (inr k) = (omega (arith, h.r
 
 -- facts of two ranges are also facts of what is left of them
 module _ (splice : Splice) (one other there away : AtomicRange) (one_some : one.start_col < one.end_col) (other_some : other.start_col < other.end_col) where
-  go_one : IsUpTo (place_before splice) (range_start one) → there ≡ shifted_range (place_before splice) (place_after splice) one → InRow (place_before splice) (place_after splice) one there ⊎ BelowRow (place_before splice) (place_after splice) one there
-  go_one up same = subst (λ (r : AtomicRange). InRow (place_before splice) (place_after splice) one r ⊎ BelowRow (place_before splice) (place_after splice) one r) (sym same) (shift_cases (place_before splice) (place_after splice) one (omega arith) up)
+  abbrev Goes : AtomicRange → AtomicRange → Type 0
+  Goes range moved = InRow (place_before splice) (place_after splice) range moved ⊎ BelowRow (place_before splice) (place_after splice) range moved
 
-  go_other : IsUpTo (place_before splice) (range_start other) → away ≡ shifted_range (place_before splice) (place_after splice) other → InRow (place_before splice) (place_after splice) other away ⊎ BelowRow (place_before splice) (place_after splice) other away
-  go_other up same = subst (λ (r : AtomicRange). InRow (place_before splice) (place_after splice) other r ⊎ BelowRow (place_before splice) (place_after splice) other r) (sym same) (shift_cases (place_before splice) (place_after splice) other (omega arith) up)
+  go_one : IsUpTo (place_before splice) (range_start one) → there ≡ shifted_range (place_before splice) (place_after splice) one → Goes one there
+  go_one up same = subst (Goes one) (sym same) (shift_cases (place_before splice) (place_after splice) one (omega arith) up)
+
+  go_other : IsUpTo (place_before splice) (range_start other) → away ≡ shifted_range (place_before splice) (place_after splice) other → Goes other away
+  go_other up same = subst (Goes other) (sym same) (shift_cases (place_before splice) (place_after splice) other (omega arith) up)
 
   apart_by : Left splice one there → Left splice other away → AreDisjoint one other → AreDisjoint there away
   apart_by (StaysThere up same) (StaysThere up' same') apart = subst (λ (r : AtomicRange). AreDisjoint r away) (sym same) (subst (AreDisjoint one) (sym same') apart)
@@ -282,9 +294,6 @@ valid_moved text splice ranges h valid =
           (λ one other there away p q apart e k. apart_by splice one other there away p.1 q.1 (left splice one there e) (left splice other away k) apart)
           ranges components (later-AllPairs AreDisjoint ranges valid.disjoint));
     }
-
-up_to-not_before : (one other : AtomicRange) → is_range_before other one ≡ false → IsUpTo (range_start one) (range_start other)
-up_to-not_before one other e = (grind (arith, nat_tests), λ same. grind (arith, nat_tests))
 
 not_before-up_to : (one other : AtomicRange) → IsUpTo (range_start one) (range_start other) → is_range_before other one ≡ false
 not_before-up_to one other h = grind (arith, nat_tests)

@@ -28,7 +28,10 @@ same_put : (range : AtomicRange) (ranges : List AtomicRange) → IsPermutation (
 same_put range [] = IsPermutation-refl (range ∷ [])
 same_put range (first ∷ rest) =
     elim (cases_Bool (is_range_before first range)) [
-      | inl past ↦ rw (cond-true (is_range_before first range) (first ∷ insert_among range rest) (range ∷ first ∷ rest) past) (IsPermutation-trans (range ∷ first ∷ rest) (first ∷ range ∷ rest) (first ∷ insert_among range rest) (IsPermutation-middle (range ∷ []) first rest) (IsPermutation-cons first (range ∷ rest) (insert_among range rest) (same_put range rest)))
+      | inl past ↦
+          let exchanged = IsPermutation-middle (range ∷ []) first rest in
+          let put = IsPermutation-cons first (range ∷ rest) (insert_among range rest) (same_put range rest) in
+          rw (cond-true (is_range_before first range) (first ∷ insert_among range rest) (range ∷ first ∷ rest) past) (IsPermutation-trans _ (first ∷ range ∷ rest) _ exchanged put)
       | inr here ↦ rw (cond-false (is_range_before first range) (first ∷ insert_among range rest) (range ∷ first ∷ rest) here) (IsPermutation-refl (range ∷ first ∷ rest))
     ]
 

@@ -3,8 +3,10 @@ use Rattle.std.proofs.Common.{◌≡◌, ◌≢◌, ◌↔◌, ℕ, ◌≤◌, L
 use Rattle.std.proofs.lemmas.Bool.Decides.{nat_tests}
 use Rattle.std.proofs.lemmas.List.{get_or_past, length-map}
 use Rattle.std.proofs.lemmas.List.Elements.{All-from_recursion, recursion_from_All}
-use Rattle.textarea_ranges.specs.Prelude.{Global, AllByRecursion, AtomicRange, RejectedAtomicRange, AtomicRangeRejectReason, line_of, characters_of, lines_of, AreInOrder, in_order, is_range_before, free_from, last_valid, reason, rejected_after, rejected_of, with_reason, AreAccepted, AreRejected, AreDisjoint, AreValid, IsRangeOfLine}
-use Rattle.textarea_ranges.proofs.Lists.{AllPairs-later, EachLater, each_both, each_weaker, later-AllPairs}
+use Rattle.textarea_ranges.specs.Prelude.{Global, AllByRecursion, AtomicRange, RejectedAtomicRange, AtomicRangeRejectReason, line_of, characters_of, lines_of, AreInOrder, in_order}
+use Rattle.textarea_ranges.specs.Prelude.{is_range_before, free_from, last_valid, reason, rejected_after, rejected_of, with_reason, AreAccepted, AreRejected, AreDisjoint, AreValid, IsRangeOfLine}
+use Rattle.textarea_ranges.proofs.Lists.{AllPairs-later, EachLater, later-AllPairs}
+use Rattle.textarea_util.proofs.Alls.{all_both, all_weaker}
 use Rattle.textarea_ranges.proofs.Sorts.{NotBefore}
 use Rattle.textarea_ranges.proofs.OrderLemmas.{AreInOrder-in_order, each-in_order, each_from_in_order, later-in_order, later_from_in_order, sorted-in_order}
 
@@ -36,7 +38,9 @@ abbrev AllSuit : List (List ℕ) → Option AtomicRange → List AtomicRange →
 AllSuit rows last [] = Unit {0}
 AllSuit rows last (range ∷ rest) = Suits rows last range × AllSuit rows (Some range) rest
 
-suit_by_reason : (rows : List (List ℕ)) (last : Option AtomicRange) (range : AtomicRange) (rest : List AtomicRange) (o : Option AtomicRangeRejectReason) → reason rows last range ≡ o → (rejected_after rows (Some range) rest ≡ [] → AllSuit rows (Some range) rest) → with_reason range o ++ rejected_after rows (last_valid last range o) rest ≡ [] → AllSuit rows last (range ∷ rest)
+suit_by_reason : (rows : List (List ℕ)) (last : Option AtomicRange) (range : AtomicRange) (rest : List AtomicRange) (o : Option AtomicRangeRejectReason) →
+    reason rows last range ≡ o → (rejected_after rows (Some range) rest ≡ [] → AllSuit rows (Some range) rest) →
+    with_reason range o ++ rejected_after rows (last_valid last range o) rest ≡ [] → AllSuit rows last (range ∷ rest)
 suit_by_reason rows last range rest None e below h = (Suits-reason rows last range e, below h)
 suit_by_reason rows last range rest (Some r) e below h = absurd cc
 
@@ -66,7 +70,7 @@ ends_by_all rows range (first ∷ rest) suit order =
     let here : EndsBy range first = λ same. (let free = free_from-same range first.row same in omega (arith, suit.0.starts_after)) in
     let below = ends_by_all rows first rest suit.1 order.1 in (
       here,
-      each_both (EndsBy first) (NotBefore is_range_before first) (EndsBy range) (λ z ends not_before same.
+      all_both (EndsBy first) (NotBefore is_range_before first) (EndsBy range) (λ z ends not_before same.
           let more = not_before_bounds first z not_before in
           grind (arith, nat_tests)) rest below order.1.0,
     )
@@ -74,7 +78,7 @@ ends_by_all rows range (first ∷ rest) suit order =
 disjoint-suit : (rows : List (List ℕ)) (last : Option AtomicRange) (ranges : List AtomicRange) → AllSuit rows last ranges → EachLater (NotBefore is_range_before) ranges → EachLater AreDisjoint ranges
 disjoint-suit rows last [] suit order = tt
 disjoint-suit rows last (range ∷ rest) suit order = (
-  each_weaker (EndsBy range) (AreDisjoint range) (λ z ends same. inl (ends same)) rest (ends_by_all rows range rest suit.1 order),
+  all_weaker (EndsBy range) (AreDisjoint range) (λ z ends same. inl (ends same)) rest (ends_by_all rows range rest suit.1 order),
   disjoint-suit rows (Some range) rest suit.1 order.1,
 )
 
@@ -85,13 +89,14 @@ components-suit rows last (range ∷ rest) suit = (suit.0.in_line, components-su
 free_after : (rows : List (List ℕ)) (range z : AtomicRange) → AreDisjoint range z × NotBefore is_range_before range z → IsRangeOfLine rows z → free_from (Some range) z.row ≤ z.start_col
 free_after rows range z apart in_line = grind (arith, nat_tests)
 
-suit-valid : (rows : List (List ℕ)) (last : Option AtomicRange) (ranges : List AtomicRange) → AllByRecursion (λ z. free_from last z.row ≤ z.start_col) ranges → AllByRecursion (IsRangeOfLine rows) ranges → EachLater AreDisjoint ranges → EachLater (NotBefore is_range_before) ranges → AllSuit rows last ranges
+suit-valid : (rows : List (List ℕ)) (last : Option AtomicRange) (ranges : List AtomicRange) → AllByRecursion (λ z. free_from last z.row ≤ z.start_col) ranges →
+    AllByRecursion (IsRangeOfLine rows) ranges → EachLater AreDisjoint ranges → EachLater (NotBefore is_range_before) ranges → AllSuit rows last ranges
 suit-valid rows last [] free components disjoint order = tt
 suit-valid rows last (range ∷ rest) free components disjoint order = (
   record { in_line = components.0; starts_after = free.0 },
   suit-valid rows (Some range) rest
-      (each_both (λ z. AreDisjoint range z × NotBefore is_range_before range z) (IsRangeOfLine rows) (λ z. free_from (Some range) z.row ≤ z.start_col) (free_after rows range) rest
-      (each_both (AreDisjoint range) (NotBefore is_range_before range) (λ z. AreDisjoint range z × NotBefore is_range_before range z) (λ z p q. (p, q)) rest disjoint.0 order.0) components.1)
+      (all_both (λ z. AreDisjoint range z × NotBefore is_range_before range z) (IsRangeOfLine rows) (λ z. free_from (Some range) z.row ≤ z.start_col) (free_after rows range) rest
+      (all_both (AreDisjoint range) (NotBefore is_range_before range) (λ z. AreDisjoint range z × NotBefore is_range_before range z) (λ z p q. (p, q)) rest disjoint.0 order.0) components.1)
       components.1 disjoint.1 order.1,
 )
 
@@ -122,8 +127,9 @@ valid-none_rejected rows ranges h =
 
 none_rejected-valid : (rows : List (List ℕ)) (ranges : List AtomicRange) → AreValid rows (in_order ranges) → rejected_of rows (in_order ranges) ≡ []
 none_rejected-valid rows ranges valid =
-    none_rejected-suit rows None (in_order ranges)
-    (suit-valid rows None (in_order ranges) (each_weaker (IsRangeOfLine rows) (λ z. 0 ≤ z.start_col) (λ z in_line. zero-le) (in_order ranges) components) components (later-AllPairs AreDisjoint (in_order ranges) valid.disjoint) (sorted-in_order ranges))
+    let starts = all_weaker (IsRangeOfLine rows) (λ z. 0 ≤ z.start_col) (λ z in_line. zero-le) (in_order ranges) components in
+    let disjoint = later-AllPairs AreDisjoint (in_order ranges) valid.disjoint in
+    none_rejected-suit rows None (in_order ranges) (suit-valid rows None (in_order ranges) starts components disjoint (sorted-in_order ranges))
   where
     components : AllByRecursion (IsRangeOfLine rows) (in_order ranges)
     components = recursion_from_All (IsRangeOfLine rows) (in_order ranges) valid.components
@@ -133,12 +139,14 @@ accepted_if_valid rows ranges = (λ h. valid_from_in_order rows ranges (valid-no
 
 -- ---- the two results of `validate`
 
-pub AreAccepted-in_order : (rows : List (List ℕ)) (supplied stored : List AtomicRange) (rejected : List RejectedAtomicRange) → stored ≡ in_order supplied → rejected ≡ rejected_of rows stored → rejected ≡ [] → AreAccepted rows supplied stored
+pub AreAccepted-in_order : (rows : List (List ℕ)) (supplied stored : List AtomicRange) (rejected : List RejectedAtomicRange) → stored ≡ in_order supplied →
+    rejected ≡ rejected_of rows stored → rejected ≡ [] → AreAccepted rows supplied stored
 AreAccepted-in_order rows supplied stored rejected order listed none =
     let nothing : rejected_of rows stored ≡ [] = sym listed ∙ none in
     record { order = order; sorted = subst AreInOrder (sym order) (AreInOrder-in_order supplied); valid = subst (AreValid rows) (sym order) (valid-none_rejected rows supplied (ap (rejected_of rows) (sym order) ∙ nothing)); none = nothing }
 
-pub AreRejected-in_order : (rows : List (List ℕ)) (supplied stored : List AtomicRange) (rejected : List RejectedAtomicRange) → stored ≡ in_order supplied → rejected ≡ rejected_of rows stored → rejected ≢ [] → AreRejected rows supplied rejected
+pub AreRejected-in_order : (rows : List (List ℕ)) (supplied stored : List AtomicRange) (rejected : List RejectedAtomicRange) → stored ≡ in_order supplied →
+    rejected ≡ rejected_of rows stored → rejected ≢ [] → AreRejected rows supplied rejected
 AreRejected-in_order rows supplied stored rejected order listed some =
     let all : rejected ≡ rejected_of rows (in_order supplied) = listed ∙ ap (rejected_of rows) order in
     record { listed = all; some = some; invalid = λ valid. some (all ∙ (accepted_if_valid rows supplied).1 valid) }

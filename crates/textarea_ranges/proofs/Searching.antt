@@ -1,20 +1,22 @@
 -- Binary searches in ranges that are apart, and what the range that is found decides.
 use Rattle.std.proofs.Common.{◌≡◌, ◌≤◌, ◌<◌, ℕ, ◌⊎◌, inl, inr, Bool, true, false, cond, not, List, [], ◌∷◌, length, take, get_or, find, Option, Some, None, All, AllPairs, refl, sym, ap, subst, ◌∙◌, arith, zero-le}
-use Rattle.textarea_ranges.specs.Prelude.{Place, IsUpTo, is_up_to, AtomicRange, AtomicDeleteDirection, AreApart, AreInOrder, AreValid, has_ended, is_inside, is_range_at_place, is_range_before, moved_by, passes_end, range_around, range_at_place, range_end, range_start, slice_get, AllByRecursion, IsPartitionedBy, IsPartitionPoint}
+use Rattle.textarea_ranges.specs.Prelude.{Place, IsUpTo, is_up_to, AtomicRange, AtomicDeleteDirection, AreApart, AreInOrder, AreValid, has_ended, is_inside, is_range_at_place, is_range_before}
+use Rattle.textarea_ranges.specs.Prelude.{moved_by, passes_end, range_around, range_at_place, range_end, range_start, slice_get, AllByRecursion, IsPartitionedBy, IsPartitionPoint}
 use Rattle.std.proofs.lemmas.Bool.{cases_Bool, cases_lt, cond-true, cond-false}
 use Rattle.std.proofs.lemmas.Bool.Decides.{nat_tests}
 use Rattle.std.proofs.lemmas.List.{get_or-take, length-take-le}
 use Rattle.std.proofs.lemmas.List.Folds.{find_at}
 use Rattle.std.proofs.lemmas.List.Sums.{position_or_len_is}
 use Rattle.textarea_data.specs.declared.range.AtomicDeleteDirection.TheVariants.{Backward as DeleteBackward, Forward as DeleteForward}
+use Rattle.textarea_util.proofs.Alls.{all_weaker}
 use Rattle.textarea_ranges.proofs.Lists.{AllPairs-later, EachLater, later-AllPairs}
 use Rattle.textarea_ranges.proofs.OrderLemmas.{sorted-in_order}
 use Rattle.textarea_ranges.proofs.Sorts.{NotBefore}
 
 -- ---- valid ranges in order are apart
 
-follows : (one other : AtomicRange) → is_range_before other one ≡ false → IsUpTo (range_start one) (range_start other)
-follows one other e = (grind (arith, nat_tests), λ same. grind (arith, nat_tests))
+pub up_to-not_before : (one other : AtomicRange) → is_range_before other one ≡ false → IsUpTo (range_start one) (range_start other)
+up_to-not_before one other e = (grind (arith, nat_tests), λ same. grind (arith, nat_tests))
 
 ends_before : (one other : AtomicRange) → one.start_col < one.end_col → other.start_col < other.end_col → IsUpTo (range_start one) (range_start other) →
     (one.row ≡ other.row → (one.end_col ≤ other.start_col) ⊎ (other.end_col ≤ one.start_col)) → IsUpTo (range_end one) (range_start other)
@@ -30,7 +32,7 @@ AreApart-valid rows ranges valid ordered =
       apart = λ i j d before within.
           let here : i < length ranges = omega arith in
           ends_before (get_or ranges i d) (get_or ranges j d) (valid.components i d here).1 (valid.components j d within).1
-          (follows (get_or ranges i d) (get_or ranges j d) (later i j d before within)) (valid.disjoint i j d before within);
+          (up_to-not_before (get_or ranges i d) (get_or ranges j d) (later i j d before within)) (valid.disjoint i j d before within);
     }
 
 -- ---- the ranges that have ended are the first ones
@@ -77,10 +79,6 @@ pub find-none_later : {X : Type 0} (test : X → Bool) (xs : List X) → AllByRe
 find-none_later test [] all = refl
 find-none_later test (x ∷ xs) all = cond-false (test x) (Some x) (find test xs) all.0 ∙ find-none_later test xs all.1
 
-weaker : {X : Type 0} (P Q : X → Type 0) → ((x : X) → P x → Q x) → (xs : List X) → AllByRecursion P xs → AllByRecursion Q xs
-weaker P Q h [] all = tt
-weaker P Q h (x ∷ xs) all = (h x all.0, weaker P Q h xs all.1)
-
 -- no element that has ended passes the test, nor does one that is later than one that has not
 pub first_decides : {X : Type 0} (test ended : X → Bool) (R : X → X → Type 0) → ((x : X) → ended x ≡ true → test x ≡ false) →
     ((x y : X) → ended x ≡ false → R x y → test y ≡ false) → (xs : List X) → EachLater R xs →
@@ -93,7 +91,7 @@ first_decides {X} test ended R past later (x ∷ xs) h =
           ∙ first_decides test ended R past later xs h.1
           ∙ ap (that_passes test) (sym (cond-false (not (ended x)) (Some x) (find (λ (y : X). not (ended y)) xs) (ap not has)))
       | inr left ↦
-          ap (cond (test x) (Some x)) (find-none_later test xs (weaker (R x) (λ y. test y ≡ false) (λ y r. later x y left r) xs h.0))
+          ap (cond (test x) (Some x)) (find-none_later test xs (all_weaker (R x) (λ y. test y ≡ false) (λ y r. later x y left r) xs h.0))
           ∙ ap (that_passes test) (sym (cond-true (not (ended x)) (Some x) (find (λ (y : X). not (ended y)) xs) (ap not left)))
     ]
 

@@ -15,7 +15,8 @@ pub use Rattle.textarea_data.specs.declared.range.AtomicRange.{AtomicRange}
 pub use Rattle.textarea_data.specs.declared.range.AtomicRangeRejectReason.{AtomicRangeRejectReason}
 pub use Rattle.textarea_data.specs.declared.range.AtomicRangeRejectReason.TheVariants.{ColumnOutOfBounds, Empty, OverlapsPrevious, RowOutOfBounds}
 pub use Rattle.textarea_data.specs.declared.range.RejectedAtomicRange.{RejectedAtomicRange}
-pub use Rattle.textarea_ranges.specs.Lookup.{AreApart, IsBeside, IsRangeAtPlace, IsInside, IsWidened, TakesRange, Overlaps, TakesWhole, has_ended, range_edge, range_edge_or, range_at_place, range_around, is_range_at_place, is_inside, moved_out, passes_end, range_end, range_start, widened}
+pub use Rattle.textarea_ranges.specs.Lookup.{AreApart, IsBeside, IsRangeAtPlace, IsInside, IsWidened, TakesRange, Overlaps, TakesWhole, has_ended, range_edge, range_edge_or}
+pub use Rattle.textarea_ranges.specs.Lookup.{range_at_place, range_around, is_range_at_place, is_inside, moved_out, passes_end, range_end, range_start, widened}
 pub use Rattle.textarea_ranges.specs.Moved.{CoversTheSame, Disturbs, DisturbsBy, IsMovable, covered_characters, moved_by, moved_range, shifted_range}
 unfoldable pub use Rattle.textarea_ranges.specs.Moved.{moved_ranges}
 pub use Rattle.textarea_ranges.specs.Order.{AreInOrder, IsInOrder, in_order, insert_among, is_range_before}

@@ -1,6 +1,7 @@
 //! Laws of ranges, each stated as the contract of a function without a body.
 ghost use Rattle.std.specs.Prelude.{◌≡◌, ◌↔◌, ℕ, List, [], All, Contains, MatchOption, None, Some};
-ghost use Rattle.textarea_ranges.specs.Prelude.{Symbol, lines, Place, Fits, Splice, applied, AtomicDeleteDirection, AtomicRange, IsRangeAtPlace, IsInside, range_at_place, range_around, CoversTheSame, Disturbs, moved_range, moved_ranges, AreInOrder, IsInOrder, in_order, rejected_of, AreValid, IsRangeOfLine};
+ghost use Rattle.textarea_ranges.specs.Prelude.{Symbol, lines, Place, Fits, Splice, applied, AtomicDeleteDirection, AtomicRange, IsRangeAtPlace, IsInside, range_at_place, range_around};
+ghost use Rattle.textarea_ranges.specs.Prelude.{CoversTheSame, Disturbs, moved_range, moved_ranges, AreInOrder, IsInOrder, in_order, rejected_of, AreValid, IsRangeOfLine};
 
 /// Ordered ranges are the same ranges by row and start, and those with the same start keep their
 /// order. No other list is so. Ordering them again changes nothing.

@@ -2,7 +2,8 @@
 //! is at it, and what a removal takes.
 //! A position is a row and a column, both from 0, the column in characters.
 ghost use Rattle.std.specs.Prelude.{◌≡◌, ◌≤◌, ℕ, List, All, find, length, not, true, false};
-ghost use Rattle.textarea_ranges.specs.Prelude.{AreApart, IsPlaceOf, IsUpTo, IsInside, IsWidened, has_ended, range_edge, range_at_place, range_around, is_range_at_place, is_inside, moved_out, passes_end, widened, AreValid, IsPartitionPoint};
+ghost use Rattle.textarea_ranges.specs.Prelude.{AreApart, IsPlaceOf, IsUpTo, IsInside, IsWidened, has_ended, range_edge, range_at_place, range_around};
+ghost use Rattle.textarea_ranges.specs.Prelude.{is_range_at_place, is_inside, moved_out, passes_end, widened, AreValid, IsPartitionPoint};
 
 use textarea_data::range::{AtomicCursorBias, AtomicDeleteDirection, AtomicRange};
 use textarea_text::place_shift::is_up_to;
@@ -140,8 +141,7 @@ pub fn widen(
         IsPlaceOf rows from → IsPlaceOf rows to →
         IsPlaceOf rows result.0 × IsPlaceOf rows result.1 }
 {
-    (
-        move_out(ranges, from, AtomicCursorBias::Backward),
-        move_out(ranges, to, AtomicCursorBias::Forward),
-    )
+    let start = move_out(ranges, from, AtomicCursorBias::Backward);
+    let end = move_out(ranges, to, AtomicCursorBias::Forward);
+    (start, end)
 }

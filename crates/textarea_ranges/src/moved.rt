@@ -21,8 +21,9 @@ pub fn move_ranges(
     requires small { (new.0 ≤ size_limit) × (new.1 ≤ size_limit) }
     ensures { ranges.new.items ≡ filter_map (moved_by start old new) ranges.old.items }
 {
-    let first = ended_count(ranges.as_slice(), start, true);
-    let end = moving_end(ranges.as_slice(), old, new).max(first);
+    let all = ranges.as_slice();
+    let first = ended_count(all, start, true);
+    let end = moving_end(all, old, new).max(first);
     let retained = close_up(ranges.as_mut_slice(), first, end, start, old, new);
     remove_segment(ranges, retained, end);
 }

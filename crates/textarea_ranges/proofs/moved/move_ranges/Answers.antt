@@ -22,11 +22,11 @@ returns c =
     let retained : ℕ = c.close_up-retained.result in
     let same : slice ≡ items = c.as_mut_slice.ensures.value in
     let Stays : AtomicRange → Type 0 = λ range. f range ≡ Some range in
-    let front : All Stays (take first items) = subst (λ (xs : List AtomicRange). All Stays (take first xs)) c.as_slice.ensures.value
-    (front_passes Stays c.as_slice.result.now first c.ended_count-first.ensures.within
+    let front : All Stays (take first items) = subst (λ (xs : List AtomicRange). All Stays (take first xs)) c.as_slice-all.ensures.value
+    (front_passes Stays c.as_slice-all.result.now first c.ended_count-first.ensures.within
     (λ k d low lt. stays_before c.args.start c.args.old c.args.new _ (c.ended_count-first.ensures.point.0 k d low lt))) in
     let back : All Stays (drop end items) = All-later Stays items c.moving_end.result end (omega arith)
-    (subst (λ (xs : List AtomicRange). All Stays (drop c.moving_end.result xs)) c.as_slice-2.ensures.value (c.moving_end.ensures.others c.args.start)) in
+    (subst (λ (xs : List AtomicRange). All Stays (drop c.moving_end.result xs)) c.as_slice-all.ensures.value (c.moving_end.ensures.others c.args.start)) in
     c.remove_segment.ensures
     ∙ ap (λ ws. take retained ws ++ drop end ws) (written items slice now _ same c.args.ranges.now.ok.0 c.close_up-retained.ensures.len)
     ∙ closed_up f retained end first now slice c.close_up-retained.ensures.retained c.close_up-retained.ensures.others

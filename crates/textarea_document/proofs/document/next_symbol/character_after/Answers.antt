@@ -1,11 +1,12 @@
 use Rattle.std.proofs.Common.{◌∙◌, ap, drop}
 use Rattle.std.specs.Str.{chars}
 use Rattle.textarea_text.proofs.Columns.{drop_offset}
-use Rattle.textarea_document.proofs.SymbolAfters.{symbol_after_is, boundary_of}
+use Rattle.textarea_document.proofs.SymbolAfters.{symbol_after_is}
 use Rattle.textarea_document.proofs.document.next_symbol.character_after.Goals as goal
+use Rattle.textarea_text.proofs.Insides.{split_point}
 
 pub range_from-requires : goal.range_from-requires
-range_from-requires c = λ _. boundary_of c.args.line.now c.args.column c.args.offset c.utf8.line c.requires.offset
+range_from-requires c = λ _. split_point c.args.line.now c.args.column c.args.offset c.utf8.line c.requires.offset
 
 pub returns : goal.returns
 returns c =
