@@ -14,6 +14,7 @@ use Rattle.textarea_c.specs.declared.editor.Editor.{Editor}
 use Rattle.textarea_c.specs.Calls.{Calls, SetsRanges, Tells, Tries, with_area}
 use Rattle.textarea_c_data.specs.Ranges.{IsRangeOut}
 use Rattle.textarea_c_data.specs.declared.range.Range.{Range}
+use Rattle.textarea_util.proofs.Options.{none_of_test}
 
 -- a call that returns whether there was something to do
 pub tried : {E : Type 0} (answer : Result Bool E) (status : ℕ) (found : Bool) (area new : State) (a : Editor)
@@ -29,11 +30,6 @@ tried (Err e) status found area new a removed ok err nothing said refused = (
   (λ _. (refused, ap (with_area a) err)),
   ((λ none. absurd (omega arith)), (λ one. absurd (omega arith)), (λ none more. let never : false ≡ true = nothing none in cc)),
 )
-
--- nothing was there to do, or it needed memory
-none_of : {A : Type 0} (x : Option A) → is_some x ≡ false → x ≡ None
-none_of None none = refl
-none_of (Some x) none = let never : true ≡ false = none in cc
 
 -- the status of a range that was found, or not
 pub range_tells : (found : Option AtomicRange) (status : ℕ) (range : Range) → IsRangeOut found status range → Tells (is_some found) status
@@ -56,7 +52,7 @@ pub range_left : (hit : Option AtomicRange) (area : State) (a : Editor) (new : S
 range_left hit area a new err nothing = (
   (λ less. absurd (omega arith)),
   (λ _. (refl, ap (with_area a) err)),
-  ((λ none. absurd (omega arith)), (λ one. absurd (omega arith)), (λ none more. let never : false ≡ true = nothing (none_of hit none) in cc)),
+  ((λ none. absurd (omega arith)), (λ one. absurd (omega arith)), (λ none more. let never : false ≡ true = nothing (none_of_test hit none) in cc)),
 )
 
 -- ranges that were set, or rejected

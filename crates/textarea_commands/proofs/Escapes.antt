@@ -1,5 +1,5 @@
 -- How escapes are read.
-use Rattle.std.proofs.Common.{arith, ◌≡◌, ◌≢◌, ℕ, ◌<◌, ◌≤◌, ◌^◌, Bool, true, false, List, [], ◌∷◌, ◌++◌, Some, None, Result, Ok, Err, length, drop, nat_lt, ◌&&◌, ◌==◌, if◌then◌else◌, option_map, refl, ap, sym, ◌∙◌, subst, lit<, eqb-true, zero-add}
+use Rattle.std.proofs.Common.{arith, ◌≡◌, ◌≢◌, ℕ, ◌<◌, ◌≤◌, ◌^◌, Bool, true, List, [], ◌∷◌, ◌++◌, Some, None, Result, Ok, Err, length, drop, nat_lt, ◌&&◌, ◌==◌, if◌then◌else◌, option_map, refl, ap, sym, ◌∙◌, subst, lit<, eqb-true, zero-add}
 use Rattle.std.specs.Prelude.{chars, encode_utf8, slice_get}
 use Rattle.std.specs.Char.{digit_value, is_ascii_hexdigit, len_utf8}
 use Rattle.std.proofs.lemmas.Str.{chars-nil, char_from_byte, drop_past_char, encode_ascii}
@@ -12,6 +12,7 @@ use Rattle.std.proofs.lemmas.Bool.Decides.{nat_tests}
 use Rattle.std.proofs.lemmas.List.{nil_from_length}
 use Rattle.std.proofs.lemmas.Int.Digits.{digits_value-lt}
 use Rattle.textarea_commands.specs.Escapes.{character_numbered, control, escape, first_character, is_closing, numbered_escape, plain_character}
+use borrow.Author.Tests.{ne_eqb}
 
 hex_digit : (c : ℕ) → is_ascii_hexdigit c ≡ true → (digit_value c < 16) × (c ≢ 43)
 hex_digit c is = (grind (arith, nat_tests), grind (arith, nat_tests))
@@ -43,15 +44,12 @@ hex_parsed ds (Err error) parsed none all short = hex_unparsed ds error parsed a
 
 -- ---- a number in braces
 
-pub is_other : (a b : ℕ) → a ≢ b → (a == b) ≡ false
-is_other a b other = false_from_ne_true (a == b) (λ same. other (eqb-true a b same))
-
 pub numbered_bare : (text : List ℕ) → ((rest : List ℕ) → text ≢ 123 ∷ rest) → numbered_escape text ≡ None
 unfolding numbered_escape
 numbered_bare [] bare = refl
 numbered_bare (opening ∷ text) bare =
     ap (λ (test : Bool). if test && nat_lt (position_or_len is_closing text) (length text) then option_map (λ c. (c, after_first is_closing text)) (character_numbered (before_first is_closing text)) else None)
-    (is_other opening 123 (λ same. bare text (ap (λ (b : ℕ). b ∷ text) same)))
+    (ne_eqb opening 123 (λ same. bare text (ap (λ (b : ℕ). b ∷ text) same)))
 
 pub numbered_open : (text rest : List ℕ) → text ≡ 123 ∷ rest → position_or_len is_closing rest ≡ length rest → numbered_escape text ≡ None
 unfolding numbered_escape
@@ -93,17 +91,17 @@ first_byte byte c letter text rest is small other same =
 
 no_control : (letter : ℕ) → letter ≢ 110 → letter ≢ 114 → letter ≢ 116 → letter ≢ 92 → control letter ≡ None
 no_control letter n r t b =
-    let e = is_other letter 110 n in
-    let f = is_other letter 114 r in
-    let g = is_other letter 116 t in
-    let h = is_other letter 92 b in
+    let e = ne_eqb letter 110 n in
+    let f = ne_eqb letter 114 r in
+    let g = ne_eqb letter 116 t in
+    let h = ne_eqb letter 92 b in
     rw (e, f, g, h)
 
 pub escape_other : (text rest : List ℕ) (c : ℕ) → text ≡ encode_utf8 c ++ rest → c ≢ 110 → c ≢ 114 → c ≢ 116 → c ≢ 92 → c ≢ 117 → escape text ≡ None
 unfolding escape
 escape_other [] rest c is n r t b u = refl
 escape_other (letter ∷ text) rest c is n r t b u =
-    ap (λ (test : Bool). if test then numbered_escape text else option_map (λ d. (d, text)) (control letter)) (is_other letter 117 (first_byte letter c 117 text rest is (lit< tt) u))
+    ap (λ (test : Bool). if test then numbered_escape text else option_map (λ d. (d, text)) (control letter)) (ne_eqb letter 117 (first_byte letter c 117 text rest is (lit< tt) u))
     ∙ ap (option_map (λ d. (d, text))) (no_control letter (first_byte letter c 110 text rest is (lit< tt) n) (first_byte letter c 114 text rest is (lit< tt) r) (first_byte letter c 116 text rest is (lit< tt) t) (first_byte letter c 92 text rest is (lit< tt) b))
 
 -- ---- the first character
@@ -121,6 +119,6 @@ unfolding first_character
 first_plain [] rest c is first other =
     let none : Some c ≡ None = first ∙ ap (λ (cs : List ℕ). slice_get cs 0) chars-nil in cc
 first_plain (byte ∷ text) rest c is first other =
-    ap (λ (test : Bool). if test then escape text else plain_character (byte ∷ text)) (is_other byte 92 (first_byte byte c 92 text rest is (lit< tt) other))
+    ap (λ (test : Bool). if test then escape text else plain_character (byte ∷ text)) (ne_eqb byte 92 (first_byte byte c 92 text rest is (lit< tt) other))
     ∙ ap (option_map (λ d. (d, drop (len_utf8 d) (byte ∷ text)))) (sym first)
     ∙ ap (λ (rest_after : List ℕ). Some (c, rest_after)) (subst (λ (k : ℕ). drop k (byte ∷ text) ≡ rest) (zero-add (len_utf8 c)) (drop_past_char (byte ∷ text) rest 0 c is))

@@ -12,6 +12,7 @@ use mir.Syntax.{w16}
 use Rattle.std.proofs.lemmas.Bool.{false_from_ne_true}
 use Rattle.std.proofs.lemmas.Bool.Decides.{nat_tests}
 use Rattle.textarea_commands.specs.Arguments.{number_below, signed_number}
+use borrow.Author.Tests.{ltb-true}
 
 digits_same : (ds : List ℕ) → list_all (λ byte. is_ascii_digit byte) ds ≡ all_ascii_digits ds
 digits_same [] = refl
@@ -39,14 +40,11 @@ number_read bound bs all some small =
     let c : nat_lt (digits_value 10 bs) bound ≡ true = grind (arith, nat_tests) in
     all_true (nat_lt 0 (length bs)) (list_all (λ byte. is_ascii_digit byte) bs) (nat_lt (digits_value 10 bs) bound) (digits_value 10 bs) a all c
 
-lt : (m n : ℕ) → nat_lt m n ≡ true → m < n
-lt m n t = grind (arith, nat_tests)
-
 number_unread : (bound : ℕ) (bs : List ℕ) → ((0 < length bs) × (digits_value 10 bs < bound) → ⊥) → number_below bound bs ≡ None
 unfolding number_below
 number_unread bound bs never =
     left_out (nat_lt 0 (length bs)) (list_all (λ byte. is_ascii_digit byte) bs) (nat_lt (digits_value 10 bs) bound) (digits_value 10 bs)
-    (λ a c. never (lt 0 (length bs) a, lt (digits_value 10 bs) bound c))
+    (λ a c. never (ltb-true 0 (length bs) a, ltb-true (digits_value 10 bs) bound c))
 
 parsed : {E : Type 0} → (bound : ℕ) (bs : List ℕ) (r : Result ℕ E) → OkIff r ((0 < length bs) × (digits_value 10 bs < bound)) (digits_value 10 bs) → list_all (λ byte. is_ascii_digit byte) bs ≡ true → result_ok r ≡ number_below bound bs
 parsed bound bs (Ok n) is all = ap Some is.1 ∙ sym (number_read bound bs all is.0.0 is.0.1)

@@ -207,10 +207,6 @@ rest_joined text (Some rest) = line_before text rest
 line_pushed : (old new text : List ℕ) (rest : Option (List ℕ)) → option_map (λ lines. in_front old lines) (unescaped_lines text) ≡ option_map (λ more. new ∷ more) (lines_after_escape rest) → option_map (λ more. old ++ more) (unescaped text) ≡ with_rest new rest
 line_pushed old new text rest pushed = sym (front_joined old text) ∙ ap (option_map joined) pushed ∙ rest_joined new rest
 
-pub none_mapped : {A B : Type 0} → (f : A → B) (found : Option A) → option_map f found ≡ None → found ≡ None
-none_mapped f None none = refl
-none_mapped f (Some found) none = let never : Some (f found) ≡ None = none in cc
-
 -- where the lines can't be read, the text can't be
 pub unescaped_unread : (text : List ℕ) (unread : Unparsed) → IsUnparsedAs (unescaped_lines text) unread → IsUnparsedAs (unescaped text) unread
 unescaped_unread text Memory is = tt

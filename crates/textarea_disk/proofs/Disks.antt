@@ -1,24 +1,18 @@
 -- Lemmas on disks.
-use Rattle.std.proofs.Common.{◌≡◌, ◌≢◌, ◌∙◌, ℕ, Bool, true, false, cond, List, [], ◌∷◌, Option, None, Some, inl, inr, refl, sym, ap, subst, arith}
-use Rattle.std.proofs.lemmas.Bool.{eqb-true, eq-eqb}
+use Rattle.std.proofs.Common.{◌≡◌, ◌≢◌, ◌∙◌, ℕ, true, false, cond, List, [], ◌∷◌, Option, None, Some, inl, inr, refl, sym, ap, subst, arith}
+use Rattle.std.proofs.lemmas.Bool.{eq-eqb}
 use Rattle.std.proofs.lemmas.Slice.Eq.{bytes_eq-Decides}
 use Rattle.std.specs.List.{AllByRecursion}
-use Rattle.std.specs.Prelude.{◌==◌}
 use Rattle.std.specs.Str.{bytes_eq}
 use Rattle.textarea_disk.specs.Disk.{Content, File, Entries, Disk, IsLeftByEntry, IsLeftByOne, MayLeave, Leaves, content_of, seen, with_entries, with_file, IsBelow}
-
-not_true : (b : Bool) → (b ≡ true → ⊥) → b ≡ false
-not_true true h = absurd (h refl)
-not_true false h = refl
+use Rattle.std.proofs.lemmas.Bool.{false_from_ne_true}
+use borrow.Author.Tests.{ne_eqb}
 
 same_name : (a : List ℕ) → bytes_eq a a ≡ true
 same_name a = (bytes_eq-Decides a a).1 refl
 
 other_name : (a b : List ℕ) → a ≢ b → bytes_eq a b ≡ false
-other_name a b h = not_true (bytes_eq a b) (λ t. h ((bytes_eq-Decides a b).0 t))
-
-other_file : (a b : ℕ) → a ≢ b → (a == b) ≡ false
-other_file a b h = not_true (a == b) (λ t. h (eqb-true a b t))
+other_name a b h = false_from_ne_true (bytes_eq a b) (λ t. h ((bytes_eq-Decides a b).0 t))
 
 -- ---- entries and files
 
@@ -32,7 +26,7 @@ pub at_file : (disk : Disk) (n : ℕ) (file : File) → (with_file disk n file).
 at_file disk n file = ap (λ b. cond b file (disk.files n)) (eq-eqb n n refl)
 
 pub beside_file : (disk : Disk) (n other : ℕ) (file : File) → other ≢ n → (with_file disk n file).files other ≡ disk.files other
-beside_file disk n other file h = ap (λ b. cond b file (disk.files other)) (other_file other n h)
+beside_file disk n other file h = ap (λ b. cond b file (disk.files other)) (ne_eqb other n h)
 
 abbrev pub entries_of : Entries → List (Option ℕ)
 entries_of entries = entries.now ∷ entries.before

@@ -1,6 +1,6 @@
 mod Layouts
 mod ChangedLine
-mod Stores
+pub mod Stores
 mod SameWraps
 mod Preparing
 mod Changes
@@ -10,7 +10,7 @@ mod Fronts
 mod OneList
 mod Steps
 mod Widths
-mod PutSettings
+pub mod PutSettings
 mod MapWidths
 mod Splicing
 mod SplicedRows

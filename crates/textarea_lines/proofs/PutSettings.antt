@@ -1,6 +1,5 @@
 -- A text with other settings, or with its own.
-use Rattle.std.proofs.Common.{◌≡◌, ℕ, zero, suc, ◌<◌, ◌==◌, ◌&&◌, ◌||◌, Bool, true, false, cond, not, refl, arith, eq-eqb}
-use Rattle.std.proofs.Math.Dec.{eqb-suc-zero}
+use Rattle.std.proofs.Common.{◌≡◌, ℕ, ◌==◌, ◌&&◌, ◌||◌, Bool, true, false, cond, not, refl, eq-eqb}
 use Rattle.textarea_wrap.specs.declared.wrap.WrapMode.{WrapMode}
 use Rattle.textarea_wrap.specs.declared.wrap.WrapMode.TheVariants as mode
 use Rattle.textarea_screen_map.specs.declared.layout.Wrapping.{Wrapping}
@@ -28,10 +27,6 @@ pub settings_put : (text_layout : TextAndLayout) (settings : LayoutSettings) →
 settings_put text_layout settings = put_if_settings (keeps_wrapping text_layout settings) text_layout settings
 
 -- ---- another width
-
-some_width : (width : ℕ) → 0 < width → (width == 0) ≡ false
-some_width zero some = absurd (omega arith)
-some_width (suc width) some = eqb-suc-zero width
 
 abbrev settings_of : WrapMode → ℕ → Bool → ℕ → LayoutSettings
 settings_of wrap tab_len numbers width = record { mode = wrap; tab_len = tab_len; line_numbers = numbers; inner_width = width }

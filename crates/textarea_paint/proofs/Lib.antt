@@ -2,7 +2,7 @@ mod BlockLemmas
 mod CellLemmas
 mod ClusterLemmas
 mod ColumnLemmas
-mod RowAreaLemmas
+pub mod RowAreaLemmas
 mod FrontLemmas
 pub mod PartLemmas
 pub mod PlainLemmas

@@ -46,10 +46,6 @@ column_later line from to text boundary le within =
     let parts : take to line ≡ front ++ between = ap (λ n. take n line) (sym sum) ∙ take-add from (to - from) line in
     ap (λ bs. length (chars bs)) parts ∙ ap length (chars-append front between is_text) ∙ length-append (chars front) (chars between)
 
--- there are at most as many characters as bytes
-pub chars_fit : (line : List ℕ) → IsUtf8 line → length (chars line) ≤ length line
-chars_fit line text = omega (arith, length-offset line (length (chars line)) text (omega arith), length_split line (length (chars line)) text)
-
 -- the same as the code counts it
 pub column_sum : (line between : List ℕ) (from to column count : ℕ) → IsUtf8 line → IsCharBoundary line from → IsCharBoundary line to → from ≤ to →
     column ≡ column_of_byte line from → between ≡ take (to - from) (drop from line) → count ≡ length (chars between) →

@@ -3,7 +3,7 @@ mod FromMatchLemmas
 mod OccurrenceLemmas
 mod PatternLemmas
 mod AscendingLemmas
-mod ColumnLemmas
+pub mod ColumnLemmas
 mod ListedLemmas
 mod PlaceLemmas
 mod StartLemmas

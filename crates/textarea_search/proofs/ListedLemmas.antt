@@ -23,10 +23,7 @@ use Rattle.regex.proofs.SearchLemmas.{next_same, next_later, next_within, leftmo
 use Rattle.regex.proofs.Utf8Lemmas.{IsCharBoundary-of_test}
 use Rattle.textarea_search.specs.Spans.{spans_after}
 use Rattle.textarea_search.specs.Starts.{is_past}
-
-none_of_map : {A B : Type 0} (f : A → B) (o : Option A) → option_map f o ≡ None → o ≡ None
-none_of_map f None e = refl
-none_of_map f (Some x) e = absurd (none-some (f x) (sym e))
+use Rattle.textarea_util.proofs.Options.{none_of_map}
 
 some_of_map : {A B : Type 0} (f : A → B) (o : Option A) (y : B) → option_map f o ≡ Some y → (x : A) × (o ≡ Some x) × (f x ≡ y)
 some_of_map f None y e = absurd (none-some y e)

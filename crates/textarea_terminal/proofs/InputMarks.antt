@@ -7,6 +7,7 @@ use Rattle.memchr.specs.Find.{OccursAt, FindsNeedle}
 use lib.Pointwise.{pointwise}
 use Rattle.textarea_terminal.specs.InputReading.{Reads}
 use Rattle.textarea_terminal.specs.InputUnit.{after_mark, mark_index}
+use Rattle.std.proofs.lemmas.Bool.{false_from_ne_true}
 
 -- a test of both, that chooses
 both : {A : Type 0} (s t : Bool) (a b : A) → cond s (cond t a b) b ≡ cond (s && t) a b
@@ -76,24 +77,20 @@ IsAt-tail b bytes mark k at = record {
   reads = λ j h. let sum : suc (k + j) ≡ suc k + j = omega arith in ap (λ n. get_or (b ∷ bytes) n 0) sum ∙ at.reads j h;
 }
 
-true_or_false : (t : Bool) → (t ≡ true → ⊥) → t ≡ false
-true_or_false true h = absurd (h refl)
-true_or_false false h = refl
-
 -- the first index at which it occurs
 pub index_of-first : (mark bytes : List ℕ) (k : ℕ) → 0 < length mark → IsAt bytes mark k → ((i : ℕ) → i < k → IsAt bytes mark i → ⊥) → mark_index mark bytes ≡ Some k
 unfolding mark_index
 index_of-first mark [] k some at before = absurd (omega (arith, at.fits))
 index_of-first mark (b ∷ bytes) zero some at before = rw (IsAt-begins mark (b ∷ bytes) at) refl
 index_of-first mark (b ∷ bytes) (suc k) some at before =
-    let here = true_or_false (is_some (after_mark mark (b ∷ bytes))) (λ h. before 0 (omega arith) (IsAt-from_begins mark (b ∷ bytes) h)) in
+    let here = false_from_ne_true (is_some (after_mark mark (b ∷ bytes))) (λ h. before 0 (omega arith) (IsAt-from_begins mark (b ∷ bytes) h)) in
     rw here (ap (option_map suc) (index_of-first mark bytes k some (IsAt-tail b bytes mark k at) (λ i h a. before (suc i) (omega arith) (IsAt-cons b bytes mark i a))))
 
 index_of-nowhere : (mark bytes : List ℕ) → ((i : ℕ) → IsAt bytes mark i → ⊥) → mark_index mark bytes ≡ None
 unfolding mark_index
 index_of-nowhere mark [] nowhere = refl
 index_of-nowhere mark (b ∷ bytes) nowhere =
-    let here = true_or_false (is_some (after_mark mark (b ∷ bytes))) (λ h. nowhere 0 (IsAt-from_begins mark (b ∷ bytes) h)) in
+    let here = false_from_ne_true (is_some (after_mark mark (b ∷ bytes))) (λ h. nowhere 0 (IsAt-from_begins mark (b ∷ bytes) h)) in
     rw here (ap (option_map suc) (index_of-nowhere mark bytes (λ i a. nowhere (suc i) (IsAt-cons b bytes mark i a))))
 
 pub no_place : (t : Bool) (o : Option ℕ) → cond t (Some 0) (option_map suc o) ≡ None → (t ≡ false) × (o ≡ None)

@@ -9,19 +9,17 @@ use Rattle.textarea_terminal.specs.InputEvent.{EventValue, input}
 use Rattle.textarea_terminal.specs.InputKey.{entry, input_of_key, input_with, letter_keys, numbered_keys}
 use Rattle.textarea_terminal.specs.InputParameter.{is_digit, number_limit, number_from, number_after, count_of, parameters_of}
 use Rattle.textarea_terminal.specs.InputRow.{IsGeneral}
-use Rattle.textarea_terminal.specs.InputSequence.{event_of, event_of_one, event_of_two, is_final, is_inner, sequence_event}
+use Rattle.textarea_terminal.specs.InputSequence.{event_of, event_of_one, event_of_two, is_final, sequence_event}
 use Rattle.textarea_terminal.specs.InputShort.{AreDigits}
 use Rattle.textarea_terminal.specs.InputUnit.{unit_at, after_mark, key_or_sequence, escape_at, single_at}
 use Rattle.textarea_terminal.proofs.InputRows.{entry-each}
 use Rattle.textarea_terminal.proofs.InputSequences.{general-read, inner-append}
+use Rattle.textarea_terminal.proofs.InputUnits.{is_inner-digit}
 
 -- ---- digits
 
 pub in-digits : (d : ℕ) → 48 ≤ d → d ≤ 57 → is_digit d ≡ true
 in-digits d h k = grind (arith, nat_tests)
-
-digit-inner : (d : ℕ) → is_digit d ≡ true → is_inner d ≡ true
-digit-inner d h = grind (arith, nat_tests)
 
 digit-range : (d : ℕ) → is_digit d ≡ true → (48 ≤ d) × (d ≤ 57)
 digit-range d h = (grind (arith, nat_tests), grind (arith, nat_tests))
@@ -41,7 +39,7 @@ digit-first d h = let range = digit-range d h in omega (arith, range.1)
 pub digits-one : (a : ℕ) → is_digit a ≡ true → AreDigits (a ∷ []) (a - 48)
 unfolding sequence_event event_of parameters_of number_from number_after count_of
 digits-one a h = record {
-  inner = ((digit-inner a h, digit-not_dollar a h), tt);
+  inner = ((is_inner-digit a h, digit-not_dollar a h), tt);
   few = omega arith;
   one = λ last other. rw (digit-not_mouse a h, digit-not_reply a h, h, digit-first a h, ne_eqb last 117 other) refl;
   two = λ d last is other. rw (digit-not_mouse a h, digit-not_reply a h, h, digit-first a h, is, digit-first d is, ne_eqb last 117 other) refl;
@@ -54,7 +52,7 @@ digits-two a b h k =
     let high = digit-range b k in
     let sum : min number_limit (10 * (a - 48) + (b - 48)) ≡ 10 * (a - 48) + (b - 48) = omega (arith, low.1, high.1) in
     record {
-      inner = ((digit-inner a h, digit-not_dollar a h), ((digit-inner b k, digit-not_dollar b k), tt));
+      inner = ((is_inner-digit a h, digit-not_dollar a h), ((is_inner-digit b k, digit-not_dollar b k), tt));
       few = omega arith;
       one = λ last other. rw (digit-not_mouse a h, digit-not_reply a h, h, k, digit-first a h, sum, ne_eqb last 117 other) refl;
       two = λ d last is other. rw (digit-not_mouse a h, digit-not_reply a h, h, k, digit-first a h, sum, is, digit-first d is, ne_eqb last 117 other) refl;
@@ -120,7 +118,7 @@ modified-read digits rest n d last i are is final other event =
     let inner = digits ++ 59 ∷ d ∷ [] in
     let long = length-append digits (59 ∷ d ∷ []) in
     let general : IsGeneral inner last = record {
-      inner_bytes = inner-append digits (59 ∷ d ∷ []) are.inner ((refl, λ e. omega (arith, e)), ((digit-inner d is, digit-not_dollar d is), tt));
+      inner_bytes = inner-append digits (59 ∷ d ∷ []) are.inner ((refl, λ e. omega (arith, e)), ((is_inner-digit d is, digit-not_dollar d is), tt));
       short = omega (arith, are.few, long);
       last_byte = final;
       no_paste = λ e. no_paste_two digits d are.few;

@@ -1,5 +1,5 @@
 -- A decoder's steps, whatever the slices of its bytes.
-use Rattle.std.proofs.Common.{◌≡◌, ℕ, zero, suc, ◌+◌, ◌-◌, ◌<◌, ◌≤◌, Bool, true, false, cond, List, [], ◌∷◌, ◌++◌, length, map, drop, Option, Some, None, refl, sym, ap, ◌∙◌, arith, subst, ⊎_elim}
+use Rattle.std.proofs.Common.{◌≡◌, ℕ, suc, ◌+◌, ◌-◌, ◌<◌, ◌≤◌, Bool, true, false, cond, List, [], ◌∷◌, ◌++◌, length, map, drop, Option, Some, None, refl, sym, ap, ◌∙◌, arith, ⊎_elim}
 use Rattle.std.specs.Prelude.{option_map, is_some, nat_lt, min}
 use Rattle.std.proofs.lemmas.List.{length-drop, length-append, append_assoc, append-nil, drop-append-le}
 use Rattle.std.proofs.lemmas.Bool.{cases_lt}
@@ -7,9 +7,9 @@ use Rattle.textarea_data.specs.declared.input.Input.{Input}
 use Rattle.textarea_terminal.specs.declared.input.reply.Expected.{Expected}
 use Rattle.textarea_terminal.specs.InputEvent.{EventValue}
 use Rattle.textarea_terminal.specs.InputReply.{refined, refining}
-use Rattle.textarea_terminal.specs.InputState.{DecoderState, IsReady, Reading, reading_kept, last_five, reading_dropped, reading, quiet_after, after_reading, fed, pause_limit, after_short, short_pause, settled, settled_by, long_pause, pause, paused, Call, feed, idle, ask, set_resizes, set_console, new_state, after_call, after_calls, stream_of}
-use Rattle.textarea_terminal.specs.InputStream.{Decoding, values_in, begun_bytes, decoding, idle_keys, idle_of, idle_decoding}
-use Rattle.textarea_terminal.specs.InputUnit.{unit_at, paste_start, paste_end, after_mark, mark_index}
+use Rattle.textarea_terminal.specs.InputState.{DecoderState, IsReady, Reading, reading_kept, last_five, reading_dropped, reading, quiet_after, after_reading, fed, pause_limit, after_short, short_pause, settled, settled_by, long_pause, paused, Call, feed, idle, ask, set_resizes, set_console, new_state, after_call, after_calls, stream_of}
+use Rattle.textarea_terminal.specs.InputStream.{Decoding, begun_bytes, idle_keys, idle_of, idle_decoding}
+use Rattle.textarea_terminal.specs.InputUnit.{unit_at, paste_end, after_mark, mark_index}
 use Rattle.textarea_terminal.proofs.InputMarks.{index_of-fits, index_of-more, no_place, still_none}
 use Rattle.textarea_terminal.proofs.InputUnits.{unit_at-nil}
 use Rattle.textarea_terminal.proofs.InputStreams.{decoding-append, decoding-none, rest_of-begun}
@@ -104,10 +104,6 @@ fed-append s xs ys =
     ∙ ap (λ (d : List EventValue × Expected). (d.0, record { pending = t.pending; drops = t.drops; expected = d.1; quiet = quiet_after (xs ++ ys) s.quiet })) (refining-append s.expected r.values t.values)
     ∙ ap (λ (n : ℕ). (e.0 ++ (refining e.1 t.values).0, record { pending = t.pending; drops = t.drops; expected = (refining e.1 t.values).1; quiet = n })) (quiet-append xs ys s.quiet)
 
--- a state in which a decoder is
-ready-kept : (bytes : List ℕ) → unit_at (begun_bytes bytes) ≡ None
-ready-kept bytes = rest_of-begun bytes
-
 few-last : (bytes : List ℕ) → length (last_five bytes) ≤ 5
 few-last bytes = omega (arith, length-drop (length bytes - 5) bytes)
 
@@ -116,7 +112,7 @@ pub record IsReadyReading (r : Reading) : Type 0 where
   pub few : r.drops ≡ true → length r.pending ≤ 5
 
 kept-ready : (bytes : List ℕ) → IsReadyReading (reading_kept bytes)
-kept-ready bytes = record { begun = λ e. ready-kept bytes; few = λ e. (cc) }
+kept-ready bytes = record { begun = λ e. rest_of-begun bytes; few = λ e. (cc) }
 
 dropped-ready : (bytes : List ℕ) (o : Option ℕ) → IsReadyReading (reading_dropped bytes o)
 dropped-ready bytes None = record { begun = λ e. (cc); few = λ e. few-last bytes }

@@ -18,6 +18,7 @@ use Rattle.textarea_terminal.proofs.InputKeeps.{ReadsSame, Keeps, keeps_none, ke
 use Rattle.textarea_terminal.proofs.InputPrefixes.{count_front-take, count_front-most}
 use Rattle.textarea_terminal.specs.InputRow.{BeginsString}
 use Rattle.textarea_terminal.specs.InputReading.{bound}
+use Rattle.textarea_util.proofs.Options.{none_of_map}
 
 -- ---- characters and keys
 
@@ -173,7 +174,7 @@ unfolding shift_key_at
 keeps_shifted_at [] = keeps_none [] _
 keeps_shifted_at (b ∷ bytes) = keeps_if _ (b ∷ bytes) _ None _ (λ _. None) (keeps_byte b bytes _ _ (keeps_shifted_one _ bytes)) (keeps_none (b ∷ bytes) _)
 
-is_inner-digit : (b : ℕ) → is_digit b ≡ true → is_inner b ≡ true
+pub is_inner-digit : (b : ℕ) → is_digit b ≡ true → is_inner b ≡ true
 is_inner-digit b h = grind (arith, nat_tests)
 
 control-one : (b : ℕ) → is_inner b ≡ true → control_at (b ∷ []) ≡ None
@@ -371,10 +372,6 @@ paste_at-unchanged : (bytes : List ℕ) (x : EventValue × List ℕ) → paste_a
 unfolding paste_at
 paste_at-unchanged bytes x e = pasted_unchanged bytes x (mark_index paste_end bytes) refl e
 
-unmapped : {A B : Type 0} (f : A → B) (o : Option A) → option_map f o ≡ None → o ≡ None
-unmapped f None e = refl
-unmapped f (Some x) e = (cc)
-
 begun_text : (text : List ℕ) (n : ℕ) → unit_at (take n (paste_start ++ text)) ≡ None → mark_index paste_end (take (n - 6) text) ≡ None
 unfolding unit_at after_mark paste_at mark_index
 begun_text text zero e = refl
@@ -385,7 +382,7 @@ begun_text text (suc (suc (suc (suc zero)))) e = refl
 begun_text text (suc (suc (suc (suc (suc zero))))) e = refl
 begun_text text (suc (suc (suc (suc (suc (suc n)))))) e =
     let left : suc (suc (suc (suc (suc (suc n))))) - 6 ≡ n = omega arith in
-    ap (λ (k : ℕ). mark_index paste_end (take k text)) left ∙ unmapped (paste_before (take n text)) (mark_index paste_end (take n text)) e
+    ap (λ (k : ℕ). mark_index paste_end (take k text)) left ∙ none_of_map (paste_before (take n text)) (mark_index paste_end (take n text)) e
 
 -- where the front of a pasted text is begun, it is without the mark of its end
 pub index_of-begun : (bytes text : List ℕ) (n : ℕ) → after_mark paste_start bytes ≡ Some text → unit_at (take n bytes) ≡ None → mark_index paste_end (take (n - 6) text) ≡ None
@@ -470,9 +467,6 @@ pub unit_at-nil : unit_at [] ≡ None
 unfolding unit_at after_mark key_or_sequence
 unit_at-nil = refl
 
-pub nothing_begun : unit_at [] ≡ None
-nothing_begun = unit_at-nil
-
 -- ---- how many bytes may be pending
 
 -- if nothing is read, the number of bytes is at most a limit
@@ -496,7 +490,7 @@ waits_nil : {A : Type 0} (most : ℕ) (o : Option A) → Waits most [] o
 waits_nil most o = record { bound = λ e. omega arith }
 
 waits_map : {A B : Type 0} (f : A → B) (most : ℕ) (bytes : List ℕ) (o : Option A) → Waits most bytes o → Waits most bytes (option_map f o)
-waits_map f most bytes o h = record { bound = λ e. h.bound (unmapped f o e) }
+waits_map f most bytes o h = record { bound = λ e. h.bound (none_of_map f o e) }
 
 waits_fourth : (a b c : ℕ) (bytes : List ℕ) → Waits 0 bytes (fourth_byte a b c bytes)
 waits_fourth a b c [] = waits_nil 0 _

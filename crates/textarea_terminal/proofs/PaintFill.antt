@@ -1,7 +1,7 @@
 -- The cells of a buffer as a terminal shows them, from one cell to the next; and that they are
 -- whole clusters.
 use Rattle.std.proofs.Common.{◌≡◌, ℕ, zero, suc, ◌+◌, ◌-◌, ◌*◌, ◌/◌, ◌%◌, ◌<◌, ◌≤◌, true, false, ◌&&◌, ◌⊎◌, inl, inr, ⊎_elim, List, [], ◌∷◌, ◌++◌, length, map, take, replicate, refl, sym, ap, ◌∙◌, arith, ltb, leb}
-use Rattle.std.proofs.Common.{set, append_assoc, cond, ◌==◌, Bool, subst}
+use Rattle.std.proofs.Common.{set, append_assoc, cond, ◌==◌, subst}
 use Rattle.std.specs.Prelude.{chars}
 use Rattle.std.specs.Int.RustNames.{bit_and}
 use Rattle.std.proofs.Math.Nat.{mod-lt, div-lt_iff_lt-mul, mul-le-mul_left}
@@ -20,6 +20,7 @@ use Rattle.textarea_terminal.specs.declared.output.look.Look.{Look}
 use Rattle.textarea_terminal.specs.declared.output.colors.Colors.{Colors}
 use Rattle.textarea_terminal.specs.PaintCells.{cluster_columns, part_or_blank, shown_text, half, is_half, one_intensity, shown_look, displayed_alike, blanked, begins_empty, fits_in_row, displayed, cell_in, cells_from, frame_of_buffer, can_begin, are_whole}
 use Rattle.textarea_terminal.proofs.ScreenPlain.{cluster_columns-blank}
+use Rattle.std.proofs.Math.Bool.{and-false}
 
 -- ---- from one cell to the next
 
@@ -103,10 +104,6 @@ fill-blank colors area buffer place halves size source look symbol columns view 
     displayed-blank colors area buffer place halves size within none other_cell
     ∙ ap (λ (cell : CellView). blanked colors cell ∷ displayed colors area.width (place + 1) 0 cells) (sym is)
     ∙ ap (λ (first : CellView). first ∷ displayed colors area.width (place + 1) 0 cells) (sym (view_is ∙ ap (λ (l : Look). in_look l (32 ∷ [])) look_is))
-
-and-false : (b : Bool) → (b && false) ≡ false
-and-false true = refl
-and-false false = refl
 
 -- what is shown of a cluster has some columns, and at most those of the whole
 pub shown-columns : (text : List ℕ) → 0 < cluster_columns text → (0 < cluster_columns (shown_text text)) × (cluster_columns (shown_text text) ≤ cluster_columns text)

@@ -1,9 +1,10 @@
 -- Rows drawn one below the other.
-use Rattle.std.proofs.Common.{◌≡◌, ℕ, ◌+◌, ◌==◌, ◌&&◌, Bool, true, false, List, [], ◌∷◌, ◌++◌, length, refl, sym, ap, ◌∙◌, subst, arith}
-use Rattle.std.proofs.lemmas.Bool.{cond-false}
+use Rattle.std.proofs.Common.{◌≡◌, ℕ, ◌+◌, ◌==◌, false, List, [], ◌∷◌, ◌++◌, length, refl, sym, ap, ◌∙◌, subst, arith}
 use Rattle.std.proofs.lemmas.List.{length-append}
 use Rattle.textarea_view.specs.Prelude.{ShowsRow, row_cell, RowArea, Changes, KeepsOutside, CellView, contains, is_in_row, LineView, Buffer, Rect, AreDisplayed, DrawnTo, IsDrawnAs, lines_change, VisualRow, row_at, highlights_of, row_highlights, SceneState}
 use Rattle.textarea_screen.proofs.ChangeLemmas.{Changes-as, Changes-none, Changes-then, KeepsOutside-from_changes, KeepsOutside-then, KeepsOutside-wider}
+use Rattle.std.proofs.lemmas.Bool.{and_right}
+use Rattle.textarea_paint.proofs.RowAreaLemmas.{row_cell-outside}
 
 -- the highlights of a row's text are those of the row
 pub highlights_are : (scene : SceneState) (number : ℕ) (row : VisualRow) → row ≡ row_at scene.rows.lines scene.rows.rows number → highlights_of scene row ≡ row_highlights scene number
@@ -43,16 +44,8 @@ drawn_more_as scene top rows old now new count left line h drawn change =
 
 -- ---- cells outside of the area
 
-never : (b : Bool) → (b && false) ≡ false
-never true = refl
-never false = refl
-
 not_in_row : (area : Rect) (y column row : ℕ) → contains area column row ≡ false → is_in_row area y column row ≡ false
-not_in_row area y column row outside = ap (λ b. (row == y) && b) outside ∙ never (row == y)
-
-row_cell-outside : (rows : RowArea) (y : ℕ) (line : LineView) (column row : ℕ) (cell : CellView) → is_in_row rows.area y column row ≡ false → row_cell rows y line column row cell ≡ cell
-unfolding row_cell
-row_cell-outside rows y line column row cell outside = cond-false (is_in_row rows.area y column row) _ _ outside
+not_in_row area y column row outside = and_right (row == y) (contains area column row) outside
 
 outside_stays : (rows : RowArea) (y : ℕ) (lines : List LineView) (column row : ℕ) (cell : CellView) → contains rows.area column row ≡ false → lines_change rows y lines column row cell ≡ cell
 outside_stays rows y [] column row cell outside = refl

@@ -1,5 +1,5 @@
 -- A line that shows the visible part of a row has the cells of the line of the whole row.
-use Rattle.std.proofs.Common.{◌≡◌, ◌⊎◌, ℕ, ◌+◌, ◌-◌, ◌<◌, ◌≤◌, ◌==◌, Bool, true, false, cond, List, [], ◌∷◌, ◌++◌, length, map, sum_by, Option, None, refl, sym, ap, ap₂, ◌∙◌, inl, inr, ⊎_elim, arith}
+use Rattle.std.proofs.Common.{◌≡◌, ◌⊎◌, ℕ, ◌+◌, ◌-◌, ◌≤◌, ◌==◌, Bool, true, false, cond, List, [], ◌∷◌, ◌++◌, length, map, sum_by, Option, None, refl, sym, ap, ap₂, ◌∙◌, inl, inr, ⊎_elim, arith}
 use Rattle.std.specs.List.{All, flat_map}
 use Rattle.std.specs.Str.{chars}
 use Rattle.std.proofs.lemmas.Bool.{and_parts, eq-eqb, false≢true}
@@ -136,9 +136,6 @@ clusters-end : (base : Style) (b : Bool) (end : Option Style) → clusters base 
 clusters-end base true end = refl
 clusters-end base false end = refl
 
-later_than_start : (from : ℕ) → (from == 0) ≡ false → 0 < from
-later_than_start from e = grind (arith, nat_tests)
-
 module _ (h : Highlights) (rows : RowArea) (right count : ℕ) (part : RowPart) (line : LineView) (y : ℕ) (at_right : right ≡ rows.left + rows.area.width) (numbers : AreNumbers h.numbers count)
     (s : ShowsBetween h (rows.left - count) (right - count) part line) where
   abbrev first : Bool
@@ -205,7 +202,7 @@ module _ (h : Highlights) (rows : RowArea) (right count : ℕ) (part : RowPart) 
 
   hidden-left : (b : Bool) → first ≡ b → cond b 0 (count + part.column) ≤ rows.left
   hidden-left true e = omega arith
-  hidden-left false e = omega (arith, s.at_left (later_than_start part.from e))
+  hidden-left false e = omega (arith, s.at_left (grind (arith, nat_tests)))
 
   start_column : first ≡ true → part.column ≡ 0
   start_column e = sym s.before_columns ∙ ap spans_columns (s.from_start (grind (arith, nat_tests)))

@@ -1,12 +1,9 @@
 -- A copy and a paste after it.
-use Rattle.std.proofs.Common.{◌≡◌, ℕ, ◌-◌, ◌<◌, ◌==◌, ◌&&◌, ◌||◌, nat_lt, cond, Bool, true, false, List, [], ◌∷◌, length, drop, Option, None, Some, ap, sym, refl, subst, ◌∙◌, arith}
+use Rattle.std.proofs.Common.{◌≡◌, ℕ, ◌<◌, ◌==◌, ◌&&◌, ◌||◌, nat_lt, cond, true, false, List, [], ◌∷◌, length, Option, None, Some, ap, sym, refl, subst, ◌∙◌, arith}
 use Rattle.std.specs.Option.{IfSome, MatchOption}
-use Rattle.std.proofs.lemmas.List.{length-drop, length-take-le}
 use Rattle.std.proofs.lemmas.Bool.Decides.{nat_tests}
 use Rattle.textarea_text.specs.Text.{Symbol}
 use Rattle.textarea_text.specs.Place.{Place, IsPlace, end, index_of, inserted, is_before}
-use Rattle.textarea_text.proofs.TextPlaces.{index_within}
-use Rattle.textarea_text.specs.Between.{symbols_between}
 use Rattle.textarea_document.specs.DocumentState.{DocumentState}
 use Rattle.textarea_document.specs.Outcomes.{unanchored}
 use Rattle.textarea_document.specs.Edits.{insertion_place, has_symbols, between_removed}
@@ -15,6 +12,8 @@ use Rattle.tui_textarea.specs.State.{State, with_document}
 use Rattle.tui_textarea.specs.Edits.{symbols_or_none_inserted, str_inserted}
 use Rattle.tui_textarea.specs.TextAreaLaw.{PastesCopy, copied_and_pasted}
 use Rattle.tui_textarea.specs.Selection.{selection_copied, selection_cancelled}
+use Rattle.std.proofs.Math.Bool.{and-false}
+use Rattle.textarea_document.proofs.Betweens.{between_some}
 
 not_less : (n : ℕ) → nat_lt n n ≡ false
 not_less n = grind (arith, nat_tests)
@@ -23,26 +22,13 @@ not_before : (place : Place) → is_before place place ≡ false
 not_before place =
     ap (λ b. b || ((place.0 == place.0) && nat_lt place.1 place.1)) (not_less place.0)
     ∙ ap (λ b. (place.0 == place.0) && b) (not_less place.1)
-    ∙ and_false (place.0 == place.0)
-  where
-    and_false : (b : Bool) → (b && false) ≡ false
-    and_false true = refl
-    and_false false = refl
+    ∙ and-false (place.0 == place.0)
 
 -- nothing is selected if no selection is open
 none_selected : (document : DocumentState) → is_selected (unanchored document) ≡ false
 none_selected document =
     let place = document.cursor in
     ap (λ b. is_before (cond b place place) (cond b place place)) (not_before place) ∙ not_before place
-
--- there is text between two positions of which one comes first
-some_between : (text : List Symbol) (from to : Place) → IsPlace text to → index_of text from < index_of text to → 0 < length (symbols_between text from to)
-some_between text from to h ordered =
-    omega (
-      arith,
-      length-take-le (index_of text to - index_of text from) (drop (index_of text from) text)
-          (omega (arith, length-drop (index_of text from) text, index_within text to h)),
-    )
 
 filled : (symbols : List Symbol) → 0 < length symbols → has_symbols symbols ≡ true
 filled [] h = absurd (omega (arith, h))
@@ -71,7 +57,7 @@ pastes_copy state e place ordered =
         ∙ ap (λ b. symbols_or_none_inserted (with_document after (cond b (between_removed after.document (selection_start after.document) (selection_end after.document) after.time) after.document)) after.yank) (none_selected state.document)
 
     some : 0 < length (selected state.document)
-    some = some_between state.document.text (selection_start state.document) (selection_end state.document) place ordered
+    some = between_some state.document.text (selection_start state.document) (selection_end state.document) place ordered
 
     text_of : (symbols : List Symbol) → 0 < length symbols → (symbols_or_none_inserted after symbols).document.text ≡ inserted state.document.text (insertion_place state.document) symbols
     text_of [] h = absurd (omega (arith, h))

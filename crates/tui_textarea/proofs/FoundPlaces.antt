@@ -1,12 +1,11 @@
 -- The position that a search finds is a position of the text.
-use Rattle.std.proofs.Common.{◌≡◌, ℕ, zero, suc, ◌+◌, ◌-◌, ◌*◌, ◌/◌, ◌<◌, ◌≤◌, nat_lt, Bool, List, [], ◌∷◌, ◌++◌, length, map, reverse, take, Option, None, Some, IfSome, encode_utf8_all, refl, subst, sym, arith}
+use Rattle.std.proofs.Common.{◌≡◌, ℕ, zero, suc, ◌+◌, ◌-◌, ◌*◌, ◌/◌, ◌<◌, ◌≤◌, nat_lt, Bool, List, [], ◌∷◌, ◌++◌, length, map, take, Option, None, Some, IfSome, encode_utf8_all, refl, subst, sym, arith}
 use Rattle.std.specs.Prelude.{All, slice_get}
 use Rattle.std.specs.List.{find}
 use Rattle.std.specs.Option.{option_or}
 use Rattle.std.specs.Char.{encode_utf8}
 use Rattle.std.specs.Str.{chars, chars_after, continuation_len, lead_bits}
 use Rattle.std.proofs.lemmas.Bool.{le-ltb, lt-ltb, ltb-true}
-use Rattle.std.proofs.lemmas.List.{get_or-reverse, length-reverse}
 use Rattle.std.proofs.lemmas.List.Elements.{All-append, All-head, All-map, All-nil, All-tail, All-weaker}
 use Rattle.textarea_text.specs.Text.{Symbol, lines}
 use Rattle.textarea_text.specs.Place.{Place, IsPlace, IsPlaceOf}
@@ -14,10 +13,10 @@ use Rattle.textarea_search.specs.Columns.{column_of_byte}
 use Rattle.textarea_search.specs.Matches.{match_columns, match_spans}
 use Rattle.textarea_search.specs.Starts.{along, is_ahead, starts_from}
 use Rattle.textarea_search.specs.declared.search.direction.Direction.{Direction}
-use Rattle.textarea_search.specs.declared.search.direction.Direction.TheVariants.{Forward, Back}
 use Rattle.tui_textarea.specs.Search.{found_match, starts_in}
 use Rattle.tui_textarea.specs.State.{State}
 use Rattle.tui_textarea.proofs.Stepping.{by_test}
+use Rattle.textarea_search.proofs.ColumnLemmas.{All-along}
 
 -- ---- the number of characters in the first bytes of a line
 
@@ -140,19 +139,10 @@ one_has : {X : Type 0} (P : X → Type 0) (one other : Option X) → IfSome one 
 one_has P None other h k = k
 one_has P (Some x) other h k = h
 
-reverse_has : {X : Type 0} (P : X → Type 0) (xs : List X) → All P xs → All P (reverse xs)
-reverse_has P xs all k d lt =
-    let within : k < length xs = rw length-reverse at lt in
-    rw (get_or-reverse xs k d within) (all (length xs - 1 - k) d (omega arith))
-
-along_has : {X : Type 0} (P : X → Type 0) (direction : Direction) (xs : List X) → All P xs → All P (along direction xs)
-along_has P Forward xs all = all
-along_has P Back xs all = reverse_has P xs all
-
 pub match_is_place : (direction : Direction) (state : State) (at_cursor : Bool) → IfSome (found_match direction state at_cursor) (IsPlace state.document.text)
 match_is_place direction state at_cursor =
     let in_text = IsPlace state.document.text in
     let starts = along direction (starts_in state.pattern state.document.text) in
-    let all = along_has in_text direction (starts_in state.pattern state.document.text) (starts_are_in_text state.pattern state.document.text) in
+    let all = All-along in_text direction (starts_in state.pattern state.document.text) (starts_are_in_text state.pattern state.document.text) in
     one_has in_text (find (is_ahead direction state.document.cursor at_cursor) starts) (slice_get starts 0)
     (found_has in_text (is_ahead direction state.document.cursor at_cursor) starts all) (first_has in_text starts all)

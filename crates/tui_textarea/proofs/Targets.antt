@@ -1,5 +1,5 @@
 -- The target of each move is a position of the text.
-use Rattle.std.proofs.Common.{◌≡◌, ℕ, zero, suc, ◌+◌, ◌-◌, ◌==◌, ◌<◌, nat_lt, Bool, true, false, if◌then◌else◌, List, length, take, drop, Option, None, Some, unwrap_or, IfSome, min, refl, subst, sym, arith}
+use Rattle.std.proofs.Common.{◌≡◌, ℕ, zero, suc, ◌+◌, ◌-◌, ◌==◌, ◌<◌, nat_lt, Bool, true, false, if◌then◌else◌, List, length, take, drop, Option, None, Some, unwrap_or, IfSome, min, subst, sym, arith}
 use Rattle.std.proofs.lemmas.List.{take-append-drop}
 use Rattle.std.specs.Option.{option_or}
 use Rattle.textarea_text.specs.Between.{clip}
@@ -19,8 +19,6 @@ use Rattle.textarea_screen_map.specs.VisualRows.{greatest_column, row_at}
 use Rattle.textarea_screen_map.specs.declared.layout.VisualPosition.{VisualPosition}
 use Rattle.textarea_screen_map.specs.declared.layout.Wrapping.{Wrapping}
 use Rattle.textarea_lines.specs.TextLayout.{wrapping_of}
-use Rattle.textarea_lines.specs.Wrappings.{is_wrapped, wrapping_for}
-use Rattle.textarea_lines.specs.declared.settings.LayoutSettings.{LayoutSettings}
 use Rattle.textarea_view.specs.Viewport.{ViewportState}
 use Rattle.textarea_document.specs.DocumentRows.{IsAboveCursor, IsBelowCursor, text_and_layout}
 use Rattle.textarea_document.specs.DocumentState.{DocumentState}
@@ -31,6 +29,7 @@ use Rattle.tui_textarea.specs.State.{State}
 use Rattle.tui_textarea.proofs.DrawnRows.{borrowed_right}
 use Rattle.tui_textarea.proofs.Removing.{below, some_number}
 use Rattle.tui_textarea.proofs.Stepping.{by_test}
+use Rattle.textarea_lines.proofs.Stores.{tab_len_of}
 
 -- the law of the map: a visual row and a display column lead to a position of the lines
 abbrev pub LeadsToPlaces : Type 0
@@ -132,9 +131,6 @@ text_target_is_place text cursor cursor_move h = tt
 
 -- ---- moves that depend on the visual rows
 
-tab_stops_stay : (settings : LayoutSettings) (line_count : ℕ) → (wrapping_for settings line_count).tab_len ≡ settings.tab_len
-tab_stops_stay settings line_count = by_test (λ (w : Wrapping). w.tab_len ≡ settings.tab_len) (is_wrapped settings) _ _ (λ wraps. refl) (λ whole. refl)
-
 module _ (leads : LeadsToPlaces) where
   near_is_place : (wrapping : Wrapping) (lines : List (List ℕ)) (rows : List RowsView) (visual : VisualPosition) (place : Place) → AreRowsOf wrapping lines rows → IsPlaceNear wrapping.tab_len lines rows visual place → IsPlaceOf lines place
   near_is_place wrapping lines rows visual place right near =
@@ -144,7 +140,7 @@ module _ (leads : LeadsToPlaces) where
   near_in_document : (document : DocumentState) (rows : List RowsView) (visual : VisualPosition) (place : Place) → AreRowsOf (wrapping_of (text_and_layout document)) (lines document.text) rows → IsPlaceNear document.layout.settings.tab_len (lines document.text) rows visual place → IsPlace document.text place
   near_in_document document rows visual place right near =
       near_is_place (wrapping_of (text_and_layout document)) (lines document.text) rows visual place right
-      (subst (λ (t : ℕ). IsPlaceNear t (lines document.text) rows visual place) (sym (tab_stops_stay document.layout.settings (length (lines document.text)))) near)
+      (subst (λ (t : ℕ). IsPlaceNear t (lines document.text) rows visual place) (sym (tab_len_of document.layout.settings (length (lines document.text)))) near)
 
   above_is_place : (document : DocumentState) (found : Option Place) → IsAboveCursor document found → IsFoundIn document.text found
   unfolding IsAboveCursor

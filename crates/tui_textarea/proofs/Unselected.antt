@@ -1,5 +1,5 @@
 -- The state after a call that first removes the selected text.
-use Rattle.std.proofs.Common.{◌≡◌, ◌||◌, Bool, true, false, Option, None, Some, is_some, Result, Ok, Err, ap, sym, refl, ◌∙◌}
+use Rattle.std.proofs.Common.{◌≡◌, ◌||◌, Bool, true, false, Option, None, is_some, Result, Ok, Err, ap, sym, ◌∙◌}
 use Rattle.std.proofs.lemmas.Bool.{cond-false, cond-true, or_left, or_parts, or_right}
 use Rattle.std.proofs.lemmas.Result.{IfOk-weaker}
 use Rattle.std.specs.Result.{IfOk, OnOk}
@@ -11,6 +11,7 @@ use Rattle.textarea_document.specs.DocumentState.{DocumentState}
 use Rattle.tui_textarea.specs.Removals.{removes_or, unselected_or}
 use Rattle.tui_textarea.specs.Selection.{unselected}
 use Rattle.tui_textarea.specs.State.{State, with_document}
+use Rattle.textarea_util.proofs.Options.{none_of_test}
 
 pub unselected_is : {view state : State} → view ≡ state → (removed : DocumentState) → removed ≡ selected_removed view.document view.time
     → with_document view removed ≡ unselected state
@@ -46,10 +47,6 @@ answered_unselected (Ok found) has {view} {state} is removed gone none h =
     h ∙ ap has (none_gone is removed gone none) ∙ ap (λ (b : Bool). b || has state) (sym (ap (λ (s : State). is_selected s.document) (sym is) ∙ none))
 answered_unselected (Err e) has is removed gone none h = h
 
-pub none_is : {A : Type 0} (found : Option A) → is_some found ≡ false → found ≡ None
-none_is None e = refl
-none_is (Some x) e = absurd (cc e)
-
 -- its result if there is no range at the cursor either
 pub answered_unhit : {E : Type 0} (r : Result Bool E) (has : State → Bool) (direction : AtomicDeleteDirection) {view state : State} → view ≡ state
     → (removed after : DocumentState) (found : Option AtomicRange) → removed ≡ selected_removed view.document view.time → is_selected view.document ≡ false
@@ -63,7 +60,7 @@ answered_unhit r has direction {view} is removed after found gone none found_is 
     ∙ sym (ap (λ (t : Bool). t || has (with_document view removed)) (ap is_some (sym found_is) ∙ unhit))) h)
   where
     stays : after ≡ removed
-    stays = symbol_after_is ∙ ap (λ (o : Option AtomicRange). removed_range_or o removed view.time removed) (sym found_is ∙ none_is found unhit)
+    stays = symbol_after_is ∙ ap (λ (o : Option AtomicRange). removed_range_or o removed view.time removed) (sym found_is ∙ none_of_test found unhit)
 
 -- a range that was found at the cursor then is one of the state
 pub range_found : {view state : State} → view ≡ state → (removed : DocumentState) → removed ≡ selected_removed view.document view.time → is_selected view.document ≡ false
@@ -84,4 +81,4 @@ pub none_at_place : {view state : State} → view ≡ state → (removed : Docum
     → range_at_cursor removed direction ≡ None
 none_at_place {state = state} is removed gone none direction other stays =
     let hit = range_at_cursor state.document direction in
-    range_found is removed gone none direction ∙ none_is hit (or_parts (is_some hit) other (or_parts (is_selected state.document) (is_some hit || other) stays).1).0
+    range_found is removed gone none direction ∙ none_of_test hit (or_parts (is_some hit) other (or_parts (is_selected state.document) (is_some hit || other) stays).1).0

@@ -3,8 +3,9 @@ use Rattle.std.proofs.lemmas.Str.Pattern.{strip_prefix_char}
 use Rattle.std.specs.Prelude.{encode_utf8}
 use Rattle.textarea_commands.specs.Escapes.{in_front, unescaped_lines}
 use Rattle.textarea_commands.proofs.Fronts.{line_broken, line_escaped, line_joined, line_plain, line_unread}
-use Rattle.textarea_commands.proofs.Tokens.{line_grown, none_mapped}
+use Rattle.textarea_commands.proofs.Tokens.{line_grown}
 use Rattle.textarea_commands.proofs.arguments.push_line.Goals as goal
+use Rattle.textarea_util.proofs.Options.{none_of_map}
 
 pub returns-in-Some-strip_prefix-clause-value : goal.returns-in-Some-strip_prefix-clause-value
 returns-in-Some-strip_prefix-clause-value c =
@@ -26,7 +27,7 @@ returns-in_default-escaped_character-clause-value c =
     let rest = c.loop-front.rest.now in
     let front = c.in-Some.front.now in
     let split_is = c.in-Some.ensures in
-    none_mapped (λ lines. in_front (string_bytes c.args.line.now) lines) (unescaped_lines c.args.text.now)
+    none_of_map (λ lines. in_front (string_bytes c.args.line.now) lines) (unescaped_lines c.args.text.now)
     (c.loop-front.invariant.2
     ∙ ap (option_map before) (line_unread rest front c.in-Some.escaped.now c.loop-front.invariant.0 split_is.0 split_is.1 c.in_default-escaped_character.ensures.value))
 

@@ -9,12 +9,13 @@ use Rattle.regex.specs.Strings.{matcher_pattern}
 use Rattle.textarea_search.specs.Spans.{IsNeedleOf, columns_in}
 use Rattle.textarea_search.specs.Starts.{along, is_ahead_in_line, is_past}
 use Rattle.textarea_search.specs.declared.search.direction.Direction.{Direction}
-use Rattle.textarea_search.proofs.ColumnLemmas.{All-along, chars_fit, column_of_span}
+use Rattle.textarea_search.proofs.ColumnLemmas.{All-along, column_of_span}
 use Rattle.textarea_search.proofs.FromMatchLemmas.{columns_within}
 use Rattle.textarea_search.proofs.PatternLemmas.{no_columns, none_listed-text}
 use Rattle.textarea_search.proofs.StartLemmas.{find-first}
 use Rattle.textarea_search.proofs.search.listed_match.end_column.Goals as goal
 use Rattle.textarea_search.proofs.search.listed_match.end_column.Goals.{in-Forward, in-Back}
+use Rattle.textarea_util.proofs.Characters.{length-chars}
 
 after_start : (column : ℕ) → is_past 0 true column ≡ true
 after_start column = grind (arith, nat_tests)
@@ -51,7 +52,7 @@ returns-then-starts_once-clause-found c =
     let passes : (column : ℕ) → column ≤ length (chars line) → is_ahead_in_line direction end true column ≡ true =
     elim c.match-direction.branch [
       | in-Forward w ↦ λ column le. rw (w.in-Forward.is, w.end-is) (after_start column)
-      | in-Back w ↦ λ column le. rw (w.in-Back.is, w.end-is) (before_end column _ (omega (arith, le, chars_fit line c.utf8.line)))
+      | in-Back w ↦ λ column le. rw (w.in-Back.is, w.end-is) (before_end column _ (omega (arith, le, length-chars line c.utf8.line)))
     ] in
     let needle : IsNeedleOf c.in-Some.finder tree = subst (λ o. IfSome o (λ finder. IsNeedleOf finder tree)) c.in-Some.is c.requires in
     c.nearest_text.ensures.found
@@ -66,6 +67,6 @@ returns-clause-found c =
     let passes : (column : ℕ) → column ≤ length (chars line) → is_ahead_in_line direction end true column ≡ true =
     elim c.match-direction.branch [
       | in-Forward w ↦ λ column le. rw (w.in-Forward.is, w.end-is) (after_start column)
-      | in-Back w ↦ λ column le. rw (w.in-Back.is, w.end-is) (before_end column _ (omega (arith, le, chars_fit line c.utf8.line)))
+      | in-Back w ↦ λ column le. rw (w.in-Back.is, w.end-is) (before_end column _ (omega (arith, le, length-chars line c.utf8.line)))
     ] in
     c.column_ahead.ensures.found ∙ first_of_all (matcher_pattern c.args.matcher.now) line c.utf8.line direction end passes

@@ -5,7 +5,7 @@ use Rattle.textarea_view.specs.SurroundState.{SurroundState, new_surround}
 use Rattle.textarea_text.specs.Text.{Symbol, text_of}
 use Rattle.tui_textarea.specs.State.{default_layout, default_settings, new_state}
 use Rattle.tui_textarea.specs.declared.textarea.settings.Settings.{Settings}
-use Rattle.tui_textarea.proofs.Unselected.{none_is}
+use Rattle.textarea_util.proofs.Options.{none_of_test}
 use Rattle.tui_textarea.proofs.textarea.TextArea.new.Goals as goal
 
 -- a state with new parts is new
@@ -17,7 +17,7 @@ made_new text document yank settings pattern surround drawing d y s p b f =
     ap (λ (x : DocumentState). record start { document = x; yank = yank; settings = settings; pattern = pattern; surround = surround; drawing = drawing }) d
     ∙ ap (λ (x : List Symbol). record start { yank = x; settings = settings; pattern = pattern; surround = surround; drawing = drawing }) y
     ∙ ap (λ (x : Settings). record start { settings = x; pattern = pattern; surround = surround; drawing = drawing }) s
-    ∙ ap (λ (x : Option (List ℕ)). record start { pattern = x; surround = surround; drawing = drawing }) (none_is pattern p)
+    ∙ ap (λ (x : Option (List ℕ)). record start { pattern = x; surround = surround; drawing = drawing }) (none_of_test pattern p)
     ∙ ap (λ (x : SurroundState). record start { surround = x; drawing = drawing }) b
     ∙ ap (λ (x : DrawingState). record start { drawing = x }) f
 
