@@ -56,7 +56,8 @@ unchanged_from n bytes x f g e h = record {
 }
 
 -- something after something else
-pub keeps_bound : {A B : Type 0} (g : A × List ℕ → Option (B × List ℕ)) (bytes : List ℕ) (o : Option (A × List ℕ)) (f : List ℕ → Option (A × List ℕ)) → Keeps bytes o f → ((a : A) (rest : List ℕ) → Keeps rest (g (a, rest)) (λ more. g (a, rest ++ more))) → Keeps bytes (bound g o) (λ more. bound g (f more))
+pub keeps_bound : {A B : Type 0} (g : A × List ℕ → Option (B × List ℕ)) (bytes : List ℕ) (o : Option (A × List ℕ)) (f : List ℕ → Option (A × List ℕ)) → Keeps bytes o f →
+    ((a : A) (rest : List ℕ) → Keeps rest (g (a, rest)) (λ more. g (a, rest ++ more))) → Keeps bytes (bound g o) (λ more. bound g (f more))
 keeps_bound g bytes None f h k = keeps_none bytes _
 keeps_bound {A} {B} g bytes (Some (a, rest)) f h k =
     let before = h.unchanged (a, rest) refl in

@@ -1,5 +1,6 @@
 -- Marks in bytes, and their indices.
-use Rattle.std.proofs.Common.{◌≡◌, ℕ, zero, suc, ◌+◌, ◌-◌, ◌<◌, ◌≤◌, Bool, true, false, cond, eqb, List, [], ◌∷◌, ◌++◌, length, get_or, take, drop, Option, Some, None, MatchOption, Bor, refl, sym, ap, ◌∙◌, arith, inl, inr, ⊎_elim, zero-add, length-drop}
+use Rattle.std.proofs.Common.{◌≡◌, ℕ, zero, suc, ◌+◌, ◌-◌, ◌<◌, ◌≤◌, Bool, true, false, cond, eqb, List, [], ◌∷◌, ◌++◌, length, get_or, take, drop, Option, Some, None, MatchOption, Bor, refl, sym, ap}
+use Rattle.std.proofs.Common.{◌∙◌, arith, inl, inr, ⊎_elim, zero-add, length-drop}
 use Rattle.std.proofs.lemmas.Bool.{eq-eqb, eqb-true, cases_lt}
 use Rattle.std.proofs.lemmas.List.{get_or-take, get_or-drop, length-take}
 use Rattle.std.specs.Prelude.{◌&&◌, ◌⊎◌, is_some, option_map}
@@ -21,7 +22,10 @@ after_mark-pointwise [] bytes = refl
 after_mark-pointwise (m ∷ mark) [] = refl
 after_mark-pointwise (m ∷ mark) (b ∷ bytes) = rw (after_mark-pointwise mark bytes) (both (eqb b m) (pointwise eqb (take (length mark) bytes) mark) (Some (drop (length mark) bytes)) None)
 
-pub Reads-after_mark : (mark bytes : List ℕ) (r : Option (Bor (List ℕ))) → MatchOption r (pointwise eqb (take (length mark) bytes) mark ≡ false) (λ x. (pointwise eqb (take (length mark) bytes) mark ≡ true) × (x.now ≡ drop (length mark) bytes) × (length x.now + length mark ≡ length bytes)) → Reads (λ (x : Bor (List ℕ)). x.now) r (after_mark mark bytes)
+pub Reads-after_mark : (mark bytes : List ℕ) (r : Option (Bor (List ℕ))) →
+    MatchOption r (pointwise eqb (take (length mark) bytes) mark ≡ false)
+    (λ x. (pointwise eqb (take (length mark) bytes) mark ≡ true) × (x.now ≡ drop (length mark) bytes) × (length x.now + length mark ≡ length bytes)) →
+    Reads (λ (x : Bor (List ℕ)). x.now) r (after_mark mark bytes)
 Reads-after_mark mark bytes None h = after_mark-pointwise mark bytes ∙ ap (λ (t : Bool). cond t (Some (drop (length mark) bytes)) None) h
 Reads-after_mark mark bytes (Some x) h = after_mark-pointwise mark bytes ∙ ap (λ (t : Bool). cond t (Some (drop (length mark) bytes)) None) h.0 ∙ ap Some (sym h.1)
 
@@ -135,7 +139,8 @@ MayBegin mark n from = (i : ℕ) → i < from → i + length mark ≤ n
 nothing_before : (mark bytes : List ℕ) (n from i : ℕ) → 0 < length mark → n ≤ length bytes → mark_index mark (take n bytes) ≡ None → MayBegin mark n from → i < from → IsAt bytes mark i → ⊥
 nothing_before mark bytes n from i some h none may below at = nowhere-index_of mark (take n bytes) some none i (IsAt-take bytes mark n i h (may i below) at)
 
-pub index_of-found : (mark bytes : List ℕ) (n from k : ℕ) → 0 < length mark → n ≤ length bytes → from ≤ length bytes → mark_index mark (take n bytes) ≡ None → MayBegin mark n from → FindsNeedle (drop from bytes) mark 0 (Some k) → mark_index mark bytes ≡ Some (from + k)
+pub index_of-found : (mark bytes : List ℕ) (n from k : ℕ) → 0 < length mark → n ≤ length bytes → from ≤ length bytes → mark_index mark (take n bytes) ≡ None → MayBegin mark n from →
+    FindsNeedle (drop from bytes) mark 0 (Some k) → mark_index mark bytes ≡ Some (from + k)
 index_of-found mark bytes n from k some h in_bytes none may found =
     index_of-first mark bytes (from + k) some (IsAt-from_drop bytes mark from k in_bytes found.1)
     (λ i below at. ⊎_elim
@@ -143,7 +148,8 @@ index_of-found mark bytes n from k some h in_bytes none may found =
     (λ (late : from ≤ i). let e : i ≡ from + (i - from) = omega arith in found.0.before (i - from) (omega arith) (omega arith) (OccursAt-drop bytes mark from (i - from) i e at))
     (cases_lt i from))
 
-pub index_of-not_found : (mark bytes : List ℕ) (n from : ℕ) → 0 < length mark → n ≤ length bytes → from ≤ length bytes → mark_index mark (take n bytes) ≡ None → MayBegin mark n from → FindsNeedle (drop from bytes) mark 0 None → mark_index mark bytes ≡ None
+pub index_of-not_found : (mark bytes : List ℕ) (n from : ℕ) → 0 < length mark → n ≤ length bytes → from ≤ length bytes → mark_index mark (take n bytes) ≡ None → MayBegin mark n from →
+    FindsNeedle (drop from bytes) mark 0 None → mark_index mark bytes ≡ None
 index_of-not_found mark bytes n from some h in_bytes none may found =
     index_of-nowhere mark bytes
     (λ i at. ⊎_elim

@@ -50,7 +50,8 @@ unfolding count_front
 count_front-zero test bytes = refl
 
 -- a byte that passes is one of the front
-pub count_front-more : (test : ℕ → Bool) (most : ℕ) (bytes : List ℕ) (i : ℕ) → i < length bytes → i < most → test (get_or bytes i 0) ≡ true → count_front test (most - i) (drop i bytes) ≡ count_front test (most - (i + 1)) (drop (i + 1) bytes) + 1
+pub count_front-more : (test : ℕ → Bool) (most : ℕ) (bytes : List ℕ) (i : ℕ) → i < length bytes → i < most → test (get_or bytes i 0) ≡ true →
+    count_front test (most - i) (drop i bytes) ≡ count_front test (most - (i + 1)) (drop (i + 1) bytes) + 1
 count_front-more test most bytes i h k e =
     let left : most - i ≡ suc (most - (i + 1)) = omega arith in
     ap (count_front test (most - i)) (drop-cons bytes i 0 h) ∙ ap (λ (n : ℕ). count_front test n (get_or bytes i 0 ∷ drop (suc i) bytes)) left

@@ -13,7 +13,8 @@ use Rattle.textarea_terminal.specs.declared.input.reply.Expected.{Expected}
 use Rattle.textarea_terminal.specs.declared.input.reply.Parts.{Parts}
 use Rattle.textarea_terminal.specs.InputCharacter.{utf8_character}
 use Rattle.textarea_terminal.specs.InputEvent.{EventValue, EventAndRest, value_of, input, paste, mouse, size, cursor, focus_gained, focus_lost, unknown, resized, released}
-use Rattle.textarea_terminal.specs.InputReply.{Reply, reply_if, as_reply, reply_at, answered, Stripped, with_byte, with_reply, with_stripped, stripped_value, stripped_within, stripped, refined, paste_events, IsWithout, at_end, kept_byte, no_reply}
+use Rattle.textarea_terminal.specs.InputReply.{Reply, reply_if, as_reply, reply_at, answered, Stripped, with_byte, with_reply, with_stripped, stripped_value, stripped_within, stripped, refined}
+use Rattle.textarea_terminal.specs.InputReply.{paste_events, IsWithout, at_end, kept_byte, no_reply}
 use Rattle.textarea_terminal.specs.InputUnit.{key_or_sequence, key_at, character_event}
 use Rattle.textarea_terminal.proofs.InputKeeps.{ReadsSame, Keeps}
 use Rattle.textarea_terminal.proofs.InputUnits.{keeps_key_or_sequence, nothing_read}
@@ -105,7 +106,8 @@ within-enough zero m e (b ∷ bytes) h k = absurd (omega arith)
 within-enough (suc n) zero e (b ∷ bytes) h k = absurd (omega arith)
 within-enough (suc n) (suc m) e (b ∷ bytes) h k = by_reply (λ f rest i j. within-enough n m f rest i j) (reply_at e (b ∷ bytes)) refl
   where
-    by_reply : ((f : Expected) (rest : List ℕ) → length rest ≤ n → length rest ≤ m → stripped_within n f rest ≡ stripped_within m f rest) → (o : Reply) → reply_at e (b ∷ bytes) ≡ o → stripped_within (suc n) e (b ∷ bytes) ≡ stripped_within (suc m) e (b ∷ bytes)
+    by_reply : ((f : Expected) (rest : List ℕ) → length rest ≤ n → length rest ≤ m → stripped_within n f rest ≡ stripped_within m f rest) → (o : Reply) → reply_at e (b ∷ bytes) ≡ o →
+        stripped_within (suc n) e (b ∷ bytes) ≡ stripped_within (suc m) e (b ∷ bytes)
     by_reply same None is = within-byte n e b bytes is ∙ ap (with_byte b) (same e bytes (omega arith) (omega arith)) ∙ sym (within-byte m e b bytes is)
     by_reply same (Some x) is =
         let short = reply-shorter e b bytes x is in
@@ -140,7 +142,8 @@ with_stripped-byte old new b bytes text replies expected is =
     first ∙ second ∙ third ∙ ap (with_stripped old) (sym (stripped-byte old.expected b bytes is))
 
 -- a reply is
-pub with_stripped-reply : (old new : Parts) (b : ℕ) (bytes rest : List ℕ) (event : Event) → new.text.items ≡ old.text.items → new.replies.items ≡ old.replies.items ++ event ∷ [] → reply_at old.expected (b ∷ bytes) ≡ Some (value_of event, (new.expected, rest))
+pub with_stripped-reply : (old new : Parts) (b : ℕ) (bytes rest : List ℕ) (event : Event) → new.text.items ≡ old.text.items → new.replies.items ≡ old.replies.items ++ event ∷ [] →
+    reply_at old.expected (b ∷ bytes) ≡ Some (value_of event, (new.expected, rest))
     → with_stripped new (stripped new.expected rest) ≡ with_stripped old (stripped old.expected (b ∷ bytes))
 with_stripped-reply old new b bytes rest event text replies is =
     let s = stripped new.expected rest in
@@ -160,9 +163,6 @@ with_stripped-end s =
 pub nothing_left : (xs : List ℕ) → length xs < 1 → xs ≡ []
 nothing_left [] h = refl
 nothing_left (x ∷ xs) h = absurd (omega arith)
-
-pub with_stripped-start : (s : Parts) (t : Stripped) → s.text.items ≡ [] → s.replies.items ≡ [] → with_stripped s t ≡ t
-with_stripped-start s t text replies = rw (text, replies) refl
 
 -- ---- where nothing is out
 

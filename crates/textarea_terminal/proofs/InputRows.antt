@@ -22,9 +22,11 @@ use Rattle.std.specs.Prelude.{◌⊎◌}
 use Rattle.textarea_terminal.specs.InputKey.{with_alt, input_of_key, byte_input, entry, letter_keys, coded_event}
 use Rattle.textarea_data.specs.declared.input.Key.{Key}
 use Rattle.textarea_terminal.specs.InputUnit.{unit_at, paste_start, paste_end, mark_index, paste_at, paste_before, after_mark, key_or_sequence, escape_at, second_escape_at, single_at, key_at, alt_event, begins_string}
-use Rattle.textarea_terminal.specs.InputSequence.{bracket_at, shift_key_at, shift_key_after_one, shift_key_after_two, control_at, count_front, after_inner, final_at, console_at, sequence_event, event_of, event_of_one, event_of_two, event_of_three}
+use Rattle.textarea_terminal.specs.InputSequence.{bracket_at, shift_key_at, shift_key_after_one, shift_key_after_two, control_at, count_front, after_inner, final_at, console_at, sequence_event}
+use Rattle.textarea_terminal.specs.InputSequence.{event_of, event_of_one, event_of_two, event_of_three}
 use Rattle.textarea_terminal.specs.InputParameter.{parameters_of, number_from, number_after, count_of}
-use Rattle.textarea_terminal.specs.InputRow.{KeyRow, byte_rows, letter_rows, numbered_rows, other_rows, older_rows, keypad_rows, coded_rows, key_rows, IsSentFor, key_row, alt_key_row, character_row, alt_character_row, paste_row, mouse_row, wheel_up_row, wheel_down_row, size_row, cursor_row, focus_gained_row, focus_lost_row, bytes_of_rows}
+use Rattle.textarea_terminal.specs.InputRow.{KeyRow, byte_rows, letter_rows, numbered_rows, other_rows, older_rows, keypad_rows, coded_rows, key_rows, IsSentFor, key_row, alt_key_row, character_row}
+use Rattle.textarea_terminal.specs.InputRow.{alt_character_row, paste_row, mouse_row, wheel_up_row, wheel_down_row, size_row, cursor_row, focus_gained_row, focus_lost_row, bytes_of_rows}
 
 -- what is read of a row's bytes, and of them after one ESC more; and what they are
 abbrev read_row : KeyRow → EventAndRest
@@ -39,69 +41,22 @@ read_alt_row row = unit_at (27 ∷ row.0)
 abbrev alt_row_value : KeyRow → EventAndRest
 alt_row_value row = Some (input (with_alt row.1), [])
 
-byte_rows-read : map read_row byte_rows ≡ map row_value byte_rows
-unfolding byte_rows unit_at after_mark key_or_sequence key_at
-byte_rows-read = refl
+-- one name to unfold where a proof computes what is read of bytes that are written out
+unfoldable pub events_computed : Unit {0}
+unfolding sequence_event event_of event_of_one event_of_two event_of_three parameters_of number_from number_after count_of coded_event console_at
+events_computed = tt
 
-letter_rows-read : map read_row letter_rows ≡ map row_value letter_rows
-unfolding letter_rows unit_at after_mark key_or_sequence escape_at single_at bracket_at shift_key_at shift_key_after_one shift_key_after_two control_at count_front after_inner final_at sequence_event event_of event_of_one event_of_two event_of_three parameters_of number_from number_after count_of
-letter_rows-read = refl
+unfoldable pub units_computed : Unit {0}
+unfolding events_computed unit_at after_mark key_or_sequence escape_at second_escape_at single_at key_at bracket_at shift_key_at shift_key_after_one shift_key_after_two control_at count_front after_inner final_at
+units_computed = tt
 
-numbered_rows-read : map read_row numbered_rows ≡ map row_value numbered_rows
-unfolding numbered_rows unit_at after_mark key_or_sequence escape_at single_at bracket_at shift_key_at shift_key_after_one shift_key_after_two control_at count_front after_inner final_at sequence_event event_of event_of_one event_of_two event_of_three parameters_of number_from number_after count_of
-numbered_rows-read = refl
+key_rows-read : map read_row key_rows ≡ map row_value key_rows
+unfolding byte_rows letter_rows numbered_rows other_rows older_rows keypad_rows coded_rows units_computed
+key_rows-read = refl
 
-other_rows-read : map read_row other_rows ≡ map row_value other_rows
-unfolding other_rows unit_at after_mark key_or_sequence escape_at single_at bracket_at shift_key_at shift_key_after_one shift_key_after_two control_at count_front after_inner final_at console_at sequence_event event_of event_of_one event_of_two event_of_three parameters_of number_from number_after count_of
-other_rows-read = refl
-
-older_rows-read : map read_row older_rows ≡ map row_value older_rows
-unfolding older_rows unit_at after_mark key_or_sequence escape_at single_at bracket_at shift_key_at shift_key_after_one shift_key_after_two control_at count_front after_inner final_at sequence_event event_of event_of_one event_of_two event_of_three parameters_of number_from number_after count_of
-older_rows-read = refl
-
-keypad_rows-read : map read_row keypad_rows ≡ map row_value keypad_rows
-unfolding keypad_rows unit_at after_mark key_or_sequence escape_at single_at bracket_at shift_key_at shift_key_after_one shift_key_after_two control_at count_front after_inner final_at sequence_event event_of event_of_one event_of_two event_of_three parameters_of number_from number_after count_of
-keypad_rows-read = refl
-
-coded_rows-read : map read_row coded_rows ≡ map row_value coded_rows
-unfolding coded_rows unit_at after_mark key_or_sequence escape_at single_at bracket_at shift_key_at shift_key_after_one shift_key_after_two control_at count_front after_inner final_at sequence_event event_of event_of_one event_of_two event_of_three parameters_of number_from number_after count_of coded_event
-coded_rows-read = refl
-
-byte_rows-read_alt : map read_alt_row byte_rows ≡ map alt_row_value byte_rows
-unfolding byte_rows unit_at after_mark key_or_sequence escape_at key_at
-byte_rows-read_alt = refl
-
-letter_rows-read_alt : map read_alt_row letter_rows ≡ map alt_row_value letter_rows
-unfolding letter_rows unit_at after_mark key_or_sequence escape_at second_escape_at single_at bracket_at shift_key_at shift_key_after_one shift_key_after_two control_at count_front after_inner final_at sequence_event event_of event_of_one event_of_two event_of_three parameters_of number_from number_after count_of
-letter_rows-read_alt = refl
-
-numbered_rows-read_alt : map read_alt_row numbered_rows ≡ map alt_row_value numbered_rows
-unfolding numbered_rows unit_at after_mark key_or_sequence escape_at second_escape_at single_at bracket_at shift_key_at shift_key_after_one shift_key_after_two control_at count_front after_inner final_at sequence_event event_of event_of_one event_of_two event_of_three parameters_of number_from number_after count_of
-numbered_rows-read_alt = refl
-
-other_rows-read_alt : map read_alt_row other_rows ≡ map alt_row_value other_rows
-unfolding other_rows unit_at after_mark key_or_sequence escape_at second_escape_at single_at bracket_at shift_key_at shift_key_after_one shift_key_after_two control_at count_front after_inner final_at console_at sequence_event event_of event_of_one event_of_two event_of_three parameters_of number_from number_after count_of
-other_rows-read_alt = refl
-
-older_rows-read_alt : map read_alt_row older_rows ≡ map alt_row_value older_rows
-unfolding older_rows unit_at after_mark key_or_sequence escape_at second_escape_at single_at bracket_at shift_key_at shift_key_after_one shift_key_after_two control_at count_front after_inner final_at sequence_event event_of event_of_one event_of_two event_of_three parameters_of number_from number_after count_of
-older_rows-read_alt = refl
-
-keypad_rows-read_alt : map read_alt_row keypad_rows ≡ map alt_row_value keypad_rows
-unfolding keypad_rows unit_at after_mark key_or_sequence escape_at second_escape_at single_at bracket_at shift_key_at shift_key_after_one shift_key_after_two control_at count_front after_inner final_at sequence_event event_of event_of_one event_of_two event_of_three parameters_of number_from number_after count_of
-keypad_rows-read_alt = refl
-
-coded_rows-read_alt : map read_alt_row coded_rows ≡ map alt_row_value coded_rows
-unfolding coded_rows unit_at after_mark key_or_sequence escape_at second_escape_at single_at bracket_at shift_key_at shift_key_after_one shift_key_after_two control_at count_front after_inner final_at sequence_event event_of event_of_one event_of_two event_of_three parameters_of number_from number_after count_of coded_event
-coded_rows-read_alt = refl
-
-map-two : {A B : Type 0} (f g : A → B) (a b : List A) → map f a ≡ map g a → map f b ≡ map g b → map f (a ++ b) ≡ map g (a ++ b)
-map-two f g a b p q = map-append f a b ∙ ap (λ xs. xs ++ map f b) p ∙ ap (λ xs. map g a ++ xs) q ∙ sym (map-append g a b)
-
-map-seven : {A B : Type 0} (f g : A → B) (a b c d e h i : List A) → map f a ≡ map g a → map f b ≡ map g b → map f c ≡ map g c → map f d ≡ map g d → map f e ≡ map g e → map f h ≡ map g h → map f i ≡ map g i
-    → map f (a ++ b ++ c ++ d ++ e ++ h ++ i) ≡ map g (a ++ b ++ c ++ d ++ e ++ h ++ i)
-map-seven f g a b c d e h i p q r s t u v =
-    map-two f g _ i (map-two f g _ h (map-two f g _ e (map-two f g _ d (map-two f g _ c (map-two f g a b p q) r) s) t) u) v
+key_rows-read_alt : map read_alt_row key_rows ≡ map alt_row_value key_rows
+unfolding byte_rows letter_rows numbered_rows other_rows older_rows keypad_rows coded_rows units_computed
+key_rows-read_alt = refl
 
 -- functions that are the same on a list are so at each of its elements
 same_at : {A B : Type 0} (f g : A → B) (xs : List A) (x : A) → map f xs ≡ map g xs → Contains xs x → f x ≡ g x
@@ -109,10 +64,10 @@ same_at f g xs x e h =
     sym (get_or-map f xs h.0 x (f x) h.1 ∙ ap f h.2) ∙ ap (λ ys. get_or ys h.0 (f x)) e ∙ get_or-map g xs h.0 x (f x) h.1 ∙ ap g h.2
 
 pub key_row-read : (row : KeyRow) → Contains key_rows row → unit_at row.0 ≡ Some (input row.1, [])
-key_row-read row h = same_at read_row row_value key_rows row (map-seven read_row row_value byte_rows letter_rows numbered_rows other_rows older_rows keypad_rows coded_rows byte_rows-read letter_rows-read numbered_rows-read other_rows-read older_rows-read keypad_rows-read coded_rows-read) h
+key_row-read row h = same_at read_row row_value key_rows row key_rows-read h
 
 pub alt_key_row-read : (row : KeyRow) → Contains key_rows row → unit_at (27 ∷ row.0) ≡ Some (input (with_alt row.1), [])
-alt_key_row-read row h = same_at read_alt_row alt_row_value key_rows row (map-seven read_alt_row alt_row_value byte_rows letter_rows numbered_rows other_rows older_rows keypad_rows coded_rows byte_rows-read_alt letter_rows-read_alt numbered_rows-read_alt other_rows-read_alt older_rows-read_alt keypad_rows-read_alt coded_rows-read_alt) h
+alt_key_row-read row h = same_at read_alt_row alt_row_value key_rows row key_rows-read_alt h
 
 -- ---- characters
 
@@ -153,7 +108,7 @@ entry-each P (row ∷ rows) all n x e =
 
 -- a key whose sequence is a letter after ESC [
 pub unit_at-letter_key : (bytes rest : List ℕ) (letter : ℕ) (k : Key) → bytes ≡ 27 ∷ 91 ∷ letter ∷ rest → entry letter_keys letter ≡ Some k → unit_at bytes ≡ Some (input (input_of_key k), rest)
-unfolding unit_at after_mark key_or_sequence escape_at single_at bracket_at shift_key_at shift_key_after_one shift_key_after_two control_at count_front after_inner final_at sequence_event event_of event_of_one event_of_two event_of_three parameters_of number_from number_after count_of
+unfolding units_computed
 unit_at-letter_key bytes rest letter k e found =
     ap unit_at e
     ∙ entry-each (λ n x. unit_at (27 ∷ 91 ∷ n ∷ rest) ≡ Some (input (input_of_key x), rest)) letter_keys
@@ -308,11 +263,11 @@ pub paste-read : (text : List ℕ) → mark_index paste_end text ≡ None → un
 paste-read text none = ap unit_at (append_assoc paste_start text paste_end) ∙ unit-paste_at (paste_start ++ (text ++ paste_end)) (text ++ paste_end) (after_mark-written paste_start (text ++ paste_end)) ∙ paste_at-written text none
 
 focus_gained-read : unit_at (27 ∷ 91 ∷ 73 ∷ []) ≡ Some (focus_gained, [])
-unfolding unit_at after_mark key_or_sequence escape_at bracket_at shift_key_at control_at count_front after_inner final_at sequence_event event_of event_of_one parameters_of number_from number_after count_of
+unfolding units_computed
 focus_gained-read = refl
 
 focus_lost-read : unit_at (27 ∷ 91 ∷ 79 ∷ []) ≡ Some (focus_lost, [])
-unfolding unit_at after_mark key_or_sequence escape_at bracket_at shift_key_at control_at count_front after_inner final_at sequence_event event_of event_of_one parameters_of number_from number_after count_of
+unfolding units_computed
 focus_lost-read = refl
 
 -- ---- all rows

@@ -7,7 +7,8 @@ use Rattle.std.proofs.lemmas.Bool.Decides.{nat_tests}
 use Rattle.textarea_terminal.specs.InputEvent.{EventAndRest, unknown}
 use Rattle.textarea_terminal.specs.InputParameter.{is_digit, number_limit, digit_at, number_from, number_at, number_after, count_of, parameters_of, after_first, after_shifted, after_base, after_second, after_kind, after_third}
 use Rattle.textarea_terminal.specs.declared.input.parameter.Parameters.{Parameters}
-use Rattle.textarea_terminal.specs.InputSequence.{is_text, text_limit, string_at, after_text, after_text_escape, is_inner, is_final, count_front, inner_limit, final_at, after_inner, control_at, shift_key_at, shift_key_after_one, shift_key_after_two, bracket_at, or_else, sequence_event}
+use Rattle.textarea_terminal.specs.InputSequence.{is_text, text_limit, string_at, after_text, after_text_escape, is_inner, is_final, count_front, inner_limit, final_at, after_inner, control_at}
+use Rattle.textarea_terminal.specs.InputSequence.{shift_key_at, shift_key_after_one, shift_key_after_two, bracket_at, or_else, sequence_event}
 use Rattle.textarea_terminal.specs.InputUnit.{unit_at, after_mark, paste_start, key_or_sequence, escape_at, begins_string}
 use Rattle.textarea_terminal.specs.InputRow.{AreInner, AreText, IsGeneral, digit, decimal, bracket}
 use Rattle.textarea_terminal.proofs.InputPrefixes.{number_from-end, count_front-zero, count_front-cons, count_front-cons_end}
@@ -82,9 +83,6 @@ bracket-general inner last more g =
     ∙ control-written inner last more g.inner_bytes g.short g.last_byte ∙ final_at-general inner last more g.no_console g.no_mouse
 
 -- ---- what begins no pasted text
-
-abbrev mark_after_bracket : List ℕ
-mark_after_bracket = 50 ∷ 48 ∷ 48 ∷ 126 ∷ []
 
 pub same_head : (a b : ℕ) (xs ys : List ℕ) → a ∷ xs ≡ b ∷ ys → a ≡ b
 same_head a b xs ys e = (cc)

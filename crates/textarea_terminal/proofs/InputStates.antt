@@ -7,9 +7,11 @@ use Rattle.textarea_data.specs.declared.input.Input.{Input}
 use Rattle.textarea_terminal.specs.declared.input.reply.Expected.{Expected}
 use Rattle.textarea_terminal.specs.InputEvent.{EventValue}
 use Rattle.textarea_terminal.specs.InputReply.{refined, refining}
-use Rattle.textarea_terminal.specs.InputState.{DecoderState, IsReady, Reading, reading_kept, last_five, reading_dropped, reading, quiet_after, after_reading, fed, pause_limit, after_short, short_pause, settled, settled_by, long_pause, paused, Call, feed, idle, ask, set_resizes, set_console, new_state, after_call, after_calls, stream_of}
-use Rattle.textarea_terminal.specs.InputStream.{Decoding, begun_bytes, idle_keys, idle_of, idle_decoding}
-use Rattle.textarea_terminal.specs.InputUnit.{unit_at, paste_end, after_mark, mark_index}
+use Rattle.textarea_terminal.specs.InputState.{DecoderState, IsReady, Reading, reading_kept, last_five, reading_dropped, reading, quiet_after, after_reading, fed, pause_limit, after_short}
+use Rattle.textarea_terminal.specs.InputState.{short_pause, settled, settled_by, long_pause, pause, paused, Call, feed, idle, ask, set_resizes, set_console, new_state, after_call, after_calls}
+use Rattle.textarea_terminal.specs.InputState.{stream_of}
+use Rattle.textarea_terminal.specs.InputStream.{Decoding, values_in, begun_bytes, decoding, idle_keys, idle_of, idle_decoding}
+use Rattle.textarea_terminal.specs.InputUnit.{unit_at, paste_start, paste_end, after_mark, mark_index}
 use Rattle.textarea_terminal.proofs.InputMarks.{index_of-fits, index_of-more, no_place, still_none}
 use Rattle.textarea_terminal.proofs.InputUnits.{unit_at-nil}
 use Rattle.textarea_terminal.proofs.InputStreams.{decoding-append, decoding-none, rest_of-begun}
@@ -47,7 +49,8 @@ dropped-later : (b : ℕ) (bytes : List ℕ) (o : Option ℕ) → 5 ≤ length b
 dropped-later b bytes None h = ap (λ (xs : List ℕ). record { values = []; drops = true; pending = xs }) (last_five-cons b bytes h)
 dropped-later b bytes (Some k) h = let n : suc k + 6 ≡ suc (k + 6) = omega arith in ap (λ (m : ℕ). reading_kept (drop m (b ∷ bytes))) n
 
-mark_index-later : (b : ℕ) (bytes more : List ℕ) → 5 ≤ length bytes → mark_index paste_end (b ∷ bytes) ≡ None → (mark_index paste_end (b ∷ (bytes ++ more)) ≡ option_map suc (mark_index paste_end (bytes ++ more))) × (mark_index paste_end bytes ≡ None)
+mark_index-later : (b : ℕ) (bytes more : List ℕ) → 5 ≤ length bytes → mark_index paste_end (b ∷ bytes) ≡ None →
+    (mark_index paste_end (b ∷ (bytes ++ more)) ≡ option_map suc (mark_index paste_end (bytes ++ more))) × (mark_index paste_end bytes ≡ None)
 unfolding mark_index
 mark_index-later b bytes more h none =
     let components = no_place (is_some (after_mark paste_end (b ∷ bytes))) (mark_index paste_end bytes) none in
@@ -122,6 +125,15 @@ pub reading-ready : (drops : Bool) (bytes : List ℕ) → IsReadyReading (readin
 unfolding reading
 reading-ready false bytes = kept-ready bytes
 reading-ready true bytes = dropped-ready bytes (mark_index paste_end bytes)
+
+-- a decoder after it has read bytes
+pub reading_begun : (drops drops' : Bool) (bytes pending : List ℕ) → pending ≡ (reading drops bytes).pending → drops' ≡ (reading drops bytes).drops → drops' ≡ false → unit_at pending ≡ None
+reading_begun drops drops' bytes pending left is begun = ap unit_at left ∙ (reading-ready drops bytes).begun (sym is ∙ begun)
+
+pub reading_few : (drops drops' : Bool) (bytes pending : List ℕ) → pending ≡ (reading drops bytes).pending → drops' ≡ (reading drops bytes).drops → drops' ≡ true → length pending ≤ 5
+reading_few drops drops' bytes pending left is dropped =
+    let few = (reading-ready drops bytes).few (sym is ∙ dropped) in
+    omega (arith, few, ap length left)
 
 pub fed-ready : (s : DecoderState) (bytes : List ℕ) → IsReady (fed s bytes).1
 unfolding fed

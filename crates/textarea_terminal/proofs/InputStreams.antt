@@ -26,7 +26,8 @@ within-some : (most : ℕ) (bytes : List ℕ) (x : EventValue × List ℕ) → u
 unfolding decoding_within
 within-some most bytes x e = rw (e, decoding_within) refl
 
-enough_step : (n m : ℕ) (bytes : List ℕ) (o : EventAndRest) → ((rest : List ℕ) → length rest ≤ n → length rest ≤ m → decoding_within n rest ≡ decoding_within m rest) → length bytes ≤ suc n → length bytes ≤ suc m → unit_at bytes ≡ o → decoding_within (suc n) bytes ≡ decoding_within (suc m) bytes
+enough_step : (n m : ℕ) (bytes : List ℕ) (o : EventAndRest) → ((rest : List ℕ) → length rest ≤ n → length rest ≤ m → decoding_within n rest ≡ decoding_within m rest) → length bytes ≤ suc n →
+    length bytes ≤ suc m → unit_at bytes ≡ o → decoding_within (suc n) bytes ≡ decoding_within (suc m) bytes
 enough_step n m bytes None same h k e = within-none (suc n) bytes e ∙ sym (within-none (suc m) bytes e)
 enough_step n m bytes (Some x) same h k e =
     let short = unit_at-shorter bytes x e in
@@ -53,7 +54,8 @@ decoding-some (b ∷ bytes) x e =
     let short = unit_at-shorter (b ∷ bytes) x e in
     within-some (length bytes) (b ∷ bytes) x e ∙ ap (with_event x.0) (within-enough (length bytes) (length x.1) x.1 (omega arith) (omega arith))
 
-unit_step : (P : List ℕ → Type 0) (bytes : List ℕ) (o : EventAndRest) → ((bytes : List ℕ) → unit_at bytes ≡ None → P bytes) → ((bytes : List ℕ) (x : EventValue × List ℕ) → unit_at bytes ≡ Some x → P x.1 → P bytes) → ((rest : List ℕ) → length rest < length bytes → P rest) → unit_at bytes ≡ o → P bytes
+unit_step : (P : List ℕ → Type 0) (bytes : List ℕ) (o : EventAndRest) → ((bytes : List ℕ) → unit_at bytes ≡ None → P bytes) →
+    ((bytes : List ℕ) (x : EventValue × List ℕ) → unit_at bytes ≡ Some x → P x.1 → P bytes) → ((rest : List ℕ) → length rest < length bytes → P rest) → unit_at bytes ≡ o → P bytes
 unit_step P bytes None none some shorter e = none bytes e
 unit_step P bytes (Some x) none some shorter e = some bytes x e (shorter x.1 (unit_at-shorter bytes x e))
 
@@ -108,9 +110,6 @@ decoding-append bytes more = by_units (λ bytes. decoding (bytes ++ more) ≡ jo
 
 -- ---- events that are added
 
-pub AddsUpTo-none : (old : List Event) (all : List EventValue) → AddsUpTo old old all all
-AddsUpTo-none old all = record { added = []; whole = sym (append-nil old); values_are = refl }
-
 pub AddsUpTo-push : (old new : List Event) (event : Event) (value : EventValue) (more all : List EventValue) → value_of event ≡ value → AddsUpTo old new (value ∷ more) all → AddsUpTo old (new ++ event ∷ []) more all
 AddsUpTo-push old new event value more all e h = record {
   added = h.added ++ event ∷ [];
@@ -157,7 +156,8 @@ AddsUpTo-begun e old new all bytes is h =
     AddsUpTo-all old new all (subst P (ap (λ (d : List EventValue × Expected). d.0) (made-none e bytes is)) h)
 
 -- the events of what was found are added
-pub AddsUpTo-found : (e : Expected) (old mid new : List Event) (all : List EventValue) (bytes : List ℕ) (x : EventValue × List ℕ) → unit_at bytes ≡ Some x → AddsUpTo old mid (made e bytes).0 all → Adds mid new (refined e x.0).0 → AddsUpTo old new (made (refined e x.0).1 x.1).0 all
+pub AddsUpTo-found : (e : Expected) (old mid new : List Event) (all : List EventValue) (bytes : List ℕ) (x : EventValue × List ℕ) → unit_at bytes ≡ Some x → AddsUpTo old mid (made e bytes).0 all →
+    Adds mid new (refined e x.0).0 → AddsUpTo old new (made (refined e x.0).1 x.1).0 all
 AddsUpTo-found e old mid new all bytes x is h k =
     let P : List EventValue → Type 0 = λ values. AddsUpTo old mid values all in
     AddsUpTo-adds old mid new (refined e x.0).0 (made (refined e x.0).1 x.1).0 all (subst P (ap (λ (d : List EventValue × Expected). d.0) (made-some e bytes x is)) h) k

@@ -9,9 +9,11 @@ use Rattle.std.specs.Prelude.{option_map, ◌⊎◌}
 use Rattle.textarea_terminal.specs.InputEvent.{EventValue, EventAndRest, input, paste, unknown}
 use Rattle.textarea_terminal.specs.InputKey.{input_of_key, byte_input, entry, numbered_keys}
 use Rattle.textarea_terminal.specs.InputCharacter.{utf8_character, second_byte, third_byte, fourth_byte, is_second, is_continuation}
-use Rattle.textarea_terminal.specs.InputSequence.{is_inner, count_front, inner_limit, console_at, final_at, after_inner, control_at, shift_key, shift_key_after_two, shift_key_after_one, shift_key_at, or_else, bracket_at, value_of_two, value_at, third_value, second_value, old_mouse_at, is_text, text_limit, after_text_escape, after_text, string_at}
+use Rattle.textarea_terminal.specs.InputSequence.{is_inner, count_front, inner_limit, console_at, final_at, after_inner, control_at, shift_key, shift_key_after_two, shift_key_after_one, shift_key_at}
+use Rattle.textarea_terminal.specs.InputSequence.{or_else, bracket_at, value_of_two, value_at, third_value, second_value, old_mouse_at, is_text, text_limit, after_text_escape, after_text, string_at}
 use Rattle.textarea_terminal.specs.InputParameter.{is_digit}
-use Rattle.textarea_terminal.specs.InputUnit.{character_event, key_at, single_at, with_escape, second_escape_at, alt_event, begins_string, escape_at, key_or_sequence, paste_start, paste_end, after_mark, mark_index, paste_at, paste_before, paste_or, unit_at}
+use Rattle.textarea_terminal.specs.InputUnit.{character_event, key_at, single_at, with_escape, second_escape_at, alt_event, begins_string, escape_at, key_or_sequence, paste_start, paste_end}
+use Rattle.textarea_terminal.specs.InputUnit.{after_mark, mark_index, paste_at, paste_before, paste_or, unit_at}
 use Rattle.textarea_terminal.specs.InputStream.{Takes}
 use Rattle.textarea_terminal.proofs.InputMarks.{after_mark-whole, after_mark-more, after_mark-segment, index_of-fits, index_of-more}
 use Rattle.textarea_terminal.proofs.InputKeeps.{ReadsSame, Keeps, keeps_none, keeps_some, keeps_here, keeps_byte, keeps_one, keeps_if, keeps_map, keeps_bound, unchanged_from}
@@ -206,12 +208,14 @@ unfolding shift_key_after_one
 stays_one b number [] more h e = inr (control-one b (is_inner-digit b h))
 stays_one b number (c ∷ bytes) more h e = chosen (c == 36) (is_digit c) refl e
   where
-    two : (t : Bool) → is_digit c ≡ t → (bytes : List ℕ) → cond t (shift_key_after_two (10 * number + (c - 48)) bytes) None ≡ None → (cond t (shift_key_after_two (10 * number + (c - 48)) (bytes ++ more)) None ≡ None) ⊎ (control_at (b ∷ c ∷ bytes) ≡ None)
+    two : (t : Bool) → is_digit c ≡ t → (bytes : List ℕ) → cond t (shift_key_after_two (10 * number + (c - 48)) bytes) None ≡ None →
+        (cond t (shift_key_after_two (10 * number + (c - 48)) (bytes ++ more)) None ≡ None) ⊎ (control_at (b ∷ c ∷ bytes) ≡ None)
     two true k [] e = inr (control-two b c (is_inner-digit b h) (is_inner-digit c k))
     two true k (d ∷ bytes) e = inl (stays_two (10 * number + (c - 48)) d bytes more e)
     two false k bytes e = inl refl
 
-    chosen : (t s : Bool) → is_digit c ≡ s → cond t (shift_key (entry numbered_keys number) bytes) (cond s (shift_key_after_two (10 * number + (c - 48)) bytes) None) ≡ None → (cond t (shift_key (entry numbered_keys number) (bytes ++ more)) (cond s (shift_key_after_two (10 * number + (c - 48)) (bytes ++ more)) None) ≡ None) ⊎ (control_at (b ∷ c ∷ bytes) ≡ None)
+    chosen : (t s : Bool) → is_digit c ≡ s → cond t (shift_key (entry numbered_keys number) bytes) (cond s (shift_key_after_two (10 * number + (c - 48)) bytes) None) ≡ None →
+        (cond t (shift_key (entry numbered_keys number) (bytes ++ more)) (cond s (shift_key_after_two (10 * number + (c - 48)) (bytes ++ more)) None) ≡ None) ⊎ (control_at (b ∷ c ∷ bytes) ≡ None)
     chosen true s k e = inl (no_shifted (entry numbered_keys number) bytes (bytes ++ more) e)
     chosen false s k e = two s k bytes e
 
@@ -230,7 +234,8 @@ stays_none (b ∷ bytes) more e = chosen (is_digit b) refl e
 
 -- ---- what is after ESC [
 
-keeps_or_else : (bytes : List ℕ) (o p : EventAndRest) (f g : List ℕ → EventAndRest) → Keeps bytes o f → Keeps bytes p g → ((more : List ℕ) → o ≡ None → (f more ≡ None) ⊎ (p ≡ None)) → Keeps bytes (or_else o p) (λ more. or_else (f more) (g more))
+keeps_or_else : (bytes : List ℕ) (o p : EventAndRest) (f g : List ℕ → EventAndRest) → Keeps bytes o f → Keeps bytes p g → ((more : List ℕ) → o ≡ None → (f more ≡ None) ⊎ (p ≡ None)) →
+    Keeps bytes (or_else o p) (λ more. or_else (f more) (g more))
 keeps_or_else bytes (Some x) p f g h k stays =
     let unchanged = h.unchanged x refl in
     keeps_some bytes x _ (record { front = unchanged.front; whole = unchanged.whole; same = λ more. ap (λ (o : EventAndRest). or_else o (g more)) (unchanged.same more) })
@@ -311,7 +316,8 @@ keeps_string bytes = record {
 }
 
 -- a sequence after another ESC, where `second` begins at its own
-escape_unchanged : (second bytes front : List ℕ) (x : EventValue × List ℕ) (f : List ℕ → EventAndRest) → second ≡ front ++ bytes → ReadsSame bytes x f → ReadsSame second (with_escape second x) (λ more. option_map (with_escape (second ++ more)) (f more))
+escape_unchanged : (second bytes front : List ℕ) (x : EventValue × List ℕ) (f : List ℕ → EventAndRest) → second ≡ front ++ bytes → ReadsSame bytes x f →
+    ReadsSame second (with_escape second x) (λ more. option_map (with_escape (second ++ more)) (f more))
 escape_unchanged second bytes front (input i, rest) f e h = record {
   front = front ++ h.front;
   whole = e ∙ ap (λ xs. front ++ xs) h.whole ∙ sym (append_assoc front h.front rest);
@@ -323,7 +329,8 @@ escape_unchanged second bytes front (other, rest) f e h = record {
   same = λ more. ap (option_map (with_escape (second ++ more))) (h.same more);
 }
 
-keeps_with_escape : (second bytes front : List ℕ) (o : EventAndRest) (f : List ℕ → EventAndRest) → second ≡ front ++ bytes → Keeps bytes o f → Keeps second (option_map (with_escape second) o) (λ more. option_map (with_escape (second ++ more)) (f more))
+keeps_with_escape : (second bytes front : List ℕ) (o : EventAndRest) (f : List ℕ → EventAndRest) → second ≡ front ++ bytes → Keeps bytes o f →
+    Keeps second (option_map (with_escape second) o) (λ more. option_map (with_escape (second ++ more)) (f more))
 keeps_with_escape second bytes front None f e h = keeps_none second _
 keeps_with_escape second bytes front (Some x) f e h = keeps_some second (with_escape second x) _ (escape_unchanged second bytes front x f e (h.unchanged x refl))
 
@@ -419,7 +426,8 @@ takes_text bytes text x e is =
       same = λ more. unit-paste_at (bytes ++ more) (text ++ more) (after_mark-more paste_start bytes text more e) ∙ unchanged.same more;
     }
 
-still_no_mark : (bytes more : List ℕ) (x : EventValue × List ℕ) (o : Option (List ℕ)) → after_mark paste_start bytes ≡ None → key_or_sequence bytes ≡ Some x → after_mark paste_start (bytes ++ more) ≡ o → after_mark paste_start (bytes ++ more) ≡ None
+still_no_mark : (bytes more : List ℕ) (x : EventValue × List ℕ) (o : Option (List ℕ)) → after_mark paste_start bytes ≡ None → key_or_sequence bytes ≡ Some x →
+    after_mark paste_start (bytes ++ more) ≡ o → after_mark paste_start (bytes ++ more) ≡ None
 still_no_mark bytes more x None none is e = e
 still_no_mark bytes more x (Some rest) none is e =
     let segment = after_mark-segment paste_start bytes more rest none e in
@@ -466,6 +474,9 @@ unit_at-consumed bytes x is = takes_by bytes x (after_mark paste_start bytes) re
 pub unit_at-nil : unit_at [] ≡ None
 unfolding unit_at after_mark key_or_sequence
 unit_at-nil = refl
+
+pub nothing_begun : (bytes : List ℕ) → bytes ≡ [] → unit_at bytes ≡ None
+nothing_begun bytes none = rw none unit_at-nil
 
 -- ---- how many bytes may be pending
 
@@ -548,7 +559,8 @@ unfolding value_at
 value-two [] = record { bound = λ x e. (cc) }
 value-two (b ∷ bytes) = two_if _ (b ∷ bytes) _ _ (value_two-two b bytes) (two_some (b ∷ bytes) bytes _ (omega arith))
 
-waits_bound : {B : Type 0} (most : ℕ) (g : ℕ × List ℕ → Option (B × List ℕ)) (bytes : List ℕ) (o : Option (ℕ × List ℕ)) → Waits 1 bytes o → TakesTwo bytes o → ((n : ℕ) (rest : List ℕ) → Waits most rest (g (n, rest))) → 1 ≤ most → Waits (most + 2) bytes (bound g o)
+waits_bound : {B : Type 0} (most : ℕ) (g : ℕ × List ℕ → Option (B × List ℕ)) (bytes : List ℕ) (o : Option (ℕ × List ℕ)) → Waits 1 bytes o → TakesTwo bytes o →
+    ((n : ℕ) (rest : List ℕ) → Waits most rest (g (n, rest))) → 1 ≤ most → Waits (most + 2) bytes (bound g o)
 waits_bound most g bytes None h two k some = record { bound = λ e. let short = h.bound refl in omega arith }
 waits_bound most g bytes (Some (n, rest)) h two k some = record { bound = λ e. let short = (k n rest).bound e in let few = two.bound (n, rest) refl in omega arith }
 
@@ -672,7 +684,8 @@ rest_whole : (b : ℕ) (bytes : List ℕ) → take (length (b ∷ bytes) - 1) by
 rest_whole b bytes = let n : suc (length bytes) - 1 ≡ length bytes = omega arith in ap (λ (k : ℕ). take k bytes) n ∙ take_whole bytes
 
 -- the same of the bytes after the first one
-pub begun_string_in : (bytes : List ℕ) (n : ℕ) → 0 < length bytes → begins_string (get_or bytes 0 0) ≡ true → n ≤ length bytes → escape_at (take n bytes) ≡ None → n - 2 ≤ count_front is_text text_limit (take (length bytes - 1) (drop 1 bytes))
+pub begun_string_in : (bytes : List ℕ) (n : ℕ) → 0 < length bytes → begins_string (get_or bytes 0 0) ≡ true → n ≤ length bytes → escape_at (take n bytes) ≡ None →
+    n - 2 ≤ count_front is_text text_limit (take (length bytes - 1) (drop 1 bytes))
 begun_string_in [] n some h k e = absurd (omega arith)
 begun_string_in (b ∷ bytes) n some h k e =
     let begun = begun_string b bytes n h k e in

@@ -18,92 +18,85 @@ use Rattle.textarea_terminal.specs.Disputed.{can_widen, before_selector}
 use Rattle.textarea_terminal.specs.Pen.{look_of, in_look}
 use Rattle.textarea_terminal.specs.declared.output.look.Look.{Look}
 use Rattle.textarea_terminal.specs.declared.output.colors.Colors.{Colors}
-use Rattle.textarea_terminal.specs.PaintCells.{cluster_columns, part_or_blank, shown_text, half, is_half, one_intensity, shown_look, displayed_alike, blanked, begins_empty, fits_in_row, displayed, cell_in, cells_from, frame_of_buffer, can_begin, are_whole}
+use Rattle.textarea_terminal.specs.PaintCells.{cluster_columns, part_or_blank, shown_text, half, is_half, one_intensity, shown_look, displayed_alike, blanked, begins_empty, fits_in_row, displayed}
+use Rattle.textarea_terminal.specs.PaintCells.{cell_in, cells_from, frame_of_buffer, can_begin, are_whole}
 use Rattle.textarea_terminal.proofs.ScreenPlain.{cluster_columns-blank}
 use Rattle.std.proofs.Math.Bool.{and-false}
 
 -- ---- from one cell to the next
 
-pub cells_from-next : (area : Rect) (buffer : Buffer) (place size : ℕ) → place < size →
-    cells_from area buffer place (size - place) ≡ cell_in area buffer place ∷ cells_from area buffer (place + 1) (size - (place + 1))
-cells_from-next area buffer place size within =
-    let more : size - place ≡ suc (size - (place + 1)) = omega arith in
-    ap (cells_from area buffer place) more
+pub cells_from-next : (area : Rect) (buffer : Buffer) (index size : ℕ) → index < size →
+    cells_from area buffer index (size - index) ≡ cell_in area buffer index ∷ cells_from area buffer (index + 1) (size - (index + 1))
+cells_from-next area buffer index size within =
+    let more : size - index ≡ suc (size - (index + 1)) = omega arith in
+    ap (cells_from area buffer index) more
 
-pub begins_empty-next : (area : Rect) (buffer : Buffer) (place end size : ℕ) → place < end → end ≤ size →
-    begins_empty (end - place) (cells_from area buffer place (size - place))
-    ≡ (is_half (cell_in area buffer place) && begins_empty (end - (place + 1)) (cells_from area buffer (place + 1) (size - (place + 1))))
-begins_empty-next area buffer place end size within fit =
-    let more : end - place ≡ suc (end - (place + 1)) = omega arith in
-    ap (begins_empty (end - place)) (cells_from-next area buffer place size (omega arith))
-    ∙ ap (λ count. begins_empty count (cell_in area buffer place ∷ cells_from area buffer (place + 1) (size - (place + 1)))) more
+pub begins_empty-next : (area : Rect) (buffer : Buffer) (index end size : ℕ) → index < end → end ≤ size →
+    begins_empty (end - index) (cells_from area buffer index (size - index))
+    ≡ (is_half (cell_in area buffer index) && begins_empty (end - (index + 1)) (cells_from area buffer (index + 1) (size - (index + 1))))
+begins_empty-next area buffer index end size within fit =
+    let more : end - index ≡ suc (end - (index + 1)) = omega arith in
+    ap (begins_empty (end - index)) (cells_from-next area buffer index size (omega arith))
+    ∙ ap (λ count. begins_empty count (cell_in area buffer index ∷ cells_from area buffer (index + 1) (size - (index + 1)))) more
 
 -- ---- one cell
 
-pub displayed-half : (colors : Colors) (area : Rect) (buffer : Buffer) (place halves size : ℕ) → place < size → 0 < halves →
-    displayed colors area.width place halves (cells_from area buffer place (size - place))
-    ≡ half ∷ displayed colors area.width (place + 1) (halves - 1) (cells_from area buffer (place + 1) (size - (place + 1)))
-displayed-half colors area buffer place halves size within some =
-    let more : halves ≡ suc (halves - 1) = omega arith in
-    ap (displayed colors area.width place halves) (cells_from-next area buffer place size within)
-    ∙ ap (λ count. displayed colors area.width place count (cell_in area buffer place ∷ cells_from area buffer (place + 1) (size - (place + 1)))) more
+pub displayed-visible : (colors : Colors) (area : Rect) (buffer : Buffer) (index halves size : ℕ) → index < size → halves ≡ 0 →
+    fits_in_row area.width index (cell_in area buffer index) (cells_from area buffer (index + 1) (size - (index + 1))) ≡ true →
+    displayed colors area.width index halves (cells_from area buffer index (size - index))
+    ≡ displayed_alike colors (cell_in area buffer index) ∷ displayed colors area.width (index + 1) (cluster_columns (shown_text (cell_in area buffer index).symbol) - 1) (cells_from area buffer (index + 1) (size - (index + 1)))
+displayed-visible colors area buffer index halves size within none fit =
+    let cell = cell_in area buffer index in
+    let cells = cells_from area buffer (index + 1) (size - (index + 1)) in
+    ap (displayed colors area.width index halves) (cells_from-next area buffer index size within)
+    ∙ ap (λ count. displayed colors area.width index count (cell ∷ cells)) none
+    ∙ cond-true (fits_in_row area.width index cell cells) (displayed_alike colors cell ∷ displayed colors area.width (index + 1) (cluster_columns (shown_text cell.symbol) - 1) cells)
+    (blanked colors cell ∷ displayed colors area.width (index + 1) 0 cells) fit
 
-pub displayed-visible : (colors : Colors) (area : Rect) (buffer : Buffer) (place halves size : ℕ) → place < size → halves ≡ 0 →
-    fits_in_row area.width place (cell_in area buffer place) (cells_from area buffer (place + 1) (size - (place + 1))) ≡ true →
-    displayed colors area.width place halves (cells_from area buffer place (size - place))
-    ≡ displayed_alike colors (cell_in area buffer place) ∷ displayed colors area.width (place + 1) (cluster_columns (shown_text (cell_in area buffer place).symbol) - 1) (cells_from area buffer (place + 1) (size - (place + 1)))
-displayed-visible colors area buffer place halves size within none fit =
-    let cell = cell_in area buffer place in
-    let cells = cells_from area buffer (place + 1) (size - (place + 1)) in
-    ap (displayed colors area.width place halves) (cells_from-next area buffer place size within)
-    ∙ ap (λ count. displayed colors area.width place count (cell ∷ cells)) none
-    ∙ cond-true (fits_in_row area.width place cell cells) (displayed_alike colors cell ∷ displayed colors area.width (place + 1) (cluster_columns (shown_text cell.symbol) - 1) cells)
-    (blanked colors cell ∷ displayed colors area.width (place + 1) 0 cells) fit
-
-pub displayed-blank : (colors : Colors) (area : Rect) (buffer : Buffer) (place halves size : ℕ) → place < size → halves ≡ 0 →
-    fits_in_row area.width place (cell_in area buffer place) (cells_from area buffer (place + 1) (size - (place + 1))) ≡ false →
-    displayed colors area.width place halves (cells_from area buffer place (size - place))
-    ≡ blanked colors (cell_in area buffer place) ∷ displayed colors area.width (place + 1) 0 (cells_from area buffer (place + 1) (size - (place + 1)))
-displayed-blank colors area buffer place halves size within none fit =
-    let cell = cell_in area buffer place in
-    let cells = cells_from area buffer (place + 1) (size - (place + 1)) in
-    ap (displayed colors area.width place halves) (cells_from-next area buffer place size within)
-    ∙ ap (λ count. displayed colors area.width place count (cell ∷ cells)) none
-    ∙ cond-false (fits_in_row area.width place cell cells) (displayed_alike colors cell ∷ displayed colors area.width (place + 1) (cluster_columns (shown_text cell.symbol) - 1) cells)
-    (blanked colors cell ∷ displayed colors area.width (place + 1) 0 cells) fit
+pub displayed-blank : (colors : Colors) (area : Rect) (buffer : Buffer) (index halves size : ℕ) → index < size → halves ≡ 0 →
+    fits_in_row area.width index (cell_in area buffer index) (cells_from area buffer (index + 1) (size - (index + 1))) ≡ false →
+    displayed colors area.width index halves (cells_from area buffer index (size - index))
+    ≡ blanked colors (cell_in area buffer index) ∷ displayed colors area.width (index + 1) 0 (cells_from area buffer (index + 1) (size - (index + 1)))
+displayed-blank colors area buffer index halves size within none fit =
+    let cell = cell_in area buffer index in
+    let cells = cells_from area buffer (index + 1) (size - (index + 1)) in
+    ap (displayed colors area.width index halves) (cells_from-next area buffer index size within)
+    ∙ ap (λ count. displayed colors area.width index count (cell ∷ cells)) none
+    ∙ cond-false (fits_in_row area.width index cell cells) (displayed_alike colors cell ∷ displayed colors area.width (index + 1) (cluster_columns (shown_text cell.symbol) - 1) cells)
+    (blanked colors cell ∷ displayed colors area.width (index + 1) 0 cells) fit
 
 -- the cell of a source, with what is shown of its cluster
-pub fill-visible : (colors : Colors) (area : Rect) (buffer : Buffer) (place halves size : ℕ) (source look : Look) (symbol : List ℕ) (columns left : ℕ) (view : CellView) → place < size →
-    halves ≡ 0 → in_look source symbol ≡ cell_in area buffer place → look ≡ shown_look colors source → columns ≡ cluster_columns symbol → view ≡ in_look look (shown_text symbol) →
+pub fill-visible : (colors : Colors) (area : Rect) (buffer : Buffer) (index halves size : ℕ) (source look : Look) (symbol : List ℕ) (columns left : ℕ) (view : CellView) → index < size →
+    halves ≡ 0 → in_look source symbol ≡ cell_in area buffer index → look ≡ shown_look colors source → columns ≡ cluster_columns symbol → view ≡ in_look look (shown_text symbol) →
     left ≡ cluster_columns (shown_text symbol) - 1 →
-    (ltb 0 columns && leb (place % area.width + columns) area.width && begins_empty (columns - 1) (cells_from area buffer (place + 1) (size - (place + 1)))) ≡ true →
-    displayed colors area.width place halves (cells_from area buffer place (size - place))
-    ≡ view ∷ displayed colors area.width (place + 1) left (cells_from area buffer (place + 1) (size - (place + 1)))
-fill-visible colors area buffer place halves size source look symbol columns left view within none is look_is columns_is view_is left_is fit =
-    let cells = cells_from area buffer (place + 1) (size - (place + 1)) in
-    let fit_symbol : fits_in_row area.width place (in_look source symbol) cells ≡ true =
-    subst (λ n. (ltb 0 n && leb (place % area.width + n) area.width && begins_empty (n - 1) cells) ≡ true) columns_is fit in
-    let fit_cell : fits_in_row area.width place (cell_in area buffer place) cells ≡ true = subst (λ (cell : CellView). fits_in_row area.width place cell cells ≡ true) is fit_symbol in
-    displayed-visible colors area buffer place halves size within none fit_cell
-    ∙ ap (λ (cell : CellView). displayed_alike colors cell ∷ displayed colors area.width (place + 1) (cluster_columns (shown_text cell.symbol) - 1) cells) (sym is)
-    ∙ ap (λ (first : CellView). first ∷ displayed colors area.width (place + 1) (cluster_columns (shown_text symbol) - 1) cells)
+    (ltb 0 columns && leb (index % area.width + columns) area.width && begins_empty (columns - 1) (cells_from area buffer (index + 1) (size - (index + 1)))) ≡ true →
+    displayed colors area.width index halves (cells_from area buffer index (size - index))
+    ≡ view ∷ displayed colors area.width (index + 1) left (cells_from area buffer (index + 1) (size - (index + 1)))
+fill-visible colors area buffer index halves size source look symbol columns left view within none is look_is columns_is view_is left_is fit =
+    let cells = cells_from area buffer (index + 1) (size - (index + 1)) in
+    let fit_symbol : fits_in_row area.width index (in_look source symbol) cells ≡ true =
+    subst (λ n. (ltb 0 n && leb (index % area.width + n) area.width && begins_empty (n - 1) cells) ≡ true) columns_is fit in
+    let fit_cell : fits_in_row area.width index (cell_in area buffer index) cells ≡ true = subst (λ (cell : CellView). fits_in_row area.width index cell cells ≡ true) is fit_symbol in
+    displayed-visible colors area buffer index halves size within none fit_cell
+    ∙ ap (λ (cell : CellView). displayed_alike colors cell ∷ displayed colors area.width (index + 1) (cluster_columns (shown_text cell.symbol) - 1) cells) (sym is)
+    ∙ ap (λ (first : CellView). first ∷ displayed colors area.width (index + 1) (cluster_columns (shown_text symbol) - 1) cells)
     (sym (view_is ∙ ap (λ (l : Look). in_look l (shown_text symbol)) look_is))
-    ∙ ap (λ n. view ∷ displayed colors area.width (place + 1) n cells) (sym left_is)
+    ∙ ap (λ n. view ∷ displayed colors area.width (index + 1) n cells) (sym left_is)
 
 -- the cell of a source whose cluster can't be shown
-pub fill-blank : (colors : Colors) (area : Rect) (buffer : Buffer) (place halves size : ℕ) (source look : Look) (symbol : List ℕ) (columns : ℕ) (view : CellView) → place < size →
-    halves ≡ 0 → in_look source symbol ≡ cell_in area buffer place → look ≡ shown_look colors source → columns ≡ cluster_columns symbol → view ≡ in_look look (32 ∷ []) →
-    (ltb 0 columns && leb (place % area.width + columns) area.width && begins_empty (columns - 1) (cells_from area buffer (place + 1) (size - (place + 1)))) ≡ false →
-    displayed colors area.width place halves (cells_from area buffer place (size - place))
-    ≡ view ∷ displayed colors area.width (place + 1) 0 (cells_from area buffer (place + 1) (size - (place + 1)))
-fill-blank colors area buffer place halves size source look symbol columns view within none is look_is columns_is view_is other =
-    let cells = cells_from area buffer (place + 1) (size - (place + 1)) in
-    let other_symbol : fits_in_row area.width place (in_look source symbol) cells ≡ false =
-    subst (λ n. (ltb 0 n && leb (place % area.width + n) area.width && begins_empty (n - 1) cells) ≡ false) columns_is other in
-    let other_cell : fits_in_row area.width place (cell_in area buffer place) cells ≡ false = subst (λ (cell : CellView). fits_in_row area.width place cell cells ≡ false) is other_symbol in
-    displayed-blank colors area buffer place halves size within none other_cell
-    ∙ ap (λ (cell : CellView). blanked colors cell ∷ displayed colors area.width (place + 1) 0 cells) (sym is)
-    ∙ ap (λ (first : CellView). first ∷ displayed colors area.width (place + 1) 0 cells) (sym (view_is ∙ ap (λ (l : Look). in_look l (32 ∷ [])) look_is))
+pub fill-blank : (colors : Colors) (area : Rect) (buffer : Buffer) (index halves size : ℕ) (source look : Look) (symbol : List ℕ) (columns : ℕ) (view : CellView) → index < size →
+    halves ≡ 0 → in_look source symbol ≡ cell_in area buffer index → look ≡ shown_look colors source → columns ≡ cluster_columns symbol → view ≡ in_look look (32 ∷ []) →
+    (ltb 0 columns && leb (index % area.width + columns) area.width && begins_empty (columns - 1) (cells_from area buffer (index + 1) (size - (index + 1)))) ≡ false →
+    displayed colors area.width index halves (cells_from area buffer index (size - index))
+    ≡ view ∷ displayed colors area.width (index + 1) 0 (cells_from area buffer (index + 1) (size - (index + 1)))
+fill-blank colors area buffer index halves size source look symbol columns view within none is look_is columns_is view_is other =
+    let cells = cells_from area buffer (index + 1) (size - (index + 1)) in
+    let other_symbol : fits_in_row area.width index (in_look source symbol) cells ≡ false =
+    subst (λ n. (ltb 0 n && leb (index % area.width + n) area.width && begins_empty (n - 1) cells) ≡ false) columns_is other in
+    let other_cell : fits_in_row area.width index (cell_in area buffer index) cells ≡ false = subst (λ (cell : CellView). fits_in_row area.width index cell cells ≡ false) is other_symbol in
+    displayed-blank colors area buffer index halves size within none other_cell
+    ∙ ap (λ (cell : CellView). blanked colors cell ∷ displayed colors area.width (index + 1) 0 cells) (sym is)
+    ∙ ap (λ (first : CellView). first ∷ displayed colors area.width (index + 1) 0 cells) (sym (view_is ∙ ap (λ (l : Look). in_look l (32 ∷ [])) look_is))
 
 -- what is shown of a cluster has some columns, and at most those of the whole
 pub shown-columns : (text : List ℕ) → 0 < cluster_columns text → (0 < cluster_columns (shown_text text)) × (cluster_columns (shown_text text) ≤ cluster_columns text)
@@ -163,55 +156,55 @@ one_intensity-most bits = elim (bit_and bits 3 == 3) as (λ b. cond b (bits - 2)
 visible-bits : (colors : Colors) (cell : CellView) → ltb (shown_look colors (look_of cell)).modifier.0 512 ≡ true
 visible-bits colors cell = lt-ltb _ _ (omega (arith, one_intensity-most (bit_and cell.modifier.0 511), and_le_r cell.modifier.0 511))
 
-visible-begins : (colors : Colors) (columns place : ℕ) (cell : CellView) (cells : List CellView) → fits_in_row columns place cell cells ≡ true → can_begin columns place (displayed_alike colors cell) ≡ true
-visible-begins colors columns place cell cells fit =
+visible-begins : (colors : Colors) (columns index : ℕ) (cell : CellView) (cells : List CellView) → fits_in_row columns index cell cells ≡ true → can_begin columns index (displayed_alike colors cell) ≡ true
+visible-begins colors columns index cell cells fit =
     let width = cluster_columns cell.symbol in
-    let room = (and_parts (ltb 0 width && leb (place % columns + width) columns) (begins_empty (width - 1) cells) fit).0 in
-    let components = and_parts (ltb 0 width) (leb (place % columns + width) columns) room in
+    let room = (and_parts (ltb 0 width && leb (index % columns + width) columns) (begins_empty (width - 1) cells) fit).0 in
+    let components = and_parts (ltb 0 width) (leb (index % columns + width) columns) room in
     let shown = shown-columns cell.symbol (ltb-true 0 width components.0) in
     let first : ltb 0 (cluster_columns (shown_text cell.symbol)) ≡ true = lt-ltb 0 (cluster_columns (shown_text cell.symbol)) shown.0 in
-    let second : leb (place % columns + cluster_columns (shown_text cell.symbol)) columns ≡ true =
-    le-leb (place % columns + cluster_columns (shown_text cell.symbol)) columns (omega (arith, shown.1, leb-true (place % columns + width) columns components.1)) in
+    let second : leb (index % columns + cluster_columns (shown_text cell.symbol)) columns ≡ true =
+    le-leb (index % columns + cluster_columns (shown_text cell.symbol)) columns (omega (arith, shown.1, leb-true (index % columns + width) columns components.1)) in
     rw (first, second) (visible-bits colors cell)
 
-blank-begins : (colors : Colors) (columns place : ℕ) (cell : CellView) → 0 < columns → can_begin columns place (blanked colors cell) ≡ true
-blank-begins colors columns place cell some =
-    let room : place % columns + 1 ≤ columns = omega (arith, mod-lt place some) in
-    rw (cluster_columns-blank, visible-bits colors cell, le-leb (place % columns + 1) columns room) refl
+blank-begins : (colors : Colors) (columns index : ℕ) (cell : CellView) → 0 < columns → can_begin columns index (blanked colors cell) ≡ true
+blank-begins colors columns index cell some =
+    let room : index % columns + 1 ≤ columns = omega (arith, mod-lt index some) in
+    rw (cluster_columns-blank, visible-bits colors cell, le-leb (index % columns + 1) columns room) refl
 
-pub displayed-whole : (colors : Colors) (columns place halves : ℕ) (cells : List CellView) → 0 < columns → halves ≤ length cells → are_whole columns place halves (displayed colors columns place halves cells) ≡ true
-displayed-whole colors columns place zero [] some long = refl
-displayed-whole colors columns place (suc halves) [] some long = absurd (omega arith)
-displayed-whole colors columns place (suc halves) (cell ∷ cells) some long = displayed-whole colors columns (place + 1) halves cells some (omega arith)
-displayed-whole colors columns place zero (cell ∷ cells) some long =
+pub displayed-whole : (colors : Colors) (columns index halves : ℕ) (cells : List CellView) → 0 < columns → halves ≤ length cells → are_whole columns index halves (displayed colors columns index halves cells) ≡ true
+displayed-whole colors columns index zero [] some long = refl
+displayed-whole colors columns index (suc halves) [] some long = absurd (omega arith)
+displayed-whole colors columns index (suc halves) (cell ∷ cells) some long = displayed-whole colors columns (index + 1) halves cells some (omega arith)
+displayed-whole colors columns index zero (cell ∷ cells) some long =
     ⊎_elim
     (λ fit.
     let width = cluster_columns cell.symbol in
-    let parts = and_parts (ltb 0 width && leb (place % columns + width) columns) (begins_empty (width - 1) cells) fit in
-    let shown = shown-columns cell.symbol (ltb-true 0 width (and_parts (ltb 0 width) (leb (place % columns + width) columns) parts.0).0) in
-    rw fit (rw (visible-begins colors columns place cell cells fit)
-    (displayed-whole colors columns (place + 1) (cluster_columns (shown_text cell.symbol) - 1) cells some (omega (arith, shown.1, begins_empty-long (width - 1) cells parts.1)))))
+    let parts = and_parts (ltb 0 width && leb (index % columns + width) columns) (begins_empty (width - 1) cells) fit in
+    let shown = shown-columns cell.symbol (ltb-true 0 width (and_parts (ltb 0 width) (leb (index % columns + width) columns) parts.0).0) in
+    rw fit (rw (visible-begins colors columns index cell cells fit)
+    (displayed-whole colors columns (index + 1) (cluster_columns (shown_text cell.symbol) - 1) cells some (omega (arith, shown.1, begins_empty-long (width - 1) cells parts.1)))))
     (λ other.
-    rw other (rw (blank-begins colors columns place cell some, cluster_columns-blank) (displayed-whole colors columns (place + 1) 0 cells some (omega arith))))
-    (cases_Bool (fits_in_row columns place cell cells))
+    rw other (rw (blank-begins colors columns index cell some, cluster_columns-blank) (displayed-whole colors columns (index + 1) 0 cells some (omega arith))))
+    (cases_Bool (fits_in_row columns index cell cells))
 
 -- the cells of an erased terminal
-pub fresh-whole : (columns place size : ℕ) → 0 < columns → are_whole columns place 0 (replicate size fresh_cell) ≡ true
-fresh-whole columns place zero some = refl
-fresh-whole columns place (suc size) some =
-    let room : place % columns + 1 ≤ columns = omega (arith, mod-lt place some) in
-    rw (cluster_columns-blank, le-leb (place % columns + 1) columns room) (fresh-whole columns (place + 1) size some)
+pub fresh-whole : (columns index size : ℕ) → 0 < columns → are_whole columns index 0 (replicate size fresh_cell) ≡ true
+fresh-whole columns index zero some = refl
+fresh-whole columns index (suc size) some =
+    let room : index % columns + 1 ≤ columns = omega (arith, mod-lt index some) in
+    rw (cluster_columns-blank, le-leb (index % columns + 1) columns room) (fresh-whole columns (index + 1) size some)
 
 -- ---- a row's end
 
-pub row-fits : (place columns height width : ℕ) → place < height * width → 0 < columns → columns ≤ width - place % width → place + 1 + (columns - 1) ≤ height * width
-row-fits place columns height zero within some fit = absurd (omega (arith, within))
-row-fits place columns height (suc less) within some fit =
+pub row-fits : (index columns height width : ℕ) → index < height * width → 0 < columns → columns ≤ width - index % width → index + 1 + (columns - 1) ≤ height * width
+row-fits index columns height zero within some fit = absurd (omega (arith, within))
+row-fits index columns height (suc less) within some fit =
     let width = suc less in
     let wide : 0 < width = omega arith in
-    let row : place / width < height = (div-lt_iff_lt-mul {k = width} {x = place} {y = height} wide).1 within in
-    let rows : width * (place / width + 1) ≤ width * height = mul-le-mul_left width (omega arith) in
-    omega (arith, rows, mod-lt place wide)
+    let row : index / width < height = (div-lt_iff_lt-mul {k = width} {x = index} {y = height} wide).1 within in
+    let rows : width * (index / width + 1) ≤ width * height = mul-le-mul_left width (omega arith) in
+    omega (arith, rows, mod-lt index wide)
 
 -- ---- all cells
 
@@ -220,25 +213,25 @@ fill-start colors area buffer =
     let all : area.height * area.width - 0 ≡ area.height * area.width = omega arith in
     ap (λ count. displayed colors area.width 0 0 (cells_from area buffer 0 count)) all
 
-pub fill-step : (colors : Colors) (area : Rect) (buffer : Buffer) (cells : List Cell) (place halves left : ℕ) (cell : Cell) (after frame : List CellView) → place < length cells →
-    displayed colors area.width place halves (cells_from area buffer place (area.height * area.width - place)) ≡ cell_view cell ∷ after →
-    map cell_view (take place cells) ++ displayed colors area.width place halves (cells_from area buffer place (area.height * area.width - place)) ≡ frame →
-    map cell_view (take (place + 1) (set cells place cell)) ++ after ≡ frame
-fill-step colors area buffer cells place halves left cell after frame within next before =
-    ap (λ items. map cell_view items ++ after) (take_more_set cells place cell within)
-    ∙ ap (λ visible. visible ++ after) (map-append cell_view (take place cells) (cell ∷ []))
-    ∙ append_assoc (map cell_view (take place cells)) (cell_view cell ∷ []) after
-    ∙ ap (λ more. map cell_view (take place cells) ++ more) (sym next)
+pub fill-step : (colors : Colors) (area : Rect) (buffer : Buffer) (cells : List Cell) (index halves left : ℕ) (cell : Cell) (after frame : List CellView) → index < length cells →
+    displayed colors area.width index halves (cells_from area buffer index (area.height * area.width - index)) ≡ cell_view cell ∷ after →
+    map cell_view (take index cells) ++ displayed colors area.width index halves (cells_from area buffer index (area.height * area.width - index)) ≡ frame →
+    map cell_view (take (index + 1) (set cells index cell)) ++ after ≡ frame
+fill-step colors area buffer cells index halves left cell after frame within next before =
+    ap (λ items. map cell_view items ++ after) (take_more_set cells index cell within)
+    ∙ ap (λ visible. visible ++ after) (map-append cell_view (take index cells) (cell ∷ []))
+    ∙ append_assoc (map cell_view (take index cells)) (cell_view cell ∷ []) after
+    ∙ ap (λ more. map cell_view (take index cells) ++ more) (sym next)
     ∙ before
 
-pub fill-end : (colors : Colors) (area : Rect) (buffer : Buffer) (cells : List Cell) (place halves : ℕ) (frame : List CellView) → place ≡ length cells → length cells ≡ area.height * area.width →
-    map cell_view (take place cells) ++ displayed colors area.width place halves (cells_from area buffer place (area.height * area.width - place)) ≡ frame → map cell_view cells ≡ frame
-fill-end colors area buffer cells place halves frame at full before =
-    let none : area.height * area.width - place ≡ 0 = omega arith in
-    let all : take place cells ≡ cells = ap (λ k. take k cells) at ∙ take-length cells in
+pub fill-end : (colors : Colors) (area : Rect) (buffer : Buffer) (cells : List Cell) (index halves : ℕ) (frame : List CellView) → index ≡ length cells → length cells ≡ area.height * area.width →
+    map cell_view (take index cells) ++ displayed colors area.width index halves (cells_from area buffer index (area.height * area.width - index)) ≡ frame → map cell_view cells ≡ frame
+fill-end colors area buffer cells index halves frame at full before =
+    let none : area.height * area.width - index ≡ 0 = omega arith in
+    let all : take index cells ≡ cells = ap (λ k. take k cells) at ∙ take-length cells in
     sym (append-nil (map cell_view cells))
     ∙ ap (λ items. map cell_view items ++ []) (sym all)
-    ∙ ap (λ count. map cell_view (take place cells) ++ displayed colors area.width place halves (cells_from area buffer place count)) (sym none)
+    ∙ ap (λ count. map cell_view (take index cells) ++ displayed colors area.width index halves (cells_from area buffer index count)) (sym none)
     ∙ before
 
 -- ---- fresh cells

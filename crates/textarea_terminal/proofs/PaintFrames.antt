@@ -33,10 +33,10 @@ cluster_columns-nil : cluster_columns [] ≡ 0
 unfolding unicode_segmentation cluster_columns
 cluster_columns-nil = refl
 
-pub begins-whole : (columns place : ℕ) (cell : CellView) → can_begin columns place cell ≡ true → is_half cell ≡ false
-begins-whole columns place cell begins =
+pub begins-whole : (columns index : ℕ) (cell : CellView) → can_begin columns index cell ≡ true → is_half cell ≡ false
+begins-whole columns index cell begins =
     let width = cluster_columns cell.symbol in
-    let components = and_parts (ltb 0 width) (leb (place % columns + width) columns) (and_parts (ltb 0 width && leb (place % columns + width) columns) (ltb cell.modifier.0 512) begins).0 in
+    let components = and_parts (ltb 0 width) (leb (index % columns + width) columns) (and_parts (ltb 0 width && leb (index % columns + width) columns) (ltb cell.modifier.0 512) begins).0 in
     let some : 0 < width = ltb-true 0 width components.0 in
     ⊎_elim
     (λ empty.
@@ -48,31 +48,31 @@ begins-whole columns place cell begins =
 -- ---- whole clusters
 
 -- a cell that is no half begins a cluster, and whole clusters come after it
-pub whole-unit : (columns place halves : ℕ) (cell : CellView) (cells : List CellView) → is_half cell ≡ false → are_whole columns place halves (cell ∷ cells) ≡ true →
-    (can_begin columns place cell ≡ true) × (are_whole columns (place + 1) (cluster_columns cell.symbol - 1) cells ≡ true)
-whole-unit columns place zero cell cells not_half whole = and_parts (can_begin columns place cell) (are_whole columns (place + 1) (cluster_columns cell.symbol - 1) cells) whole
-whole-unit columns place (suc halves) cell cells not_half whole =
-    let components = and_parts (is_plain_half cell) (are_whole columns (place + 1) halves cells) whole in
+pub whole-unit : (columns index halves : ℕ) (cell : CellView) (cells : List CellView) → is_half cell ≡ false → are_whole columns index halves (cell ∷ cells) ≡ true →
+    (can_begin columns index cell ≡ true) × (are_whole columns (index + 1) (cluster_columns cell.symbol - 1) cells ≡ true)
+whole-unit columns index zero cell cells not_half whole = and_parts (can_begin columns index cell) (are_whole columns (index + 1) (cluster_columns cell.symbol - 1) cells) whole
+whole-unit columns index (suc halves) cell cells not_half whole =
+    let components = and_parts (is_plain_half cell) (are_whole columns (index + 1) halves cells) whole in
     let other = plain_half-half cell components.0 in
     absurd (cc (other, not_half))
 
-pub columns-some : (columns place : ℕ) (cell : CellView) → can_begin columns place cell ≡ true → 0 < cluster_columns cell.symbol
-columns-some columns place cell begins =
+pub columns-some : (columns index : ℕ) (cell : CellView) → can_begin columns index cell ≡ true → 0 < cluster_columns cell.symbol
+columns-some columns index cell begins =
     let width = cluster_columns cell.symbol in
-    let room = (and_parts (ltb 0 width && leb (place % columns + width) columns) (ltb cell.modifier.0 512) begins).0 in
-    ltb-true 0 width (and_parts (ltb 0 width) (leb (place % columns + width) columns) room).0
+    let room = (and_parts (ltb 0 width && leb (index % columns + width) columns) (ltb cell.modifier.0 512) begins).0 in
+    ltb-true 0 width (and_parts (ltb 0 width) (leb (index % columns + width) columns) room).0
 
-pub whole-drop : (columns : ℕ) (count place halves : ℕ) (cells : List CellView) → are_whole columns place halves cells ≡ true → count ≤ length cells →
-    (left : ℕ) × (are_whole columns (place + count) left (drop count cells) ≡ true)
-whole-drop columns zero place halves cells whole within = (halves, subst (λ p. are_whole columns p halves cells ≡ true) (omega arith) whole)
-whole-drop columns (suc count) place halves [] whole within = absurd (omega arith)
-whole-drop columns (suc count) place (suc halves) (cell ∷ cells) whole within =
-    let rest = (and_parts (is_plain_half cell) (are_whole columns (place + 1) halves cells) whole).1 in
-    let dropped = whole-drop columns count (place + 1) halves cells rest (omega arith) in
-    let at : place + 1 + count ≡ place + suc count = omega arith in
+pub whole-drop : (columns : ℕ) (count index halves : ℕ) (cells : List CellView) → are_whole columns index halves cells ≡ true → count ≤ length cells →
+    (left : ℕ) × (are_whole columns (index + count) left (drop count cells) ≡ true)
+whole-drop columns zero index halves cells whole within = (halves, subst (λ p. are_whole columns p halves cells ≡ true) (omega arith) whole)
+whole-drop columns (suc count) index halves [] whole within = absurd (omega arith)
+whole-drop columns (suc count) index (suc halves) (cell ∷ cells) whole within =
+    let rest = (and_parts (is_plain_half cell) (are_whole columns (index + 1) halves cells) whole).1 in
+    let dropped = whole-drop columns count (index + 1) halves cells rest (omega arith) in
+    let at : index + 1 + count ≡ index + suc count = omega arith in
     (dropped.0, subst (λ p. are_whole columns p dropped.0 (drop count cells) ≡ true) at dropped.1)
-whole-drop columns (suc count) place zero (cell ∷ cells) whole within =
-    let rest = (and_parts (can_begin columns place cell) (are_whole columns (place + 1) (cluster_columns cell.symbol - 1) cells) whole).1 in
-    let dropped = whole-drop columns count (place + 1) (cluster_columns cell.symbol - 1) cells rest (omega arith) in
-    let at : place + 1 + count ≡ place + suc count = omega arith in
+whole-drop columns (suc count) index zero (cell ∷ cells) whole within =
+    let rest = (and_parts (can_begin columns index cell) (are_whole columns (index + 1) (cluster_columns cell.symbol - 1) cells) whole).1 in
+    let dropped = whole-drop columns count (index + 1) (cluster_columns cell.symbol - 1) cells rest (omega arith) in
+    let at : index + 1 + count ≡ index + suc count = omega arith in
     (dropped.0, subst (λ p. are_whole columns p dropped.0 (drop count cells) ≡ true) at dropped.1)

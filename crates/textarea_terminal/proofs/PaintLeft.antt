@@ -65,41 +65,41 @@ module _ (rest : CellView → CellView) (blank : (cell : CellView) → is_half (
   Ahead-start (cell ∷ cells) old new shown olds news more is damaged = rw is damaged
 
   -- the cells of a cluster after its first are printed over what was there
-  pub Ahead-printed : (shown_as : Shown) (columns place : ℕ) (first cells olds news : List CellView) → are_whole columns place (length first) news ≡ true → length olds ≡ length news →
+  pub Ahead-printed : (shown_as : Shown) (columns index : ℕ) (first cells olds news : List CellView) → are_whole columns index (length first) news ≡ true → length olds ≡ length news →
       Damaged cells olds ⊎ (cells ≡ olds) → Ahead (first ++ mended rest (drop (length first) cells)) olds news (settled shown_as first news)
-  Ahead-printed shown_as columns place [] [] [] [] whole long left = tt
-  Ahead-printed shown_as columns place [] (cell ∷ cells) [] [] whole long (inl damaged) = absurd damaged
-  Ahead-printed shown_as columns place [] (cell ∷ cells) [] [] whole long (inr same) = cc same
-  Ahead-printed shown_as columns place [] cells (old ∷ olds) [] whole long left = absurd (omega arith)
-  Ahead-printed shown_as columns place [] cells [] (new ∷ news) whole long left = absurd (omega arith)
-  Ahead-printed shown_as columns place [] cells (old ∷ olds) (new ∷ news) whole long left =
-      let begins = (and_parts (can_begin columns place new) (are_whole columns (place + 1) (cluster_columns new.symbol - 1) news) whole).0 in
+  Ahead-printed shown_as columns index [] [] [] [] whole long left = tt
+  Ahead-printed shown_as columns index [] (cell ∷ cells) [] [] whole long (inl damaged) = absurd damaged
+  Ahead-printed shown_as columns index [] (cell ∷ cells) [] [] whole long (inr same) = cc same
+  Ahead-printed shown_as columns index [] cells (old ∷ olds) [] whole long left = absurd (omega arith)
+  Ahead-printed shown_as columns index [] cells [] (new ∷ news) whole long left = absurd (omega arith)
+  Ahead-printed shown_as columns index [] cells (old ∷ olds) (new ∷ news) whole long left =
+      let begins = (and_parts (can_begin columns index new) (are_whole columns (index + 1) (cluster_columns new.symbol - 1) news) whole).0 in
       Ahead-start (mended rest cells) old new (first_of new (settled_cells shown_as new)) olds news (settled shown_as (drop 1 (settled_cells shown_as new)) news)
-      (begins-whole columns place new begins) (mended-again cells (old ∷ olds) left)
-  Ahead-printed shown_as columns place (shown ∷ first) cells olds [] whole long left = absurd (omega (arith, eqb-true (length (shown ∷ first)) 0 whole))
-  Ahead-printed shown_as columns place (shown ∷ first) cells [] (new ∷ news) whole long left = absurd (omega arith)
-  Ahead-printed shown_as columns place (shown ∷ first) [] (old ∷ olds) (new ∷ news) whole long (inl damaged) = absurd damaged
-  Ahead-printed shown_as columns place (shown ∷ first) [] (old ∷ olds) (new ∷ news) whole long (inr same) = cc same
-  Ahead-printed shown_as columns place (shown ∷ first) (cell ∷ cells) (old ∷ olds) (new ∷ news) whole long left =
-      let components = and_parts (is_plain_half new) (are_whole columns (place + 1) (length first) news) whole in
+      (begins-whole columns index new begins) (mended-again cells (old ∷ olds) left)
+  Ahead-printed shown_as columns index (shown ∷ first) cells olds [] whole long left = absurd (omega (arith, eqb-true (length (shown ∷ first)) 0 whole))
+  Ahead-printed shown_as columns index (shown ∷ first) cells [] (new ∷ news) whole long left = absurd (omega arith)
+  Ahead-printed shown_as columns index (shown ∷ first) [] (old ∷ olds) (new ∷ news) whole long (inl damaged) = absurd damaged
+  Ahead-printed shown_as columns index (shown ∷ first) [] (old ∷ olds) (new ∷ news) whole long (inr same) = cc same
+  Ahead-printed shown_as columns index (shown ∷ first) (cell ∷ cells) (old ∷ olds) (new ∷ news) whole long left =
+      let components = and_parts (is_plain_half new) (are_whole columns (index + 1) (length first) news) whole in
       let is = plain_half-half new components.0 in
       let after : Damaged cells olds ⊎ (cells ≡ olds) = ⊎_elim (λ damaged. Damaged-rest cell old cells olds damaged) (λ same. inr (rest-same same)) left in
-      rw is (refl, Ahead-printed shown_as columns (place + 1) first cells olds news components.1 (omega arith) after)
+      rw is (refl, Ahead-printed shown_as columns (index + 1) first cells olds news components.1 (omega arith) after)
 
 -- where the old cells are there, and a cluster of both frames has the same cells
-pub Ahead-same : (shown_as : Shown) → IsOfFamily shown_as → (columns place : ℕ) (first olds news : List CellView) → are_whole columns place (length first) olds ≡ true →
-    are_whole columns place (length first) news ≡ true → length olds ≡ length news → Ahead (settled shown_as first olds) (settled shown_as first olds) news (settled shown_as first news)
-Ahead-same shown_as family columns place [] [] [] old_whole new_whole long = tt
-Ahead-same shown_as family columns place (shown ∷ first) [] [] old_whole new_whole long = tt
-Ahead-same shown_as family columns place first (old ∷ olds) [] old_whole new_whole long = absurd (omega arith)
-Ahead-same shown_as family columns place first [] (new ∷ news) old_whole new_whole long = absurd (omega arith)
-Ahead-same shown_as family columns place [] (old ∷ olds) (new ∷ news) old_whole new_whole long =
-    let old_begins = (and_parts (can_begin columns place old) (are_whole columns (place + 1) (cluster_columns old.symbol - 1) olds) old_whole).0 in
-    let new_begins = (and_parts (can_begin columns place new) (are_whole columns (place + 1) (cluster_columns new.symbol - 1) news) new_whole).0 in
-    let first = settled-first shown_as old family (columns-some columns place old old_begins) (begins-whole columns place old old_begins) in
-    rw (begins-whole columns place new new_begins) (rw first refl)
-Ahead-same shown_as family columns place (shown ∷ first) (old ∷ olds) (new ∷ news) old_whole new_whole long =
-    let olds_components = and_parts (is_plain_half old) (are_whole columns (place + 1) (length first) olds) old_whole in
-    let news_components = and_parts (is_plain_half new) (are_whole columns (place + 1) (length first) news) new_whole in
+pub Ahead-same : (shown_as : Shown) → IsOfFamily shown_as → (columns index : ℕ) (first olds news : List CellView) → are_whole columns index (length first) olds ≡ true →
+    are_whole columns index (length first) news ≡ true → length olds ≡ length news → Ahead (settled shown_as first olds) (settled shown_as first olds) news (settled shown_as first news)
+Ahead-same shown_as family columns index [] [] [] old_whole new_whole long = tt
+Ahead-same shown_as family columns index (shown ∷ first) [] [] old_whole new_whole long = tt
+Ahead-same shown_as family columns index first (old ∷ olds) [] old_whole new_whole long = absurd (omega arith)
+Ahead-same shown_as family columns index first [] (new ∷ news) old_whole new_whole long = absurd (omega arith)
+Ahead-same shown_as family columns index [] (old ∷ olds) (new ∷ news) old_whole new_whole long =
+    let old_begins = (and_parts (can_begin columns index old) (are_whole columns (index + 1) (cluster_columns old.symbol - 1) olds) old_whole).0 in
+    let new_begins = (and_parts (can_begin columns index new) (are_whole columns (index + 1) (cluster_columns new.symbol - 1) news) new_whole).0 in
+    let first = settled-first shown_as old family (columns-some columns index old old_begins) (begins-whole columns index old old_begins) in
+    rw (begins-whole columns index new new_begins) (rw first refl)
+Ahead-same shown_as family columns index (shown ∷ first) (old ∷ olds) (new ∷ news) old_whole new_whole long =
+    let olds_components = and_parts (is_plain_half old) (are_whole columns (index + 1) (length first) olds) old_whole in
+    let news_components = and_parts (is_plain_half new) (are_whole columns (index + 1) (length first) news) new_whole in
     rw (plain_half-half new news_components.0)
-    (refl, Ahead-same shown_as family columns (place + 1) first olds news olds_components.1 news_components.1 (omega arith))
+    (refl, Ahead-same shown_as family columns (index + 1) first olds news olds_components.1 news_components.1 (omega arith))

@@ -12,47 +12,41 @@ use Rattle.textarea_terminal.specs.Screen.{Terminal, apply_control, cursor_after
 use Rattle.textarea_terminal.proofs.ScreenMoves.{move-there}
 use Rattle.textarea_terminal.specs.declared.output.spot.Spot.{Spot}
 
-pub column-of : (columns : ℕ) (spot : Spot) → 0 < columns → IsSpot columns spot → spot.place % columns ≡ spot.column
-column-of columns spot some is = ap (λ place. place % columns) is.place ∙ mod-mul-add spot.row columns spot.column (is.column some)
+pub column-of : (columns : ℕ) (spot : Spot) → 0 < columns → IsSpot columns spot → spot.index % columns ≡ spot.column
+column-of columns spot some is = ap (λ index. index % columns) is.index ∙ mod-mul-add spot.row columns spot.column (is.column some)
 
-pub row-of : (columns : ℕ) (spot : Spot) → 0 < columns → IsSpot columns spot → spot.place / columns ≡ spot.row
-row-of columns spot some is = ap (λ place. place / columns) is.place ∙ div-mul-add spot.row columns spot.column (is.column some)
+pub row-of : (columns : ℕ) (spot : Spot) → 0 < columns → IsSpot columns spot → spot.index / columns ≡ spot.row
+row-of columns spot some is = ap (λ index. index / columns) is.index ∙ div-mul-add spot.row columns spot.column (is.column some)
 
-pub some-columns : (place height width : ℕ) → place < height * width → 0 < width
-some-columns place height zero within = absurd (omega (arith, within))
-some-columns place height (suc less) within = omega arith
+pub some-columns : (index height width : ℕ) → index < height * width → 0 < width
+some-columns index height zero within = absurd (omega (arith, within))
+some-columns index height (suc less) within = omega arith
 
-pub row-below : (height width : ℕ) (spot : Spot) → spot.place < height * width → IsSpot width spot → spot.row < height
-row-below height width spot within is =
-    let some = some-columns spot.place height width within in
-    let below : spot.place / width < height = (div-lt_iff_lt-mul {k = width} {x = spot.place} {y = height} some).1 within in
-    omega (arith, below, row-of width spot some is)
-
-pub move-to-spot : (terminal : Terminal) (columns : ℕ) (spot : Spot) → 0 < columns → IsSpot columns spot → terminal.columns ≡ columns → is_plain terminal.modes ≡ true → spot.place < length terminal.cells →
-    apply_control (MoveTo spot.row spot.column) terminal ≡ record terminal { cursor = Some spot.place }
+pub move-to-spot : (terminal : Terminal) (columns : ℕ) (spot : Spot) → 0 < columns → IsSpot columns spot → terminal.columns ≡ columns → is_plain terminal.modes ≡ true → spot.index < length terminal.cells →
+    apply_control (MoveTo spot.row spot.column) terminal ≡ record terminal { cursor = Some spot.index }
 move-to-spot terminal columns spot some is same modes within =
-    let M : ℕ → Type 0 = λ row. apply_control (MoveTo row spot.column) terminal ≡ record terminal { cursor = Some spot.place } in
-    let N : ℕ → Type 0 = λ column. apply_control (MoveTo (spot.place / columns) column) terminal ≡ record terminal { cursor = Some spot.place } in
-    subst M (row-of columns spot some is) (subst N (column-of columns spot some is) (move-there terminal columns spot.place some same modes within))
+    let M : ℕ → Type 0 = λ row. apply_control (MoveTo row spot.column) terminal ≡ record terminal { cursor = Some spot.index } in
+    let N : ℕ → Type 0 = λ column. apply_control (MoveTo (spot.index / columns) column) terminal ≡ record terminal { cursor = Some spot.index } in
+    subst M (row-of columns spot some is) (subst N (column-of columns spot some is) (move-there terminal columns spot.index some same modes within))
 
-pub cursor-at-end : (columns : ℕ) (spot : Spot) (width : ℕ) → 0 < width → IsSpot columns spot → spot.column + width ≡ columns → cursor_after columns (spot.place + width) ≡ None
+pub cursor-at-end : (columns : ℕ) (spot : Spot) (width : ℕ) → 0 < width → IsSpot columns spot → spot.column + width ≡ columns → cursor_after columns (spot.index + width) ≡ None
 cursor-at-end columns spot width some is end =
-    let at : spot.place + width ≡ (spot.row + 1) * columns + 0 = omega (arith, is.place, end) in
-    let first : (spot.place + width) % columns ≡ 0 = ap (λ place. place % columns) at ∙ mod-mul-add (spot.row + 1) columns 0 (omega arith) in
-    cond-true ((spot.place + width) % columns == 0) None (Some (spot.place + width)) (eq-eqb _ _ first)
+    let at : spot.index + width ≡ (spot.row + 1) * columns + 0 = omega (arith, is.index, end) in
+    let first : (spot.index + width) % columns ≡ 0 = ap (λ index. index % columns) at ∙ mod-mul-add (spot.row + 1) columns 0 (omega arith) in
+    cond-true ((spot.index + width) % columns == 0) None (Some (spot.index + width)) (eq-eqb _ _ first)
 
-pub cursor-inside : (columns : ℕ) (spot : Spot) (width : ℕ) → 0 < width → IsSpot columns spot → spot.column + width < columns → cursor_after columns (spot.place + width) ≡ Some (spot.place + width)
+pub cursor-inside : (columns : ℕ) (spot : Spot) (width : ℕ) → 0 < width → IsSpot columns spot → spot.column + width < columns → cursor_after columns (spot.index + width) ≡ Some (spot.index + width)
 cursor-inside columns spot width some is inside =
-    let at : spot.place + width ≡ spot.row * columns + (spot.column + width) = omega (arith, is.place) in
-    let column : (spot.place + width) % columns ≡ spot.column + width = ap (λ place. place % columns) at ∙ mod-mul-add spot.row columns (spot.column + width) inside in
-    let not_first : ((spot.place + width) % columns == 0) ≡ false = rw column (grind (arith, nat_tests)) in
-    cond-false ((spot.place + width) % columns == 0) None (Some (spot.place + width)) not_first
+    let at : spot.index + width ≡ spot.row * columns + (spot.column + width) = omega (arith, is.index) in
+    let column : (spot.index + width) % columns ≡ spot.column + width = ap (λ index. index % columns) at ∙ mod-mul-add spot.row columns (spot.column + width) inside in
+    let not_first : ((spot.index + width) % columns == 0) ≡ false = rw column (grind (arith, nat_tests)) in
+    cond-false ((spot.index + width) % columns == 0) None (Some (spot.index + width)) not_first
 
 -- a cluster that can begin at a spot ends in its row
-pub begins-room : (columns : ℕ) (spot : Spot) (cell : CellView) → 0 < columns → IsSpot columns spot → can_begin columns spot.place cell ≡ true →
+pub begins-room : (columns : ℕ) (spot : Spot) (cell : CellView) → 0 < columns → IsSpot columns spot → can_begin columns spot.index cell ≡ true →
     (0 < cluster_columns cell.symbol) × (spot.column + cluster_columns cell.symbol ≤ columns)
 begins-room columns spot cell some is begins =
     let width = cluster_columns cell.symbol in
-    let room = (and_parts (ltb 0 width && leb (spot.place % columns + width) columns) (ltb cell.modifier.0 512) begins).0 in
-    let components = and_parts (ltb 0 width) (leb (spot.place % columns + width) columns) room in
-    (ltb-true 0 width components.0, omega (arith, leb-true (spot.place % columns + width) columns components.1, column-of columns spot some is))
+    let room = (and_parts (ltb 0 width && leb (spot.index % columns + width) columns) (ltb cell.modifier.0 512) begins).0 in
+    let components = and_parts (ltb 0 width) (leb (spot.index % columns + width) columns) room in
+    (ltb-true 0 width components.0, omega (arith, leb-true (spot.index % columns + width) columns components.1, column-of columns spot some is))

@@ -14,56 +14,47 @@ use Rattle.textarea_terminal.specs.declared.output.brush.Brush.{Brush}
 use Rattle.textarea_terminal.proofs.ControlLemmas.{Wrote-then, run-append, prints_of-append, moves_of-append, pens_of-append}
 use Rattle.textarea_terminal.proofs.SettledLemmas.{Shown, settled-length, settled-fresh, settled-exact}
 
-pub puts-caret : (at : Option ℕ) (known : Option Bool) (columns place : ℕ) (xs ys : List Control) → MovesTo at columns place xs → SetsCursor known true ys →
-    PutsCaret at known columns (Some place) (xs ++ ys)
-puts-caret at known columns place xs ys moves sets = record {
+pub puts-caret : (at : Option ℕ) (known : Option Bool) (columns index : ℕ) (xs ys : List Control) → MovesTo at columns index xs → SetsCursor known true ys →
+    PutsCaret at known columns (Some index) (xs ++ ys)
+puts-caret at known columns index xs ys moves sets = record {
   brings = λ terminal here is_printed same modes within.
-      run-append xs ys terminal ∙ ap (run ys) (moves.1 terminal here same modes within) ∙ sets.1 (record terminal { cursor = Some place }) is_printed;
+      run-append xs ys terminal ∙ ap (run ys) (moves.1 terminal here same modes within) ∙ sets.1 (record terminal { cursor = Some index }) is_printed;
   prints = rw (prints_of-append xs ys, moves.0, sets.0) refl;
   moves = omega (arith, moves_of-append xs ys, moves.3, sets.3);
   pens = omega (arith, pens_of-append xs ys, moves.4, sets.4);
   still = λ is_printed here. rw (moves.2 here, sets.2 is_printed) refl;
 }
 
-pub hides-caret : (at : Option ℕ) (known : Option Bool) (columns : ℕ) (ys : List Control) → SetsCursor known false ys → PutsCaret at known columns None ys
-hides-caret at known columns ys sets = record {
-  brings = λ terminal here is_printed same modes within. sets.1 terminal is_printed;
-  prints = sets.0;
-  moves = omega (arith, sets.3);
-  pens = sets.4;
-  still = λ is_printed here. sets.2 is_printed;
-}
-
 still-known : (known : Option Bool) (before after : Bool) → after ≡ before → IfSome known (λ is_printed. before ≡ is_printed) → IfSome known (λ is_printed. after ≡ is_printed)
 still-known None before after same is_printed = tt
 still-known (Some b) before after same is_printed = same ∙ is_printed
 
-within-cells : (caret : Option ℕ) (cells new : List CellView) → length cells ≡ length new → IfSome caret (λ place. place < length new) → IfSome caret (λ place. place < length cells)
+within-cells : (caret : Option ℕ) (cells new : List CellView) → length cells ≡ length new → IfSome caret (λ index. index < length new) → IfSome caret (λ index. index < length cells)
 within-cells None cells new same within = tt
-within-cells (Some place) cells new same within = omega arith
+within-cells (Some index) cells new same within = omega arith
 
-still-there : (caret at before : Option ℕ) → at ≡ before → IfSome caret (λ place. before ≡ Some place) → IfSome caret (λ place. at ≡ Some place)
+still-there : (caret at before : Option ℕ) → at ≡ before → IfSome caret (λ index. before ≡ Some index) → IfSome caret (λ index. at ≡ Some index)
 still-there None at before same here = tt
-still-there (Some place) at before same here = same ∙ here
+still-there (Some index) at before same here = same ∙ here
 
-caret-known : (caret : Option ℕ) (terminal : Terminal) → IsCaret caret terminal → IfSome caret (λ place. terminal.cursor ≡ Some place)
+caret-known : (caret : Option ℕ) (terminal : Terminal) → IsCaret caret terminal → IfSome caret (λ index. terminal.cursor ≡ Some index)
 caret-known None terminal is = tt
-caret-known (Some place) terminal is = is.1
+caret-known (Some index) terminal is = is.1
 
 caret-visible : (caret : Option ℕ) (terminal : Terminal) → IsCaret caret terminal → terminal.has_visible_cursor ≡ is_some caret
 caret-visible None terminal is = is
-caret-visible (Some place) terminal is = is.0
+caret-visible (Some index) terminal is = is.0
 
-caret-same : (old new : Option ℕ) → old ≡ new → IfSome new (λ place. old ≡ Some place)
+caret-same : (old new : Option ℕ) → old ≡ new → IfSome new (λ index. old ≡ Some index)
 caret-same old None same = tt
-caret-same old (Some place) same = same
+caret-same old (Some index) same = same
 
 caret-there : (caret : Option ℕ) (terminal : Terminal) → IsCaret caret (record terminal { cursor = option_or caret terminal.cursor; has_visible_cursor = is_some caret; is_updating = false })
 caret-there None terminal = refl
-caret-there (Some place) terminal = (refl, refl)
+caret-there (Some index) terminal = (refl, refl)
 
 pub finishes : (start brush : Brush) (known : Option Bool) (columns : ℕ) (old new : List CellView) (caret : Option ℕ) (xs ys zs : List Control) →
-    IfSome caret (λ place. place < length new) → Repaints columns old new start brush xs → PutsCaret brush.at known columns caret ys → EndsUpdate brush.is_updating zs →
+    IfSome caret (λ index. index < length new) → Repaints columns old new start brush xs → PutsCaret brush.at known columns caret ys → EndsUpdate brush.is_updating zs →
     PaintsFrame start known columns old (record { cells = new; caret = caret }) (xs ++ (ys ++ zs))
 finishes start brush known columns old new caret xs ys zs within repaints puts ends = record {
   brings = λ terminal knows is_printed same cells.
@@ -71,7 +62,9 @@ finishes start brush known columns old new caret xs ys zs within repaints puts e
       let shows = repaints.brings terminal terminal.has_visible_cursor (record { knows = knows; columns = same; cells = cells; caret = refl }) in
       let two : Terminal = record one { cursor = option_or caret one.cursor; has_visible_cursor = is_some caret } in
       let three : Terminal = record two { is_updating = false } in
-      let put : run ys one ≡ two = puts.brings one shows.knows.cursor (still-known known terminal.has_visible_cursor one.has_visible_cursor shows.caret is_printed) shows.columns shows.knows.modes (within-cells caret one.cells new (ap length shows.cells ∙ settled-length one.shown_as [] new) within) in
+      let put : run ys one ≡ two =
+      puts.brings one shows.knows.cursor (still-known known terminal.has_visible_cursor one.has_visible_cursor shows.caret is_printed) shows.columns shows.knows.modes
+      (within-cells caret one.cells new (ap length shows.cells ∙ settled-length one.shown_as [] new) within) in
       let ran : run (xs ++ (ys ++ zs)) terminal ≡ three =
       run-append xs (ys ++ zs) terminal ∙ run-append ys zs one ∙ ap (run zs) put ∙ ends.1 two shows.knows.updating in
       let F : PaintedFrame = record { cells = new; caret = caret } in
@@ -90,7 +83,7 @@ finishes start brush known columns old new caret xs ys zs within repaints puts e
   pens = (repaints.pens.0, (repaints.pens.1.0, omega (arith, repaints.pens.1.1, pens_of-append xs (ys ++ zs), pens_of-append ys zs, puts.pens, ends.4)));
   still = λ same is_printed here not_begun.
       let quiet = repaints.still same in
-      let here' : IfSome caret (λ place. brush.at ≡ Some place) = still-there caret brush.at start.at (ap (λ (b : Brush). b.at) quiet.1) here in
+      let here' : IfSome caret (λ index. brush.at ≡ Some index) = still-there caret brush.at start.at (ap (λ (b : Brush). b.at) quiet.1) here in
       rw (quiet.0, puts.still is_printed here', ends.2 (ap (λ (b : Brush). b.is_updating) quiet.1 ∙ not_begun)) refl;
 }
 
@@ -100,10 +93,10 @@ first-plain = refl
 
 print-alike : (cells : List CellView) (is_cluster : Bool) (at : Option ℕ) (terminal : Terminal) → (print_at cells is_cluster at terminal).shown_as ≡ terminal.shown_as
 print-alike cells is_cluster None terminal = refl
-print-alike cells is_cluster (Some place) terminal =
-    elim (is_plain terminal.modes && is_cluster && leb (place % terminal.columns + length cells) terminal.columns) as (λ b. (cond b (record terminal {
-      cells = printed (rest_of terminal.rest_look terminal.pen) cells (take place terminal.cells) (drop place terminal.cells);
-      cursor = cursor_after terminal.columns (place + length cells);
+print-alike cells is_cluster (Some index) terminal =
+    elim (is_plain terminal.modes && is_cluster && leb (index % terminal.columns + length cells) terminal.columns) as (λ b. (cond b (record terminal {
+      cells = printed (rest_of terminal.rest_look terminal.pen) cells (take index terminal.cells) (drop index terminal.cells);
+      cursor = cursor_after terminal.columns (index + length cells);
     }) (unknown terminal)).shown_as ≡ terminal.shown_as) [ true ↦ refl | false ↦ refl ]
 
 alike-one : (x : Control) (terminal : Terminal) → (apply_control x terminal).shown_as ≡ terminal.shown_as
@@ -194,7 +187,7 @@ Wrote-end brush known columns caret first second =
     Wrote-then (Ends brush known columns caret) first second (λ xs ys puts ends. record { first = xs; last = ys; whole = refl; puts = puts; ends = ends })
 
 pub Wrote-frame : (start brush : Brush) (known : Option Bool) (columns : ℕ) (old new : List CellView) (caret : Option ℕ) {a b c : List ℕ} →
-    IfSome caret (λ place. place < length new) → Wrote a b (Repaints columns old new start brush) → Wrote b c (Ends brush known columns caret) →
+    IfSome caret (λ index. index < length new) → Wrote a b (Repaints columns old new start brush) → Wrote b c (Ends brush known columns caret) →
     Wrote a c (PaintsFrame start known columns old (record { cells = new; caret = caret }))
 Wrote-frame start brush known columns old new caret within first second =
     let R : List Control → Type 0 = PaintsFrame start known columns old (record { cells = new; caret = caret }) in
@@ -202,6 +195,6 @@ Wrote-frame start brush known columns old new caret within first second =
     (λ xs rest repaints end.
     subst R (ap (λ more. xs ++ more) (sym end.whole)) (finishes start brush known columns old new caret xs end.first end.last within repaints end.puts end.ends))
 
-pub within-visible : (caret : Option ℕ) (items : List Cell) → IfSome caret (λ place. place < length items) → IfSome caret (λ place. place < length (map cell_view items))
+pub within-visible : (caret : Option ℕ) (items : List Cell) → IfSome caret (λ index. index < length items) → IfSome caret (λ index. index < length (map cell_view items))
 within-visible None items within = tt
-within-visible (Some place) items within = omega (arith, length-map items cell_view)
+within-visible (Some index) items within = omega (arith, length-map items cell_view)

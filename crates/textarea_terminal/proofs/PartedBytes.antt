@@ -40,26 +40,26 @@ parted-bytes row column text before blanked moved done a b c =
     ∙ sym (bytes_of-append (blank_prints (cluster_columns text)) last))
 
 -- where the cursor is known to be
-pub at-disputed : (columns place : ℕ) (cell : CellView) → is_disputed cell.symbol ≡ true → at_after columns place cell ≡ None
-at-disputed columns place cell disputed = cond-true (is_disputed cell.symbol) None (cursor_after columns (place + cluster_columns cell.symbol)) disputed
+pub at-disputed : (columns index : ℕ) (cell : CellView) → is_disputed cell.symbol ≡ true → at_after columns index cell ≡ None
+at-disputed columns index cell disputed = cond-true (is_disputed cell.symbol) None (cursor_after columns (index + cluster_columns cell.symbol)) disputed
 
-pub at-agreed : (columns place : ℕ) (cell : CellView) → is_disputed cell.symbol ≡ false → cursor_after columns (place + cluster_columns cell.symbol) ≡ at_after columns place cell
-at-agreed columns place cell agreed = sym (cond-false (is_disputed cell.symbol) None (cursor_after columns (place + cluster_columns cell.symbol)) agreed)
+pub at-agreed : (columns index : ℕ) (cell : CellView) → is_disputed cell.symbol ≡ false → cursor_after columns (index + cluster_columns cell.symbol) ≡ at_after columns index cell
+at-agreed columns index cell agreed = sym (cond-false (is_disputed cell.symbol) None (cursor_after columns (index + cluster_columns cell.symbol)) agreed)
 
 -- what was written of a cluster
-pub Wrote-disputed : (columns : ℕ) (spot : Spot) (cell : CellView) (symbol : List ℕ) {a b : List ℕ} → 0 < columns → IsSpot columns spot → can_begin columns spot.place cell ≡ true →
-    is_disputed cell.symbol ≡ true → symbol ≡ cell.symbol → b ≡ a ++ bytes_of (parted_controls spot.row spot.column symbol) → Wrote a b (PrintsLast columns spot.place cell)
+pub Wrote-disputed : (columns : ℕ) (spot : Spot) (cell : CellView) (symbol : List ℕ) {a b : List ℕ} → 0 < columns → IsSpot columns spot → can_begin columns spot.index cell ≡ true →
+    is_disputed cell.symbol ≡ true → symbol ≡ cell.symbol → b ≡ a ++ bytes_of (parted_controls spot.row spot.column symbol) → Wrote a b (PrintsLast columns spot.index cell)
 Wrote-disputed columns spot cell symbol {a} {b} some is begins disputed is_symbol wrote = record {
-  controls = parted_controls (spot.place / columns) (spot.place % columns) cell.symbol;
+  controls = parted_controls (spot.index / columns) (spot.index % columns) cell.symbol;
   bytes =
       wrote
       ∙ ap (λ row. a ++ bytes_of (parted_controls row spot.column symbol)) (sym (row-of columns spot some is))
-      ∙ ap (λ column. a ++ bytes_of (parted_controls (spot.place / columns) column symbol)) (sym (column-of columns spot some is))
-      ∙ ap (λ text. a ++ bytes_of (parted_controls (spot.place / columns) (spot.place % columns) text)) is_symbol;
-  with_ranges = disputed-last columns spot.place cell some begins disputed;
+      ∙ ap (λ column. a ++ bytes_of (parted_controls (spot.index / columns) column symbol)) (sym (column-of columns spot some is))
+      ∙ ap (λ text. a ++ bytes_of (parted_controls (spot.index / columns) (spot.index % columns) text)) is_symbol;
+  with_ranges = disputed-last columns spot.index cell some begins disputed;
 }
 
-pub Wrote-agreed : (columns place : ℕ) (cell : CellView) (symbol : List ℕ) {a b : List ℕ} → can_begin columns place cell ≡ true → is_disputed cell.symbol ≡ false → symbol ≡ cell.symbol →
-    b ≡ a ++ symbol → Wrote a b (PrintsLast columns place cell)
-Wrote-agreed columns place cell symbol {a} {b} begins agreed is_symbol wrote =
-    Wrote-one (Print cell.symbol) (wrote ∙ ap (λ text. a ++ text) is_symbol) (agreed-last columns place cell begins agreed)
+pub Wrote-agreed : (columns index : ℕ) (cell : CellView) (symbol : List ℕ) {a b : List ℕ} → can_begin columns index cell ≡ true → is_disputed cell.symbol ≡ false → symbol ≡ cell.symbol →
+    b ≡ a ++ symbol → Wrote a b (PrintsLast columns index cell)
+Wrote-agreed columns index cell symbol {a} {b} begins agreed is_symbol wrote =
+    Wrote-one (Print cell.symbol) (wrote ∙ ap (λ text. a ++ text) is_symbol) (agreed-last columns index cell begins agreed)

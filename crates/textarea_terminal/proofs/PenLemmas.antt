@@ -1,7 +1,7 @@
 -- Renditions and their bytes, one after another; and that the renditions of a look give it to a pen
 -- that was reset.
 use Rattle.std.proofs.Common.{◌≡◌, ℕ, ◌<◌, ◌≤◌, ◌-◌, arith, leb, Bool, true, false, ◌==◌, List, [], ◌∷◌, ◌++◌, refl, sym, ap, ◌∙◌, append_assoc, add-one, ◌+◌, cond, get_or, drop, length}
-use Rattle.std.specs.Fmt.{decimal}
+use Rattle.std.specs.Prelude.{codes, decimal}
 use Rattle.std.proofs.Math.Seq.{drop-cons}
 use Rattle.std.proofs.lemmas.List.{append-nil}
 use Rattle.std.proofs.lemmas.Bool.{eqb-true, cond-true, le-leb, leb-true}
@@ -9,9 +9,10 @@ use Rattle.std.proofs.lemmas.Bool.Decides.{nat_tests}
 use Rattle.textarea_screen.specs.declared.screen.color.Color.{Color}
 use Rattle.textarea_screen.specs.declared.screen.color.Color.TheVariants.{Reset, Rgb, Indexed}
 use Rattle.textarea_screen.specs.declared.screen.modifier.Modifier.{Modifier}
-use Rattle.textarea_terminal.specs.Control.{bytes_of, control_bytes}
+use Rattle.textarea_terminal.specs.Control.{bytes_of, control_bytes, introducer}
 use Rattle.textarea_terminal.specs.Control.Control.{SetPen}
-use Rattle.textarea_terminal.specs.Pen.{Rendition, plain_look, rendered, rendered_all, renditions_bytes, color_bytes, has_modifier, added, all_numbers, foreground, background, before_background, renditions_of, color_parameters, rendition_parameters, parameter_count, first_read, fits_one_control}
+use Rattle.textarea_terminal.specs.Pen.{Rendition, plain_look, rendered, rendered_all, renditions_bytes, color_bytes, has_modifier, added, all_numbers, foreground, background, before_background}
+use Rattle.textarea_terminal.specs.Pen.{renditions_of, color_parameters, rendition_parameters, parameter_count, first_read, fits_one_control}
 use Rattle.textarea_terminal.specs.Pen.Rendition.{Add, Background}
 use Rattle.textarea_terminal.specs.PenControls.{pen_controls}
 use Rattle.textarea_terminal.specs.declared.output.look.Look.{Look}
@@ -114,15 +115,15 @@ pen-bytes-one look before opened modified fore back closed modifiers fg bg a b c
     let one = SetPen-bytes look before opened modified fore back closed a b c d e in
     rw (fits-by-count look modifiers fg bg m f g fit) (one ∙ ap (λ more. before ++ more) (sym (append-nil (control_bytes (SetPen (renditions_of look))))))
 
-pub pen-bytes-two : (look : Look) (before opened modified fore parted back closed : List ℕ) (modifiers fg bg : ℕ) → opened ≡ before ++ 27 ∷ 91 ∷ 48 ∷ [] →
+pub pen-bytes-two : (look : Look) (before opened modified fore back closed : List ℕ) (modifiers fg bg : ℕ) → opened ≡ before ++ 27 ∷ 91 ∷ 48 ∷ [] →
     modified ≡ opened ++ renditions_bytes (added look.modifier all_numbers) → fore ≡ modified ++ renditions_bytes (foreground look.fg) →
-    parted ≡ fore ++ 109 ∷ 27 ∷ 91 ∷ [] → back ≡ parted ++ color_bytes 40 look.bg → closed ≡ back ++ 109 ∷ [] →
+    back ≡ fore ++ codes "m" ++ introducer ++ color_bytes 40 look.bg → closed ≡ back ++ 109 ∷ [] →
     modifiers ≡ parameter_count (added look.modifier all_numbers) → fg ≡ parameter_count (foreground look.fg) →
     bg ≡ parameter_count (background look.bg) → 15 < modifiers + fg + bg →
     closed ≡ before ++ bytes_of (pen_controls look)
-pen-bytes-two look before opened modified fore parted back closed modifiers fg bg a b c d e k m f g past =
+pen-bytes-two look before opened modified fore back closed modifiers fg bg a b c d e m f g past =
     rw (no-fit-by-count look modifiers fg bg m f g past)
-    (rw (k, e, d, c, b, a, renditions_bytes-append (added look.modifier all_numbers) (foreground look.fg)) (simp (append_assoc, append-nil)))
+    (rw (e, d, c, b, a, renditions_bytes-append (added look.modifier all_numbers) (foreground look.fg)) (simp (append_assoc, append-nil)))
 
 -- ---- the pen
 

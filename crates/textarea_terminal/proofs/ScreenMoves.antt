@@ -1,5 +1,6 @@
 -- The steps of painting a cell, one after another.
-use Rattle.std.proofs.Common.{inl, inr, ◌≡◌, ℕ, ◌+◌, ◌-◌, ◌*◌, ◌/◌, ◌%◌, ◌<◌, ◌≤◌, true, false, not, Bool, ◌&&◌, eqb, eq-eqb, true≢false, length, take, drop, replicate, List, [], ◌∷◌, ◌++◌, Option, Some, None, ap, subst, sym, ◌∙◌, refl, arith, ltb, leb, append_assoc}
+use Rattle.std.proofs.Common.{inl, inr, ◌≡◌, ℕ, ◌+◌, ◌-◌, ◌*◌, ◌/◌, ◌%◌, ◌<◌, ◌≤◌, true, false, not, Bool, ◌&&◌, eqb, eq-eqb, true≢false, length, take, drop, replicate, List, [], ◌∷◌, ◌++◌, Option}
+use Rattle.std.proofs.Common.{Some, None, ap, subst, sym, ◌∙◌, refl, arith, ltb, leb, append_assoc}
 use Rattle.std.specs.Option.{option_eq}
 use mathlib.Core.Bool.{beq}
 use Rattle.std.proofs.lemmas.Bool.{cond-true, and_parts, leb-true, lt-ltb, le-leb}
@@ -19,40 +20,40 @@ use Rattle.textarea_terminal.proofs.ControlLemmas.{run-append, bytes_of-append, 
 use Rattle.textarea_terminal.proofs.PaintFrames.{columns-some}
 use Rattle.textarea_terminal.proofs.SettledLemmas.{Shown, agreed-length}
 
-pub move-there : (terminal : Terminal) (columns place : ℕ) → 0 < columns → terminal.columns ≡ columns → is_plain terminal.modes ≡ true → place < length terminal.cells →
-    apply_control (MoveTo (place / columns) (place % columns)) terminal ≡ record terminal { cursor = Some place }
-move-there terminal columns place some same modes within =
-    let there : place / columns * terminal.columns + place % columns ≡ place = rw same (omega arith) in
-    let in_row : place % columns < terminal.columns = rw same (omega arith) in
-    let on_screen : place / columns * terminal.columns + place % columns < length terminal.cells = rw there within in
+pub move-there : (terminal : Terminal) (columns index : ℕ) → 0 < columns → terminal.columns ≡ columns → is_plain terminal.modes ≡ true → index < length terminal.cells →
+    apply_control (MoveTo (index / columns) (index % columns)) terminal ≡ record terminal { cursor = Some index }
+move-there terminal columns index some same modes within =
+    let there : index / columns * terminal.columns + index % columns ≡ index = rw same (omega arith) in
+    let in_row : index % columns < terminal.columns = rw same (omega arith) in
+    let on_screen : index / columns * terminal.columns + index % columns < length terminal.cells = rw there within in
     ap (λ (cursor : Option ℕ). record terminal { cursor = cursor })
-    (cond-true (is_plain terminal.modes && ltb (place % columns) terminal.columns && ltb (place / columns * terminal.columns + place % columns) (length terminal.cells))
-    (Some (place / columns * terminal.columns + place % columns)) None (rw modes (grind (arith, nat_tests, in_row, on_screen)))
+    (cond-true (is_plain terminal.modes && ltb (index % columns) terminal.columns && ltb (index / columns * terminal.columns + index % columns) (length terminal.cells))
+    (Some (index / columns * terminal.columns + index % columns)) None (rw modes (grind (arith, nat_tests, in_row, on_screen)))
     ∙ ap Some there)
 
 -- a cluster's cells are printed at the cursor, if they end in the row
-pub print-fits : (terminal : Terminal) (place : ℕ) (text : List ℕ) (cells : List CellView) → terminal.cursor ≡ Some place → cluster_cells terminal.shown_as terminal.pen text ≡ cells →
-    is_plain terminal.modes ≡ true → 0 < cluster_columns text → place % terminal.columns + length cells ≤ terminal.columns →
+pub print-fits : (terminal : Terminal) (index : ℕ) (text : List ℕ) (cells : List CellView) → terminal.cursor ≡ Some index → cluster_cells terminal.shown_as terminal.pen text ≡ cells →
+    is_plain terminal.modes ≡ true → 0 < cluster_columns text → index % terminal.columns + length cells ≤ terminal.columns →
     apply_control (Print text) terminal ≡ record terminal {
-      cells = printed (rest_of terminal.rest_look terminal.pen) cells (take place terminal.cells) (drop place terminal.cells);
-      cursor = cursor_after terminal.columns (place + length cells);
+      cells = printed (rest_of terminal.rest_look terminal.pen) cells (take index terminal.cells) (drop index terminal.cells);
+      cursor = cursor_after terminal.columns (index + length cells);
     }
-print-fits terminal place text cells at are modes some fits =
+print-fits terminal index text cells at are modes some fits =
     let done : Terminal = record terminal {
-      cells = printed (rest_of terminal.rest_look terminal.pen) cells (take place terminal.cells) (drop place terminal.cells);
-      cursor = cursor_after terminal.columns (place + length cells);
+      cells = printed (rest_of terminal.rest_look terminal.pen) cells (take index terminal.cells) (drop index terminal.cells);
+      cursor = cursor_after terminal.columns (index + length cells);
     } in
-    let test : (is_plain terminal.modes && ltb 0 (cluster_columns text) && leb (place % terminal.columns + length cells) terminal.columns) ≡ true =
-    rw (modes, lt-ltb 0 (cluster_columns text) some, le-leb (place % terminal.columns + length cells) terminal.columns fits) refl in
+    let test : (is_plain terminal.modes && ltb 0 (cluster_columns text) && leb (index % terminal.columns + length cells) terminal.columns) ≡ true =
+    rw (modes, lt-ltb 0 (cluster_columns text) some, le-leb (index % terminal.columns + length cells) terminal.columns fits) refl in
     ap (λ unit. print_at unit (ltb 0 (cluster_columns text)) terminal.cursor terminal) are
     ∙ ap (λ at. print_at cells (ltb 0 (cluster_columns text)) at terminal) at
-    ∙ cond-true (is_plain terminal.modes && ltb 0 (cluster_columns text) && leb (place % terminal.columns + length cells) terminal.columns) done (unknown terminal) test
+    ∙ cond-true (is_plain terminal.modes && ltb 0 (cluster_columns text) && leb (index % terminal.columns + length cells) terminal.columns) done (unknown terminal) test
 
-pub columns-fit : (columns place : ℕ) (cell : CellView) → can_begin columns place cell ≡ true → place % columns + cluster_columns cell.symbol ≤ columns
-columns-fit columns place cell begins =
+pub columns-fit : (columns index : ℕ) (cell : CellView) → can_begin columns index cell ≡ true → index % columns + cluster_columns cell.symbol ≤ columns
+columns-fit columns index cell begins =
     let width = cluster_columns cell.symbol in
-    let room = (and_parts (ltb 0 width && leb (place % columns + width) columns) (ltb cell.modifier.0 512) begins).0 in
-    leb-true (place % columns + width) columns (and_parts (ltb 0 width) (leb (place % columns + width) columns) room).1
+    let room = (and_parts (ltb 0 width && leb (index % columns + width) columns) (ltb cell.modifier.0 512) begins).0 in
+    leb-true (index % columns + width) columns (and_parts (ltb 0 width) (leb (index % columns + width) columns) room).1
 
 agreed-settled : (shown_as : Shown) (cell : CellView) → 0 < cluster_columns cell.symbol → is_disputed cell.symbol ≡ false →
     settled_cells shown_as cell ≡ cluster_cells shown_as (look_of cell) cell.symbol
@@ -62,26 +63,26 @@ agreed-settled shown_as cell some agreed =
     ap (λ n. cells ++ replicate n (in_look (look_of cell) (32 ∷ []))) none ∙ append-nil cells
 
 -- a cluster that isn't disputed is printed at the cursor
-print-there : (terminal : Terminal) (columns place : ℕ) (cell : CellView) → terminal.columns ≡ columns → is_plain terminal.modes ≡ true → can_begin columns place cell ≡ true →
+print-there : (terminal : Terminal) (columns index : ℕ) (cell : CellView) → terminal.columns ≡ columns → is_plain terminal.modes ≡ true → can_begin columns index cell ≡ true →
     is_disputed cell.symbol ≡ false →
-    apply_control (Print cell.symbol) (record terminal { is_updating = true; cursor = Some place; pen = look_of cell }) ≡ with_cell columns place cell terminal
-print-there terminal columns place cell same modes begins agreed =
-    let three : Terminal = record terminal { is_updating = true; cursor = Some place; pen = look_of cell } in
-    let some = columns-some columns place cell begins in
+    apply_control (Print cell.symbol) (record terminal { is_updating = true; cursor = Some index; pen = look_of cell }) ≡ with_cell columns index cell terminal
+print-there terminal columns index cell same modes begins agreed =
+    let three : Terminal = record terminal { is_updating = true; cursor = Some index; pen = look_of cell } in
+    let some = columns-some columns index cell begins in
     let cells = cluster_cells terminal.shown_as (look_of cell) cell.symbol in
     let long : length cells ≡ cluster_columns cell.symbol = agreed-length terminal.shown_as (look_of cell) cell.symbol some agreed in
     let whole : settled_cells terminal.shown_as cell ≡ cells = agreed-settled terminal.shown_as cell some agreed in
-    let fits : place % terminal.columns + length cells ≤ terminal.columns = rw (same, long) (columns-fit columns place cell begins) in
-    print-fits three place cell.symbol cells refl refl modes some fits
+    let fits : index % terminal.columns + length cells ≤ terminal.columns = rw (same, long) (columns-fit columns index cell begins) in
+    print-fits three index cell.symbol cells refl refl modes some fits
     ∙ ap (λ (unit : List CellView). record terminal {
-      cells = printed (rest_of terminal.rest_look (look_of cell)) unit (take place terminal.cells) (drop place terminal.cells);
-      cursor = cursor_after terminal.columns (place + length cells);
+      cells = printed (rest_of terminal.rest_look (look_of cell)) unit (take index terminal.cells) (drop index terminal.cells);
+      cursor = cursor_after terminal.columns (index + length cells);
       pen = look_of cell;
       is_updating = true;
     }) (sym whole)
     ∙ ap (λ (n : ℕ). record terminal {
-      cells = printed (rest_of terminal.rest_look (look_of cell)) (settled_cells terminal.shown_as cell) (take place terminal.cells) (drop place terminal.cells);
-      cursor = cursor_after n (place + length cells);
+      cells = printed (rest_of terminal.rest_look (look_of cell)) (settled_cells terminal.shown_as cell) (take index terminal.cells) (drop index terminal.cells);
+      cursor = cursor_after n (index + length cells);
       pen = look_of cell;
       is_updating = true;
     }) same
@@ -90,19 +91,19 @@ needed-once : (pen : Option Look) (look : Look) (one all : ℕ) → IsNeeded pen
 needed-once pen look one all (inl known) same = inl (known.0, same ∙ known.1)
 needed-once pen look one all (inr other) same = inr (other.0, same ∙ other.1)
 
-pub agreed-last : (columns place : ℕ) (cell : CellView) → can_begin columns place cell ≡ true → is_disputed cell.symbol ≡ false → PrintsLast columns place cell (Print cell.symbol ∷ [])
-agreed-last columns place cell begins agreed = record {
+pub agreed-last : (columns index : ℕ) (cell : CellView) → can_begin columns index cell ≡ true → is_disputed cell.symbol ≡ false → PrintsLast columns index cell (Print cell.symbol ∷ [])
+agreed-last columns index cell begins agreed = record {
   prints = rw agreed refl;
-  brings = λ terminal modes family same within whole. print-there terminal columns place cell same modes begins agreed;
+  brings = λ terminal modes family same within whole. print-there terminal columns index cell same modes begins agreed;
   moves = rw agreed refl;
   pens = refl;
 }
 
 -- an update is begun, the cursor is moved, the pen is changed, and the cluster is printed
-pub prints-cell : (brush : Brush) (columns place : ℕ) (cell : CellView) (begin move take last : List Control) → PrintsLast columns place cell last →
-    BeginsUpdate brush.is_updating begin → MovesTo brush.at columns place move → TakesLook brush.pen (look_of cell) take →
-    PrintsCell brush columns place cell (begin ++ (move ++ (take ++ last)))
-prints-cell brush columns place cell begin move take last done begun moved consumed = (
+pub prints-cell : (brush : Brush) (columns index : ℕ) (cell : CellView) (begin move take last : List Control) → PrintsLast columns index cell last →
+    BeginsUpdate brush.is_updating begin → MovesTo brush.at columns index move → TakesLook brush.pen (look_of cell) take →
+    PrintsCell brush columns index cell (begin ++ (move ++ (take ++ last)))
+prints-cell brush columns index cell begin move take last done begun moved consumed = (
   rw (
     prints_of-append begin (move ++ (take ++ last)),
     prints_of-append move (take ++ last),
@@ -113,7 +114,7 @@ prints-cell brush columns place cell begin move take last done begun moved consu
   ) done.prints,
   λ terminal knows same within whole.
       let one : Terminal = record terminal { is_updating = true } in
-      let two : Terminal = record one { cursor = Some place } in
+      let two : Terminal = record one { cursor = Some index } in
       run-append begin (move ++ (take ++ last)) terminal
       ∙ ap (run (move ++ (take ++ last))) (begun.1 terminal knows.updating)
       ∙ run-append move (take ++ last) one
@@ -133,21 +134,21 @@ written-four a b c d e xs ys zs last first second third fourth =
     rw (fourth, third, second, first) (simp (bytes_of-append, append_assoc))
 
 -- the same as bytes
-pub Wrote-cell : (brush : Brush) (columns place : ℕ) (cell : CellView) (look : Look) → look ≡ look_of cell → {a b c d e : List ℕ} → Wrote a b (BeginsUpdate brush.is_updating) →
-    Wrote b c (MovesTo brush.at columns place) → Wrote c d (TakesLook brush.pen look) → Wrote d e (PrintsLast columns place cell) → Wrote a e (PrintsCell brush columns place cell)
-Wrote-cell brush columns place cell look is_look {a} {b} {c} {d} {e} begun moved consumed done =
+pub Wrote-cell : (brush : Brush) (columns index : ℕ) (cell : CellView) (look : Look) → look ≡ look_of cell → {a b c d e : List ℕ} → Wrote a b (BeginsUpdate brush.is_updating) →
+    Wrote b c (MovesTo brush.at columns index) → Wrote c d (TakesLook brush.pen look) → Wrote d e (PrintsLast columns index cell) → Wrote a e (PrintsCell brush columns index cell)
+Wrote-cell brush columns index cell look is_look {a} {b} {c} {d} {e} begun moved consumed done =
     let Takes : Look → Type 0 = λ l. TakesLook brush.pen l consumed.controls in
     record {
       controls = begun.controls ++ (moved.controls ++ (consumed.controls ++ done.controls));
       bytes = written-four a b c d e begun.controls moved.controls consumed.controls done.controls begun.bytes moved.bytes consumed.bytes done.bytes;
-      with_ranges = prints-cell brush columns place cell begun.controls moved.controls consumed.controls done.controls done.with_ranges begun.with_ranges moved.with_ranges (subst Takes is_look consumed.with_ranges);
+      with_ranges = prints-cell brush columns index cell begun.controls moved.controls consumed.controls done.controls done.with_ranges begun.with_ranges moved.with_ranges (subst Takes is_look consumed.with_ranges);
     }
 
 -- ---- tests of what is known
 
-pub not-there : (at : Option ℕ) (place : ℕ) (differs : Bool) → differs ≡ not (option_eq eqb at (Some place)) → differs ≡ true → at ≡ Some place → ⊥
-not-there at place differs test other there =
-    let same : option_eq eqb at (Some place) ≡ true = rw there (eq-eqb place place refl) in
+pub not-there : (at : Option ℕ) (index : ℕ) (differs : Bool) → differs ≡ not (option_eq eqb at (Some index)) → differs ≡ true → at ≡ Some index → ⊥
+not-there at index differs test other there =
+    let same : option_eq eqb at (Some index) ≡ true = rw there (eq-eqb index index refl) in
     true≢false (sym other ∙ test ∙ ap not same)
 
 beq-same : (b : Bool) → beq b b ≡ true

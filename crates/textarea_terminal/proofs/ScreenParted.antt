@@ -73,16 +73,16 @@ printed-whole rest cells front back whole =
 
 -- ---- the cursor in a row
 
-column-next : (columns place : ℕ) → place % columns + 1 < columns → (place + 1) % columns ≡ place % columns + 1
-column-next columns place inside =
-    let at : place + 1 ≡ place / columns * columns + (place % columns + 1) = omega arith in
-    ap (λ p. p % columns) at ∙ mod-mul-add (place / columns) columns (place % columns + 1) inside
+column-next : (columns index : ℕ) → index % columns + 1 < columns → (index + 1) % columns ≡ index % columns + 1
+column-next columns index inside =
+    let at : index + 1 ≡ index / columns * columns + (index % columns + 1) = omega arith in
+    ap (λ p. p % columns) at ∙ mod-mul-add (index / columns) columns (index % columns + 1) inside
 
-cursor-next : (columns place : ℕ) → place % columns + 1 < columns → cursor_after columns (place + 1) ≡ Some (place + 1)
-cursor-next columns place inside =
-    let column = column-next columns place inside in
-    let not_first : ((place + 1) % columns == 0) ≡ false = rw column (grind (arith, nat_tests)) in
-    cond-false ((place + 1) % columns == 0) None (Some (place + 1)) not_first
+cursor-next : (columns index : ℕ) → index % columns + 1 < columns → cursor_after columns (index + 1) ≡ Some (index + 1)
+cursor-next columns index inside =
+    let column = column-next columns index inside in
+    let not_first : ((index + 1) % columns == 0) ≡ false = rw column (grind (arith, nat_tests)) in
+    cond-false ((index + 1) % columns == 0) None (Some (index + 1)) not_first
 
 -- ---- blanks that are printed one after another
 
@@ -93,42 +93,42 @@ with_blanks terminal front back count cursor = record terminal {
   cursor = cursor;
 }
 
-one-blank : (terminal : Terminal) (place : ℕ) (front back : List CellView) → terminal.cells ≡ front ++ back → length front ≡ place → begins_half back ≡ false →
-    terminal.cursor ≡ Some place → is_plain terminal.modes ≡ true → place % terminal.columns + 1 ≤ terminal.columns →
-    apply_control (Print (32 ∷ [])) terminal ≡ with_blanks terminal front back 1 (cursor_after terminal.columns (place + 1))
-one-blank terminal place front back is long whole at modes fits =
+one-blank : (terminal : Terminal) (index : ℕ) (front back : List CellView) → terminal.cells ≡ front ++ back → length front ≡ index → begins_half back ≡ false →
+    terminal.cursor ≡ Some index → is_plain terminal.modes ≡ true → index % terminal.columns + 1 ≤ terminal.columns →
+    apply_control (Print (32 ∷ [])) terminal ≡ with_blanks terminal front back 1 (cursor_after terminal.columns (index + 1))
+one-blank terminal index front back is long whole at modes fits =
     let blank = in_look terminal.pen (32 ∷ []) in
     let rest = rest_of terminal.rest_look terminal.pen in
     let some : 0 < cluster_columns (32 ∷ []) = omega (arith, cluster_columns-blank) in
-    let before : take place terminal.cells ≡ front = ap (take place) is ∙ take_at front back place long in
-    let after : drop place terminal.cells ≡ back = ap (drop place) is ∙ drop_at front back place long in
-    let cells : printed rest (blank ∷ []) (take place terminal.cells) (drop place terminal.cells) ≡ front ++ (blank ∷ mended rest (drop 1 back)) =
-    ap (λ b. printed rest (blank ∷ []) b (drop place terminal.cells)) before ∙ ap (printed rest (blank ∷ []) front) after
+    let before : take index terminal.cells ≡ front = ap (take index) is ∙ take_at front back index long in
+    let after : drop index terminal.cells ≡ back = ap (drop index) is ∙ drop_at front back index long in
+    let cells : printed rest (blank ∷ []) (take index terminal.cells) (drop index terminal.cells) ≡ front ++ (blank ∷ mended rest (drop 1 back)) =
+    ap (λ b. printed rest (blank ∷ []) b (drop index terminal.cells)) before ∙ ap (printed rest (blank ∷ []) front) after
     ∙ printed-whole rest (blank ∷ []) front back whole ∙ append_assoc front (blank ∷ []) (mended rest (drop 1 back)) in
-    print-fits terminal place (32 ∷ []) (blank ∷ []) at (blank-cells terminal.shown_as terminal.pen) modes some fits
-    ∙ ap (λ (all : List CellView). record terminal { cells = all; cursor = cursor_after terminal.columns (place + 1) }) cells
+    print-fits terminal index (32 ∷ []) (blank ∷ []) at (blank-cells terminal.shown_as terminal.pen) modes some fits
+    ∙ ap (λ (all : List CellView). record terminal { cells = all; cursor = cursor_after terminal.columns (index + 1) }) cells
 
-blanks-run : (count : ℕ) (terminal : Terminal) (place : ℕ) (front back : List CellView) → terminal.cells ≡ front ++ back → length front ≡ place → begins_half back ≡ false →
-    terminal.cursor ≡ Some place → is_plain terminal.modes ≡ true → place % terminal.columns + count ≤ terminal.columns →
+blanks-run : (count : ℕ) (terminal : Terminal) (index : ℕ) (front back : List CellView) → terminal.cells ≡ front ++ back → length front ≡ index → begins_half back ≡ false →
+    terminal.cursor ≡ Some index → is_plain terminal.modes ≡ true → index % terminal.columns + count ≤ terminal.columns →
     (cursor : Option ℕ) × (run (blank_prints count) terminal ≡ with_blanks terminal front back count cursor)
-blanks-run zero terminal place front back is long whole at modes fits =
+blanks-run zero terminal index front back is long whole at modes fits =
     let rest = rest_of terminal.rest_look terminal.pen in (
       terminal.cursor,
       ap (λ (cells : List CellView). record terminal { cells = cells }) (is ∙ ap (λ cells. front ++ cells) (sym (mended-whole rest (λ cell. refl) back whole))),
     )
-blanks-run (suc zero) terminal place front back is long whole at modes fits =
-    (cursor_after terminal.columns (place + 1), one-blank terminal place front back is long whole at modes (omega arith))
-blanks-run (suc (suc count)) terminal place front back is long whole at modes fits =
+blanks-run (suc zero) terminal index front back is long whole at modes fits =
+    (cursor_after terminal.columns (index + 1), one-blank terminal index front back is long whole at modes (omega arith))
+blanks-run (suc (suc count)) terminal index front back is long whole at modes fits =
     let rest = rest_of terminal.rest_look terminal.pen in
     let blank = in_look terminal.pen (32 ∷ []) in
-    let inside : place % terminal.columns + 1 < terminal.columns = omega arith in
-    let after : Terminal = with_blanks terminal front back 1 (cursor_after terminal.columns (place + 1)) in
-    let moved = cursor-next terminal.columns place inside in
-    let column = column-next terminal.columns place inside in
+    let inside : index % terminal.columns + 1 < terminal.columns = omega arith in
+    let after : Terminal = with_blanks terminal front back 1 (cursor_after terminal.columns (index + 1)) in
+    let moved = cursor-next terminal.columns index inside in
+    let column = column-next terminal.columns index inside in
     let left = mended rest (drop 1 back) in
     let grouped : front ++ (blank ∷ left) ≡ (front ++ blank ∷ []) ++ left = sym (append_assoc front (blank ∷ []) left) in
-    let longer : length (front ++ blank ∷ []) ≡ place + 1 = omega (arith, length-append front (blank ∷ [])) in
-    let more = blanks-run (suc count) after (place + 1) (front ++ blank ∷ []) left grouped longer (mended-begins rest (λ cell. refl) (drop 1 back)) moved modes (omega (arith, column)) in
+    let longer : length (front ++ blank ∷ []) ≡ index + 1 = omega (arith, length-append front (blank ∷ [])) in
+    let more = blanks-run (suc count) after (index + 1) (front ++ blank ∷ []) left grouped longer (mended-begins rest (λ cell. refl) (drop 1 back)) moved modes (omega (arith, column)) in
     let blanks = replicate (suc count) blank in
     let two_more : 1 + suc count ≡ suc (suc count) = omega arith in
     let again : drop (suc count) (drop 1 back) ≡ drop (suc (suc count)) back = drop-drop (suc count) 1 back ∙ ap (λ n. drop n back) two_more in
@@ -137,47 +137,47 @@ blanks-run (suc (suc count)) terminal place front back is long whole at modes fi
     let cells : (front ++ blank ∷ []) ++ (blanks ++ mended rest (drop (suc count) left)) ≡ front ++ (blank ∷ blanks ++ mended rest (drop (suc (suc count)) back)) =
     ap (λ tail. (front ++ blank ∷ []) ++ (blanks ++ tail)) dropped ∙ append_assoc front (blank ∷ []) (blanks ++ mended rest (drop (suc (suc count)) back)) in (
       more.0,
-      ap (run (blank_prints (suc count))) (one-blank terminal place front back is long whole at modes (omega arith)) ∙ more.1
+      ap (run (blank_prints (suc count))) (one-blank terminal index front back is long whole at modes (omega arith)) ∙ more.1
           ∙ ap (λ (all : List CellView). record terminal { cells = all; cursor = more.0 }) cells,
     )
 
 -- ---- the cluster
 
-pub disputed-last : (columns place : ℕ) (cell : CellView) → 0 < columns → can_begin columns place cell ≡ true → is_disputed cell.symbol ≡ true →
-    PrintsLast columns place cell (parted_controls (place / columns) (place % columns) cell.symbol)
-disputed-last columns place cell wide begins disputed =
+pub disputed-last : (columns index : ℕ) (cell : CellView) → 0 < columns → can_begin columns index cell ≡ true → is_disputed cell.symbol ≡ true →
+    PrintsLast columns index cell (parted_controls (index / columns) (index % columns) cell.symbol)
+disputed-last columns index cell wide begins disputed =
     let width = cluster_columns cell.symbol in
-    let some = columns-some columns place cell begins in
-    let last = MoveTo (place / columns) (place % columns) ∷ Print cell.symbol ∷ [] in
+    let some = columns-some columns index cell begins in
+    let last = MoveTo (index / columns) (index % columns) ∷ Print cell.symbol ∷ [] in
     record {
       prints = rw (disputed, prints_of-append (blank_prints width) last, prints_of-blanks width) refl;
       brings = λ terminal modes family same within whole.
           let look = look_of cell in
           let blank = in_look look (32 ∷ []) in
           let rest = rest_of terminal.rest_look look in
-          let front = take place terminal.cells in
-          let back = drop place terminal.cells in
-          let start : Terminal = record terminal { is_updating = true; cursor = Some place; pen = look } in
-          let long : length front ≡ place = length-take-le place terminal.cells (omega arith) in
-          let fits : place % terminal.columns + width ≤ terminal.columns = rw same (columns-fit columns place cell begins) in
-          let blanked = blanks-run width start place front back (sym (take-append-drop place terminal.cells)) long whole refl modes fits in
+          let front = take index terminal.cells in
+          let back = drop index terminal.cells in
+          let start : Terminal = record terminal { is_updating = true; cursor = Some index; pen = look } in
+          let long : length front ≡ index = length-take-le index terminal.cells (omega arith) in
+          let fits : index % terminal.columns + width ≤ terminal.columns = rw same (columns-fit columns index cell begins) in
+          let blanked = blanks-run width start index front back (sym (take-append-drop index terminal.cells)) long whole refl modes fits in
           let left = mended rest (drop width back) in
           let one : Terminal = with_blanks start front back width blanked.0 in
-          let two : Terminal = record one { cursor = Some place } in
-          let size : place < length one.cells =
+          let two : Terminal = record one { cursor = Some index } in
+          let size : index < length one.cells =
           omega (arith, long, some, length-append front (replicate width blank ++ left), length-append (replicate width blank) left, length-replicate width blank) in
           let cells = cluster_cells terminal.shown_as look cell.symbol in
           let few = cluster_cells-length terminal.shown_as look cell.symbol family some in
           let unit = settled_cells terminal.shown_as cell in
           let all = settled_cells-length terminal.shown_as cell family some in
           let after = replicate (width - length cells) blank in
-          let before_is : take place one.cells ≡ front = take_at front (replicate width blank ++ left) place long in
-          let after_is : drop place one.cells ≡ replicate width blank ++ left = drop_at front (replicate width blank ++ left) place long in
+          let before_is : take index one.cells ≡ front = take_at front (replicate width blank ++ left) index long in
+          let after_is : drop index one.cells ≡ replicate width blank ++ left = drop_at front (replicate width blank ++ left) index long in
           let dropped : drop (length cells) (replicate width blank ++ left) ≡ after ++ left =
           drop-append-le (length cells) (replicate width blank) left (omega (arith, few, length-replicate width blank)) ∙ ap (λ blanks. blanks ++ left) (drop-replicate (length cells) width blank) in
           let grouped : front ++ cells ++ (after ++ left) ≡ front ++ (cells ++ after) ++ left = simp append_assoc in
-          let shown : printed rest cells (take place one.cells) (drop place one.cells) ≡ printed rest unit front back =
-          ap (λ b. printed rest cells b (drop place one.cells)) before_is ∙ ap (printed rest cells front) after_is
+          let shown : printed rest cells (take index one.cells) (drop index one.cells) ≡ printed rest unit front back =
+          ap (λ b. printed rest cells b (drop index one.cells)) before_is ∙ ap (printed rest cells front) after_is
           ∙ printed-whole rest cells front (replicate width blank ++ left) (blanks-begin look width left some)
           ∙ ap (λ tail. front ++ cells ++ mended rest tail) dropped
           ∙ ap (λ tail. front ++ cells ++ tail) (blanks-mended rest (λ cell. refl) look (width - length cells) (drop width back))
@@ -186,10 +186,10 @@ disputed-last columns place cell wide begins disputed =
           ∙ sym (printed-whole rest unit front back whole) in
           run-append (blank_prints width) last start
           ∙ ap (run last) blanked.1
-          ∙ ap (run (Print cell.symbol ∷ [])) (move-there one columns place wide same modes size)
-          ∙ print-fits two place cell.symbol cells refl refl modes some (omega (arith, few, fits))
-          ∙ ap (λ (shown_cells : List CellView). record start { cells = shown_cells; cursor = cursor_after terminal.columns (place + length cells) }) shown
-          ∙ ap (λ (n : ℕ). record start { cells = printed rest unit front back; cursor = cursor_after n (place + length cells) }) same;
+          ∙ ap (run (Print cell.symbol ∷ [])) (move-there one columns index wide same modes size)
+          ∙ print-fits two index cell.symbol cells refl refl modes some (omega (arith, few, fits))
+          ∙ ap (λ (shown_cells : List CellView). record start { cells = shown_cells; cursor = cursor_after terminal.columns (index + length cells) }) shown
+          ∙ ap (λ (n : ℕ). record start { cells = printed rest unit front back; cursor = cursor_after n (index + length cells) }) same;
       moves = rw (disputed, moves_of-append (blank_prints width) last, moves_of-blanks width) refl;
       pens = rw (pens_of-append (blank_prints width) last, pens_of-blanks width) refl;
     }

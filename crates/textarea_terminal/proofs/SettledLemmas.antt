@@ -93,36 +93,32 @@ settled-length shown_as (shown ∷ first) [] = refl
 settled-length shown_as [] (cell ∷ cells) = ap suc (settled-length shown_as (drop 1 (settled_cells shown_as cell)) cells)
 settled-length shown_as (shown ∷ first) (cell ∷ cells) = ap suc (settled-length shown_as first cells)
 
-pub settled-none : (shown_as : Shown) (first : List CellView) → settled shown_as first [] ≡ []
-settled-none shown_as [] = refl
-settled-none shown_as (shown ∷ first) = refl
-
 rest-length : (shown_as : Shown) (cell : CellView) → IsOfFamily shown_as → 0 < cluster_columns cell.symbol → length (drop 1 (settled_cells shown_as cell)) ≡ cluster_columns cell.symbol - 1
 rest-length shown_as cell family some =
     length-drop 1 (settled_cells shown_as cell) ∙ ap (λ n. n - 1) (settled_cells-length shown_as cell family some)
 
 -- the halves after the first cell of a cluster are of the number that its terminal's cells have
-pub rest-whole : (shown_as : Shown) (columns place : ℕ) (cell : CellView) (cells : List CellView) → IsOfFamily shown_as → 0 < cluster_columns cell.symbol →
-    are_whole columns place (cluster_columns cell.symbol - 1) cells ≡ true → are_whole columns place (length (drop 1 (settled_cells shown_as cell))) cells ≡ true
-rest-whole shown_as columns place cell cells family some whole =
-    subst (λ n. are_whole columns place n cells ≡ true) (sym (rest-length shown_as cell family some)) whole
+pub rest-whole : (shown_as : Shown) (columns index : ℕ) (cell : CellView) (cells : List CellView) → IsOfFamily shown_as → 0 < cluster_columns cell.symbol →
+    are_whole columns index (cluster_columns cell.symbol - 1) cells ≡ true → are_whole columns index (length (drop 1 (settled_cells shown_as cell))) cells ≡ true
+rest-whole shown_as columns index cell cells family some whole =
+    subst (λ n. are_whole columns index n cells ≡ true) (sym (rest-length shown_as cell family some)) whole
 
 -- the cells from an index on
-pub settled-drop : (shown_as : Shown) → IsOfFamily shown_as → (columns count place : ℕ) (first cells : List CellView) → are_whole columns place (length first) cells ≡ true → count ≤ length cells →
-    (left : List CellView) × (are_whole columns (place + count) (length left) (drop count cells) ≡ true) × (drop count (settled shown_as first cells) ≡ settled shown_as left (drop count cells))
-settled-drop shown_as family columns zero place first cells whole within =
+pub settled-drop : (shown_as : Shown) → IsOfFamily shown_as → (columns count index : ℕ) (first cells : List CellView) → are_whole columns index (length first) cells ≡ true → count ≤ length cells →
+    (left : List CellView) × (are_whole columns (index + count) (length left) (drop count cells) ≡ true) × (drop count (settled shown_as first cells) ≡ settled shown_as left (drop count cells))
+settled-drop shown_as family columns zero index first cells whole within =
     (first, subst (λ p. are_whole columns p (length first) cells ≡ true) (omega arith) whole, refl)
-settled-drop shown_as family columns (suc count) place first [] whole within = absurd (omega arith)
-settled-drop shown_as family columns (suc count) place [] (cell ∷ cells) whole within =
-    let components = and_parts (can_begin columns place cell) (are_whole columns (place + 1) (cluster_columns cell.symbol - 1) cells) whole in
-    let some = columns-some columns place cell components.0 in
-    let at : place + 1 + count ≡ place + suc count = omega arith in
-    let dropped = settled-drop shown_as family columns count (place + 1) (drop 1 (settled_cells shown_as cell)) cells (rest-whole shown_as columns (place + 1) cell cells family some components.1) (omega arith) in
+settled-drop shown_as family columns (suc count) index first [] whole within = absurd (omega arith)
+settled-drop shown_as family columns (suc count) index [] (cell ∷ cells) whole within =
+    let components = and_parts (can_begin columns index cell) (are_whole columns (index + 1) (cluster_columns cell.symbol - 1) cells) whole in
+    let some = columns-some columns index cell components.0 in
+    let at : index + 1 + count ≡ index + suc count = omega arith in
+    let dropped = settled-drop shown_as family columns count (index + 1) (drop 1 (settled_cells shown_as cell)) cells (rest-whole shown_as columns (index + 1) cell cells family some components.1) (omega arith) in
     (dropped.0, subst (λ p. are_whole columns p (length dropped.0) (drop count cells) ≡ true) at dropped.1, dropped.2)
-settled-drop shown_as family columns (suc count) place (shown ∷ first) (cell ∷ cells) whole within =
-    let components = and_parts (is_plain_half cell) (are_whole columns (place + 1) (length first) cells) whole in
-    let at : place + 1 + count ≡ place + suc count = omega arith in
-    let dropped = settled-drop shown_as family columns count (place + 1) first cells components.1 (omega arith) in
+settled-drop shown_as family columns (suc count) index (shown ∷ first) (cell ∷ cells) whole within =
+    let components = and_parts (is_plain_half cell) (are_whole columns (index + 1) (length first) cells) whole in
+    let at : index + 1 + count ≡ index + suc count = omega arith in
+    let dropped = settled-drop shown_as family columns count (index + 1) first cells components.1 (omega arith) in
     (dropped.0, subst (λ p. are_whole columns p (length dropped.0) (drop count cells) ≡ true) at dropped.1, dropped.2)
 
 -- ---- erased cells
@@ -168,14 +164,14 @@ settled_cells-exact shown_as cell alike whole some =
     ap (λ n. cluster_cells shown_as (look_of cell) cell.symbol ++ replicate n (in_look (look_of cell) (32 ∷ []))) none
     ∙ append-nil (cluster_cells shown_as (look_of cell) cell.symbol) ∙ cells
 
-pub settled-exact : (shown_as : Shown) → CountsAlike shown_as → (columns place halves : ℕ) (cells : List CellView) → are_whole columns place halves cells ≡ true →
+pub settled-exact : (shown_as : Shown) → CountsAlike shown_as → (columns index halves : ℕ) (cells : List CellView) → are_whole columns index halves cells ≡ true →
     settled shown_as (replicate halves half) cells ≡ cells
-settled-exact shown_as alike columns place zero [] whole = refl
-settled-exact shown_as alike columns place (suc halves) [] whole = refl
-settled-exact shown_as alike columns place zero (cell ∷ cells) whole =
-    let components = and_parts (can_begin columns place cell) (are_whole columns (place + 1) (cluster_columns cell.symbol - 1) cells) whole in
-    let unit = settled_cells-exact shown_as cell alike (begins-whole columns place cell components.0) (columns-some columns place cell components.0) in
-    rw unit (ap (λ more. cell ∷ more) (settled-exact shown_as alike columns (place + 1) (cluster_columns cell.symbol - 1) cells components.1))
-settled-exact shown_as alike columns place (suc halves) (cell ∷ cells) whole =
-    let components = and_parts (is_plain_half cell) (are_whole columns (place + 1) halves cells) whole in
-    ap (λ more. half ∷ more) (settled-exact shown_as alike columns (place + 1) halves cells components.1) ∙ ap (λ first. first ∷ cells) (sym (half-is cell components.0))
+settled-exact shown_as alike columns index zero [] whole = refl
+settled-exact shown_as alike columns index (suc halves) [] whole = refl
+settled-exact shown_as alike columns index zero (cell ∷ cells) whole =
+    let components = and_parts (can_begin columns index cell) (are_whole columns (index + 1) (cluster_columns cell.symbol - 1) cells) whole in
+    let unit = settled_cells-exact shown_as cell alike (begins-whole columns index cell components.0) (columns-some columns index cell components.0) in
+    rw unit (ap (λ more. cell ∷ more) (settled-exact shown_as alike columns (index + 1) (cluster_columns cell.symbol - 1) cells components.1))
+settled-exact shown_as alike columns index (suc halves) (cell ∷ cells) whole =
+    let components = and_parts (is_plain_half cell) (are_whole columns (index + 1) halves cells) whole in
+    ap (λ more. half ∷ more) (settled-exact shown_as alike columns (index + 1) halves cells components.1) ∙ ap (λ first. first ∷ cells) (sym (half-is cell components.0))

@@ -15,7 +15,7 @@ digit_at (b ∷ bytes) = if is_digit b then Some (b - 48, bytes) else None
 abbrev pub number_limit : ℕ
 number_limit = 2097151
 
--- a size or a place, at most 65,535
+-- a size or a position, at most 65,535
 abbrev pub clamped : ℕ → ℕ
 clamped n = min 65535 n
 

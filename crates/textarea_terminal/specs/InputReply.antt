@@ -76,7 +76,7 @@ stripped_within (suc most) e (b ∷ bytes) =
 unfoldable pub stripped : Expected → List ℕ → Stripped
 stripped e bytes = stripped_within (length bytes) e bytes
 
--- A text is without replies that were expected: each of its bytes is kept, or is in a reply at that place.
+-- A text is without replies that were expected: each of its bytes is kept, or is in a reply at that position.
 pub data IsWithout : Expected → List ℕ → Stripped → Type 0 where
   at_end : (e : Expected) → IsWithout e [] (record { text = []; replies = []; expected = e })
   kept_byte : (e : Expected) (b : ℕ) (bytes : List ℕ) (s : Stripped) → IsWithout e bytes s → IsWithout e (b ∷ bytes) (with_byte b s)

@@ -57,11 +57,11 @@ BeginsUpdate is_updating controls =
 
 -- they move the cursor to the cell of an index, from this one if it is known
 abbrev pub MovesTo : Option ℕ → ℕ → ℕ → List Control → Type 0
-MovesTo at columns place controls =
+MovesTo at columns index controls =
     (prints_of controls ≡ [])
     × ((terminal : Terminal) → IfSome at (λ here. terminal.cursor ≡ Some here) → terminal.columns ≡ columns → is_plain terminal.modes ≡ true →
-    place < length terminal.cells → run controls terminal ≡ record terminal { cursor = Some place })
-    × (at ≡ Some place → controls ≡ [])
+    index < length terminal.cells → run controls terminal ≡ record terminal { cursor = Some index })
+    × (at ≡ Some index → controls ≡ [])
     × (moves_of controls ≤ 1) × (pens_of controls ≡ 0)
 
 -- the needed number of changes of the pen: those that give the look, or none if it is known to have
@@ -78,7 +78,7 @@ TakesLook pen look controls =
 
 -- the terminal is as the brush knows it
 pub record Knows (brush : Brush) (terminal : Terminal) : Type 0 where
-  pub cursor : IfSome brush.at (λ place. terminal.cursor ≡ Some place)
+  pub cursor : IfSome brush.at (λ index. terminal.cursor ≡ Some index)
   pub pen : IfSome brush.pen (λ look. terminal.pen ≡ look)
   pub updating : terminal.is_updating ≡ brush.is_updating
   pub modes : is_plain terminal.modes ≡ true
@@ -95,41 +95,41 @@ inner_moves cell = if is_disputed cell.symbol then 1 else 0
 
 -- the terminal with the cell's grapheme cluster printed at an index
 abbrev pub with_cell : ℕ → ℕ → CellView → Terminal → Terminal
-with_cell columns place cell terminal = record terminal {
-  cells = printed (rest_of terminal.rest_look (look_of cell)) (settled_cells terminal.shown_as cell) (take place terminal.cells) (drop place terminal.cells);
-  cursor = cursor_after columns (place + length (cluster_cells terminal.shown_as (look_of cell) cell.symbol));
+with_cell columns index cell terminal = record terminal {
+  cells = printed (rest_of terminal.rest_look (look_of cell)) (settled_cells terminal.shown_as cell) (take index terminal.cells) (drop index terminal.cells);
+  cursor = cursor_after columns (index + length (cluster_cells terminal.shown_as (look_of cell) cell.symbol));
   pen = look_of cell;
   is_updating = true;
 }
 
 -- where the cursor is known to be after that: after a disputed cluster it isn't known
 abbrev pub at_after : ℕ → ℕ → CellView → Option ℕ
-at_after columns place cell = if is_disputed cell.symbol then None else cursor_after columns (place + cluster_columns cell.symbol)
+at_after columns index cell = if is_disputed cell.symbol then None else cursor_after columns (index + cluster_columns cell.symbol)
 
 -- the known state after that
 abbrev pub brush_after : ℕ → ℕ → CellView → Brush
-brush_after columns place cell = record {
-  at = at_after columns place cell;
+brush_after columns index cell = record {
+  at = at_after columns index cell;
   pen = Some (look_of cell);
   is_updating = true;
 }
 
 -- controls that print the cell's cluster where the cursor is, with the pen that it needs
-pub record PrintsLast (columns place : ℕ) (cell : CellView) (last : List Control) : Type 0 where
+pub record PrintsLast (columns index : ℕ) (cell : CellView) (last : List Control) : Type 0 where
   pub prints : prints_of last ≡ texts_of cell
-  pub brings : (terminal : Terminal) → is_plain terminal.modes ≡ true → IsOfFamily terminal.shown_as → terminal.columns ≡ columns → place < length terminal.cells →
-      begins_half (drop place terminal.cells) ≡ false →
-      run last (record terminal { is_updating = true; cursor = Some place; pen = look_of cell }) ≡ with_cell columns place cell terminal
+  pub brings : (terminal : Terminal) → is_plain terminal.modes ≡ true → IsOfFamily terminal.shown_as → terminal.columns ≡ columns → index < length terminal.cells →
+      begins_half (drop index terminal.cells) ≡ false →
+      run last (record terminal { is_updating = true; cursor = Some index; pen = look_of cell }) ≡ with_cell columns index cell terminal
   pub moves : moves_of last ≡ inner_moves cell
   pub pens : pens_of last ≡ 0
 
 -- the controls print the cell's cluster at an index, where no cluster is covered in half
 abbrev pub PrintsCell : Brush → ℕ → ℕ → CellView → List Control → Type 0
-PrintsCell brush columns place cell controls =
+PrintsCell brush columns index cell controls =
     (prints_of controls ≡ texts_of cell)
-    × ((terminal : Terminal) → Knows brush terminal → terminal.columns ≡ columns → place < length terminal.cells → begins_half (drop place terminal.cells) ≡ false →
-    run controls terminal ≡ with_cell columns place cell terminal)
-    × (moves_of controls ≤ 1 + inner_moves cell) × (brush.at ≡ Some place → moves_of controls ≡ inner_moves cell)
+    × ((terminal : Terminal) → Knows brush terminal → terminal.columns ≡ columns → index < length terminal.cells → begins_half (drop index terminal.cells) ≡ false →
+    run controls terminal ≡ with_cell columns index cell terminal)
+    × (moves_of controls ≤ 1 + inner_moves cell) × (brush.at ≡ Some index → moves_of controls ≡ inner_moves cell)
     × IsNeeded brush.pen (look_of cell) (pens_of controls)
 
 -- the cell is as it was, or its cluster begins before it: nothing is written
@@ -138,16 +138,16 @@ pub record KeepsCell (before after : Brush) (old new : CellView) (controls : Lis
   pub brush : after ≡ before
 
 -- the cell has changed: it is printed
-pub record ChangesCell (before after : Brush) (columns place : ℕ) (old new : CellView) (controls : List Control) : Type 0 where
+pub record ChangesCell (before after : Brush) (columns index : ℕ) (old new : CellView) (controls : List Control) : Type 0 where
   pub whole : is_half new ≡ false
   pub changed : old ≢ new
-  pub prints : PrintsCell before columns place new controls
-  pub brush : after ≡ brush_after columns place new
+  pub prints : PrintsCell before columns index new controls
+  pub brush : after ≡ brush_after columns index new
 
 -- the next cell is written only if it has changed
 abbrev pub IsStep : Brush → Brush → ℕ → ℕ → CellView → CellView → List Control → Type 0
-IsStep before after columns place old new controls =
-    (((is_half new ≡ true) ⊎ (old ≡ new)) × KeepsCell before after old new controls) ⊎ ChangesCell before after columns place old new controls
+IsStep before after columns index old new controls =
+    (((is_half new ≡ true) ⊎ (old ≡ new)) × KeepsCell before after old new controls) ⊎ ChangesCell before after columns index old new controls
 
 -- ---- a frame
 
@@ -171,14 +171,14 @@ AreChanges olds news texts = ⊥
 -- the number of runs of changed clusters, each in one row; `follows` if the cluster before these
 -- cells has changed, and isn't disputed. A disputed cluster ends its run, and is one more.
 abbrev pub HasRuns : ℕ → ℕ → Bool → List CellView → List CellView → ℕ → Type 0
-HasRuns columns place follows [] [] runs = runs ≡ 0
-HasRuns columns place follows (old ∷ olds) (new ∷ news) runs =
-    ((is_half new ≡ true) × HasRuns columns (place + 1) follows olds news runs)
-    ⊎ (((is_half new ≡ false) × (old ≡ new) × HasRuns columns (place + 1) false olds news runs)
+HasRuns columns index follows [] [] runs = runs ≡ 0
+HasRuns columns index follows (old ∷ olds) (new ∷ news) runs =
+    ((is_half new ≡ true) × HasRuns columns (index + 1) follows olds news runs)
+    ⊎ (((is_half new ≡ false) × (old ≡ new) × HasRuns columns (index + 1) false olds news runs)
     ⊎ ((is_half new ≡ false) × (old ≢ new)
-    × ((later : ℕ) × (runs ≡ (if follows && not (place % columns == 0) then later else later + 1) + inner_moves new)
-    × HasRuns columns (place + 1) (not (is_disputed new.symbol)) olds news later)))
-HasRuns columns place follows olds news runs = ⊥
+    × ((later : ℕ) × (runs ≡ (if follows && not (index % columns == 0) then later else later + 1) + inner_moves new)
+    × HasRuns columns (index + 1) (not (is_disputed new.symbol)) olds news later)))
+HasRuns columns index follows olds news runs = ⊥
 
 -- the number of changes of the look among changed clusters, from the look of the pen on
 abbrev pub HasLooks : Option Look → List CellView → List CellView → ℕ → Type 0
@@ -211,7 +211,7 @@ pub record PaintedFrame : Type 0 where
 -- the cursor is shown at this index, or not shown
 abbrev pub IsCaret : Option ℕ → Terminal → Type 0
 IsCaret None terminal = terminal.has_visible_cursor ≡ false
-IsCaret (Some place) terminal = (terminal.has_visible_cursor ≡ true) × (terminal.cursor ≡ Some place)
+IsCaret (Some index) terminal = (terminal.has_visible_cursor ≡ true) × (terminal.cursor ≡ Some index)
 
 -- the terminal is one of the family, shows these cells as it does and this caret, and no update is
 -- open
@@ -292,12 +292,12 @@ EndsUpdate is_updating controls =
 -- the cursor is moved to the caret and shown, or hidden
 pub record PutsCaret (at : Option ℕ) (known : Option Bool) (width : ℕ) (caret : Option ℕ) (controls : List Control) : Type 0 where
   pub brings : (terminal : Terminal) → IfSome at (λ here. terminal.cursor ≡ Some here) → IfSome known (λ is_printed. terminal.has_visible_cursor ≡ is_printed) →
-      terminal.columns ≡ width → is_plain terminal.modes ≡ true → IfSome caret (λ place. place < length terminal.cells) →
+      terminal.columns ≡ width → is_plain terminal.modes ≡ true → IfSome caret (λ index. index < length terminal.cells) →
       run controls terminal ≡ record terminal { cursor = option_or caret terminal.cursor; has_visible_cursor = is_some caret }
   pub prints : prints_of controls ≡ []
   pub moves : moves_of controls ≤ 1
   pub pens : pens_of controls ≡ 0
-  pub still : known ≡ Some (is_some caret) → IfSome caret (λ place. at ≡ Some place) → controls ≡ []
+  pub still : known ≡ Some (is_some caret) → IfSome caret (λ index. at ≡ Some index) → controls ≡ []
 
 -- the cursor is moved to the caret or hidden, and then the update ends
 pub record Ends (brush : Brush) (known : Option Bool) (width : ℕ) (caret : Option ℕ) (controls : List Control) : Type 0 where
@@ -314,4 +314,4 @@ pub record PaintsFrame (brush : Brush) (known : Option Bool) (width : ℕ) (old 
   pub prints : AreChanges old frame.cells (prints_of controls)
   pub moves : (runs : ℕ) × (HasRuns width 0 false old frame.cells runs × (moves_of controls ≤ runs + 1))
   pub pens : (looks : ℕ) × (HasLooks brush.pen old frame.cells looks × (pens_of controls ≤ looks))
-  pub still : old ≡ frame.cells → known ≡ Some (is_some frame.caret) → IfSome frame.caret (λ place. brush.at ≡ Some place) → brush.is_updating ≡ false → controls ≡ []
+  pub still : old ≡ frame.cells → known ≡ Some (is_some frame.caret) → IfSome frame.caret (λ index. brush.at ≡ Some index) → brush.is_updating ≡ false → controls ≡ []

@@ -64,29 +64,29 @@ begins_empty (suc count) (cell ∷ cells) = is_half cell && begins_empty count c
 -- cells: the text is a cluster that ends in its row, and the texts of the cells that it covers are
 -- empty
 abbrev pub fits_in_row : ℕ → ℕ → CellView → List CellView → Bool
-fits_in_row columns place cell cells =
+fits_in_row columns index cell cells =
     nat_lt 0 (cluster_columns cell.symbol)
-    && nat_le (place % columns + cluster_columns cell.symbol) columns && begins_empty (cluster_columns cell.symbol - 1) cells
+    && nat_le (index % columns + cluster_columns cell.symbol) columns && begins_empty (cluster_columns cell.symbol - 1) cells
 
 -- cells, row after row, as a terminal with these colours shows them, from left to right: the next
 -- `halves` of them belong to a cluster that began before them
 abbrev pub displayed : Colors → ℕ → ℕ → ℕ → List CellView → List CellView
-displayed colors columns place halves [] = []
-displayed colors columns place (suc halves) (cell ∷ cells) = half ∷ displayed colors columns (place + 1) halves cells
-displayed colors columns place zero (cell ∷ cells) =
-    if fits_in_row columns place cell cells
-    then displayed_alike colors cell ∷ displayed colors columns (place + 1) (cluster_columns (shown_text cell.symbol) - 1) cells
-    else blanked colors cell ∷ displayed colors columns (place + 1) 0 cells
+displayed colors columns index halves [] = []
+displayed colors columns index (suc halves) (cell ∷ cells) = half ∷ displayed colors columns (index + 1) halves cells
+displayed colors columns index zero (cell ∷ cells) =
+    if fits_in_row columns index cell cells
+    then displayed_alike colors cell ∷ displayed colors columns (index + 1) (cluster_columns (shown_text cell.symbol) - 1) cells
+    else blanked colors cell ∷ displayed colors columns (index + 1) 0 cells
 
 -- the buffer's cell at an index in an area, counted row after row; a fresh one if the buffer has
 -- none
 abbrev pub cell_in : Rect → Buffer → ℕ → CellView
-cell_in area buffer place = unwrap_or (cell_at buffer (area.x + place % area.width) (area.y + place / area.width)) fresh_cell
+cell_in area buffer index = unwrap_or (cell_at buffer (area.x + index % area.width) (area.y + index / area.width)) fresh_cell
 
 -- a number of cells from an index on
 abbrev pub cells_from : Rect → Buffer → ℕ → ℕ → List CellView
-cells_from area buffer place zero = []
-cells_from area buffer place (suc count) = cell_in area buffer place ∷ cells_from area buffer (place + 1) count
+cells_from area buffer index zero = []
+cells_from area buffer index (suc count) = cell_in area buffer index ∷ cells_from area buffer (index + 1) count
 
 -- the cells that a terminal of these colours and this area shows of a buffer
 abbrev pub frame_of_buffer : Colors → Rect → Buffer → List CellView
@@ -104,13 +104,13 @@ is_plain_half cell = is_half cell && is_own cell.fg && is_own cell.bg && (cell.m
 -- a terminal of this number of columns can show the cluster that begins in this cell: it ends in
 -- its row
 abbrev pub can_begin : ℕ → ℕ → CellView → Bool
-can_begin columns place cell =
-    nat_lt 0 (cluster_columns cell.symbol) && nat_le (place % columns + cluster_columns cell.symbol) columns && nat_lt cell.modifier.0 512
+can_begin columns index cell =
+    nat_lt 0 (cluster_columns cell.symbol) && nat_le (index % columns + cluster_columns cell.symbol) columns && nat_lt cell.modifier.0 512
 
 -- the cells are those of clusters that a terminal of this number of columns can show, each whole in
 -- its row; the first `halves` of them belong to a cluster that began before them
 abbrev pub are_whole : ℕ → ℕ → ℕ → List CellView → Bool
-are_whole columns place halves [] = halves == 0
-are_whole columns place (suc halves) (cell ∷ cells) = is_plain_half cell && are_whole columns (place + 1) halves cells
-are_whole columns place zero (cell ∷ cells) =
-    can_begin columns place cell && are_whole columns (place + 1) (cluster_columns cell.symbol - 1) cells
+are_whole columns index halves [] = halves == 0
+are_whole columns index (suc halves) (cell ∷ cells) = is_plain_half cell && are_whole columns (index + 1) halves cells
+are_whole columns index zero (cell ∷ cells) =
+    can_begin columns index cell && are_whole columns (index + 1) (cluster_columns cell.symbol - 1) cells

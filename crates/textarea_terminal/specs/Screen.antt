@@ -98,7 +98,7 @@ cluster_cells shown_as look text =
 
 -- the cursor after printing up to an index: in the last column terminals differ
 abbrev pub cursor_after : ℕ → ℕ → Option ℕ
-cursor_after columns place = if place % columns == 0 then None else Some place
+cursor_after columns index = if index % columns == 0 then None else Some index
 
 -- a terminal whose content is unknown
 abbrev pub unknown : Terminal → Terminal
@@ -107,11 +107,11 @@ unknown terminal = record terminal { cells = []; cursor = None }
 -- a cluster that these cells show, printed at the cursor; in other modes it may do anything
 abbrev pub print_at : List CellView → Bool → Option ℕ → Terminal → Terminal
 print_at cells is_cluster None terminal = unknown terminal
-print_at cells is_cluster (Some place) terminal =
-    if is_plain terminal.modes && is_cluster && nat_le (place % terminal.columns + length cells) terminal.columns
+print_at cells is_cluster (Some index) terminal =
+    if is_plain terminal.modes && is_cluster && nat_le (index % terminal.columns + length cells) terminal.columns
     then record terminal {
-      cells = printed (rest_of terminal.rest_look terminal.pen) cells (take place terminal.cells) (drop place terminal.cells);
-      cursor = cursor_after terminal.columns (place + length cells);
+      cells = printed (rest_of terminal.rest_look terminal.pen) cells (take index terminal.cells) (drop index terminal.cells);
+      cursor = cursor_after terminal.columns (index + length cells);
     }
     else unknown terminal
 

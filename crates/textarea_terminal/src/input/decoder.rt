@@ -516,7 +516,7 @@ impl Decoder {
     ///
     /// Returns an error only if memory runs out, and then changes neither the decoder nor the
     /// events.
-    #[tactic(auto, unfolding(crate::specs::InputState::fed))]
+    #[tactic(auto, using(crate::proofs::InputStates::reading_begun, crate::proofs::InputStates::reading_few), unfolding(crate::specs::InputState::fed))]
     pub fn feed(&mut self, bytes: &[u8], events: &mut Vec<Event>) -> Result<(), AllocError>
         ensures state { OnOk result (self.new ≡ (fed self.old bytes.now).1) }
         ensures events { OnOk result (Adds events.old.items events.new.items

@@ -23,7 +23,7 @@ pub struct Parameters {
 
 const NUMBER_LIMIT: u32 = 2_097_151;
 
-/// A size or a place, at most 65,535.
+/// A size or a position, at most 65,535.
 pub fn clamped(number: u32) -> u16
     ensures { result ≡ clamped number }
 {

@@ -27,8 +27,9 @@ fn modified_key(number: u8, parameter: u8, last: u8) -> Option<Input>
     if number != 1 {
         return None;
     }
-    let key = letter_key(last)?;
-    Some(modified_input(key, u32::from(parameter)))
+    let lettered = letter_key(last)?;
+    let input = modified_input(lettered, u32::from(parameter));
+    Some(input)
 }
 
 // The key of a sequence by the bytes after `ESC [`, the digits of a number and a semicolon, and the
@@ -87,8 +88,8 @@ fn read_digits(digit: u8, bytes: &[u8]) -> Option<(Input, &[u8])>
         let (key, rest) = read_numbered(number, after)?;
         return Some((key, rest));
     }
-    let (key, rest) = read_numbered(digit - b'0', bytes)?;
-    Some((key, rest))
+    let (numbered, rest) = read_numbered(digit - b'0', bytes)?;
+    Some((numbered, rest))
 }
 
 // The key of a sequence by the bytes after `ESC [`, and the rest of the bytes.
@@ -101,8 +102,8 @@ fn read_bracketed(bytes: &[u8]) -> Option<(Input, &[u8])>
         let (key, others) = read_digits(*byte, rest)?;
         return Some((key, others));
     }
-    let key = letter_key(*byte)?;
-    Some((plain_input(key), rest))
+    let lettered = letter_key(*byte)?;
+    Some((plain_input(lettered), rest))
 }
 
 /// Returns the key of a short sequence by the bytes after its ESC, and the rest of the bytes.
@@ -120,8 +121,8 @@ pub fn read_short(bytes: &[u8]) -> Option<(Input, &[u8])>
         return None;
     }
     let (letter, rest) = after.split_first()?;
-    let key = letter_key(*letter)?;
-    Some((plain_input(key), rest))
+    let lettered = letter_key(*letter)?;
+    Some((plain_input(lettered), rest))
 }
 
 /// Returns the key at the front of bytes, if it is a character from a space to `~` or a short

@@ -22,7 +22,7 @@ pub(super) fn fresh_cells(alloc: Global, count: usize) -> Result<Vec<Cell>, Allo
 /// The index of the caret's cell in an area; `None` for a caret outside of it.
 pub(super) fn caret_in(area: Rect, caret: Option<Position>) -> Option<usize>
     ensures value { result ≡ caret_in area caret }
-    ensures bound { IfSome result (λ place. place < cell_count area) }
+    ensures bound { IfSome result (λ index. index < cell_count area) }
 {
     let position = caret?;
     if area.contains(position) {

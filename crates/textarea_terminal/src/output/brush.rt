@@ -48,12 +48,12 @@ pub(super) fn move_to(
     spot: Spot,
 ) -> Result<(), AllocError>
     requires columns { (0 < columns) × (columns < 2 ^ 16) }
-    requires place { spot.place < 2 ^ 32 }
+    requires index { spot.index < 2 ^ 32 }
     requires spot { IsSpot columns spot }
     ensures { OnOk result (Wrote bytes.old.items bytes.new.items
-        (MovesTo at columns spot.place)) }
+        (MovesTo at columns spot.index)) }
 {
-    if at != Some(spot.place) {
+    if at != Some(spot.index) {
         write_move(bytes, spot.row as u64, spot.column as u64)?;
     }
     Ok(())
@@ -89,15 +89,15 @@ fn take_look(bytes: &mut Vec<u8>, pen: &mut Option<Look>, look: Look) -> Result<
 /// The cursor after a grapheme cluster of `width` columns is printed. After the last column it
 /// isn't known.
 fn cursor_after(columns: usize, spot: Spot, width: usize) -> Option<usize>
-    requires place { spot.place < 2 ^ 32 }
+    requires index { spot.index < 2 ^ 32 }
     requires spot { IsSpot columns spot }
     requires width { (0 < width) × (spot.column + width ≤ columns) × (columns < 2 ^ 16) }
-    ensures { result ≡ cursor_after columns (spot.place + width) }
+    ensures { result ≡ cursor_after columns (spot.index + width) }
 {
     if spot.column + width == columns {
         None
     } else {
-        Some(spot.place + width)
+        Some(spot.index + width)
     }
 }
 
@@ -116,8 +116,8 @@ fn write_blanks(bytes: &mut Vec<u8>, count: usize) -> Result<(), AllocError>
 /// it is addressed again. Where the cursor is then isn't known.
 #[inline(never)]
 fn write_apart(bytes: &mut Vec<u8>, spot: Spot, symbol: &str) -> Result<(), AllocError>
-    requires place { spot.place < 2 ^ 32 }
-    requires row { spot.row ≤ spot.place }
+    requires index { spot.index < 2 ^ 32 }
+    requires row { spot.row ≤ spot.index }
     requires column { spot.column < 2 ^ 32 }
     ensures { OnOk result (bytes.new.items
         ≡ bytes.old.items ++ bytes_of (parted_controls spot.row spot.column symbol.now)) }
@@ -145,13 +145,13 @@ fn write_disputed(
     cell: &Cell,
 ) -> Result<(), AllocError>
     requires columns { (0 < columns) × (columns < 2 ^ 16) }
-    requires place { spot.place < 2 ^ 32 }
+    requires index { spot.index < 2 ^ 32 }
     requires spot { IsSpot columns spot }
-    requires begins { IsTrue (can_begin columns spot.place (cell_view cell.now)) }
+    requires begins { IsTrue (can_begin columns spot.index (cell_view cell.now)) }
     requires disputed { is_disputed (cell_view cell.now).symbol ≡ true }
-    ensures at { OnOk result (at_after columns spot.place (cell_view cell.now) ≡ None) }
+    ensures at { OnOk result (at_after columns spot.index (cell_view cell.now) ≡ None) }
     ensures wrote { OnOk result (Wrote bytes.old.items bytes.new.items
-        (PrintsLast columns spot.place (cell_view cell.now))) }
+        (PrintsLast columns spot.index (cell_view cell.now))) }
 {
     write_apart(bytes, spot, cell.symbol())?;
     Ok(())
@@ -166,16 +166,17 @@ fn write_agreed(
     cell: &Cell,
 ) -> Result<Option<usize>, AllocError>
     requires columns { (0 < columns) × (columns < 2 ^ 16) }
-    requires place { spot.place < 2 ^ 32 }
+    requires index { spot.index < 2 ^ 32 }
     requires spot { IsSpot columns spot }
-    requires begins { IsTrue (can_begin columns spot.place (cell_view cell.now)) }
+    requires begins { IsTrue (can_begin columns spot.index (cell_view cell.now)) }
     requires agreed { is_disputed (cell_view cell.now).symbol ≡ false }
-    ensures at { IfOk result (λ at. at ≡ at_after columns spot.place (cell_view cell.now)) }
+    ensures at { IfOk result (λ at. at ≡ at_after columns spot.index (cell_view cell.now)) }
     ensures wrote { OnOk result (Wrote bytes.old.items bytes.new.items
-        (PrintsLast columns spot.place (cell_view cell.now))) }
+        (PrintsLast columns spot.index (cell_view cell.now))) }
 {
-    write_symbol(bytes, cell.symbol())?;
-    let at = cursor_after(columns, spot, cluster_columns(cell.symbol()));
+    let symbol = cell.symbol();
+    write_symbol(bytes, symbol)?;
+    let at = cursor_after(columns, spot, cluster_columns(symbol));
     Ok(at)
 }
 
@@ -189,12 +190,12 @@ fn write_cluster(
     cell: &Cell,
 ) -> Result<(), AllocError>
     requires columns { (0 < columns) × (columns < 2 ^ 16) }
-    requires place { spot.place < 2 ^ 32 }
+    requires index { spot.index < 2 ^ 32 }
     requires spot { IsSpot columns spot }
-    requires begins { IsTrue (can_begin columns spot.place (cell_view cell.now)) }
-    ensures at { OnOk result (at.new ≡ at_after columns spot.place (cell_view cell.now)) }
+    requires begins { IsTrue (can_begin columns spot.index (cell_view cell.now)) }
+    ensures at { OnOk result (at.new ≡ at_after columns spot.index (cell_view cell.now)) }
     ensures wrote { OnOk result (Wrote bytes.old.items bytes.new.items
-        (PrintsLast columns spot.place (cell_view cell.now))) }
+        (PrintsLast columns spot.index (cell_view cell.now))) }
 {
     if is_disputed_cell(cell) {
         write_disputed(bytes, columns, spot, cell)?;
@@ -215,13 +216,13 @@ fn write_cell(
     cell: &Cell,
 ) -> Result<(), AllocError>
     requires columns { (0 < columns) × (columns < 2 ^ 16) }
-    requires place { spot.place < 2 ^ 32 }
+    requires index { spot.index < 2 ^ 32 }
     requires spot { IsSpot columns spot }
-    requires begins { IsTrue (can_begin columns spot.place (cell_view cell.now)) }
+    requires begins { IsTrue (can_begin columns spot.index (cell_view cell.now)) }
     ensures brush { OnOk result
-        (brush.new ≡ brush_after columns spot.place (cell_view cell.now)) }
+        (brush.new ≡ brush_after columns spot.index (cell_view cell.now)) }
     ensures wrote { OnOk result (Wrote bytes.old.items bytes.new.items
-        (PrintsCell brush.old columns spot.place (cell_view cell.now))) }
+        (PrintsCell brush.old columns spot.index (cell_view cell.now))) }
 {
     begin_update(bytes, brush.is_updating)?;
     brush.is_updating = true;
@@ -258,13 +259,13 @@ fn write_change(
     cell: &Cell,
 ) -> Result<(), AllocError>
     requires columns { (0 < columns) × (columns < 2 ^ 16) }
-    requires place { spot.place < 2 ^ 32 }
+    requires index { spot.index < 2 ^ 32 }
     requires spot { IsSpot columns spot }
     requires begins { is_half (cell_view cell.now) ≡ false
-        → IsTrue (can_begin columns spot.place (cell_view cell.now)) }
+        → IsTrue (can_begin columns spot.index (cell_view cell.now)) }
     ensures { OnOk result ((old : CellView) → IsTrue is_printed ↔ (old ≡ cell_view cell.now)
         → Wrote bytes.old.items bytes.new.items
-        (IsStep brush.old brush.new columns spot.place old (cell_view cell.now))) }
+        (IsStep brush.old brush.new columns spot.index old (cell_view cell.now))) }
 {
     if is_printed {
         return Ok(());
@@ -295,9 +296,9 @@ pub(super) fn write_cells(
 {
     let mut brush = start;
     let mut spot = Spot::first(columns);
-    for place in 0..new.len() {
-        let cell = &new[place];
-        let is_printed = is_alike(&old[place], cell);
+    for index in 0..new.len() {
+        let cell = &new[index];
+        let is_printed = is_alike(&old[index], cell);
         write_change(bytes, &mut brush, columns, spot, is_printed, cell)?;
         spot = spot.next(columns);
     }
@@ -320,8 +321,8 @@ pub(super) fn write_all_cells(
 {
     let mut brush = start;
     let mut spot = Spot::first(columns);
-    for place in 0..new.len() {
-        let cell = &new[place];
+    for index in 0..new.len() {
+        let cell = &new[index];
         let is_printed = is_fresh(cell);
         write_change(bytes, &mut brush, columns, spot, is_printed, cell)?;
         spot = spot.next(columns);

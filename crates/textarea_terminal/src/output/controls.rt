@@ -1,6 +1,6 @@
 //! The bytes of each control.
 ghost use Rattle.std.specs.Prelude.{◌≡◌, ℕ, ◌+◌, ◌<◌, ◌≤◌, ◌^◌, ◌++◌, OnOk, IfOk, [], ◌∷◌, codes, decimal};
-ghost use Rattle.textarea_terminal.specs.Control.{bytes_of, control_bytes};
+ghost use Rattle.textarea_terminal.specs.Control.{bytes_of, control_bytes, introducer};
 ghost use Rattle.textarea_terminal.specs.Control.Control.{MoveTo};
 ghost use Rattle.textarea_terminal.specs.PenControls.{pen_controls};
 ghost use Rattle.textarea_terminal.specs.Pen.{Rendition, renditions_bytes, parameter_count, added, all_numbers, foreground, background, color_bytes};
@@ -19,11 +19,9 @@ const MOST_PARAMETERS: u8 = 16;
 fn write_number(bytes: &mut Vec<u8>, number: u64) -> Result<(), AllocError>
     ensures { OnOk result (bytes.new.items ≡ bytes.old.items ++ decimal number) }
 {
-    if number < 10 {
-        bytes.push(b'0' + number as u8)?;
-        return Ok(());
+    if 10 <= number {
+        write_number(bytes, number / 10)?;
     }
-    write_number(bytes, number / 10)?;
     bytes.push(b'0' + (number % 10) as u8)?;
     Ok(())
 }
@@ -53,15 +51,24 @@ pub(super) fn write_pen(bytes: &mut Vec<u8>, look: Look) -> Result<(), AllocErro
     bytes.extend_from_slice(b"\x1b[0")?;
     let count = write_modifiers(bytes, look.modifier)?;
     write_foreground(bytes, look.fg)?;
-    if count + parameters(look.fg) + parameters(look.bg) <= MOST_PARAMETERS - 1 {
+    let in_foreground = parameters(look.fg);
+    let in_background = parameters(look.bg);
+    if count + in_foreground + in_background <= MOST_PARAMETERS - 1 {
         write_background(bytes, look.bg)?;
-        bytes.extend_from_slice(b"m")?;
-        return Ok(());
+    } else {
+        begin_background(bytes, look.bg)?;
     }
-    bytes.extend_from_slice(b"m\x1b[")?;
-    write_color(bytes, 40, look.bg)?;
-    bytes.extend_from_slice(b"m")?;
+    bytes.push(b'm')?;
     Ok(())
+}
+
+/// Ends the control of a pen, and begins one that gives it a background.
+fn begin_background(bytes: &mut Vec<u8>, color: Color) -> Result<(), AllocError>
+    ensures { OnOk result (bytes.new.items
+        ≡ bytes.old.items ++ codes "m" ++ introducer ++ color_bytes 40 color) }
+{
+    bytes.extend_from_slice(b"m\x1b[")?;
+    write_color(bytes, 40, color)
 }
 
 /// The number of parameters of a colour; 0 for the terminal's own, which a pen has after its reset.

@@ -44,8 +44,8 @@ pub(super) fn fill(
     let columns = usize::from(area.width);
     let mut halves = 0usize;
     let mut spot = Spot::first(columns);
-    for place in 0..cells.len() {
-        halves = fill_cell(alloc, &mut cells[place], colors, area, buffer, spot, halves)?;
+    for index in 0..cells.len() {
+        halves = fill_cell(alloc, &mut cells[index], colors, area, buffer, spot, halves)?;
         spot = spot.next(columns);
     }
     Ok(())
@@ -62,13 +62,13 @@ fn fill_cell(
     spot: Spot,
     halves: usize,
 ) -> Result<usize, AllocError>
-    requires place { spot.place < area.height * area.width }
+    requires index { spot.index < area.height * area.width }
     requires spot { IsSpot area.width spot }
-    ensures { IfOk result (λ left. displayed colors area.width spot.place halves
-        (cells_from area buffer.now spot.place (area.height * area.width - spot.place))
-        ≡ cell_view cell.new ∷ displayed colors area.width (spot.place + 1) left
-        (cells_from area buffer.now (spot.place + 1)
-        (area.height * area.width - (spot.place + 1)))) }
+    ensures { IfOk result (λ left. displayed colors area.width spot.index halves
+        (cells_from area buffer.now spot.index (area.height * area.width - spot.index))
+        ≡ cell_view cell.new ∷ displayed colors area.width (spot.index + 1) left
+        (cells_from area buffer.now (spot.index + 1)
+        (area.height * area.width - (spot.index + 1)))) }
 {
     if halves > 0 {
         show(alloc, cell, "", PLAIN)?;
@@ -81,7 +81,7 @@ fn fill_cell(
         let left = show_cluster(alloc, cell, source.symbol, look, columns)?;
         Ok(left)
     } else {
-        show(alloc, cell, " ", look)?;
+        show_blank(alloc, cell, look)?;
         Ok(0)
     }
 }
@@ -123,13 +123,21 @@ fn show_part(
     ensures left { IfOk result (λ left. left ≡ cluster_columns (shown_text symbol.now) - 1) }
 {
     let part = before_selector(alloc, symbol)?;
-    let part_columns = cluster_columns(part.as_str());
+    let text = part.as_str();
+    let part_columns = cluster_columns(text);
     if part_columns == 0 || part_columns > columns {
-        show(alloc, cell, " ", look)?;
+        show_blank(alloc, cell, look)?;
         return Ok(0);
     }
-    show(alloc, cell, part.as_str(), look)?;
+    show(alloc, cell, text, look)?;
     Ok(part_columns - 1)
+}
+
+/// Gives a cell a blank in a look.
+fn show_blank(alloc: Global, cell: &mut Cell, look: Look) -> Result<(), AllocError>
+    ensures { OnOk result (cell_view cell.new ≡ in_look look (32 ∷ [])) }
+{
+    show(alloc, cell, " ", look)
 }
 
 /// Gives a cell a text and a look.
@@ -171,9 +179,9 @@ fn one_intensity(bits: u16) -> u16
 
 /// The buffer's cell at a spot of an area; a fresh one if the buffer has none.
 fn source_at<'a>(buffer: &'a Buffer, area: Rect, spot: Spot) -> Source<'a>
-    requires place { spot.place < area.height * area.width }
+    requires index { spot.index < area.height * area.width }
     requires spot { IsSpot area.width spot }
-    ensures { in_look result.look result.symbol.now ≡ cell_in area buffer.entry.now spot.place }
+    ensures { in_look result.look result.symbol.now ≡ cell_in area buffer.entry.now spot.index }
 {
     let x = area.x + spot.column as u16;
     let y = area.y + spot.row as u16;
@@ -192,11 +200,11 @@ fn source_at<'a>(buffer: &'a Buffer, area: Rect, spot: Spot) -> Source<'a>
 /// Whether a terminal can show a cluster of this number of columns at a spot: it ends in its row,
 /// and the texts of the cells after its first are empty.
 fn can_show(buffer: &Buffer, area: Rect, spot: Spot, columns: usize) -> bool
-    requires place { spot.place < area.height * area.width }
+    requires index { spot.index < area.height * area.width }
     requires spot { IsSpot area.width spot }
-    ensures { result ≡ (nat_lt 0 columns && nat_le (spot.place % area.width + columns) area.width
-        && begins_empty (columns - 1) (cells_from area buffer.now (spot.place + 1)
-        (area.height * area.width - (spot.place + 1)))) }
+    ensures { result ≡ (nat_lt 0 columns && nat_le (spot.index % area.width + columns) area.width
+        && begins_empty (columns - 1) (cells_from area buffer.now (spot.index + 1)
+        (area.height * area.width - (spot.index + 1)))) }
 {
     if columns == 0 {
         return false;
@@ -204,7 +212,7 @@ fn can_show(buffer: &Buffer, area: Rect, spot: Spot, columns: usize) -> bool
     if columns > usize::from(area.width) - spot.column {
         return false;
     }
-    are_empty(buffer, area, spot.place + 1, columns - 1)
+    are_empty(buffer, area, spot.index + 1, columns - 1)
 }
 
 /// Whether the texts of `count` cells of the buffer are empty, from an index in the area on.
@@ -214,8 +222,8 @@ fn are_empty(buffer: &Buffer, area: Rect, from: usize, count: usize) -> bool
         (cells_from area buffer.now from (area.height * area.width - from)) }
 {
     let columns = usize::from(area.width);
-    for place in from..from + count {
-        let spot = Spot::new(place, columns);
+    for index in from..from + count {
+        let spot = Spot::new(index, columns);
         if !source_at(buffer, area, spot).symbol.is_empty() {
             return false;
         }

@@ -43,7 +43,9 @@ impl Painter {
         ensures colors { IfOk result (λ painter. painter_colors painter ≡ Colors.True) }
         ensures painted { IfOk result (λ painter. painted painter ≡ None) }
     {
-        let count = usize::from(area.height) * usize::from(area.width);
+        let rows = usize::from(area.height);
+        let columns = usize::from(area.width);
+        let count = rows * columns;
         let visible = fresh_cells(alloc, count)?;
         let next = fresh_cells(alloc, count)?;
         Ok(Painter {
@@ -90,11 +92,11 @@ impl Painter {
         ensures unpainted { OnErr result (painted self.new ≡ painted self.old) }
         ensures unwritten { OnErr result (out.new.items ≡ out.old.items) }
     {
-        let place = caret_in(self.area, caret);
+        let index = caret_in(self.area, caret);
         self.fill_next(buffer)?;
-        self.write(place)?;
+        self.write(index)?;
         out.extend_from_slice(self.bytes.as_slice())?;
-        self.swap_frames(place);
+        self.swap_frames(index);
         Ok(())
     }
 
@@ -153,7 +155,7 @@ impl Painter {
 
     /// Writes the bytes from the frame before to the next one.
     fn write(&mut self, caret: Option<usize>) -> Result<(), AllocError>
-        requires caret { IfSome caret (λ place. place < cell_count self.old.area) }
+        requires caret { IfSome caret (λ index. index < cell_count self.old.area) }
         requires whole { IsTrue
             (are_whole self.old.area.width 0 0 (map cell_view self.old.next.items)) }
         ensures area { self.new.area ≡ self.old.area }

@@ -5,7 +5,7 @@ ghost use Rattle.textarea_terminal.specs.PaintSpot.{IsSpot};
 /// The index of a terminal's cell, counted row after row, with its row and column.
 #[derive(Clone, Copy)]
 pub(super) struct Spot {
-    pub(super) place: usize,
+    pub(super) index: usize,
     pub(super) row: usize,
     pub(super) column: usize,
 }
@@ -13,47 +13,47 @@ pub(super) struct Spot {
 impl Spot {
     /// The first cell.
     pub(super) fn first(columns: usize) -> Spot
-        ensures place { result.place ≡ 0 }
+        ensures index { result.index ≡ 0 }
         ensures is { IsSpot columns result }
     {
         let _ = columns;
         Spot {
-            place: 0,
+            index: 0,
             row: 0,
             column: 0,
         }
     }
 
     /// The cell of an index, in rows of `columns` cells.
-    pub(super) fn new(place: usize, columns: usize) -> Spot
+    pub(super) fn new(index: usize, columns: usize) -> Spot
         requires { 0 < columns }
-        ensures place { result.place ≡ place }
+        ensures index { result.index ≡ index }
         ensures is { IsSpot columns result }
     {
         Spot {
-            place,
-            row: place / columns,
-            column: place % columns,
+            index,
+            row: index / columns,
+            column: index % columns,
         }
     }
 
     /// The next cell.
     pub(super) fn next(self, columns: usize) -> Spot
         requires some { 0 < columns }
-        requires place { self.place < 2 ^ 32 }
+        requires index { self.index < 2 ^ 32 }
         requires is { IsSpot columns self }
-        ensures place { result.place ≡ self.place + 1 }
+        ensures index { result.index ≡ self.index + 1 }
         ensures is { IsSpot columns result }
     {
         if self.column + 1 == columns {
             Spot {
-                place: self.place + 1,
+                index: self.index + 1,
                 row: self.row + 1,
                 column: 0,
             }
         } else {
             Spot {
-                place: self.place + 1,
+                index: self.index + 1,
                 row: self.row,
                 column: self.column + 1,
             }

@@ -1,6 +1,8 @@
 //! A whole frame: its cells, its caret, and the update around them.
-ghost use Rattle.std.specs.Prelude.{◌≡◌, ℕ, ◌*◌, ◌<◌, ◌≤◌, ◌^◌, map, length, OnOk, IfSome, Some, None, IsTrue};
+ghost use Rattle.std.specs.Prelude.{◌≡◌, ℕ, ◌*◌, ◌<◌, ◌≤◌, ◌^◌, map, length, OnOk, IfSome, Some, None, IsTrue, if◌then◌else◌};
 ghost use Rattle.textarea_screen.specs.Cell.{cell_view};
+ghost use Rattle.textarea_terminal.specs.Control.{control_bytes};
+ghost use Rattle.textarea_terminal.specs.Control.Control.{ShowCursor, HideCursor};
 ghost use Rattle.textarea_terminal.specs.PaintCells.{are_whole};
 ghost use Rattle.textarea_terminal.specs.Paint.{Wrote, Clears, SetsCursor, EndsUpdate, PutsCaret, Ends, Paints};
 
@@ -14,11 +16,10 @@ use textarea_screen::screen::Cell;
 fn clear(bytes: &mut Vec<u8>) -> Result<(), AllocError>
     ensures { OnOk result (Wrote bytes.old.items bytes.new.items Clears) }
 {
-    bytes.extend_from_slice(b"\x1b[?2026h")?;
-    // From any modes to those that a terminal has at first: the characters of ASCII, no origin, no
+    // The modes are those that a terminal has at first: the characters of ASCII, no origin, no
     // margins, no insertion, and wrapping.
-    bytes.extend_from_slice(b"\x1b(B\x0f\x1b[?6l\x1b[?69l\x1b[r\x1b[4l\x1b[?7h")?;
-    bytes.extend_from_slice(b"\x1b[0m\x1b[2J")?;
+    let controls = b"\x1b[?2026h\x1b(B\x0f\x1b[?6l\x1b[?69l\x1b[r\x1b[4l\x1b[?7h\x1b[0m\x1b[2J";
+    bytes.extend_from_slice(controls)?;
     Ok(())
 }
 
@@ -29,12 +30,19 @@ fn set_cursor(bytes: &mut Vec<u8>, known: Option<bool>, wanted: bool) -> Result<
     if known == Some(wanted) {
         return Ok(());
     }
-    if wanted {
-        bytes.extend_from_slice(b"\x1b[?25h")?;
-    } else {
-        bytes.extend_from_slice(b"\x1b[?25l")?;
-    }
+    bytes.extend_from_slice(cursor_control(wanted))?;
     Ok(())
+}
+
+/// The bytes that show or hide the cursor.
+fn cursor_control(is_visible: bool) -> &'static [u8]
+    ensures { result.now ≡ control_bytes (if is_visible then ShowCursor else HideCursor) }
+{
+    if is_visible {
+        b"\x1b[?25h"
+    } else {
+        b"\x1b[?25l"
+    }
 }
 
 /// Ends an update, if one has begun.
@@ -55,13 +63,13 @@ fn write_caret(
     columns: usize,
     caret: Option<usize>,
 ) -> Result<(), AllocError>
-    requires { (columns < 2 ^ 16) × IfSome caret (λ place. (place < 2 ^ 32) × (0 < columns)) }
+    requires { (columns < 2 ^ 16) × IfSome caret (λ index. (index < 2 ^ 32) × (0 < columns)) }
     ensures { OnOk result (Wrote bytes.old.items bytes.new.items
         (PutsCaret at known columns caret)) }
 {
     match caret {
-        Some(place) => {
-            move_to(bytes, at, columns, Spot::new(place, columns))?;
+        Some(index) => {
+            move_to(bytes, at, columns, Spot::new(index, columns))?;
             set_cursor(bytes, known, true)?;
         }
         None => set_cursor(bytes, known, false)?,
@@ -77,7 +85,7 @@ fn write_end(
     columns: usize,
     caret: Option<usize>,
 ) -> Result<(), AllocError>
-    requires { (columns < 2 ^ 16) × IfSome caret (λ place. (place < 2 ^ 32) × (0 < columns)) }
+    requires { (columns < 2 ^ 16) × IfSome caret (λ index. (index < 2 ^ 32) × (0 < columns)) }
     ensures { OnOk result (Wrote bytes.old.items bytes.new.items
         (Ends brush known columns caret)) }
 {
@@ -101,7 +109,7 @@ pub(super) fn write_frame(
     requires size { length new.now < 2 ^ 32 }
     requires old_whole { IsTrue (are_whole columns 0 0 (map cell_view old.now)) }
     requires new_whole { IsTrue (are_whole columns 0 0 (map cell_view new.now)) }
-    requires caret { IfSome caret (λ place. place < length new.now) }
+    requires caret { IfSome caret (λ index. index < length new.now) }
     ensures { OnOk result (Wrote bytes.old.items bytes.new.items
         (Paints columns (length new.now)
         (Some (record { cells = map cell_view old.now; caret = old_caret }))
@@ -128,7 +136,7 @@ pub(super) fn write_first_frame(
     requires columns { columns < 2 ^ 16 }
     requires size { length new.now < 2 ^ 32 }
     requires whole { IsTrue (are_whole columns 0 0 (map cell_view new.now)) }
-    requires caret { IfSome caret (λ place. place < length new.now) }
+    requires caret { IfSome caret (λ index. index < length new.now) }
     ensures { OnOk result (Wrote bytes.old.items bytes.new.items
         (Paints columns (length new.now) None
         (record { cells = map cell_view new.now; caret = caret }))) }

@@ -33,15 +33,19 @@ loop-found-preserved c =
 
 pub returns-in_err-expected-clause-front : goal.returns-in_err-expected-clause-front
 returns-in_err-expected-clause-front c =
-    AddsUpTo-front_of_more (vec_len c.args.events.now) (vec_len c.loop-found.events) c.args.events.now.items c.loop-found.events.items c.push_found.new.events.items (made c.loop-found.expected c.loop-found.rest.now).0 (made c.args.expected c.args.bytes.now).0
+    AddsUpTo-front_of_more (vec_len c.args.events.now) (vec_len c.loop-found.events) c.args.events.now.items c.loop-found.events.items c.push_found.new.events.items
+    (made c.loop-found.expected c.loop-found.rest.now).0 (made c.args.expected c.args.bytes.now).0
     (omega (arith, c.args.events.now.ok.0)) (omega (arith, c.loop-found.events.ok.0)) c.loop-found.invariant.events c.in_err-expected.ensures.front
 
 pub returns-in_err-rest-clause-front : goal.returns-in_err-rest-clause-front
 returns-in_err-rest-clause-front c =
     let x : EventValue × List ℕ = (found_value c.in-Some.found, c.in-Some.after.now) in
+    let e = c.loop-found.expected in
     let all = (made c.args.expected c.args.bytes.now).0 in
-    let mid = AddsUpTo-found c.loop-found.expected c.args.events.now.items c.loop-found.events.items c.push_found.new.events.items all c.loop-found.rest.now x c.in-Some.ensures c.loop-found.invariant.events c.in_ok-expected.ensures.events in
-    AddsUpTo-front_of_more (vec_len c.args.events.now) (vec_len c.push_found.new.events) c.args.events.now.items c.push_found.new.events.items c.push_short.new.events.items (made (refined c.loop-found.expected x.0).1 x.1).0 all
+    let mid = AddsUpTo-found e c.args.events.now.items c.loop-found.events.items c.push_found.new.events.items all c.loop-found.rest.now x
+    c.in-Some.ensures c.loop-found.invariant.events c.in_ok-expected.ensures.events in
+    AddsUpTo-front_of_more (vec_len c.args.events.now) (vec_len c.push_found.new.events) c.args.events.now.items c.push_found.new.events.items c.push_short.new.events.items
+    (made (refined e x.0).1 x.1).0 all
     (omega (arith, c.args.events.now.ok.0)) (omega (arith, c.push_found.new.events.ok.0)) mid c.in_err-rest.ensures.front
 
 pub returns-clause-rest : goal.returns-clause-rest

@@ -12,11 +12,11 @@ returns-then-last-eq126-clause-event c =
 
 pub returns-clause-event : goal.returns-clause-event
 returns-clause-event c =
-    let found : entry letter_keys c.args.last ≡ Some c.in_ok-key-2.key = search rules in
-    let whole : input_with c.in_ok-key-2.key c.args.parameter ≡ c.modified_input-2.result = search rules in
-    two-letter c.args.number c.args.parameter c.args.last c.in_ok-key-2.key (omega arith) found ∙ ap input whole
+    let found : entry letter_keys c.args.last ≡ Some c.in_ok-lettered.lettered = search rules in
+    let whole : input_with c.in_ok-lettered.lettered c.args.parameter ≡ c.modified_input-input.result = search rules in
+    two-letter c.args.number c.args.parameter c.args.last c.in_ok-lettered.lettered (omega arith) found ∙ ap input whole
 
 pub returns-clause-end : goal.returns-clause-end
 returns-clause-end c =
-    let found : entry letter_keys c.args.last ≡ Some c.in_ok-key-2.key = search rules in
-    (letter-final c.args.last c.in_ok-key-2.key found, letter-not_code c.args.last c.in_ok-key-2.key found)
+    let found : entry letter_keys c.args.last ≡ Some c.in_ok-lettered.lettered = search rules in
+    (letter-final c.args.last c.in_ok-lettered.lettered found, letter-not_code c.args.last c.in_ok-lettered.lettered found)

@@ -14,4 +14,4 @@ returns-then-is_digit c =
     ∙ c.in_ok-key.ensures (c.args.digit ∷ second ∷ []) (digits-two c.args.digit second c.requires is)
 
 pub returns : goal.returns
-returns c = c.in_ok-key-2.ensures (c.args.digit ∷ []) (digits-one c.args.digit c.requires)
+returns c = c.in_ok-numbered.ensures (c.args.digit ∷ []) (digits-one c.args.digit c.requires)

@@ -11,6 +11,6 @@ returns c =
     let rest = c.in_ok-letter.rest.now in
     let after : c.in_ok-introducer.after.now ≡ letter ∷ rest = search rules in
     let whole : c.args.bytes.now ≡ 79 ∷ c.in_ok-introducer.after.now = search rules in
-    let found : entry letter_keys letter ≡ Some c.in_ok-key-2.key = search rules in
-    ap (λ bytes. unit_at (27 ∷ bytes)) (whole ∙ ap (λ bytes. 79 ∷ bytes) after) ∙ single-read letter rest c.in_ok-key-2.key found
+    let found : entry letter_keys letter ≡ Some c.in_ok-lettered.lettered = search rules in
+    ap (λ bytes. unit_at (27 ∷ bytes)) (whole ∙ ap (λ bytes. 79 ∷ bytes) after) ∙ single-read letter rest c.in_ok-lettered.lettered found
     ∙ ap (λ i. Some (input i, rest)) (sym c.plain_input.ensures)

@@ -9,8 +9,8 @@ pub returns-in_ok-write_move : goal.returns-in_ok-write_move
 returns-in_ok-write_move c =
     Wrote-one (MoveTo c.args.spot.row c.args.spot.column) c.in_ok-write_move.ensures (
       refl,
-      λ terminal at columns modes place. move-to-spot terminal c.args.columns c.args.spot c.requires.columns.0 c.requires.spot columns modes place,
-      λ there. absurd (not-there c.args.at c.args.spot.place c.ne.result c.ne.ensures c.if-ne.true there),
+      λ terminal at columns modes index. move-to-spot terminal c.args.columns c.args.spot c.requires.columns.0 c.requires.spot columns modes index,
+      λ there. absurd (not-there c.args.at c.args.spot.index c.ne.result c.ne.ensures c.if-ne.true there),
       omega arith,
       refl,
     )

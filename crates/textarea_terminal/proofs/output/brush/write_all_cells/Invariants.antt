@@ -5,7 +5,7 @@ use Rattle.textarea_terminal.specs.Paint.{Wrote}
 use Rattle.textarea_terminal.proofs.PaintSteps.{Reaches}
 use Rattle.textarea_terminal.proofs.output.brush.write_all_cells.Given as goal
 
-abbrev pub invariant-loop-place : goal.invariant-loop-place
-invariant-loop-place l =
-    (Wrote l.initial.bytes.items l.bytes.items (Reaches l.initial.brush l.brush l.columns l.place (replicate (length l.new) fresh_cell) (map cell_view l.new)))
-    × (l.spot.place ≡ l.place) × IsSpot l.columns l.spot
+abbrev pub invariant-loop-index : goal.invariant-loop-index
+invariant-loop-index l =
+    (Wrote l.initial.bytes.items l.bytes.items (Reaches l.initial.brush l.brush l.columns l.index (replicate (length l.new) fresh_cell) (map cell_view l.new)))
+    × (l.spot.index ≡ l.index) × IsSpot l.columns l.spot

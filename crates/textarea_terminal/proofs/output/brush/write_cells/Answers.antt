@@ -8,32 +8,32 @@ use Rattle.textarea_terminal.proofs.output.brush.write_cells.Goals as goal
 
 pub write_change-requires-clause-begins : goal.write_change-requires-clause-begins
 write_change-requires-clause-begins c =
-    rw c.loop-place.invariant.1
-    (begins-at c.args.columns c.loop-place.place c.args.new.now c.index-new-place.result c.index-new-place.is (omega arith) c.requires.new_whole)
+    rw c.loop-index.invariant.1
+    (begins-at c.args.columns c.loop-index.index c.args.new.now c.index-new-index.result c.index-new-index.is (omega arith) c.requires.new_whole)
 
-pub loop-place-init : goal.loop-place-init
-loop-place-init c =
+pub loop-index-init : goal.loop-index-init
+loop-index-init c =
     let olds = map cell_view c.args.old.now in
     let news = map cell_view c.args.new.now in
     let long : length olds ≡ length news = length-map c.args.old.now cell_view ∙ c.requires.length ∙ sym (length-map c.args.new.now cell_view) in (
       Wrote-none (Reaches-start c.args.start c.args.columns olds news c.requires.old_whole c.requires.new_whole long),
-      c.first-spot.ensures.place,
+      c.first-spot.ensures.index,
       c.first-spot.ensures.is,
     )
 
-pub loop-place-preserved : goal.loop-place-preserved
-loop-place-preserved c =
+pub loop-index-preserved : goal.loop-index-preserved
+loop-index-preserved c =
     let olds = map cell_view c.args.old.now in
-    let old = cell_view c.index-old-place.result in
-    let os = map cell_view (drop (c.loop-place.place + 1) c.args.old.now) in
-    let old_at = Split-at c.args.old.now c.loop-place.place c.index-old-place.result c.index-old-place.is (omega (arith, c.requires.length)) in
-    let step = rw c.loop-place.invariant.1 at (c.in_ok-write_change.ensures old c.is_alike-is_printed.ensures) in (
-      Wrote-then (Reaches c.args.start c.write_change.new.brush c.args.columns (c.loop-place.place + 1) olds (map cell_view c.args.new.now))
-          c.loop-place.invariant.0 step
+    let old = cell_view c.index-old-index.result in
+    let os = map cell_view (drop (c.loop-index.index + 1) c.args.old.now) in
+    let old_at = Split-at c.args.old.now c.loop-index.index c.index-old-index.result c.index-old-index.is (omega (arith, c.requires.length)) in
+    let step = rw c.loop-index.invariant.1 at (c.in_ok-write_change.ensures old c.is_alike-is_printed.ensures) in (
+      Wrote-then (Reaches c.args.start c.write_change.new.brush c.args.columns (c.loop-index.index + 1) olds (map cell_view c.args.new.now))
+          c.loop-index.invariant.0 step
           (λ xs ys reaches change.
-          Reaches-step c.args.start c.loop-place.brush c.write_change.new.brush c.args.columns c.loop-place.place olds old os c.args.new.now
-          c.index-new-place.result xs ys old_at c.index-new-place.is (length-map c.args.old.now cell_view ∙ c.requires.length) (omega arith) c.requires.old_whole c.requires.new_whole change reaches),
-      omega (arith, c.next-spot.ensures.place, c.loop-place.invariant.1),
+          Reaches-step c.args.start c.loop-index.brush c.write_change.new.brush c.args.columns c.loop-index.index olds old os c.args.new.now
+          c.index-new-index.result xs ys old_at c.index-new-index.is (length-map c.args.old.now cell_view ∙ c.requires.length) (omega arith) c.requires.old_whole c.requires.new_whole change reaches),
+      omega (arith, c.next-spot.ensures.index, c.loop-index.invariant.1),
       c.next-spot.ensures.is,
     )
 
@@ -42,6 +42,6 @@ returns c =
     let olds = map cell_view c.args.old.now in
     let news = map cell_view c.args.new.now in
     let long : length olds ≡ length news = length-map c.args.old.now cell_view ∙ c.requires.length ∙ sym (length-map c.args.new.now cell_view) in
-    Wrote-as (Repaints c.args.columns olds news c.args.start c.loop-place.brush) c.loop-place.invariant.0
+    Wrote-as (Repaints c.args.columns olds news c.args.start c.loop-index.brush) c.loop-index.invariant.0
     (λ xs reaches.
-    Reaches-end c.args.start c.loop-place.brush c.args.columns c.loop-place.place olds news xs (omega (arith, length-map c.args.new.now cell_view)) long reaches)
+    Reaches-end c.args.start c.loop-index.brush c.args.columns c.loop-index.index olds news xs (omega (arith, length-map c.args.new.now cell_view)) long reaches)

@@ -3,7 +3,7 @@ use Rattle.textarea_terminal.proofs.PartedBytes.{at-disputed, Wrote-disputed}
 use Rattle.textarea_terminal.proofs.output.brush.write_disputed.Goals as goal
 
 pub returns-clause-at : goal.returns-clause-at
-returns-clause-at c = at-disputed c.args.columns c.args.spot.place (cell_view c.args.cell.now) c.requires.disputed
+returns-clause-at c = at-disputed c.args.columns c.args.spot.index (cell_view c.args.cell.now) c.requires.disputed
 
 pub returns-clause-wrote : goal.returns-clause-wrote
 returns-clause-wrote c =
