@@ -1,13 +1,12 @@
 -- The cells of a block's borders, corners and title.
 use Rattle.std.proofs.lemmas.Grind.{common_steps}
-use Rattle.std.proofs.Common.{◌≡◌, ℕ, ◌+◌, ◌-◌, ◌<◌, ◌≤◌, min, Bool, true, false, cond, eqb, ◌&&◌, List, refl, ap, ap₂, ◌∙◌, arith}
+use Rattle.std.proofs.Common.{◌≡◌, ℕ, ◌+◌, ◌-◌, ◌<◌, ◌≤◌, min, Bool, true, false, cond, eqb, ◌&&◌, List, refl, ap₂, ◌∙◌, arith}
 use Rattle.std.proofs.lemmas.Bool.Decides.{nat_tests}
 use Rattle.textarea_screen.specs.Block.{has_border, left_side, right_side}
-use Rattle.textarea_screen.specs.Buffer.{Change, Changes, is_between}
+use Rattle.textarea_screen.specs.Buffer.{Change, Changes}
 use Rattle.textarea_screen.specs.Cell.{CellView, with_symbol}
 use Rattle.textarea_screen.specs.Inset.{inset_of}
 use Rattle.textarea_screen.specs.Rect.{contains}
-use Rattle.textarea_screen.proofs.BufferLemmas.{is_before_row}
 use Rattle.textarea_screen.proofs.ChangeLemmas.{Changes-none, Changes-then}
 use Rattle.textarea_screen.specs.declared.screen.block.Borders.{Borders}
 use Rattle.textarea_screen.specs.declared.screen.buffer.Buffer.{Buffer}
@@ -75,20 +74,6 @@ Changes-border area segment done drawn' test text' style before change is_drawn 
     (λ x y cell.
     ap₂ (λ d t. cond (d && contains segment x y) (with_symbol t style (in_area area done x y cell)) (in_area area done x y cell)) is_drawn is_text
     ∙ bordered (contains area x y) drawn' (contains segment x y) (test x y) (done x y) (with_symbol text' style) cell (where_it_is x y))
-
--- ---- cells outside of the area
-
-pub is_before_row-outside : (area : Rect) (row x y : ℕ) → row ≤ area.y + area.height → contains area x y ≡ false → is_before_row area row x y ≡ false
-is_before_row-outside area row x y above outside = grind (arith, nat_tests)
-
-pub is_between-outside : (area : Rect) (row column x y : ℕ) → area.y ≤ row → row < area.y + area.height → column ≤ area.x + area.width → contains area x y ≡ false →
-    is_between row area.x column x y ≡ false
-is_between-outside area row column x y first last left outside = grind (arith, nat_tests)
-
--- a cell outside of one area is not common to it and another
-pub common-outside : (area other common : Rect) → ((x y : ℕ) → contains common x y ≡ (contains area x y && contains other x y)) → (x y : ℕ) → contains area x y ≡ false →
-    contains common x y ≡ false
-common-outside area other common is x y outside = is x y ∙ ap (λ b. b && contains other x y) outside
 
 -- ---- the title
 

@@ -108,4 +108,5 @@ row_change-plain cells pen left column hidden displayed style text part at drawn
     whole_symbol cells left x y (in_style style (byte ∷ [])) one (plain_inside cells pen left column count hidden displayed at drawn x y (sym test ∙ h)))
     (λ h inside.
     ⊎_elim (λ before. find-before shown column (plain_clusters style text) before)
-    (λ later. find-ended shown column (plain_clusters style text) (omega (arith, clusters_width-plain style text printable, plain_past cells pen left column count hidden displayed at drawn x y (sym test ∙ h) inside later))) (cases_lt shown column))
+    (λ later. find-ended shown column (plain_clusters style text)
+    (omega (arith, clusters_width-plain style text printable, plain_past cells pen left column count hidden displayed at drawn x y (sym test ∙ h) inside later))) (cases_lt shown column))

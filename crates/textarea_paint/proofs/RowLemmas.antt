@@ -123,19 +123,6 @@ pub record IsMeasuring (width : ℕ) (row : List Cluster) (room : ℕ) (ahead : 
   pub bound : room ≤ width
   pub sum : (width - room) + clusters_width (fitting_ahead width room ahead) ≡ clusters_width (fitting width row)
 
-pub measuring_start : (width : ℕ) (row ahead : List Cluster) → ahead ≡ row → IsMeasuring width row width ahead
-measuring_start width row ahead all = record {
-  bound = omega arith;
-  sum = omega (arith, ap (λ clusters. clusters_width (fitting width clusters)) all);
-}
-
-pub measuring_wide : {width room : ℕ} {row ahead : List Cluster} (cluster : Cluster) (after : List Cluster) → IsMeasuring width row room ahead → ahead ≡ cluster ∷ after →
-    width < columns_of cluster.text → IsMeasuring width row room after
-measuring_wide {width} {room} {row} {ahead} cluster after m fitting_clusters wide = record {
-  bound = m.bound;
-  sum = omega (arith, m.sum, ap (λ clusters. clusters_width (fitting_ahead width room clusters)) fitting_clusters, ap clusters_width (fitting_ahead-wide width room cluster after wide));
-}
-
 pub measuring_fits : {width room : ℕ} {row ahead : List Cluster} (cluster : Cluster) (after : List Cluster) → IsMeasuring width row room ahead → ahead ≡ cluster ∷ after →
     columns_of cluster.text ≤ width → columns_of cluster.text ≤ room → IsMeasuring width row (room - columns_of cluster.text) after
 measuring_fits {width} {room} {row} {ahead} cluster after m fitting_clusters narrow fits =

@@ -180,7 +180,16 @@ together c d cs first others both h begins =
       are = refl;
       begins = more;
       width =
-          omega (arith, sum_by-cons cluster_width (c ∷ first) others, sum_by-cons cluster_width first others, first_width c (c ∷ first) more, first_width d first begins, h.width, sum_by-cons char_columns c (d ∷ cs), sum_by-cons char_columns c first);
+          omega (
+            arith,
+            sum_by-cons cluster_width (c ∷ first) others,
+            sum_by-cons cluster_width first others,
+            first_width c (c ∷ first) more,
+            first_width d first begins,
+            h.width,
+            sum_by-cons char_columns c (d ∷ cs),
+            sum_by-cons char_columns c first,
+          );
       valid = λ scalar. grind (arith, nat_tests, h.valid);
     }
 

@@ -40,20 +40,19 @@ fn draw_sides(
     ensures inline { IsOk result }
     ensures err { OnErr result (KeepsOutside (contains area) buffer.old buffer.new) }
 {
+    let has_left = borders.contains(Borders::LEFT);
+    let has_top = borders.contains(Borders::TOP);
+    let has_right = borders.contains(Borders::RIGHT);
+    let has_bottom = borders.contains(Borders::BOTTOM);
     let left = Rect::new(area.x, area.y, 1, area.height);
-    draw_border(buffer, borders.contains(Borders::LEFT), left, "│", style)?;
+    let left_drawn = draw_border(buffer, has_left, left, "│", style)?;
     let top = Rect::new(area.x, area.y, area.width, 1);
-    draw_border(buffer, borders.contains(Borders::TOP), top, "─", style)?;
+    let top_drawn = draw_border(buffer, has_top, top, "─", style)?;
     let right = Rect::new(area.x + area.width - 1, area.y, 1, area.height);
-    draw_border(buffer, borders.contains(Borders::RIGHT), right, "│", style)?;
+    let right_drawn = draw_border(buffer, has_right, right, "│", style)?;
     let bottom = Rect::new(area.x, area.y + area.height - 1, area.width, 1);
-    draw_border(
-        buffer,
-        borders.contains(Borders::BOTTOM),
-        bottom,
-        "─",
-        style,
-    )
+    draw_border(buffer, has_bottom, bottom, "─", style)?;
+    Ok(())
 }
 
 fn draw_corners(
@@ -76,14 +75,15 @@ fn draw_corners(
     let has_top = borders.contains(Borders::TOP);
     let has_right = borders.contains(Borders::RIGHT);
     let has_bottom = borders.contains(Borders::BOTTOM);
-    let corner = Rect::new(right, bottom, 1, 1);
-    draw_border(buffer, has_right & has_bottom, corner, "┘", style)?;
-    let corner = Rect::new(right, area.y, 1, 1);
-    draw_border(buffer, has_right & has_top, corner, "┐", style)?;
-    let corner = Rect::new(area.x, bottom, 1, 1);
-    draw_border(buffer, has_left & has_bottom, corner, "└", style)?;
-    let corner = Rect::new(area.x, area.y, 1, 1);
-    draw_border(buffer, has_left & has_top, corner, "┌", style)
+    let bottom_right = Rect::new(right, bottom, 1, 1);
+    let bottom_right_drawn = draw_border(buffer, has_right & has_bottom, bottom_right, "┘", style)?;
+    let top_right = Rect::new(right, area.y, 1, 1);
+    let top_right_drawn = draw_border(buffer, has_right & has_top, top_right, "┐", style)?;
+    let bottom_left = Rect::new(area.x, bottom, 1, 1);
+    let bottom_left_drawn = draw_border(buffer, has_left & has_bottom, bottom_left, "└", style)?;
+    let top_left = Rect::new(area.x, area.y, 1, 1);
+    draw_border(buffer, has_left & has_top, top_left, "┌", style)?;
+    Ok(())
 }
 
 fn draw_title(buffer: &mut Buffer, area: Rect, block: &Block) -> Result<(), AllocError>

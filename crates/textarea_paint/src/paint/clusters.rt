@@ -1,5 +1,5 @@
 //! The grapheme clusters of a line.
-ghost use Rattle.std.specs.Prelude.{◌≡◌, ℕ, ◌<◌, ◌≤◌, ◌++◌, [], length, true, All, IfSome, MatchOption, map};
+ghost use Rattle.std.specs.Prelude.{◌≡◌, ℕ, ◌<◌, ◌≤◌, ◌++◌, [], length, true, All, IfSome, MatchOption, map, get_or, nat_le, ◌||◌};
 ghost use Rattle.textarea_paint.specs.Prelude.{graphemes, in_style, line_view, row_clusters, IsPrintable, is_printable, plain_count, singles};
 ghost use Rattle.textarea_paint.specs.LineClusters.{IsRun, rest_clusters, run_clusters};
 ghost use Rattle.std.specs.Iterator.{YieldsFirstBy, item_count};
@@ -210,10 +210,18 @@ fn plain_count(bytes: &[u8], most: usize) -> usize
             return at.saturating_sub(1);
         }
     }
-    if end < bytes.len() && !is_printable(bytes[end]) {
-        return end.saturating_sub(1);
+    if is_plain_at(bytes, end) {
+        end
+    } else {
+        end.saturating_sub(1)
     }
-    end
+}
+
+/// Returns whether the byte at an index is printable ASCII, or the text ends before it.
+fn is_plain_at(bytes: &[u8], index: usize) -> bool
+    ensures { result ≡ (nat_le (length bytes.now) index || is_printable (get_or bytes.now index 0)) }
+{
+    bytes.len() <= index || is_printable(bytes[index])
 }
 
 fn is_printable(byte: u8) -> bool

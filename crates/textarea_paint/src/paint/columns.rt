@@ -8,6 +8,7 @@ use unicode_width::UnicodeWidthChar;
 
 /// Returns the number of columns that a grapheme cluster takes: the sum of its characters' columns
 /// (UAX #11), or 0 if it has a control character.
+#[tactic(auto, unfolding(crate::specs::Columns::columns_of))]
 pub fn cluster_columns(cluster: &str) -> usize
     ensures { result ≡ columns_of cluster.now }
 {

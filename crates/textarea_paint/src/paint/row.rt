@@ -105,7 +105,8 @@ fn fitting_columns(line: &Line, style: Style, width: u16) -> u16
     for cluster in LineClusters::new(line, style) {
         let columns = cluster_columns(cluster.text);
         if columns <= usize::from(width) {
-            if columns > usize::from(room) {
+            let left = usize::from(room);
+            if columns > left {
                 break;
             }
             room -= columns as u16;
@@ -142,7 +143,8 @@ fn draw_fitting(
         }
         let columns = cluster_columns(cluster.text);
         if columns <= usize::from(cells.width) {
-            if columns > usize::from(room) {
+            let left = usize::from(room);
+            if columns > left {
                 break;
             }
             room -= columns as u16;

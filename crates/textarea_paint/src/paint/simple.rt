@@ -1,5 +1,5 @@
 //! Grapheme clusters that are found without a table: one simple character, or a flag.
-ghost use Rattle.std.specs.Prelude.{◌≡◌, ◌-◌, ◌≤◌, ◌∷◌, ◌||◌, true, length, take, drop, IfSome, chars};
+ghost use Rattle.std.specs.Prelude.{◌≡◌, ◌-◌, ◌≤◌, ◌∷◌, ◌++◌, ◌||◌, true, length, take, drop, IfSome, chars, encode_utf8};
 ghost use Rattle.std.specs.Int.{is_in_range};
 ghost use Rattle.textarea_paint.specs.Prelude.{begins_apart, columns_of, early_ranges, graphemes, in_ranges, is_flag_half, is_simple, late_ranges};
 
@@ -22,19 +22,34 @@ pub(super) fn split_simple<'a>(text: &'a str) -> Option<FirstCluster<'a>>
 {
     let mut characters = text.chars();
     let first = characters.next()?;
+    let after = characters.as_str();
     if is_simple(first) {
-        let after = characters.as_str();
         if begins_apart(after) {
             return split_before(text, after, columns_of_char(first));
         }
     } else if is_flag_half(first) {
-        let second = characters.next()?;
-        let after = characters.as_str();
-        if is_flag_half(second) && begins_apart(after) {
-            return split_before(text, after, 2);
-        }
+        return split_flag(text, first, after);
     }
     None
+}
+
+/// Splits a flag off a text that begins with half of one, `first`, and goes on with `rest`, if a
+/// simple character, a flag or the end of the text follows it.
+fn split_flag<'a>(text: &'a str, first: char, rest: &str) -> Option<FirstCluster<'a>>
+    requires half { is_flag_half first ≡ true }
+    requires text { text.now ≡ encode_utf8 first ++ rest.now }
+    ensures clusters { IfSome result (λ first.
+        graphemes true text.now ≡ first.text.now ∷ graphemes true first.after.now) }
+    ensures columns { IfSome result (λ first. first.columns ≡ columns_of first.text.now) }
+{
+    let mut characters = rest.chars();
+    let second = characters.next()?;
+    let after = characters.as_str();
+    if is_flag_half(second) && begins_apart(after) {
+        split_before(text, after, 2)
+    } else {
+        None
+    }
 }
 
 /// Splits a text before its end, which is as long as `after`. The first part takes `columns`.
@@ -86,25 +101,27 @@ fn is_simple(c: char) -> bool
 fn is_early(c: char) -> bool
     ensures { result ≡ in_ranges early_ranges c }
 {
-    is_within(c, ' ', '~')
-        | is_within(c, '\u{AE}', '\u{2FF}')
-        | is_within(c, '\u{370}', '\u{482}')
-        | is_within(c, '\u{48A}', '\u{590}')
-        | is_within(c, '\u{1E00}', '\u{200A}')
-        | is_within(c, '\u{2010}', '\u{2027}')
-        | is_within(c, '\u{2100}', '\u{2CEE}')
+    let ascii = is_within(c, ' ', '~');
+    let latin = is_within(c, '\u{AE}', '\u{2FF}');
+    let greek = is_within(c, '\u{370}', '\u{482}');
+    let cyrillic = is_within(c, '\u{48A}', '\u{590}');
+    let extended = is_within(c, '\u{1E00}', '\u{200A}');
+    let punctuation = is_within(c, '\u{2010}', '\u{2027}');
+    let symbols = is_within(c, '\u{2100}', '\u{2CEE}');
+    ascii | latin | greek | cyrillic | extended | punctuation | symbols
 }
 
 /// Returns whether the character is in one of the ranges of East Asia and those above.
 fn is_late(c: char) -> bool
     ensures { result ≡ in_ranges late_ranges c }
 {
-    is_within(c, '\u{3030}', '\u{3098}')
-        | is_within(c, '\u{309B}', '\u{A66E}')
-        | is_within(c, '\u{FF00}', '\u{FF9D}')
-        | is_within(c, '\u{1F000}', '\u{1F1E5}')
-        | is_within(c, '\u{1F200}', '\u{1F3FA}')
-        | is_within(c, '\u{1F400}', '\u{3FFFF}')
+    let hiragana = is_within(c, '\u{3030}', '\u{3098}');
+    let ideographs = is_within(c, '\u{309B}', '\u{A66E}');
+    let wide_forms = is_within(c, '\u{FF00}', '\u{FF9D}');
+    let tiles = is_within(c, '\u{1F000}', '\u{1F1E5}');
+    let pictures = is_within(c, '\u{1F200}', '\u{1F3FA}');
+    let faces = is_within(c, '\u{1F400}', '\u{3FFFF}');
+    hiragana | ideographs | wide_forms | tiles | pictures | faces
 }
 
 fn is_within(c: char, first: char, last: char) -> bool

@@ -1,7 +1,6 @@
 use Rattle.std.proofs.Common.{◌+◌, ◌-◌, ◌&&◌, refl, ap₂}
 use lib.Utf8.{encode}
 use Rattle.std.specs.Prelude.{encode_utf8}
-use Rattle.std.proofs.lemmas.Result.{on_ok_weaker}
 use Rattle.textarea_paint.specs.Block.{on_left, on_top, on_right, on_bottom, on_both}
 use Rattle.textarea_paint.proofs.BlockLemmas.{among_first, among_last, Changes-begun, Changes-border, contains-cell}
 use Rattle.textarea_paint.proofs.paint.block.draw_corners.Goals as goal
@@ -21,17 +20,17 @@ returns-clause-ok c =
     let in_top = among_first area.y area.height c.requires.rows in
     let in_bottom = among_last area.y area.height c.requires.rows in
     let bottom_right =
-    Changes-border area c.new-corner.result _ _ (on_both (on_right area) (on_bottom area)) (encode_utf8 0x2518) c.args.style (Changes-begun c.args.buffer.now area) c.in_ok-draw_border.ensures.ok
-    (ap₂ (λ a b. a && b) right bottom) refl
-    (contains-cell area c.new-corner.result at_right at_bottom c.new-corner.ensures.x c.new-corner.ensures.width c.new-corner.ensures.y c.new-corner.ensures.height in_right in_bottom) in
+    Changes-border area c.new-bottom_right.result _ _ (on_both (on_right area) (on_bottom area)) (encode_utf8 0x2518) c.args.style (Changes-begun c.args.buffer.now area)
+    c.in_ok-bottom_right_drawn.ensures.ok (ap₂ (λ a b. a && b) right bottom) refl
+    (contains-cell area c.new-bottom_right.result at_right at_bottom c.new-bottom_right.ensures.x c.new-bottom_right.ensures.width c.new-bottom_right.ensures.y c.new-bottom_right.ensures.height in_right in_bottom) in
     let top_right =
-    Changes-border area c.new-corner-2.result _ _ (on_both (on_right area) (on_top area)) (encode_utf8 0x2510) c.args.style bottom_right c.in_ok-draw_border-2.ensures.ok (ap₂ (λ a b. a && b) right top) refl
-    (contains-cell area c.new-corner-2.result at_right area.y c.new-corner-2.ensures.x c.new-corner-2.ensures.width c.new-corner-2.ensures.y c.new-corner-2.ensures.height in_right in_top) in
+    Changes-border area c.new-top_right.result _ _ (on_both (on_right area) (on_top area)) (encode_utf8 0x2510) c.args.style bottom_right
+    c.in_ok-top_right_drawn.ensures.ok (ap₂ (λ a b. a && b) right top) refl
+    (contains-cell area c.new-top_right.result at_right area.y c.new-top_right.ensures.x c.new-top_right.ensures.width c.new-top_right.ensures.y c.new-top_right.ensures.height in_right in_top) in
     let bottom_left =
-    Changes-border area c.new-corner-3.result _ _ (on_both (on_left area) (on_bottom area)) (encode_utf8 0x2514) c.args.style top_right c.in_ok-draw_border-3.ensures.ok (ap₂ (λ a b. a && b) left bottom) refl
-    (contains-cell area c.new-corner-3.result area.x at_bottom c.new-corner-3.ensures.x c.new-corner-3.ensures.width c.new-corner-3.ensures.y c.new-corner-3.ensures.height in_left in_bottom) in
-    on_ok_weaker c.draw_border-4.result
-    (λ last.
-    Changes-border area c.new-corner-4.result _ _ (on_both (on_left area) (on_top area)) (encode_utf8 0x250C) c.args.style bottom_left last (ap₂ (λ a b. a && b) left top) refl
-    (contains-cell area c.new-corner-4.result area.x area.y c.new-corner-4.ensures.x c.new-corner-4.ensures.width c.new-corner-4.ensures.y c.new-corner-4.ensures.height in_left in_top))
-    c.draw_border-4.ensures.ok
+    Changes-border area c.new-bottom_left.result _ _ (on_both (on_left area) (on_bottom area)) (encode_utf8 0x2514) c.args.style top_right
+    c.in_ok-bottom_left_drawn.ensures.ok (ap₂ (λ a b. a && b) left bottom) refl
+    (contains-cell area c.new-bottom_left.result area.x at_bottom c.new-bottom_left.ensures.x c.new-bottom_left.ensures.width c.new-bottom_left.ensures.y c.new-bottom_left.ensures.height in_left in_bottom) in
+    Changes-border area c.new-top_left.result _ _ (on_both (on_left area) (on_top area)) (encode_utf8 0x250C) c.args.style bottom_left
+    c.in_ok-draw_border.ensures.ok (ap₂ (λ a b. a && b) left top) refl
+    (contains-cell area c.new-top_left.result area.x area.y c.new-top_left.ensures.x c.new-top_left.ensures.width c.new-top_left.ensures.y c.new-top_left.ensures.height in_left in_top)

@@ -1,8 +1,14 @@
-use Rattle.std.proofs.Common.{◌≡◌, ◌<◌, true, get_or, length, sym, subst, ◌∙◌, arith}
-use Rattle.textarea_paint.specs.Plain.{is_printable, plain_count}
+use Rattle.std.proofs.Common.{◌≡◌, ℕ, ◌<◌, ◌||◌, leb, true, false, List, get_or, length, sym, subst, ◌∙◌, arith}
+use Rattle.std.proofs.lemmas.Bool.Decides.{nat_tests}
+use Rattle.textarea_paint.specs.Plain.{is_printable}
 use Rattle.textarea_paint.proofs.PrintableLemmas.{count_before, count_all}
 use Rattle.textarea_paint.proofs.paint.clusters.plain_count.Goals as goal
-use Rattle.textarea_paint.proofs.paint.clusters.plain_count.Goals.{else-end-bytes-via-then-end-bytes+else-not-is_printable-2, else-end-bytes-via-else-end-bytes}
+
+plain_there : (bytes : List ℕ) (i : ℕ) → (leb (length bytes) i || is_printable (get_or bytes i 0)) ≡ true → i < length bytes → is_printable (get_or bytes i 0) ≡ true
+plain_there bytes i plain within = grind (arith, nat_tests)
+
+other_there : (bytes : List ℕ) (i : ℕ) → (leb (length bytes) i || is_printable (get_or bytes i 0)) ≡ false → (i < length bytes) × (is_printable (get_or bytes i 0) ≡ false)
+other_there bytes i other = (grind (arith, nat_tests), grind (arith, nat_tests))
 
 pub returns-then-not-is_printable : goal.returns-then-not-is_printable
 returns-then-not-is_printable c =
@@ -13,27 +19,25 @@ returns-then-not-is_printable c =
       count_before c.loop-at.at c.args.most c.args.bytes.now (omega arith) (omega arith) c.loop-at.invariant (sym c.is_printable.ensures ∙ c.if-not-is_printable.true),
     )
 
-pub returns-then-not-is_printable-2 : goal.returns-then-not-is_printable-2
-returns-then-not-is_printable-2 c =
+pub returns-then-is_plain_at : goal.returns-then-is_plain_at
+returns-then-is_plain_at c =
+    let bytes = c.args.bytes.now in
+    let plain = plain_there bytes c.min-end.result (sym c.is_plain_at.ensures ∙ c.if-is_plain_at.true) in
     omega (
       arith,
-      c.saturating_sub-then-not-is_printable-2.ensures,
       c.min-end.ensures,
-      count_before c.min-end.result c.args.most c.args.bytes.now (omega arith) (omega arith) (λ k below. c.loop-at.invariant k (omega arith))
-          (sym c.is_printable-then-end-bytes.ensures ∙ c.if-not-is_printable-2.true),
+      count_all c.args.most bytes (λ k below. c.loop-at.invariant k (omega arith))
+          (λ more.
+          let same : c.min-end.result ≡ c.args.most = omega arith in
+          subst (λ n. is_printable (get_or bytes n 0) ≡ true) same (plain (omega arith))),
     )
 
-pub returns : goal.returns
-returns c =
-    let bytes = c.args.bytes.now in
-    let most = c.args.most in
-    let end = c.min-end.result in
-    let all : (most < length bytes → is_printable (get_or bytes most 0) ≡ true) → end ≡ plain_count most bytes =
-    λ next. omega (arith, c.min-end.ensures, count_all most bytes (λ k below. c.loop-at.invariant k (omega arith)) next) in
-    elim c.else-end-bytes.branch [
-      | else-end-bytes-via-then-end-bytes+else-not-is_printable-2 w ↦
-          all (λ more.
-          let same : end ≡ most = omega arith in
-          subst (λ n. is_printable (get_or bytes n 0) ≡ true) same (sym w.is_printable-then-end-bytes.ensures ∙ w.if-not-is_printable-2.false))
-      | else-end-bytes-via-else-end-bytes w ↦ all (λ more. absurd (omega (arith, w.if-end-bytes.false, c.min-end.ensures)))
-    ]
+pub returns-else-is_plain_at : goal.returns-else-is_plain_at
+returns-else-is_plain_at c =
+    let other = other_there c.args.bytes.now c.min-end.result (sym c.is_plain_at.ensures ∙ c.if-is_plain_at.false) in
+    omega (
+      arith,
+      c.saturating_sub-else-is_plain_at.ensures,
+      c.min-end.ensures,
+      count_before c.min-end.result c.args.most c.args.bytes.now (omega arith) other.0 (λ k below. c.loop-at.invariant k (omega arith)) other.1,
+    )

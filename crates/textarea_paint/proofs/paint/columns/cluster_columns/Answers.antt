@@ -1,5 +1,5 @@
 use Rattle.std.proofs.lemmas.Grind.{common_steps}
-use Rattle.std.proofs.Common.{◌≡◌, ◌∙◌, ◌++◌, ◌∷◌, [], ℕ, List, ap, arith, length, refl, rules, sym}
+use Rattle.std.proofs.Common.{◌≡◌, ◌∙◌, ◌++◌, ◌∷◌, [], ℕ, List, ap, arith, length, refl, sym}
 use Rattle.std.specs.Prelude.{encode_utf8}
 use Rattle.std.specs.Str.{chars, IsUtf8}
 use Rattle.std.proofs.lemmas.List.{nil_from_length}
@@ -17,17 +17,13 @@ one_character text rest c utf8 steps none = chars_past_char text rest c utf8 ste
 pub returns-then-is_control : goal.returns-then-is_control
 unfolding columns_of
 returns-then-is_control c =
-    rw (one_character c.args.cluster.now c.next.new.self.rest.now c.in-Some-None.c c.utf8.cluster (sym c.chars-characters.ensures.rest ∙ c.in-Some-None.ensures.steps.0) c.in-Some-None.ensures'.steps.0.0, ← c.if-is_control.ensures) refl
+    let steps = sym c.chars-characters.ensures.rest ∙ c.in-Some-None.ensures.steps.0 in
+    let one = one_character c.args.cluster.now c.next.new.self.rest.now c.in-Some-None.c c.utf8.cluster steps c.in-Some-None.ensures'.steps.0.0 in
+    rw (one, ← c.if-is_control.ensures) refl
 
 pub returns-else-is_control : goal.returns-else-is_control
 unfolding columns_of
 returns-else-is_control c =
-    rw (one_character c.args.cluster.now c.next.new.self.rest.now c.in-Some-None.c c.utf8.cluster (sym c.chars-characters.ensures.rest ∙ c.in-Some-None.ensures.steps.0) c.in-Some-None.ensures'.steps.0.0, ← c.if-is_control.ensures) (omega (arith, c.columns_of_char.ensures))
-
-pub returns-then-has_control : goal.returns-then-has_control
-unfolding columns_of
-returns-then-has_control c = search rules
-
-pub returns-else-has_control : goal.returns-else-has_control
-unfolding columns_of
-returns-else-has_control c = search rules
+    let steps = sym c.chars-characters.ensures.rest ∙ c.in-Some-None.ensures.steps.0 in
+    let one = one_character c.args.cluster.now c.next.new.self.rest.now c.in-Some-None.c c.utf8.cluster steps c.in-Some-None.ensures'.steps.0.0 in
+    rw (one, ← c.if-is_control.ensures) (omega (arith, c.columns_of_char.ensures))

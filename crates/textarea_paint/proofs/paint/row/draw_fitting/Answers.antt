@@ -46,8 +46,8 @@ pub returns-in-None-clause-ok : goal.returns-in-None-clause-ok
 returns-in-None-clause-ok c =
     drawing_end c.loop-cluster.invariant.drawing (ap (fitting_ahead c.args.cells.width c.loop-cluster.room) c.in-None.ensures.steps.0)
 
-pub returns-then-columns-from-2-clause-ok : goal.returns-then-columns-from-2-clause-ok
-returns-then-columns-from-2-clause-ok c =
+pub returns-then-columns-left-clause-ok : goal.returns-then-columns-left-clause-ok
+returns-then-columns-left-clause-ok c =
     drawing_end c.loop-cluster.invariant.drawing
     (ap (fitting_ahead c.args.cells.width c.loop-cluster.room) c.in-Some.ensures.steps
     ∙ fitting_ahead-full c.args.cells.width c.loop-cluster.room (styled_cluster c.in-Some.cluster) (clusters_left c.next.new.self) (omega (arith, c.cluster_columns-columns.ensures))

@@ -3,7 +3,7 @@ use Rattle.textarea_screen.specs.Text.{line_view}
 use Rattle.textarea_paint.specs.Clusters.{row_clusters}
 use Rattle.textarea_paint.specs.LineClusters.{clusters_left, styled_cluster}
 use Rattle.textarea_paint.proofs.RowLemmas.{IsMeasuring, measuring_fits, measuring_full, measuring_end}
-use Rattle.textarea_paint.proofs.paint.row.fitting_columns.Goals.{in-None, in-Some+then-columns-from+then-columns-from-2}
+use Rattle.textarea_paint.proofs.paint.row.fitting_columns.Goals.{in-None, in-Some+then-columns-from+then-columns-left}
 use Rattle.textarea_paint.proofs.paint.row.fitting_columns.Goals as goal
 
 pub loop-cluster-preserved-then-columns-from : goal.loop-cluster-preserved-then-columns-from
@@ -17,7 +17,7 @@ loop-cluster-preserved-then-columns-from c =
 pub returns-clause-value : goal.returns-clause-value
 returns-clause-value c = elim c.match-next.branch [
   | in-None w ↦ measuring_end c.loop-cluster.invariant w.in-None.ensures.steps.0
-  | in-Some+then-columns-from+then-columns-from-2 w ↦
+  | in-Some+then-columns-from+then-columns-left w ↦
       measuring_full (styled_cluster w.in-Some.cluster) (clusters_left c.next.new.self) c.loop-cluster.invariant w.in-Some.ensures.steps
       (omega (arith, w.cluster_columns-columns.ensures)) (omega (arith, w.cluster_columns-columns.ensures))
 ]

@@ -5,4 +5,6 @@ use Rattle.textarea_paint.proofs.paint.simple.is_early.Goals as goal
 
 pub returns : goal.returns
 unfolding in_ranges
-returns c = rw (c.is_within.ensures, c.is_within-2.ensures, c.is_within-3.ensures, c.is_within-4.ensures, c.is_within-5.ensures, c.is_within-6.ensures, c.is_within-7.ensures) (simp (or_assoc, or-false) refl)
+returns c =
+    rw (c.is_within-ascii.ensures, c.is_within-latin.ensures, c.is_within-greek.ensures, c.is_within-cyrillic.ensures, c.is_within-extended.ensures, c.is_within-punctuation.ensures, c.is_within-symbols.ensures)
+    (simp (or_assoc, or-false) refl)

@@ -5,4 +5,6 @@ use Rattle.textarea_paint.proofs.paint.simple.is_late.Goals as goal
 
 pub returns : goal.returns
 unfolding in_ranges
-returns c = rw (c.is_within.ensures, c.is_within-2.ensures, c.is_within-3.ensures, c.is_within-4.ensures, c.is_within-5.ensures, c.is_within-6.ensures) (simp (or_assoc, or-false) refl)
+returns c =
+    rw (c.is_within-hiragana.ensures, c.is_within-ideographs.ensures, c.is_within-wide_forms.ensures, c.is_within-tiles.ensures, c.is_within-pictures.ensures, c.is_within-faces.ensures)
+    (simp (or_assoc, or-false) refl)
