@@ -16,7 +16,6 @@ use Rattle.textarea_terminal.specs.InputEvent.{EventValue, EventAndRest, value_o
 use Rattle.textarea_terminal.specs.InputReply.{Reply, reply_if, as_reply, reply_at, answered, Stripped, with_byte, with_reply, with_stripped, stripped_value, stripped_within, stripped, refined}
 use Rattle.textarea_terminal.specs.InputReply.{paste_events, IsWithout, at_end, kept_byte, no_reply}
 use Rattle.textarea_terminal.specs.InputUnit.{key_or_sequence, key_at, character_event}
-use Rattle.textarea_terminal.proofs.InputKeeps.{ReadsSame, Keeps}
 use Rattle.textarea_terminal.proofs.InputUnits.{keeps_key_or_sequence, nothing_read}
 
 -- ---- what is no reply

@@ -1,7 +1,7 @@
 -- Each row is read back.
 use Rattle.std.proofs.Common.{◌==◌, ◌≡◌, ◌≢◌, ℕ, zero, suc, ◌+◌, ◌-◌, ◌/◌, ◌%◌, ◌<◌, ◌≤◌, Bool, true, false, cond, List, [], ◌∷◌, ◌++◌, length, get_or, drop, map, Some, None, refl, sym, ap, ◌∙◌, arith, inl, inr, ⊎_elim, subst}
 use Rattle.std.specs.Prelude.{Contains}
-use Rattle.std.proofs.lemmas.List.{get_or-map, map-append, length-append, append_assoc, get_or-append-add, get_or_append_left}
+use Rattle.std.proofs.lemmas.List.{get_or-map, length-append, append_assoc, get_or-append-add, get_or_append_left}
 use Rattle.std.proofs.Math.Seq.{take-append_seam, drop-append-add}
 use lib.Utf8.{scalar_cases}
 use Rattle.std.specs.List.{AllByRecursion}

@@ -8,10 +8,10 @@ use Rattle.textarea_terminal.specs.declared.input.reply.Expected.{Expected}
 use Rattle.textarea_terminal.specs.InputEvent.{EventValue}
 use Rattle.textarea_terminal.specs.InputReply.{refined, refining}
 use Rattle.textarea_terminal.specs.InputState.{DecoderState, IsReady, Reading, reading_kept, last_five, reading_dropped, reading, quiet_after, after_reading, fed, pause_limit, after_short}
-use Rattle.textarea_terminal.specs.InputState.{short_pause, settled, settled_by, long_pause, pause, paused, Call, feed, idle, ask, set_resizes, set_console, new_state, after_call, after_calls}
+use Rattle.textarea_terminal.specs.InputState.{short_pause, settled, settled_by, long_pause, paused, Call, feed, idle, ask, set_resizes, set_console, new_state, after_call, after_calls}
 use Rattle.textarea_terminal.specs.InputState.{stream_of}
-use Rattle.textarea_terminal.specs.InputStream.{Decoding, values_in, begun_bytes, decoding, idle_keys, idle_of, idle_decoding}
-use Rattle.textarea_terminal.specs.InputUnit.{unit_at, paste_start, paste_end, after_mark, mark_index}
+use Rattle.textarea_terminal.specs.InputStream.{Decoding, begun_bytes, idle_keys, idle_of, idle_decoding}
+use Rattle.textarea_terminal.specs.InputUnit.{unit_at, paste_end, after_mark, mark_index}
 use Rattle.textarea_terminal.proofs.InputMarks.{index_of-fits, index_of-more, no_place, still_none}
 use Rattle.textarea_terminal.proofs.InputUnits.{unit_at-nil}
 use Rattle.textarea_terminal.proofs.InputStreams.{decoding-append, decoding-none, rest_of-begun}

@@ -131,15 +131,18 @@ control-more n bytes more h e =
     control_at-counted (bytes ++ more) ∙ ap (λ (m : ℕ). control_after_count m (take m (bytes ++ more)) (drop m (bytes ++ more))) e
     ∙ ap (λ (xs : List ℕ). control_after_count n xs (drop n (bytes ++ more))) (take-append-le n bytes more h) ∙ ap (λ (xs : List ℕ). control_after_count n (take n bytes) xs) (drop-append-le n bytes more h)
 
+at_limit : (n limit : ℕ) (x : EventValue × List ℕ) → cond (eqb n limit) (Some (unknown, [])) None ≡ Some x → n ≡ limit
+at_limit n limit x e = by (eqb n limit) (eqb-true n limit) e
+  where
+    by : (t : Bool) → (t ≡ true → n ≡ limit) → cond t (Some (unknown, [])) None ≡ Some x → n ≡ limit
+    by true h e = h refl
+    by false h e = (cc)
+
 -- there is something after the inner bytes, or they are at their limit, where a sequence is read
 counted_out : (n : ℕ) (inner bytes : List ℕ) (x : EventValue × List ℕ) → control_after_count n inner bytes ≡ Some x → (n ≡ inner_limit) ⊎ (0 < length bytes)
 unfolding control_after_count after_inner
 counted_out n inner (b ∷ bytes) x e = inr (omega arith)
-counted_out n inner [] x e = limited (eqb n inner_limit) (eqb-true n inner_limit) e
-  where
-    limited : (t : Bool) → (t ≡ true → n ≡ inner_limit) → cond t (Some (unknown, [])) None ≡ Some x → (n ≡ inner_limit) ⊎ (0 < 0)
-    limited true h e = inl (h refl)
-    limited false h e = (cc)
+counted_out n inner [] x e = inl (at_limit n inner_limit x e)
 
 keeps_control : (bytes : List ℕ) → Keeps bytes (control_at bytes) (λ more. control_at (bytes ++ more))
 keeps_control bytes = record {
@@ -297,11 +300,7 @@ string-more n bytes more h e =
 string_counted_out : (n : ℕ) (bytes : List ℕ) (x : EventValue × List ℕ) → string_after_count n bytes ≡ Some x → (n ≡ text_limit) ⊎ (0 < length bytes)
 unfolding string_after_count after_text
 string_counted_out n (b ∷ bytes) x e = inr (omega arith)
-string_counted_out n [] x e = limited (eqb n text_limit) (eqb-true n text_limit) e
-  where
-    limited : (t : Bool) → (t ≡ true → n ≡ text_limit) → cond t (Some (unknown, [])) None ≡ Some x → (n ≡ text_limit) ⊎ (0 < 0)
-    limited true h e = inl (h refl)
-    limited false h e = (cc)
+string_counted_out n [] x e = inl (at_limit n text_limit x e)
 
 keeps_string : (bytes : List ℕ) → Keeps bytes (string_at bytes) (λ more. string_at (bytes ++ more))
 keeps_string bytes = record {

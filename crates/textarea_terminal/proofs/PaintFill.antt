@@ -18,7 +18,7 @@ use Rattle.textarea_terminal.specs.Disputed.{can_widen, before_selector}
 use Rattle.textarea_terminal.specs.Pen.{look_of, in_look}
 use Rattle.textarea_terminal.specs.declared.output.look.Look.{Look}
 use Rattle.textarea_terminal.specs.declared.output.colors.Colors.{Colors}
-use Rattle.textarea_terminal.specs.PaintCells.{cluster_columns, part_or_blank, shown_text, half, is_half, one_intensity, shown_look, displayed_alike, blanked, begins_empty, fits_in_row, displayed}
+use Rattle.textarea_terminal.specs.PaintCells.{cluster_columns, part_or_blank, shown_text, is_half, one_intensity, shown_look, displayed_alike, blanked, begins_empty, fits_in_row, displayed}
 use Rattle.textarea_terminal.specs.PaintCells.{cell_in, cells_from, frame_of_buffer, can_begin, are_whole}
 use Rattle.textarea_terminal.proofs.ScreenPlain.{cluster_columns-blank}
 use Rattle.std.proofs.Math.Bool.{and-false}
@@ -41,29 +41,20 @@ begins_empty-next area buffer index end size within fit =
 
 -- ---- one cell
 
-pub displayed-visible : (colors : Colors) (area : Rect) (buffer : Buffer) (index halves size : ℕ) → index < size → halves ≡ 0 →
-    fits_in_row area.width index (cell_in area buffer index) (cells_from area buffer (index + 1) (size - (index + 1))) ≡ true →
+-- a cell that belongs to no cluster before it, and those after it
+displayed-next : (colors : Colors) (area : Rect) (buffer : Buffer) (index halves size : ℕ) (fits : Bool) → index < size → halves ≡ 0 →
+    fits_in_row area.width index (cell_in area buffer index) (cells_from area buffer (index + 1) (size - (index + 1))) ≡ fits →
     displayed colors area.width index halves (cells_from area buffer index (size - index))
-    ≡ displayed_alike colors (cell_in area buffer index) ∷ displayed colors area.width (index + 1) (cluster_columns (shown_text (cell_in area buffer index).symbol) - 1) (cells_from area buffer (index + 1) (size - (index + 1)))
-displayed-visible colors area buffer index halves size within none fit =
+    ≡ cond fits
+    (displayed_alike colors (cell_in area buffer index) ∷ displayed colors area.width (index + 1) (cluster_columns (shown_text (cell_in area buffer index).symbol) - 1) (cells_from area buffer (index + 1) (size - (index + 1))))
+    (blanked colors (cell_in area buffer index) ∷ displayed colors area.width (index + 1) 0 (cells_from area buffer (index + 1) (size - (index + 1))))
+displayed-next colors area buffer index halves size fits within none fit =
     let cell = cell_in area buffer index in
     let cells = cells_from area buffer (index + 1) (size - (index + 1)) in
     ap (displayed colors area.width index halves) (cells_from-next area buffer index size within)
     ∙ ap (λ count. displayed colors area.width index count (cell ∷ cells)) none
-    ∙ cond-true (fits_in_row area.width index cell cells) (displayed_alike colors cell ∷ displayed colors area.width (index + 1) (cluster_columns (shown_text cell.symbol) - 1) cells)
-    (blanked colors cell ∷ displayed colors area.width (index + 1) 0 cells) fit
-
-pub displayed-blank : (colors : Colors) (area : Rect) (buffer : Buffer) (index halves size : ℕ) → index < size → halves ≡ 0 →
-    fits_in_row area.width index (cell_in area buffer index) (cells_from area buffer (index + 1) (size - (index + 1))) ≡ false →
-    displayed colors area.width index halves (cells_from area buffer index (size - index))
-    ≡ blanked colors (cell_in area buffer index) ∷ displayed colors area.width (index + 1) 0 (cells_from area buffer (index + 1) (size - (index + 1)))
-displayed-blank colors area buffer index halves size within none fit =
-    let cell = cell_in area buffer index in
-    let cells = cells_from area buffer (index + 1) (size - (index + 1)) in
-    ap (displayed colors area.width index halves) (cells_from-next area buffer index size within)
-    ∙ ap (λ count. displayed colors area.width index count (cell ∷ cells)) none
-    ∙ cond-false (fits_in_row area.width index cell cells) (displayed_alike colors cell ∷ displayed colors area.width (index + 1) (cluster_columns (shown_text cell.symbol) - 1) cells)
-    (blanked colors cell ∷ displayed colors area.width (index + 1) 0 cells) fit
+    ∙ ap (λ b. cond b (displayed_alike colors cell ∷ displayed colors area.width (index + 1) (cluster_columns (shown_text cell.symbol) - 1) cells)
+    (blanked colors cell ∷ displayed colors area.width (index + 1) 0 cells)) fit
 
 -- the cell of a source, with what is shown of its cluster
 pub fill-visible : (colors : Colors) (area : Rect) (buffer : Buffer) (index halves size : ℕ) (source look : Look) (symbol : List ℕ) (columns left : ℕ) (view : CellView) → index < size →
@@ -77,7 +68,7 @@ fill-visible colors area buffer index halves size source look symbol columns lef
     let fit_symbol : fits_in_row area.width index (in_look source symbol) cells ≡ true =
     subst (λ n. (ltb 0 n && leb (index % area.width + n) area.width && begins_empty (n - 1) cells) ≡ true) columns_is fit in
     let fit_cell : fits_in_row area.width index (cell_in area buffer index) cells ≡ true = subst (λ (cell : CellView). fits_in_row area.width index cell cells ≡ true) is fit_symbol in
-    displayed-visible colors area buffer index halves size within none fit_cell
+    displayed-next colors area buffer index halves size true within none fit_cell
     ∙ ap (λ (cell : CellView). displayed_alike colors cell ∷ displayed colors area.width (index + 1) (cluster_columns (shown_text cell.symbol) - 1) cells) (sym is)
     ∙ ap (λ (first : CellView). first ∷ displayed colors area.width (index + 1) (cluster_columns (shown_text symbol) - 1) cells)
     (sym (view_is ∙ ap (λ (l : Look). in_look l (shown_text symbol)) look_is))
@@ -94,7 +85,7 @@ fill-blank colors area buffer index halves size source look symbol columns view 
     let other_symbol : fits_in_row area.width index (in_look source symbol) cells ≡ false =
     subst (λ n. (ltb 0 n && leb (index % area.width + n) area.width && begins_empty (n - 1) cells) ≡ false) columns_is other in
     let other_cell : fits_in_row area.width index (cell_in area buffer index) cells ≡ false = subst (λ (cell : CellView). fits_in_row area.width index cell cells ≡ false) is other_symbol in
-    displayed-blank colors area buffer index halves size within none other_cell
+    displayed-next colors area buffer index halves size false within none other_cell
     ∙ ap (λ (cell : CellView). blanked colors cell ∷ displayed colors area.width (index + 1) 0 cells) (sym is)
     ∙ ap (λ (first : CellView). first ∷ displayed colors area.width (index + 1) 0 cells) (sym (view_is ∙ ap (λ (l : Look). in_look l (32 ∷ [])) look_is))
 

@@ -9,22 +9,18 @@ use Rattle.ucd_table.proofs.TrieCheck.{all_below, all_below-at}
 use Rattle.unicode_segmentation.proofs.Computing.{unicode_segmentation}
 use Rattle.unicode_width.specs.Width.{char_width}
 
-abbrev is_one : ℕ → Bool
-is_one c = cluster_columns (c ∷ []) == 1
-
-abbrev passes : ℕ → Bool
-passes c = cond (leb 32 c && ltb c 127) (is_one c) true
-
-all_pass : all_below passes 127 ≡ true
-unfolding unicode_segmentation cluster_columns columns_of char_width
-all_pass = refl
+-- a test that each character of printable ASCII passes
+pub each_plain : (test : List ℕ → Bool) → all_below (λ c. cond (leb 32 c && ltb c 127) (test (c ∷ [])) true) 127 ≡ true →
+    (text : List ℕ) → length text ≡ 1 → IsPrintable (slice_index text 0) → test text ≡ true
+each_plain test all [] one printable = absurd (omega arith)
+each_plain test all (c ∷ []) one printable =
+    let in_range : (leb 32 c && ltb c 127) ≡ true = grind (arith, nat_tests, printable.0, printable.1) in
+    sym (cond-true (leb 32 c && ltb c 127) (test (c ∷ [])) true in_range) ∙ all_below-at (λ c. cond (leb 32 c && ltb c 127) (test (c ∷ [])) true) 127 c all printable.1
+each_plain test all (c ∷ d ∷ text) one printable = absurd (omega arith)
 
 pub cluster_columns-plain : (text : List ℕ) → length text ≡ 1 → IsPrintable (slice_index text 0) → cluster_columns text ≡ 1
-cluster_columns-plain [] one printable = absurd (omega arith)
-cluster_columns-plain (c ∷ []) one printable =
-    let in_range : (leb 32 c && ltb c 127) ≡ true = grind (arith, nat_tests, printable.0, printable.1) in
-    eqb-true _ _ (sym (cond-true (leb 32 c && ltb c 127) (is_one c) true in_range) ∙ all_below-at passes 127 c all_pass printable.1)
-cluster_columns-plain (c ∷ d ∷ text) one printable = absurd (omega arith)
+unfolding unicode_segmentation cluster_columns columns_of char_width
+cluster_columns-plain text one printable = eqb-true (cluster_columns text) 1 (each_plain (λ t. cluster_columns t == 1) refl text one printable)
 
 -- a blank is one
 pub cluster_columns-blank : cluster_columns (32 ∷ []) ≡ 1

@@ -9,10 +9,10 @@ use Rattle.textarea_terminal.specs.declared.input.event.MouseKind.{MouseKind}
 use Rattle.textarea_terminal.specs.declared.input.event.MouseKind.TheVariants as kind
 use Rattle.textarea_terminal.specs.declared.input.event.MouseButton.{MouseButton}
 use Rattle.textarea_terminal.specs.declared.input.event.MouseButton.TheVariants as button
-use Rattle.textarea_terminal.specs.InputEvent.{EventValue, input, paste, mouse, size, cursor, focus_gained, focus_lost, unknown, released}
+use Rattle.textarea_terminal.specs.InputEvent.{EventValue, input, paste, mouse, size, cursor, focus_gained, focus_lost}
 use Rattle.textarea_terminal.specs.InputKey.{input_of_key, ctrl_input, with_alt, input_with, letter_keys, numbered_keys, small_letter_keys, console_keys, keypad_keys, coded_keys}
 use Rattle.textarea_terminal.specs.InputUnit.{paste_start, paste_end, mark_index, begins_string}
-use Rattle.textarea_terminal.specs.InputSequence.{is_inner, is_final, inner_limit, is_text, text_limit}
+use Rattle.textarea_terminal.specs.InputSequence.{is_inner, is_final, inner_limit, is_text}
 
 -- ---- keys
 

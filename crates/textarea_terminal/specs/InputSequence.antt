@@ -1,6 +1,6 @@
 -- Control sequences (ECMA-48, 5.4): ESC [, then parameters and intermediate bytes, which are 32 to 63, then a final byte from
 -- 64 to 126. The definitions take the bytes after ESC [.
-use Rattle.std.specs.Prelude.{ℕ, zero, suc, ◌+◌, ◌-◌, ◌*◌, Bool, true, ◌&&◌, ◌||◌, not, ◌==◌, nat_le, nat_lt, List, [], ◌∷◌, Option, Some, None, option_map, take, drop, if◌then◌else◌}
+use Rattle.std.specs.Prelude.{ℕ, zero, suc, ◌+◌, ◌-◌, ◌*◌, Bool, true, ◌&&◌, ◌||◌, not, ◌==◌, nat_le, List, [], ◌∷◌, Option, Some, None, option_map, take, drop, if◌then◌else◌}
 use Rattle.std.specs.Int.{is_in_range}
 use Rattle.textarea_data.specs.declared.input.Input.{Input}
 use Rattle.textarea_data.specs.declared.input.Key.{Key}

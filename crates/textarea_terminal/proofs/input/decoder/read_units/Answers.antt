@@ -1,4 +1,4 @@
-use Rattle.std.proofs.Common.{◌≡◌, ℕ, List, refl, sym, ap, ◌∙◌, arith, vec_len, subst}
+use Rattle.std.proofs.Common.{ℕ, List, sym, ap, ◌∙◌, arith, vec_len, subst}
 use Rattle.textarea_terminal.specs.InputEvent.{EventValue}
 use Rattle.textarea_terminal.specs.InputReply.{made, refined}
 use Rattle.textarea_terminal.specs.InputStream.{AddsUpTo, Decoding, found_value}

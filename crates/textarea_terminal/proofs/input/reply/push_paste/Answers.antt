@@ -1,4 +1,4 @@
-use Rattle.std.proofs.Common.{rules, ◌≡◌, ℕ, List, false, sym, ap, subst}
+use Rattle.std.proofs.Common.{rules, ◌≡◌, List, false, sym, ap, subst}
 use Rattle.textarea_terminal.specs.InputEvent.{EventValue}
 use Rattle.textarea_terminal.specs.InputStream.{Adds}
 use Rattle.textarea_terminal.specs.declared.input.reply.Expected.{Expected}

@@ -1,4 +1,4 @@
-use Rattle.std.proofs.Common.{◌≡◌, ◌+◌, ◌-◌, true, false, get_or, drop, sym, ap, ◌∙◌, arith}
+use Rattle.std.proofs.Common.{◌≡◌, ◌-◌, true, false, get_or, drop, sym, ap, ◌∙◌, arith}
 use Rattle.std.proofs.lemmas.List.{at_drop_all, get_or-drop}
 use Rattle.textarea_terminal.specs.InputSequence.{is_text, count_front, text_limit}
 use Rattle.textarea_terminal.proofs.InputPrefixes.{count_front-more, count_front-end, count_front-nil, count_front-zero, count_front-most, count_front-split}

@@ -1,4 +1,4 @@
-use Rattle.std.proofs.Common.{◌++◌, ◌∷◌, [], ap, sym, ◌∙◌, append_assoc, arith, decimal, ◌+◌, ◌/◌, ◌%◌}
+use Rattle.std.proofs.Common.{◌++◌, ◌∷◌, [], ap, append_assoc, arith, decimal, ◌+◌, ◌/◌, ◌%◌}
 use Rattle.std.proofs.lemmas.Fmt.{decimal_digit, decimal_step}
 use Rattle.textarea_terminal.proofs.output.controls.+write_number.Goals.{then-number-ge10+in_ok-write_number, else-number-ge10}
 use Rattle.textarea_terminal.proofs.output.controls.+write_number.Goals as goal
