@@ -2,16 +2,17 @@
 use Rattle.std.proofs.lemmas.Grind.{common_steps}
 use Rattle.std.proofs.Common.{◌≡◌, ℕ, zero, suc, ◌≤◌, ◌<◌, min, true, false, List, [], ◌∷◌, ◌++◌, length, get_or, refl, sym, ap, subst, ◌∙◌, ⊎_elim, arith, is_lt, IsCharBoundary, cond}
 use Rattle.std.specs.Fmt.{is_char_start}
+use Rattle.std.specs.Prelude.{IsPermutation}
 use Rattle.std.specs.Fmt.Cut.{floor_char_boundary}
 use Rattle.std.specs.Cmp.{IsStrictWeakOrder, nat_cmp_total, on_total, then_total}
 use Rattle.std.specs.List.Sorted.{IsSortedByKey}
 use Rattle.std.proofs.lemmas.Bool.Decides.{nat_tests}
 use Rattle.std.proofs.lemmas.List.MinMax.{ranks_by}
-use Rattle.std.proofs.lemmas.List.Sorted.{sorted_far}
+use Rattle.std.proofs.lemmas.List.Sorted.{All-permutation, sorted_far}
 use Rattle.std.proofs.lemmas.Bool.{cases_lt}
 use Rattle.std.proofs.lemmas.List.{get_or_default, get_or_past, append_assoc, append-nil}
 use Rattle.std.proofs.lemmas.Str.{IsCharBoundary-end}
-use Rattle.textarea_highlight.specs.Borders.{rounded_down, highlight_borders, match_borders, search_rank, border_key, border_cmp}
+use Rattle.textarea_highlight.specs.Borders.{ArePlaced, rounded_down, highlight_borders, match_borders, search_rank, border_key, border_cmp}
 use Rattle.textarea_screen.specs.declared.screen.style.Style.{Style}
 use Rattle.textarea_highlight.specs.Split.{IsAscending}
 use Rattle.textarea_highlight.specs.declared.highlight.borders.Border.{Border}
@@ -58,7 +59,13 @@ rounded row offset at h = ⊎_elim
     rw least (last ∙ sym (at_end row (length row) refl)))
     (cases_lt offset (length row))
 
--- ---- sorted borders have ascending offsets
+-- ---- sorted borders
+
+-- they are at boundaries of characters, as before
+pub sorted_placed : (row : List ℕ) (before after : List Border) → IsPermutation before after → ArePlaced row before → ArePlaced row after
+sorted_placed row before after same placed = All-permutation (λ (border : Border). IsCharBoundary row border.offset) before after same placed
+
+-- their offsets ascend
 
 not_before : (a b : Border) → is_lt (border_cmp (border_key b) (border_key a)) ≡ false → a.offset ≤ b.offset
 not_before a b h = grind (arith, nat_tests)

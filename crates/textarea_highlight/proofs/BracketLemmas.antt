@@ -162,7 +162,18 @@ last_open : (marks : List Mark) → MatchOption (last (left_open marks)) (OpensN
 unfolding last left_open
 last_open [] = λ k other opens. let never = opens.0 in cc
 last_open (Start style ∷ marks) =
-    grind (arith, common_steps, last-append (cond (closed_by marks == 0) (style ∷ []) []) (left_open marks), closed_by marks == 0, left_open marks, step style marks (last (left_open marks)) (closed_by marks == 0) (stays_of_closed marks, closed_of_stays marks) (last_open marks), last (left_open marks), stays_of_closed marks, closed_of_stays marks, last_open marks)
+    grind (
+      arith,
+      common_steps,
+      last-append (cond (closed_by marks == 0) (style ∷ []) []) (left_open marks),
+      closed_by marks == 0,
+      left_open marks,
+      step style marks (last (left_open marks)) (closed_by marks == 0) (stays_of_closed marks, closed_of_stays marks) (last_open marks),
+      last (left_open marks),
+      stays_of_closed marks,
+      closed_of_stays marks,
+      last_open marks,
+    )
 last_open (End ∷ marks) = after_end marks (last (left_open marks)) (last_open marks)
 
 take-nil : (n : ℕ) → take {A = Style} n [] ≡ []

@@ -47,7 +47,13 @@ with_spaces-same tab_len column (c ∷ cs) none =
 no_tab_displayed : (tab_len column : ℕ) (cs : List ℕ) → list_any is_tab (with_spaces tab_len column cs) ≡ false
 no_tab_displayed tab_len column [] = refl
 no_tab_displayed tab_len column (c ∷ cs) =
-    grind (arith, common_steps, list_any-append is_tab (display_char tab_len column c) (with_spaces tab_len (column_after tab_len column c) cs), char_none (is_tab c) (next_stop tab_len column - column) c, no_tab_displayed tab_len (column_after tab_len column c) cs)
+    grind (
+      arith,
+      common_steps,
+      list_any-append is_tab (display_char tab_len column c) (with_spaces tab_len (column_after tab_len column c) cs),
+      char_none (is_tab c) (next_stop tab_len column - column) c,
+      no_tab_displayed tab_len (column_after tab_len column c) cs,
+    )
 
 filter-same : (cs : List ℕ) → list_any is_tab cs ≡ false → filter (λ c. not (is_tab c)) cs ≡ cs
 filter-same [] none = refl

@@ -116,7 +116,8 @@ module _ (h : Highlights) (part : RowPart) (line : LineView) (utf8 : IsUtf8 h.ro
     from_start = λ first. none-from (take part.from front_row) shown.sorted h 0 part.from three.before three.split_before (sym first);
     to_end = λ last. none-from h.row shown.sorted h part.to (length h.row) two.after two.split_after last;
     before_columns = omega (arith, columns_before, no_column (take part.from front_row) h.tab_len, first_column, is.column);
-    before_text = spans-utf8 (take part.from front_row) shown.sorted h.base h.tab_len first_utf8 first_placed some 0 three.before part.from (IsCharBoundary-start (take part.from front_row) first_utf8) (omega (arith, first_length)) three.split_before;
+    before_text = spans-utf8 (take part.from front_row) shown.sorted h.base h.tab_len first_utf8 first_placed some 0 three.before part.from
+        (IsCharBoundary-start (take part.from front_row) first_utf8) (omega (arith, first_length)) three.split_before;
     at_left = is.at_left;
     at_right = at_right (nat_lt part.to (length h.row)) refl;
   }
@@ -134,7 +135,8 @@ module _ (h : Highlights) (part : RowPart) (line : LineView) (utf8 : IsUtf8 h.ro
       first_placed = placed-take front_row shown.sorted part.from from_within front_placed
 
       columns_before : spans_columns three.before + column_of (take part.from front_row) h.tab_len 0 ≡ column_of (take part.from front_row) h.tab_len part.from
-      columns_before = spans-width (take part.from front_row) shown.sorted h.base h.tab_len first_utf8 first_placed some 0 three.before part.from (IsCharBoundary-start (take part.from front_row) first_utf8) (omega (arith, first_length)) three.split_before
+      columns_before = spans-width (take part.from front_row) shown.sorted h.base h.tab_len first_utf8 first_placed some 0 three.before part.from
+          (IsCharBoundary-start (take part.from front_row) first_utf8) (omega (arith, first_length)) three.split_before
 
       first_column : column_of (take part.from front_row) h.tab_len part.from ≡ column_of h.row h.tab_len part.from
       first_column = column_of-take front_row h.tab_len part.from part.from (omega arith) ∙ column_of-take h.row h.tab_len part.to part.from is.order

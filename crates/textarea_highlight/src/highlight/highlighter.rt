@@ -346,6 +346,7 @@ impl<'a> LineHighlighter<'a> {
     /// Replaces the spans of a line as `show_in` does, by those of only a part of the row. What is
     /// in front of the row comes with a part that begins where the row begins, and the cell after
     /// the row with a part that ends where the row ends.
+    #[tactic(auto, using(crate::proofs::BorderLemmas::sorted_placed))]
     pub fn show_part_in(&mut self, line: &mut Line<'a>, part: RowPart) -> Result<(), AllocError>
         requires { IsPartOf self.old part }
         ensures displayed { OnOk result (ShowsPart self.old part (line_view line.new)) }

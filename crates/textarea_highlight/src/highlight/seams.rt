@@ -147,9 +147,11 @@ fn next_characters(row: &str, tab_len: u8, walk: Walk, column: usize) -> Walk
     if count < 2 {
         return next_character(row, tab_len, walk);
     }
+    let at = after_visible(row, tab_len, walk.at, count);
+    let seam = after_visible(row, tab_len, walk.at, count - 1);
     Walk {
-        at: after_visible(row, tab_len, walk.at, count),
-        seam: after_visible(row, tab_len, walk.at, count - 1),
+        at,
+        seam,
         after_plain: true,
     }
 }

@@ -41,7 +41,7 @@ pub fn split<'a>(
             break;
         }
         let end = border.offset.max(start);
-        split_to(row, &mut display, styles, spans, start, end)?;
+        let segment_added = split_to(row, &mut display, styles, spans, start, end)?;
         styles.pass(border.mark)?;
         start = end;
     }

@@ -34,4 +34,5 @@ pub returns-in_err-push_highlight-clause-nothing : goal.returns-in_err-push_high
 returns-in_err-push_highlight-clause-nothing g c = λ none.
     absurd (false≢true (c.in_err-push_highlight.ensures.nothing
     (none c.loop-found.yielded c.in-Some.found _
-    (step_gives g.I.Iterator.next_gives c.args.matches _ c.loop-found.found-iterator c.next.new.self c.loop-found.yielded c.in-Some.found c.into_iter-found-iterator.ensures.into_iter_gives c.loop-found.yielded_by c.in-Some.ensures.steps))).0)
+    (step_gives g.I.Iterator.next_gives c.args.matches _ c.loop-found.found-iterator c.next.new.self c.loop-found.yielded c.in-Some.found
+    c.into_iter-found-iterator.ensures.into_iter_gives c.loop-found.yielded_by c.in-Some.ensures.steps))).0)

@@ -22,7 +22,8 @@ returns-clause-found c =
     let rest = c.range_from.result.now in
     let at = byte_after row rest c.args.mark c.utf8.row c.requires c.range_from.ensures.value in
     let utf8 = rest_utf8 row rest c.args.mark c.utf8.row c.requires c.range_from.ensures.value in
-    let bytes = nth_bytes rest c.char_indices.result c.nth.new.self c.nth.result c.args.count utf8 c.char_indices.ensures.rest c.char_indices.ensures.offset c.nth.ensures.ran (c.in_ok-start.start, c.in_ok-start.c) c.len_utf8.result c.in_ok-start.was c.len_utf8.ensures.len in
+    let bytes = nth_bytes rest c.char_indices.result c.nth.new.self c.nth.result c.args.count utf8 c.char_indices.ensures.rest c.char_indices.ensures.offset
+    c.nth.ensures.ran (c.in_ok-start.start, c.in_ok-start.c) c.len_utf8.result c.in_ok-start.was c.len_utf8.ensures.len in
     let more : c.args.mark.characters + (c.args.count + 1) ≡ c.args.mark.characters + c.args.count + 1 = omega arith in
     pair_same _ _ _
     (omega (arith, ap (λ (p : ℕ × ℕ). p.0) bytes, at c.args.count))

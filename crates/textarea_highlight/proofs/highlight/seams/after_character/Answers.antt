@@ -17,5 +17,6 @@ returns-clause-plain c = λ plain.
     let at = c.args.at in
     let end = c.after_other-next.result.offset in
     plain_between c.args.row.now c.args.tab_len at c.after_other-next.result c.utf8.row c.requires.known c.after_other-next.ensures.known (omega (arith, c.after_other-next.ensures.next, len_utf8_bounds c.first_character-c.result))
-    (ap (list_all is_plain) (segment_of_first c.args.row.now at.offset end c.first_character-c.result c.utf8.row c.requires.known.boundary (subst (λ (text : List ℕ). BeginsWith text c.first_character-c.result) c.range_from.ensures.value c.first_character-c.ensures) c.after_other-next.ensures.next)
+    (ap (list_all is_plain) (segment_of_first c.args.row.now at.offset end c.first_character-c.result c.utf8.row c.requires.known.boundary
+    (subst (λ (text : List ℕ). BeginsWith text c.first_character-c.result) c.range_from.ensures.value c.first_character-c.ensures) c.after_other-next.ensures.next)
     ∙ ap (λ (b : Bool). b && true) (sym c.is_plain.ensures ∙ plain))

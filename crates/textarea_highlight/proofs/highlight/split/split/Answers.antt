@@ -12,7 +12,7 @@ loop-border-preserved c =
     c.if-row-border.false c.loop-border.invariant.boundary in
     pass_more _ _ _ _ _ _ _ i _ _ _ _ _ _
     (split_more _ _ _ _ _ _ _ i _ c.max-end.result _ _ _ _ _ c.loop-border.invariant next.order next.boundary next.edge next.ahead
-    c.in_ok-split_to.ensures.added c.in_ok-split_to.ensures.known c.in_ok-split_to.ensures.tab c.in_ok-split_to.ensures.masked)
+    c.in_ok-segment_added.ensures.added c.in_ok-segment_added.ensures.known c.in_ok-segment_added.ensures.tab c.in_ok-segment_added.ensures.masked)
     c.loop-border-test.true next.last c.in_ok-pass.ensures.base c.in_ok-pass.ensures.ok
 
 pub returns-clause-added : goal.returns-clause-added
@@ -26,6 +26,6 @@ returns-clause-added c =
       | then-loop-border-test+then-row-border w ↦ past_end row borders i _ w.if-row-border.true c.requires.ordered
     ] in
     let end = split_more _ _ _ _ _ _ _ i _ (length row) _ _ _ _ _ c.loop-border.invariant c.loop-border.invariant.boundary.0 (IsCharBoundary-end row) (λ more. inl refl) (λ more. ahead)
-    c.in_ok-split_to-2.ensures.added c.in_ok-split_to-2.ensures.known c.in_ok-split_to-2.ensures.tab c.in_ok-split_to-2.ensures.masked in
+    c.in_ok-split_to.ensures.added c.in_ok-split_to.ensures.known c.in_ok-split_to.ensures.tab c.in_ok-split_to.ensures.masked in
     let split = end.split in
     record { segments = split.0; split = split.1; added = split.2 }

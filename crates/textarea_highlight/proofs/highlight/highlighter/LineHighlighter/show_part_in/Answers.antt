@@ -1,19 +1,14 @@
-use Rattle.std.proofs.Common.{◌≡◌, ◌==◌, cond, [], map, IsCharBoundary, length, ap, ◌∙◌, arith}
+use Rattle.std.proofs.Common.{◌≡◌, ◌==◌, cond, [], map, length, ap, ◌∙◌, arith}
 use Rattle.std.proofs.lemmas.List.{nil_from_length}
-use Rattle.std.proofs.lemmas.List.Sorted.{All-permutation, length_permutation}
+use Rattle.std.proofs.lemmas.List.Sorted.{length_permutation}
 use Rattle.std.proofs.lemmas.Result.{on_ok_weaker}
 use Rattle.textarea_screen.specs.Text.{span_view}
 use Rattle.textarea_screen.specs.declared.screen.text.Line.{Line}
 use Rattle.textarea_highlight.specs.Highlights.{Highlights, end_style}
-use Rattle.textarea_highlight.specs.declared.highlight.borders.Border.{Border}
 use Rattle.textarea_highlight.proofs.BorderLemmas.{ascending}
 use Rattle.textarea_highlight.proofs.RowLemmas.{all_numbers, cleared_numbers, part_added}
 use Rattle.textarea_highlight.proofs.highlight.highlighter.LineHighlighter.show_part_in.Goals as goal
 use Rattle.textarea_highlight.proofs.highlight.highlighter.LineHighlighter.show_part_in.Goals.{then-part-gt0, else-part-gt0}
-
-pub invariant_of-self-2 : goal.invariant_of-self-2
-invariant_of-self-2 c =
-    (All-permutation (λ (border : Border). IsCharBoundary c.self.inside.row.now border.offset) _ _ c.in_ok-sort.ensures.permutation c.self.invariant.0, c.self.invariant.1)
 
 pub push_part-requires-clause-ordered : goal.push_part-requires-clause-ordered
 push_part-requires-clause-ordered c = ascending c.sort.new.borders.items c.in_ok-sort.ensures.sorted
