@@ -1,5 +1,6 @@
 -- Searches among a line's matches that begin at one of them.
-use Rattle.std.proofs.Common.{◌≡◌, ℕ, zero, suc, ◌+◌, ◌-◌, ◌<◌, ◌≤◌, ◌⊎◌, Bool, true, false, cond, List, [], ◌∷◌, ◌++◌, map, length, get_or, take, drop, reverse, Option, None, Some, IfSome, refl, sym, ap, ◌∙◌, subst, inl, inr, ⊎_elim, arith, option_map, IsUtf8, IsCharBoundary}
+use Rattle.std.proofs.Common.{◌≡◌, ℕ, zero, suc, ◌+◌, ◌-◌, ◌<◌, ◌≤◌, ◌⊎◌, Bool, true, false, cond, List, [], ◌∷◌, ◌++◌, map, length, get_or, take, drop, reverse, Option, None, Some, IfSome, refl, sym}
+use Rattle.std.proofs.Common.{ap, ◌∙◌, subst, inl, inr, ⊎_elim, arith, option_map, IsUtf8, IsCharBoundary}
 use Rattle.std.specs.Prelude.{All, Contains}
 use Rattle.std.specs.Coded.{Coded-set, coded_option, coded_ℕ}
 use Rattle.std.specs.List.{find}

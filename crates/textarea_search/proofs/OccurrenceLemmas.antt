@@ -1,5 +1,6 @@
 -- Where a line has a text without syntax: if it can't overlap itself, each such place is the start of a match.
-use Rattle.std.proofs.Common.{◌≡◌, ◌==◌, Bool, not, IfSome, is_some, reverse, true≢false, eq-eqb, ℕ, zero, suc, ◌+◌, ◌-◌, ◌<◌, ◌≤◌, true, false, cond, List, ◌∷◌, map, length, take, drop, get_or, Option, None, Some, option_map, refl, sym, ap, ◌∙◌, subst, inl, inr, ⊎_elim, arith, zero-le, IsUtf8, IsCharBoundary}
+use Rattle.std.proofs.Common.{◌≡◌, ◌==◌, Bool, not, IfSome, is_some, reverse, true≢false, eq-eqb, ℕ, zero, suc, ◌+◌, ◌-◌, ◌<◌, ◌≤◌, true, false, cond, List, ◌∷◌, map, length, take, drop, get_or}
+use Rattle.std.proofs.Common.{Option, None, Some, option_map, refl, sym, ap, ◌∙◌, subst, inl, inr, ⊎_elim, arith, zero-le, IsUtf8, IsCharBoundary}
 use Rattle.std.specs.Prelude.{nat_le, nat_lt, slice_index}
 use Rattle.std.specs.List.{find}
 use Rattle.std.specs.Option.{option_or}

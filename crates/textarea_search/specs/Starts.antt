@@ -1,5 +1,6 @@
 -- The positions at which matches start in a text, and the one that a search finds.
-use Rattle.std.specs.Prelude.{◌≡◌, ℕ, ◌+◌, ◌-◌, ◌<◌, ◌≤◌, Bool, ◌==◌, ◌&&◌, ◌||◌, if◌then◌else◌, nat_lt, List, [], ◌∷◌, ◌++◌, map, length, find, reverse, slice_get, slice_index_or, Option, None, Some, String, string_bytes, IfOk, IfSome, IsNone, IsOk, Result}
+use Rattle.std.specs.Prelude.{◌≡◌, ℕ, ◌+◌, ◌-◌, ◌<◌, ◌≤◌, Bool, ◌==◌, ◌&&◌, ◌||◌, if◌then◌else◌, nat_lt, List, [], ◌∷◌, ◌++◌, map, length, find, reverse, slice_get, slice_index_or, Option, None, Some}
+use Rattle.std.specs.Prelude.{String, string_bytes, IfOk, IfSome, IsNone, IsOk, Result}
 use Rattle.std.specs.declared.alloc.AllocError.{AllocError}
 use Rattle.std.specs.Option.{option_or}
 use Rattle.std.specs.Str.{chars}

@@ -104,5 +104,6 @@ fn last_before(columns: &[usize], mark: usize, at_mark: bool) -> Option<usize>
     ensures { result ≡ find (λ column. is_past column at_mark mark) (reverse columns.now) }
 {
     let index = columns.partition_point(|column| is_past(*column, at_mark, mark));
-    Some(columns[index.checked_sub(1)?])
+    let before = index.checked_sub(1)?;
+    Some(columns[before])
 }

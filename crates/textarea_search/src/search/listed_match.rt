@@ -1,5 +1,5 @@
 //! Listed matches with their columns: the next one, and the search from one of them.
-ghost use Rattle.std.specs.Prelude.{◌≡◌, ◌↔◌, ◌+◌, ◌<◌, ◌≤◌, [], ◌∷◌, All, find, reverse, option_map, length, slice_get, IfOk, IfSome, IsTrue, MatchOption, OnOk};
+ghost use Rattle.std.specs.Prelude.{ℕ, true, ◌≡◌, ◌↔◌, ◌+◌, ◌^◌, ◌<◌, ◌≤◌, [], ◌∷◌, All, find, reverse, option_map, length, slice_get, IfOk, IfSome, IsTrue, MatchOption, OnOk};
 ghost use Rattle.std.specs.List.Sorted.{IsNonDecreasingBy};
 ghost use Rattle.std.specs.Str.{chars};
 ghost use Rattle.regex.specs.Strings.{matcher_pattern};
@@ -180,10 +180,7 @@ pub(crate) fn end_column(
     ensures within { IfSome result (λ start. start ≤ length (chars line.now)) }
     ensures same { matcher_pattern matcher.new ≡ matcher_pattern matcher.old }
 {
-    let end = match direction {
-        Direction::Forward => 0,
-        Direction::Back => usize::MAX,
-    };
+    let end = end_of(direction);
     if let Some(finder) = needle {
         finder.find(line.as_bytes())?;
         if finder.starts_once() {
@@ -191,4 +188,14 @@ pub(crate) fn end_column(
         }
     }
     column_ahead(matcher, line, None, direction, end, true)
+}
+
+/// Returns a column from which each column of a line is ahead, if a match may be at it.
+fn end_of(direction: Direction) -> usize
+    ensures { (column : ℕ) → column < 2 ^ 64 → is_ahead_in_line direction result true column ≡ true }
+{
+    match direction {
+        Direction::Forward => 0,
+        Direction::Back => usize::MAX,
+    }
 }

@@ -12,7 +12,8 @@ returns-in-Some-clause-found c =
     let line = c.index-lines-row.result in
     let bytes : c.deref.result.now ≡ bytes_at c.args.lines.now c.args.cursor.0 =
     c.deref.ensures ∙ sym (bytes_of_line c.args.lines.now c.args.cursor.0 line (omega arith) c.index-lines-row.is) in
-    let found : find (is_ahead_in_line c.args.direction c.args.cursor.1 c.args.match_cursor) (along c.args.direction (columns (bytes_at c.args.lines.now c.args.cursor.0))) ≡ Some c.in-Some.start = rw (← bytes) (sym c.in-Some.ensures.found) in
+    let found : find (is_ahead_in_line c.args.direction c.args.cursor.1 c.args.match_cursor) (along c.args.direction (columns (bytes_at c.args.lines.now c.args.cursor.0))) ≡ Some c.in-Some.start =
+    rw (← bytes) (sym c.in-Some.ensures.found) in
     sym (found_here columns c.args.lines.now c.args.cursor.0 c.args.cursor.1 c.args.match_cursor (omega arith) c.args.direction c.in-Some.start found)
 
 pub returns-clause-found : goal.returns-clause-found

@@ -31,7 +31,8 @@ returns-in-Some-last_start-clause-within c = place_in_front c.args.lines.now c.a
 
 pub returns-in-None-last_start-clause-found : goal.returns-in-None-last_start-clause-found
 returns-in-None-last_start-clause-found c = λ column at none.
-    c.last_start-in-None-last_start.ensures.found ∙ ap (λ t. slice_get (reverse (starts_from (columns_in t) c.args.row (map string_bytes (take (length c.args.lines.now - c.args.row) (drop c.args.row c.args.lines.now))))) 0) c.in-None-last_start.ensures.same
+    c.last_start-in-None-last_start.ensures.found
+    ∙ ap (λ t. slice_get (reverse (starts_from (columns_in t) c.args.row (map string_bytes (take (length c.args.lines.now - c.args.row) (drop c.args.row c.args.lines.now))))) 0) c.in-None-last_start.ensures.same
     ∙ sym (back_beyond (columns_in (matcher_pattern c.args.matcher.now)) c.args.lines.now c.args.row column at (omega arith) c.args.direction None c.in-Back.is none (sym c.in-None-last_start.ensures.found))
 
 pub returns-in-None-last_start-clause-within : goal.returns-in-None-last_start-clause-within

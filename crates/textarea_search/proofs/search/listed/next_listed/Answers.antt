@@ -28,7 +28,12 @@ returns-then-end-after-clause-found c =
 
 pub returns-then-end-after-clause-forth : goal.returns-then-end-after-clause-forth
 returns-then-end-after-clause-forth c =
-    grind (arith, common_steps, forth_of_start c.args.after c.find_at-then-end-after.result (starts_after _ c.args.line.now c.args.after c.find_at-then-end-after.result c.find_at-then-end-after.ensures.found), starts_after _ c.args.line.now c.args.after c.find_at-then-end-after.result c.find_at-then-end-after.ensures.found)
+    grind (
+      arith,
+      common_steps,
+      forth_of_start c.args.after c.find_at-then-end-after.result (starts_after _ c.args.line.now c.args.after c.find_at-then-end-after.result c.find_at-then-end-after.ensures.found),
+      starts_after _ c.args.line.now c.args.after c.find_at-then-end-after.result c.find_at-then-end-after.ensures.found,
+    )
 
 pub returns-clause-found : goal.returns-clause-found
 returns-clause-found c =

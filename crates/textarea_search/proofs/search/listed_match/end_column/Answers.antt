@@ -1,27 +1,19 @@
 use Rattle.std.proofs.Common.{◌≡◌, ◌+◌, ◌∙◌, ◌≤◌, List, ℕ, None, IfSome, IsUtf8, ap, arith, length, map, rules, subst, sym, true}
 use Rattle.std.specs.List.{find, slice_get}
 use Rattle.std.specs.Str.{chars}
-use Rattle.std.proofs.lemmas.Bool.Decides.{nat_tests}
 use Rattle.std.proofs.lemmas.List.Elements.{All-weaker}
 use Rattle.memchr.specs.Find.{Nowhere, OccursAt}
 use Rattle.regex_hir.specs.Re.{Re}
 use Rattle.regex.specs.Strings.{matcher_pattern}
 use Rattle.textarea_search.specs.Spans.{IsNeedleOf, columns_in}
-use Rattle.textarea_search.specs.Starts.{along, is_ahead_in_line, is_past}
+use Rattle.textarea_search.specs.Starts.{along, is_ahead_in_line}
 use Rattle.textarea_search.specs.declared.search.direction.Direction.{Direction}
 use Rattle.textarea_search.proofs.ColumnLemmas.{All-along, column_of_span}
 use Rattle.textarea_search.proofs.FromMatchLemmas.{columns_within}
 use Rattle.textarea_search.proofs.PatternLemmas.{no_columns, none_listed-text}
 use Rattle.textarea_search.proofs.StartLemmas.{find-first}
 use Rattle.textarea_search.proofs.search.listed_match.end_column.Goals as goal
-use Rattle.textarea_search.proofs.search.listed_match.end_column.Goals.{in-Forward, in-Back}
 use Rattle.textarea_util.proofs.Characters.{length-chars}
-
-after_start : (column : ℕ) → is_past 0 true column ≡ true
-after_start column = grind (arith, nat_tests)
-
-before_end : (column end : ℕ) → column ≤ end → is_past column true end ≡ true
-before_end column end le = grind (arith, nat_tests)
 
 -- a column from which each match is ahead
 first_of_all : (tree : Re) (line : List ℕ) → IsUtf8 line → (direction : Direction) (end : ℕ) →
@@ -48,12 +40,9 @@ returns-then-starts_once-clause-found c =
     let tree = matcher_pattern c.args.matcher.now in
     let line = c.args.line.now in
     let direction = c.args.direction in
-    let end = c.match-direction.end in
+    let end = c.end_of-end.result in
     let passes : (column : ℕ) → column ≤ length (chars line) → is_ahead_in_line direction end true column ≡ true =
-    elim c.match-direction.branch [
-      | in-Forward w ↦ λ column le. rw (w.in-Forward.is, w.end-is) (after_start column)
-      | in-Back w ↦ λ column le. rw (w.in-Back.is, w.end-is) (before_end column _ (omega (arith, le, length-chars line c.utf8.line)))
-    ] in
+    λ column le. c.end_of-end.ensures column (omega (arith, le, length-chars line c.utf8.line)) in
     let needle : IsNeedleOf c.in-Some.finder tree = subst (λ o. IfSome o (λ finder. IsNeedleOf finder tree)) c.in-Some.is c.requires in
     c.nearest_text.ensures.found
     ∙ ap (λ (ss : List (ℕ × ℕ)). find (is_ahead_in_line direction end true) (along direction (map (column_of_span line) ss))) (sym (needle line c.utf8.line))
@@ -63,10 +52,7 @@ pub returns-clause-found : goal.returns-clause-found
 returns-clause-found c =
     let line = c.args.line.now in
     let direction = c.args.direction in
-    let end = c.match-direction.end in
+    let end = c.end_of-end.result in
     let passes : (column : ℕ) → column ≤ length (chars line) → is_ahead_in_line direction end true column ≡ true =
-    elim c.match-direction.branch [
-      | in-Forward w ↦ λ column le. rw (w.in-Forward.is, w.end-is) (after_start column)
-      | in-Back w ↦ λ column le. rw (w.in-Back.is, w.end-is) (before_end column _ (omega (arith, le, length-chars line c.utf8.line)))
-    ] in
+    λ column le. c.end_of-end.ensures column (omega (arith, le, length-chars line c.utf8.line)) in
     c.column_ahead.ensures.found ∙ first_of_all (matcher_pattern c.args.matcher.now) line c.utf8.line direction end passes

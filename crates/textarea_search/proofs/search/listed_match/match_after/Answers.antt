@@ -5,7 +5,6 @@ use Rattle.textarea_search.specs.Columns.{column_of_byte}
 use Rattle.textarea_search.specs.ListedMatches.{IsMatchIn}
 use Rattle.textarea_search.specs.declared.search.listed_match.ListedMatch.{ListedMatch}
 use Rattle.textarea_search.proofs.search.listed_match.match_after.Goals as goal
-use Rattle.textarea_search.proofs.search.listed_match.match_after.Goals.{in-Some, in-None}
 
 -- the byte offset before the search with its column
 abbrev known_of : Option ListedMatch → ℕ × ℕ
