@@ -10,7 +10,7 @@ const TEXT: &str = "# Notes\n\nA line that is longer than the screen goes on in 
     and has one number.\n\n- 漢字 and other wide characters\n- a selection from here to there";
 
 #[derive(Drop)]
-pub struct Editor {
+pub struct EditorProgram {
     alloc: Global,
     area: TextArea<'static>,
     is_changed: bool,
@@ -23,12 +23,12 @@ fn set_up(area: &mut TextArea<'_>) -> Result<(), AllocError> {
     area.set_wrap_mode(WrapMode::Word)
 }
 
-impl Editor {
-    pub fn new(alloc: Global) -> Result<Editor> {
+impl EditorProgram {
+    pub fn new(alloc: Global) -> Result<EditorProgram> {
         let mut area = TextArea::from_text(alloc, TEXT)?;
         set_up(&mut area)?;
         let is_changed = false;
-        Ok(Editor {
+        Ok(EditorProgram {
             alloc,
             area,
             is_changed,

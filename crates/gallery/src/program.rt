@@ -1,7 +1,7 @@
 //! The programs of the gallery by their names.
 
 use crate::composer::Composer;
-use crate::editor::Editor;
+use crate::editor::EditorProgram;
 use crate::form::Form;
 use crate::modal::ModalEditor;
 use crate::password::Password;
@@ -24,7 +24,7 @@ pub enum Program {
     Password(Password),
     Composer(Composer),
     Search(Finder),
-    Editor(Editor),
+    Editor(EditorProgram),
     Form(Form),
     Modal(ModalEditor),
     Split(Split),
@@ -41,7 +41,7 @@ impl Program {
             "password" => Program::Password(Password::new(alloc)?),
             "composer" => Program::Composer(Composer::new(alloc)?),
             "search" => Program::Search(Finder::new(alloc)?),
-            "editor" => Program::Editor(Editor::new(alloc)?),
+            "editor" => Program::Editor(EditorProgram::new(alloc)?),
             "form" => Program::Form(Form::new(alloc)?),
             "modal" => Program::Modal(ModalEditor::new(alloc)?),
             "split" => Program::Split(Split::new(alloc)?),

@@ -3,7 +3,7 @@ use Rattle.std.specs.Prelude.{◌≡◌, ◌≢◌, not, Bool, true, false, [], 
 use Rattle.textarea_data.specs.declared.input.Input.{Input}
 use Rattle.textarea_data.specs.declared.input.Key.{Key}
 use Rattle.textarea_data.specs.declared.input.Key.TheVariants.{MouseScrollDown, MouseScrollUp}
-use Rattle.textarea_editor.specs.EventCalls.{IsCommandOf}
+use Rattle.textarea_editor.specs.EventCalls.{IsBoundCommand}
 use Rattle.textarea_editor.specs.HelpKeys.{help_key}
 use Rattle.textarea_editor.specs.PromptKeys.{prompt_key}
 use Rattle.textarea_editor.specs.Replies.{reply_of}
@@ -21,8 +21,8 @@ use Rattle.textarea_editor.specs.declared.focus.Question.{Question}
 use Rattle.textarea_editor.specs.declared.focus.Question.TheVariants.{Overwrite, SaveFirst}
 use Rattle.textarea_editor.specs.declared.focus.Reply.{Reply}
 use Rattle.textarea_editor.specs.declared.focus.Reply.TheVariants as reply
-use Rattle.textarea_editor.specs.declared.keys.Command.{Command}
-use Rattle.textarea_editor.specs.declared.keys.Command.TheVariants as command
+use Rattle.textarea_editor.specs.declared.keys.KeyCommand.{KeyCommand}
+use Rattle.textarea_editor.specs.declared.keys.KeyCommand.TheVariants as command
 use Rattle.textarea_modal.specs.Table.{Step, step}
 use Rattle.textarea_modal.specs.declared.mode.Mode.{Mode}
 use Rattle.textarea_terminal.specs.declared.input.event.Event.{Event}
@@ -57,7 +57,7 @@ quit_asked controls false = controls
 -- ---- keys in the text
 
 -- a command; the file has a name or not, and the text may have changed or not
-abbrev pub after_command : Controls → Bool → Bool → Place → Command → Controls
+abbrev pub after_command : Controls → Bool → Bool → Place → KeyCommand → Controls
 after_command controls named changed cursor command.Save = save_asked controls named cursor
 after_command controls named changed cursor command.SaveAs = prompt_opened controls cursor asks.Name
 after_command controls named changed cursor command.Quit = quit_asked controls changed
@@ -69,14 +69,14 @@ after_command controls named changed cursor command.Help = with_focus controls f
 after_command controls named changed cursor other = controls
 
 -- a step of the modal editor: its mode, and its end
-abbrev pub after_step : Controls → Bool → Step → Controls
-after_step controls changed made =
+abbrev pub after_modal_step : Controls → Bool → Step → Controls
+after_modal_step controls changed made =
     let next = record controls { modal = Some made.mode } in if made.quits then quit_asked next changed else next
 
 -- a key of the modal editor, if there is one, or of the text area
 abbrev pub after_typed : Option Mode → Controls → Bool → Input → Controls
 after_typed None controls changed input = controls
-after_typed (Some mode) controls changed input = after_step controls changed (step mode input)
+after_typed (Some mode) controls changed input = after_modal_step controls changed (step mode input)
 
 -- a key that is bound to no command
 abbrev pub after_unbound : Key → Controls → Bool → Input → Controls
@@ -84,14 +84,14 @@ after_unbound MouseScrollDown controls changed input = controls
 after_unbound MouseScrollUp controls changed input = controls
 after_unbound other controls changed input = after_typed controls.modal controls changed input
 
-abbrev pub after_key : Option Command → Controls → Bool → Bool → Place → Input → Controls
+abbrev pub after_key : Option KeyCommand → Controls → Bool → Bool → Place → Input → Controls
 after_key (Some found) controls named changed cursor input = after_command controls named changed cursor found
 after_key None controls named changed cursor input = after_unbound input.key controls changed input
 
 -- a key in the text
 pub record IsAfterKey (controls : Controls) (named changed : Bool) (cursor : Place) (input : Input) (new : Controls) : Type 0 where
-  pub command : Option Command
-  pub found : IsCommandOf input (is_some controls.modal) command
+  pub command : Option KeyCommand
+  pub found : IsBoundCommand input (is_some controls.modal) command
   pub new_is : new ≡ after_key command controls named changed cursor input
 
 -- ---- keys in the prompt

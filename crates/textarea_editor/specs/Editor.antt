@@ -41,8 +41,8 @@ numbers_of editor = editor.controls.numbers
 abbrev pub columns_of : Editor → ℕ
 columns_of editor = editor.columns
 
-abbrev pub rows_of : Editor → ℕ
-rows_of editor = editor.rows
+abbrev pub screen_rows_of : Editor → ℕ
+screen_rows_of editor = editor.rows
 
 -- the next key answers whether to save before the program ends
 abbrev pub AsksToSave : Editor → Type 0

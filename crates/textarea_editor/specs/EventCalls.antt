@@ -10,7 +10,7 @@ use Rattle.textarea_data.specs.declared.input.Input.{Input}
 use Rattle.textarea_data.specs.declared.measure.TextAreaMeasure.{TextAreaMeasure}
 use Rattle.textarea_data.specs.declared.input.Key.{Key}
 use Rattle.textarea_data.specs.declared.input.Key.TheVariants.{Char, End, Esc, F, Home, MouseScrollDown, MouseScrollUp}
-use Rattle.textarea_editor.specs.LineNumber.{IsLineNumber, row_of}
+use Rattle.textarea_editor.specs.LineNumber.{IsLineNumber, row_of_line}
 use Rattle.textarea_editor.specs.Patterns.{first_line, pattern_of}
 use Rattle.textarea_editor.specs.PromptKeys.{prompt_key}
 use Rattle.textarea_editor.specs.TypedInput.{typed_input}
@@ -24,8 +24,8 @@ use Rattle.textarea_editor.specs.declared.focus.Focus.TheVariants as focus
 use Rattle.textarea_editor.specs.declared.focus.PromptKey.{PromptKey}
 use Rattle.textarea_editor.specs.declared.focus.PromptKey.TheVariants as prompt
 use Rattle.textarea_editor.specs.declared.keys.Binding.{Binding}
-use Rattle.textarea_editor.specs.declared.keys.Command.{Command}
-use Rattle.textarea_editor.specs.declared.keys.Command.TheVariants as command
+use Rattle.textarea_editor.specs.declared.keys.KeyCommand.{KeyCommand}
+use Rattle.textarea_editor.specs.declared.keys.KeyCommand.TheVariants as command
 use Rattle.textarea_editor.specs.declared.keys.TheConstants.{BINDINGS}
 use Rattle.textarea_modal.specs.Table.{passed_on, step}
 use Rattle.textarea_modal.specs.declared.mode.Mode.{Mode}
@@ -77,21 +77,21 @@ binds binding input is_modal =
     is_bound binding.input.key input.key && (is_same binding.input.ctrl input.ctrl && (is_same binding.input.alt input.alt && (is_same binding.input.shift input.shift && (binding.with_modal || not is_modal))))
 
 -- the command of a row of the table that binds the input, if there is one
-abbrev pub IsCommandOf : Input → Bool → Option Command → Type 0
-IsCommandOf input is_modal None = All (λ binding. binds binding input is_modal ≡ false) BINDINGS
-IsCommandOf input is_modal (Some found) = (binding : Binding) × Contains BINDINGS binding × (binds binding input is_modal ≡ true) × (binding.command ≡ found)
+abbrev pub IsBoundCommand : Input → Bool → Option KeyCommand → Type 0
+IsBoundCommand input is_modal None = All (λ binding. binds binding input is_modal ≡ false) BINDINGS
+IsBoundCommand input is_modal (Some found) = (binding : Binding) × Contains BINDINGS binding × (binds binding input is_modal ≡ true) × (binding.command ≡ found)
 
 -- how lines are wrapped, if long ones are or not
 abbrev pub wrap_mode : Bool → WrapMode
 wrap_mode true = wrap.WordOrGlyph
 wrap_mode false = wrap.None
 
-abbrev pub number_style : Style
-number_style = record empty_style { fg = Some DarkGray }
+abbrev pub dark_gray : Style
+dark_gray = record empty_style { fg = Some DarkGray }
 
 -- shows the line numbers, or hides them
 abbrev pub numbers_call : Bool → Call
-numbers_call true = call.SetLineNumberStyle number_style
+numbers_call true = call.SetLineNumberStyle dark_gray
 numbers_call false = call.RemoveLineNumber
 
 -- to the next match, or to the one before
@@ -101,7 +101,7 @@ find_calls false = call.SearchBack false ∷ []
 
 -- a command's calls; long lines are wrapped now or not, lines are numbered or not, a selection is
 -- open or not
-abbrev pub command_calls : Bool → Bool → Bool → Command → List Call
+abbrev pub command_calls : Bool → Bool → Bool → KeyCommand → List Call
 command_calls wraps numbers selecting command.Save = []
 command_calls wraps numbers selecting command.SaveAs = []
 command_calls wraps numbers selecting command.Quit = []
@@ -149,14 +149,14 @@ IsFit area columns rows false = ((measure : TextAreaMeasure) × IsMeasured area 
 abbrev pub is_selecting : State → Bool
 is_selecting area = is_some area.document.anchor
 
-abbrev pub key_calls : Option Command → Bool → Option Mode → Bool → Bool → Bool → Input → List Call
+abbrev pub key_calls : Option KeyCommand → Bool → Option Mode → Bool → Bool → Bool → Input → List Call
 key_calls (Some found) fits modal wraps numbers selecting input = command_calls wraps numbers selecting found
 key_calls None fits modal wraps numbers selecting input = unbound_calls fits modal input.key input
 
 -- an input in the text
 pub record IsKeyInText (controls : Controls) (area : State) (columns rows : ℕ) (input : Input) (calls : List Call) : Type 0 where
-  pub command : Option Command
-  pub found : IsCommandOf input (is_some controls.modal) command
+  pub command : Option KeyCommand
+  pub found : IsBoundCommand input (is_some controls.modal) command
   pub fits : Bool
   pub is_fit : IsFit area columns rows fits
   pub calls_are : calls ≡ key_calls command fits controls.modal controls.wraps controls.numbers (is_selecting area) input
@@ -198,7 +198,7 @@ pub record IsLineAsked (field : State) (calls : List Call) : Type 0 where
   pub text_is : chars text ≡ prompt_line field
   pub number : Option ℕ
   pub number_is : IsLineNumber text number
-  pub calls_are : calls ≡ row_calls (row_of number)
+  pub calls_are : calls ≡ row_calls (row_of_line number)
 
 -- the prompt's text is taken
 abbrev pub IsPromptTaken : Asked → State → List Call → Type 0

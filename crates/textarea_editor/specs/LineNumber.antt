@@ -13,6 +13,6 @@ IsLineNumber text None = ¬ IsNumber text
 IsLineNumber text (Some number) = IsNumber text × (number ≡ digits_value 10 (without_leading_plus text))
 
 -- the row of a line's number, if there is such a line: lines count from 1, rows from 0
-abbrev pub row_of : Option ℕ → Option ℕ
-row_of None = None
-row_of (Some number) = if nat_lt 0 number then Some (number - 1) else None
+abbrev pub row_of_line : Option ℕ → Option ℕ
+row_of_line None = None
+row_of_line (Some number) = if nat_lt 0 number then Some (number - 1) else None

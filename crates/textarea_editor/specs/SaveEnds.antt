@@ -22,13 +22,13 @@ asks_for_name trouble.Memory = false
 asks_for_name _ = true
 
 -- a failed save doesn't end the program; the name is asked for if another one may help
-abbrev pub after_failure : Bool → Controls → Place → Controls
-after_failure true controls cursor = prompt_opened (record controls { ends_when_saved = false }) cursor asks.Name
-after_failure false controls cursor = record controls { ends_when_saved = false }
+abbrev pub after_failed_save : Bool → Controls → Place → Controls
+after_failed_save true controls cursor = prompt_opened (record controls { ends_when_saved = false }) cursor asks.Name
+after_failed_save false controls cursor = record controls { ends_when_saved = false }
 
 -- where memory runs out for the name, the text has the focus as before
 pub record IsAfterFailure (failed : Trouble) (controls : Controls) (cursor : Place) (new : Controls) : Type 0 where
-  pub led : (new ≡ after_failure (asks_for_name failed) controls cursor) ⊎ (new ≡ after_failure false controls cursor)
+  pub led : (new ≡ after_failed_save (asks_for_name failed) controls cursor) ⊎ (new ≡ after_failed_save false controls cursor)
 
 abbrev pub IsAfterSave : SaveEnd → Controls → Place → Controls → Type 0
 IsAfterSave ended.Saved controls cursor new = new ≡ controls

@@ -59,14 +59,14 @@ NoneFails [] = Unit {0}
 NoneFails (this ∷ later) = (this.after.message ≢ Memory) × NoneFails later
 
 -- the calls of the events, one after another, each in the state after those before it
-abbrev pub AreCallsOf : Editor → List Moment → List Call → Type 0
-AreCallsOf old [] calls = calls ≡ []
-AreCallsOf old (this ∷ later) calls =
+abbrev pub AreCallsOfMoments : Editor → List Moment → List Call → Type 0
+AreCallsOfMoments old [] calls = calls ≡ []
+AreCallsOfMoments old (this ∷ later) calls =
     (first : List Call) × (rest : List Call) × IsTimed old this.now this.event first
-    × AreCallsOf this.after later rest × (calls ≡ first ++ rest)
+    × AreCallsOfMoments this.after later rest × (calls ≡ first ++ rest)
 
 -- calls of the events, one after another, lead from the old editor's draft to the new one's
 pub record MakesCallsOf (old : Editor) (moments : List Moment) (new : Editor) : Type 0 where
   pub calls : List Call
-  pub are : AreCallsOf old moments calls
+  pub are : AreCallsOfMoments old moments calls
   pub makes : Makes old.draft calls new.draft

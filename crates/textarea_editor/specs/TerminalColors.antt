@@ -15,13 +15,13 @@ abbrev pub HasTrue : List ℕ → List ℕ → Type 0
 HasTrue colorterm term = (colorterm ≡ codes "truecolor") ⊎ (colorterm ≡ codes "24bit") ⊎ IsTrueTerm term
 
 -- these have no colours but their own two
-abbrev pub HasNone : List ℕ → Type 0
-HasNone term = (term ≡ codes "dumb") ⊎ (term ≡ codes "vt100") ⊎ (term ≡ codes "vt220")
+abbrev pub HasTwoColors : List ℕ → Type 0
+HasTwoColors term = (term ≡ codes "dumb") ⊎ (term ≡ codes "vt100") ⊎ (term ≡ codes "vt220")
 
 -- the first that holds decides
 pub record IsColorsOf (no_color colorterm term : List ℕ) (found : Colors) : Type 0 where
   pub unwanted : no_color ≢ [] → found ≡ colors.None
   pub all : no_color ≡ [] → HasTrue colorterm term → found ≡ colors.True
   pub indexed : no_color ≡ [] → ¬ HasTrue colorterm term → HasSubslice term (codes "256color") → found ≡ colors.Indexed
-  pub none : no_color ≡ [] → ¬ HasTrue colorterm term → ¬ HasSubslice term (codes "256color") → HasNone term → found ≡ colors.None
-  pub others : no_color ≡ [] → ¬ HasTrue colorterm term → ¬ HasSubslice term (codes "256color") → ¬ HasNone term → found ≡ colors.Sixteen
+  pub none : no_color ≡ [] → ¬ HasTrue colorterm term → ¬ HasSubslice term (codes "256color") → HasTwoColors term → found ≡ colors.None
+  pub others : no_color ≡ [] → ¬ HasTrue colorterm term → ¬ HasSubslice term (codes "256color") → ¬ HasTwoColors term → found ≡ colors.Sixteen

@@ -2,9 +2,9 @@
 
 ghost use Rattle.std.specs.Prelude.{◌≡◌};
 ghost use Rattle.textarea_editor.specs.Arguments.{IsNamed, IsOption, IsRead, IsReadOn, IsWord, position_word};
-ghost use Rattle.textarea_editor.specs.Positions.{IsPosition, place_of};
+ghost use Rattle.textarea_editor.specs.Positions.{IsPosition, place_of_numbers};
 
-use crate::line_number::{line_number, row_of};
+use crate::line_number::{line_number, row_of_line};
 
 /// What the arguments `[--modal] [--no-final-newline] [+LINE[,COLUMN]] [--] [FILE]` ask for.
 #[derive(Clone, Copy, Debug, PartialEq, Eq)]
@@ -158,9 +158,9 @@ fn position_of(word: &str) -> Option<(usize, usize)>
 
 // Returns the place of a line and a column, both counted from 1.
 fn place(line: Option<usize>, column: Option<usize>) -> Option<(usize, usize)>
-    ensures { result ≡ place_of line column }
+    ensures { result ≡ place_of_numbers line column }
 {
-    match (row_of(line), row_of(column)) {
+    match (row_of_line(line), row_of_line(column)) {
         (Some(row), Some(column)) => Some((row, column)),
         _ => None,
     }

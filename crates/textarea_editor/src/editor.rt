@@ -27,7 +27,7 @@ use crate::effect::Effect;
 use crate::file_text::{LineEnd, LineEnds};
 use crate::focus::Focus;
 use crate::message::Message;
-pub use drawing::Frame;
+pub use drawing::DrawnFrame;
 use std::alloc::{AllocError, Global};
 use std::time::Duration;
 use textarea_data::scroll::Scrolling;

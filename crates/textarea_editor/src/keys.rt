@@ -1,13 +1,13 @@
 //! The keys of the editor, as one table. Help is made from it too.
 
 ghost use Rattle.std.specs.Prelude.{◌≡◌};
-ghost use Rattle.textarea_editor.specs.EventCalls.{IsCommandOf, binds, is_bound, is_same};
+ghost use Rattle.textarea_editor.specs.EventCalls.{IsBoundCommand, binds, is_bound, is_same};
 
 use textarea_data::input::{Input, Key};
 
 /// What a key of the table does.
 #[derive(Clone, Copy, Debug, PartialEq, Eq)]
-pub enum Command {
+pub enum KeyCommand {
     /// Saves the file.
     Save,
     /// Opens the prompt for the file's name, which is there to be edited, and saves by it.
@@ -54,7 +54,7 @@ pub struct Binding {
     /// The key with its modifiers.
     pub input: Input,
     /// What it does.
-    pub command: Command,
+    pub command: KeyCommand,
     /// Whether it does so with modal keys too.
     pub with_modal: bool,
 }
@@ -88,57 +88,57 @@ macro_rules! binding {
 
 /// The keys of the editor. Other keys are those of the text area, or of the modal editor.
 pub const BINDINGS: [Binding; 19] = [
-    binding!(ctrl Key::Char('s'), Command::Save, true),
-    binding!(ctrl Key::Char('o'), Command::SaveAs, true),
-    binding!(ctrl Key::Char('q'), Command::Quit, true),
-    binding!(ctrl Key::Char('f'), Command::Find, true),
-    binding!(plain Key::F(3), Command::FindNext, true),
-    binding!(shift Key::F(3), Command::FindPrevious, true),
-    binding!(ctrl Key::Char('g'), Command::GoToLine, true),
-    binding!(ctrl Key::Char('z'), Command::Undo, false),
-    binding!(ctrl Key::Char('y'), Command::Redo, false),
-    binding!(ctrl Key::Char('x'), Command::Cut, false),
-    binding!(ctrl Key::Char('c'), Command::Copy, false),
-    binding!(ctrl Key::Char('v'), Command::Paste, false),
-    binding!(ctrl Key::Char('a'), Command::SelectAll, false),
-    binding!(ctrl Key::Home, Command::TextStart, false),
-    binding!(ctrl Key::End, Command::TextEnd, false),
-    binding!(alt Key::Char('z'), Command::Wrap, true),
-    binding!(alt Key::Char('l'), Command::LineNumbers, true),
-    binding!(plain Key::F(1), Command::Help, true),
-    binding!(plain Key::Esc, Command::Cancel, false),
+    binding!(ctrl Key::Char('s'), KeyCommand::Save, true),
+    binding!(ctrl Key::Char('o'), KeyCommand::SaveAs, true),
+    binding!(ctrl Key::Char('q'), KeyCommand::Quit, true),
+    binding!(ctrl Key::Char('f'), KeyCommand::Find, true),
+    binding!(plain Key::F(3), KeyCommand::FindNext, true),
+    binding!(shift Key::F(3), KeyCommand::FindPrevious, true),
+    binding!(ctrl Key::Char('g'), KeyCommand::GoToLine, true),
+    binding!(ctrl Key::Char('z'), KeyCommand::Undo, false),
+    binding!(ctrl Key::Char('y'), KeyCommand::Redo, false),
+    binding!(ctrl Key::Char('x'), KeyCommand::Cut, false),
+    binding!(ctrl Key::Char('c'), KeyCommand::Copy, false),
+    binding!(ctrl Key::Char('v'), KeyCommand::Paste, false),
+    binding!(ctrl Key::Char('a'), KeyCommand::SelectAll, false),
+    binding!(ctrl Key::Home, KeyCommand::TextStart, false),
+    binding!(ctrl Key::End, KeyCommand::TextEnd, false),
+    binding!(alt Key::Char('z'), KeyCommand::Wrap, true),
+    binding!(alt Key::Char('l'), KeyCommand::LineNumbers, true),
+    binding!(plain Key::F(1), KeyCommand::Help, true),
+    binding!(plain Key::Esc, KeyCommand::Cancel, false),
 ];
 
-impl Command {
+impl KeyCommand {
     /// Returns what it does, in words.
     pub fn about(self) -> &'static str {
         match self {
-            Command::Save => "save",
-            Command::SaveAs => "save as another file",
-            Command::Quit => "quit, from prompts too",
-            Command::Find => "find as you type",
-            Command::FindNext => "next match",
-            Command::FindPrevious => "match before",
-            Command::GoToLine => "go to a line",
-            Command::Undo => "undo",
-            Command::Redo => "redo",
-            Command::Cut => "cut",
-            Command::Copy => "copy",
-            Command::Paste => "paste",
-            Command::SelectAll => "select all",
-            Command::TextStart => "to the very start of the text",
-            Command::TextEnd => "to the very end of the text",
-            Command::Wrap => "wrap long lines or not",
-            Command::LineNumbers => "line numbers or none",
-            Command::Help => "these keys",
-            Command::Cancel => "drop selection and matches",
+            KeyCommand::Save => "save",
+            KeyCommand::SaveAs => "save as another file",
+            KeyCommand::Quit => "quit, from prompts too",
+            KeyCommand::Find => "find as you type",
+            KeyCommand::FindNext => "next match",
+            KeyCommand::FindPrevious => "match before",
+            KeyCommand::GoToLine => "go to a line",
+            KeyCommand::Undo => "undo",
+            KeyCommand::Redo => "redo",
+            KeyCommand::Cut => "cut",
+            KeyCommand::Copy => "copy",
+            KeyCommand::Paste => "paste",
+            KeyCommand::SelectAll => "select all",
+            KeyCommand::TextStart => "to the very start of the text",
+            KeyCommand::TextEnd => "to the very end of the text",
+            KeyCommand::Wrap => "wrap long lines or not",
+            KeyCommand::LineNumbers => "line numbers or none",
+            KeyCommand::Help => "these keys",
+            KeyCommand::Cancel => "drop selection and matches",
         }
     }
 }
 
 /// Returns what an input does by the table, if it is in it.
-pub fn command_of(input: &Input, is_modal: bool) -> Option<Command>
-    ensures { IsCommandOf input.now is_modal result }
+pub fn command_of(input: &Input, is_modal: bool) -> Option<KeyCommand>
+    ensures { IsBoundCommand input.now is_modal result }
 {
     for binding in &BINDINGS {
         if binds(binding, input, is_modal) {

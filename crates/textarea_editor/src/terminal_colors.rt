@@ -1,7 +1,7 @@
 //! The colours that a terminal has, by the variables of its environment.
 ghost use Rattle.std.specs.Prelude.{◌↔◌, IsTrue};
 ghost use Rattle.std.specs.Str.Iter.{HasSubslice};
-ghost use Rattle.textarea_editor.specs.TerminalColors.{HasNone, HasTrue, IsColorsOf, IsTrueTerm};
+ghost use Rattle.textarea_editor.specs.TerminalColors.{HasTwoColors, HasTrue, IsColorsOf, IsTrueTerm};
 
 use textarea_terminal::output::Colors;
 
@@ -45,7 +45,7 @@ fn is_true_term(term: &str) -> bool
 
 // Returns whether a terminal of this name has no colours but its own two.
 fn has_none(term: &str) -> bool
-    ensures { IsTrue result ↔ HasNone term.now }
+    ensures { IsTrue result ↔ HasTwoColors term.now }
 {
     term == "dumb" || term == "vt100" || term == "vt220"
 }

@@ -11,8 +11,8 @@ use Rattle.textarea_screen.specs.declared.screen.style.Style.{Style}
 use Rattle.textarea_screen.specs.Text.{ContentView, LineView, SpanView}
 use Rattle.textarea_screen.specs.Text.ContentView.{BorrowedBytes, OwnedBytes}
 use Rattle.textarea_highlight.specs.declared.highlight.borders.Border.{Border}
-use Rattle.textarea_highlight.specs.declared.highlight.borders.Mark.{Mark}
-use Rattle.textarea_highlight.specs.declared.highlight.borders.Mark.TheVariants.{Start}
+use Rattle.textarea_highlight.specs.declared.highlight.borders.BorderEffect.{BorderEffect}
+use Rattle.textarea_highlight.specs.declared.highlight.borders.BorderEffect.TheVariants.{Start}
 use Rattle.textarea_highlight.specs.Borders.{IsBorderOrder, border_key, border_cmp}
 use Rattle.textarea_highlight.specs.Brackets.{OpensLast, IsStyleAfter}
 use Rattle.textarea_highlight.specs.Split.{marks_upto, IsSplit, ShowsSegment}
@@ -95,7 +95,7 @@ one_border_order added sorted other h k =
 
 -- ---- one style after marks
 
-one_last : (marks : List Mark) (style other : Style) → OpensLast marks style → OpensLast marks other → style ≡ other
+one_last : (marks : List BorderEffect) (style other : Style) → OpensLast marks style → OpensLast marks other → style ≡ other
 one_last marks style other h k = elim (cases_lt h.0 k.0) [
   | inl before ↦ absurd (h.2 k.0 other before k.1)
   | inr from ↦ elim (cases_lt k.0 h.0) [
@@ -107,7 +107,7 @@ one_last marks style other h k = elim (cases_lt h.0 k.0) [
   ]
 ]
 
-one_style : (marks : List Mark) (base style other : Style) → IsStyleAfter marks base style → IsStyleAfter marks base other → style ≡ other
+one_style : (marks : List BorderEffect) (base style other : Style) → IsStyleAfter marks base style → IsStyleAfter marks base other → style ≡ other
 one_style marks base style other (inl h) (inl k) = one_last marks style other h k
 one_style marks base style other (inl h) (inr k) = absurd (k.0 h.0 style h.1)
 one_style marks base style other (inr h) (inl k) = absurd (h.0 k.0 other k.1)

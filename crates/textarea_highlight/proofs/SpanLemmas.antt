@@ -24,7 +24,7 @@ use Rattle.textarea_highlight.specs.Seen.{AreInTwo, IsSpanSplit, IsText, span_co
 use Rattle.textarea_highlight.specs.Split.{display_segment, segment_of, IsSplit, ShowsSegment}
 use Rattle.textarea_highlight.specs.Texts.{text_bytes_of}
 use Rattle.textarea_highlight.specs.declared.highlight.borders.Border.{Border}
-use Rattle.textarea_highlight.specs.declared.highlight.borders.Mark.{Mark}
+use Rattle.textarea_highlight.specs.declared.highlight.borders.BorderEffect.{BorderEffect}
 use Rattle.textarea_highlight.proofs.DisplayLemmas.{with_stops}
 use Rattle.textarea_highlight.proofs.OneRowLemmas.{rises}
 use Rattle.textarea_highlight.proofs.PlainLemmas.{chars_upto, first_of, last_of, plain-shown, some_segment}
@@ -258,7 +258,7 @@ module _ (row : List ℕ) (borders : List Border) (base : Style) (tab_len : ℕ)
           not_empty = order';
           edge = h.edge;
           uncut = λ k e below. ⊎_elim (λ passed. inl (omega (arith, passed))) (λ ahead. inr ahead) (h.uncut k e below);
-          style = subst (λ (marks : List Mark). IsStyleAfter marks base span.style) (ap (map (λ (border : Border). border.mark)) (sym (marks-same borders from at to (omega arith) order' h.uncut))) h.style;
+          style = subst (λ (marks : List BorderEffect). IsStyleAfter marks base span.style) (ap (map (λ (border : Border). border.mark)) (sym (marks-same borders from at to (omega arith) order' h.uncut))) h.style;
           text = content'.1.0;
           borrowed = content'.1.1;
         },

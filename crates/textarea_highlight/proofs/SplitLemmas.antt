@@ -11,7 +11,7 @@ use Rattle.std.proofs.lemmas.List.Elements.{filter-append, All-head, All-tail}
 use Rattle.std.proofs.lemmas.Str.{chars-append, IsUtf8-take}
 use Rattle.textarea_screen.specs.declared.screen.style.Style.{Style}
 use Rattle.textarea_screen.specs.Text.{SpanView}
-use Rattle.textarea_highlight.specs.declared.highlight.borders.Mark.{Mark}
+use Rattle.textarea_highlight.specs.declared.highlight.borders.BorderEffect.{BorderEffect}
 use Rattle.textarea_highlight.specs.declared.highlight.brackets.OpenStyles.{OpenStyles}
 use Rattle.textarea_highlight.specs.declared.highlight.display.Display.{Display}
 use Rattle.textarea_highlight.specs.declared.highlight.borders.Border.{Border}
@@ -160,7 +160,7 @@ passed_more borders n start k d e within last passed below =
 -- one more border is passed
 pub pass_more : (row : List ℕ) (borders : List Border) (base : Style) (tab_len : ℕ) (mask : Option ℕ) (before : List SpanView) (from n start : ℕ) (d : Border) (display : Display) (styles styles' : OpenStyles) (spans : List SpanView) →
     IsSplitSoFar row borders base tab_len mask before from n start display styles spans → n < length borders → (get_or borders n d).offset ≤ start →
-    base_of styles' ≡ base_of styles → ((marks : List Mark) → ArePassed styles marks → ArePassed styles' (marks ++ (get_or borders n d).mark ∷ [])) →
+    base_of styles' ≡ base_of styles → ((marks : List BorderEffect) → ArePassed styles marks → ArePassed styles' (marks ++ (get_or borders n d).mark ∷ [])) →
     IsSplitSoFar row borders base tab_len mask before from (n + 1) start display styles' spans
 pass_more row borders base tab_len mask before from n start d display styles styles' spans h within last based passes = record {
   within = omega arith;

@@ -19,7 +19,7 @@ use Rattle.textarea_highlight.specs.Seen.{line_of_segments}
 use Rattle.textarea_highlight.specs.Split.{display_segment, marks_upto, segment_of, IsSplit, ShowsSegment}
 use Rattle.textarea_highlight.specs.Texts.{text_bytes_of, IsUncopied}
 use Rattle.textarea_highlight.specs.declared.highlight.borders.Border.{Border}
-use Rattle.textarea_highlight.specs.declared.highlight.borders.Mark.{Mark}
+use Rattle.textarea_highlight.specs.declared.highlight.borders.BorderEffect.{BorderEffect}
 use Rattle.textarea_highlight.proofs.BracketLemmas.{style_after}
 use Rattle.textarea_highlight.proofs.WholeLemmas.{whole}
 
@@ -77,7 +77,7 @@ last_style : (base : Style) (o : Option Style) → (style : Style) × MatchOptio
 last_style base None = (base, refl)
 last_style base (Some style) = (style, refl)
 
-some_style : (marks : List Mark) (base : Style) → (style : Style) × IsStyleAfter marks base style
+some_style : (marks : List BorderEffect) (base : Style) → (style : Style) × IsStyleAfter marks base style
 some_style marks base =
     let styles = passed_all [] marks in
     let found = last_style base (slice_get styles (length styles - 1)) in

@@ -7,7 +7,7 @@ use Rattle.std.specs.Ordering.{nat_cmp, ordering_then}
 use Rattle.std.specs.List.Sorted.{IsSortedByKey, IsStableByKey}
 use Rattle.textarea_screen.specs.declared.screen.style.Style.{Style}
 use Rattle.textarea_highlight.specs.declared.highlight.borders.Border.{Border}
-use Rattle.textarea_highlight.specs.declared.highlight.borders.Mark.TheVariants.{Start, End}
+use Rattle.textarea_highlight.specs.declared.highlight.borders.BorderEffect.TheVariants.{Start, End}
 
 -- the offset clipped to the row, then rounded down to the start of a character or the row's end
 abbrev pub rounded_down : List ℕ → ℕ → ℕ

@@ -8,7 +8,7 @@ use Rattle.textarea_highlight.specs.Texts.{text_bytes_of, IsUncopied}
 use Rattle.textarea_highlight.specs.Brackets.{IsStyleAfter}
 use Rattle.textarea_highlight.specs.Columns.{column_of}
 use Rattle.textarea_highlight.specs.Display.{display_text}
-use Rattle.textarea_highlight.specs.declared.highlight.borders.Mark.{Mark}
+use Rattle.textarea_highlight.specs.declared.highlight.borders.BorderEffect.{BorderEffect}
 use Rattle.textarea_highlight.specs.OpenStyles.{ArePassed, base_of}
 use Rattle.textarea_highlight.specs.declared.highlight.brackets.OpenStyles.{OpenStyles}
 use Rattle.textarea_highlight.specs.declared.highlight.borders.Border.{Border}
@@ -19,7 +19,7 @@ IsAscending borders = (i k : ℕ) (d e : Border) → i ≤ k → k < length bord
     (slice_index_or borders i d).offset ≤ (slice_index_or borders k e).offset
 
 -- the marks of the borders up to an offset
-abbrev pub marks_upto : List Border → ℕ → List Mark
+abbrev pub marks_upto : List Border → ℕ → List BorderEffect
 marks_upto borders offset = map (λ border. border.mark) (filter (λ border. nat_le border.offset offset) borders)
 
 -- the characters of a segment of the row, and the characters that are shown for them
@@ -48,7 +48,7 @@ IsSplit row borders base tab_len mask from (span ∷ spans) to =
 
 -- the span shows the next segment, in the current style
 pub record ShowsNext (row : List ℕ) (tab_len : ℕ) (mask : Option ℕ) (styles : OpenStyles) (from to : ℕ) (span : SpanView) : Type 0 where
-  pub style : (marks : List Mark) → ArePassed styles marks → IsStyleAfter marks (base_of styles) span.style
+  pub style : (marks : List BorderEffect) → ArePassed styles marks → IsStyleAfter marks (base_of styles) span.style
   pub text : text_bytes_of span.content ≡ encode_utf8_all (display_segment row tab_len mask from to)
   pub borrowed : IsUncopied span.content ↔ ((mask ≡ None) × (display_segment row tab_len mask from to ≡ segment_of row from to))
 

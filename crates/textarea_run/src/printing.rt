@@ -11,12 +11,12 @@ use tui_textarea::TextArea;
 pub struct Report<'a, 'b> {
     pub answers: &'a [Answer],
     pub area: &'a TextArea<'b>,
-    pub screen: Option<Screen<'a>>,
+    pub screen: Option<PrintedCells<'a>>,
 }
 
 /// The cells of a buffer inside an area, printed one screen row after another.
 #[derive(Clone, Copy)]
-pub struct Screen<'a> {
+pub struct PrintedCells<'a> {
     pub buffer: &'a Buffer,
     pub area: Rect,
 }
@@ -66,9 +66,9 @@ fn write_selection<W: fmt::Write>(
     }
 }
 
-impl fmt::Display for Screen<'_> {
+impl fmt::Display for PrintedCells<'_> {
     fn fmt<W: fmt::Write>(&self, f: &mut fmt::Formatter<W>) -> fmt::Result {
-        let Screen { buffer, area } = *self;
+        let PrintedCells { buffer, area } = *self;
         let whole = buffer.area();
         let top = area.y.max(whole.y);
         let bottom = (area.y + area.height).min(whole.y + whole.height);

@@ -9,7 +9,7 @@ use std::string::ToString;
 pub use textarea_calls::{Answer, Call};
 use textarea_commands::commands;
 use textarea_commands::commands::Command;
-use textarea_run::printing::{Report, Screen};
+use textarea_run::printing::{PrintedCells, Report};
 pub use textarea_run::run::{RunEnd, run};
 use textarea_screen::screen::{Buffer, Rect};
 use tui_textarea::TextArea;
@@ -90,7 +90,7 @@ fn printed_end(
     let report = Report {
         answers: run.answers.as_slice(),
         area,
-        screen: run.drawn.map(|area| Screen { buffer, area }),
+        screen: run.drawn.map(|area| PrintedCells { buffer, area }),
     };
     report.to_string(alloc)
 }

@@ -18,7 +18,7 @@ use Rattle.regex.specs.Patterns.{span}
 use Rattle.regex.specs.Search.{next_match}
 use Rattle.regex.proofs.SearchLemmas.{matches_after_none, matches_after_some}
 use Rattle.textarea_search.specs.Columns.{column_of_byte}
-use Rattle.textarea_search.specs.ListedMatches.{IsMatchIn, IsOneOf, after_of, column_of}
+use Rattle.textarea_search.specs.ListedMatches.{IsMatchIn, IsOneOf, after_match, column_of_match}
 use Rattle.textarea_search.specs.Spans.{columns_after, columns_in, spans_after}
 use Rattle.textarea_search.specs.Starts.{is_past}
 use Rattle.textarea_search.specs.declared.search.listed_match.ListedMatch.{ListedMatch}
@@ -146,7 +146,7 @@ module _ (tree : Re) (line : List ℕ) where
 -- the same where the search may also begin at the line's start
 module _ (tree : Re) (line : List ℕ) (text : IsUtf8 line) (column : ℕ) (at : Bool) where
   pub first_from_start : (before : Option ListedMatch) → IfSome before (IsOneOf (spans_after tree line 0) line) → IfSome before (λ (known : ListedMatch). known.column < column) →
-      find (is_past column at) (columns_in tree line) ≡ find (is_past column at) (columns_after tree line (after_of before))
+      find (is_past column at) (columns_in tree line) ≡ find (is_past column at) (columns_after tree line (after_match before))
   first_from_start None known lt = refl
   first_from_start (Some before) known lt =
       ∥∥₁_elim known.listed (Coded-set (coded_option coded_ℕ) _ _) (λ listed. first_after tree line text before known.place listed column at lt)
@@ -157,7 +157,7 @@ module _ (tree : Re) (line : List ℕ) (text : IsUtf8 line) (column : ℕ) (at :
 
   pub last_from_start : (before : Option ListedMatch) → IfSome before (IsOneOf (spans_after tree line 0) line) → IfSome before (λ (known : ListedMatch). known.column < column) →
       find (λ c. is_past c at column) (reverse (columns_in tree line))
-      ≡ option_or (find (λ c. is_past c at column) (reverse (columns_after tree line (after_of before)))) (option_map (λ (known : ListedMatch). known.column) before)
+      ≡ option_or (find (λ c. is_past c at column) (reverse (columns_after tree line (after_match before)))) (option_map (λ (known : ListedMatch). known.column) before)
   last_from_start None known lt = or_none (find (λ c. is_past c at column) (reverse (columns_in tree line)))
   last_from_start (Some before) known lt =
       ∥∥₁_elim known.listed (Coded-set (coded_option coded_ℕ) _ _) (λ listed. last_after tree line text before known.place listed column at lt)
@@ -169,7 +169,7 @@ columns_within tree line text =
 
 -- the next match isn't before the last one
 pub next_not_before : (tree : Re) (line : List ℕ) → IsUtf8 line → (last : Option ListedMatch) (column : ℕ) (rest : List ℕ) → IfSome last (IsMatchIn line) →
-    columns_after tree line (after_of last) ≡ column ∷ rest → column_of last ≤ column
+    columns_after tree line (after_match last) ≡ column ∷ rest → column_of_match last ≤ column
 next_not_before tree line text None column rest place e = omega arith
 next_not_before tree line text (Some last) column rest place e =
     All-head (λ c. last.column ≤ c) column rest (subst (All (λ c. last.column ≤ c)) e (columns_above tree line text last place))

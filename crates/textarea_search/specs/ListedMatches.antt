@@ -16,11 +16,11 @@ pub record IsOneOf (spans : List (ℕ × ℕ)) (line : List ℕ) (found : Listed
   pub listed : ∥ Contains spans (found.start, found.end) ∥₁
 
 -- the column of this match, and 0 without one
-abbrev pub column_of : Option ListedMatch → ℕ
-column_of None = 0
-column_of (Some found) = found.column
+abbrev pub column_of_match : Option ListedMatch → ℕ
+column_of_match None = 0
+column_of_match (Some found) = found.column
 
 -- from where the matches after this one are listed, or all without one
-abbrev pub after_of : Option ListedMatch → ℕ
-after_of None = 0
-after_of (Some found) = found.end + 1
+abbrev pub after_match : Option ListedMatch → ℕ
+after_match None = 0
+after_match (Some found) = found.end + 1

@@ -1,7 +1,7 @@
 -- Frames that are painted one after another are each shown.
 use Rattle.std.proofs.Common.{◌≡◌, ℕ, Bool, true, false, cond, List, [], ◌∷◌, length, Option, None, Some, IfSome, sym, ap, subst, ◌∙◌}
 use Rattle.textarea_terminal.specs.Paint.{PaintedFrame, ShowsKnown}
-use Rattle.textarea_terminal.specs.PaintLists.{PaintedStep, ArePainted, controls_of, last_frame}
+use Rattle.textarea_terminal.specs.PaintLists.{PaintedStep, ArePainted, all_controls, last_frame}
 use Rattle.textarea_terminal.specs.Screen.{Terminal, run}
 use Rattle.textarea_terminal.proofs.ControlLemmas.{run-append}
 use Rattle.textarea_terminal.proofs.SettledLemmas.{settled-length}
@@ -22,10 +22,10 @@ known-before columns size shown true terminal long known = known-size columns si
 known-before columns size shown false terminal long known = known
 
 pub shows-last : (columns size : ℕ) (steps : List PaintedStep) (shown : Option PaintedFrame) (terminal : Terminal) → IfSome shown (λ frame. length frame.cells ≡ size) →
-    ArePainted columns size shown steps → ShowsKnown columns size shown terminal → ShowsKnown columns size (last_frame shown steps) (run (controls_of steps) terminal)
+    ArePainted columns size shown steps → ShowsKnown columns size shown terminal → ShowsKnown columns size (last_frame shown steps) (run (all_controls steps) terminal)
 shows-last columns size [] shown terminal long painted known = known
 shows-last columns size (step ∷ steps) shown terminal long painted known =
     let before = known-before columns size shown step.is_reset terminal long known in
     let after = painted.1.brings terminal before in
     let rest = shows-last columns size steps (Some step.frame) (run step.controls terminal) painted.0 painted.2 after in
-    subst (ShowsKnown columns size (last_frame (Some step.frame) steps)) (sym (run-append step.controls (controls_of steps) terminal)) rest
+    subst (ShowsKnown columns size (last_frame (Some step.frame) steps)) (sym (run-append step.controls (all_controls steps) terminal)) rest

@@ -7,7 +7,7 @@ use Rattle.std.proofs.lemmas.Bool.Decides.{nat_tests}
 use Rattle.std.specs.Str.Lossy.{utf8_lossy}
 use Rattle.textarea_data.specs.declared.input.Input.{Input}
 use Rattle.textarea_data.specs.declared.input.Key.TheVariants as key
-use Rattle.textarea_terminal.specs.InputKey.{input_of_key, byte_input}
+use Rattle.textarea_terminal.specs.InputKey.{unmodified, byte_input}
 use Rattle.textarea_terminal.specs.declared.input.event.Event.{Event}
 use Rattle.textarea_terminal.specs.declared.input.reply.Expected.{Expected}
 use Rattle.textarea_terminal.specs.declared.input.reply.Parts.{Parts}
@@ -22,7 +22,7 @@ use Rattle.textarea_terminal.proofs.InputUnits.{keeps_key_or_sequence, nothing_r
 
 character_no_reply : (e : Expected) (c : ℕ) (bytes : List ℕ) → as_reply e (Some (character_event c, bytes)) ≡ None
 unfolding as_reply
-character_no_reply e c bytes = tested (nat_lt c 160) (input_of_key (key.Char c))
+character_no_reply e c bytes = tested (nat_lt c 160) (unmodified (key.Char c))
   where
     tested : (t : Bool) (i : Input) → as_reply e (Some (cond t unknown (input i), bytes)) ≡ None
     tested true i = refl

@@ -8,7 +8,7 @@ use Rattle.textarea_terminal.specs.declared.input.reply.Expected.{Expected}
 use Rattle.textarea_terminal.specs.InputEvent.{EventValue}
 use Rattle.textarea_terminal.specs.InputReply.{refined, refining}
 use Rattle.textarea_terminal.specs.InputState.{DecoderState, IsReady, Reading, reading_kept, last_five, reading_dropped, reading, quiet_after, after_reading, fed, pause_limit, after_short}
-use Rattle.textarea_terminal.specs.InputState.{short_pause, settled, settled_by, long_pause, paused, Call, feed, idle, ask, set_resizes, set_console, new_state, after_call, after_calls}
+use Rattle.textarea_terminal.specs.InputState.{short_pause, settled, settled_by, long_pause, paused, Call, feed, idle, ask, set_resizes, set_console, new_decoder, after_call, after_calls}
 use Rattle.textarea_terminal.specs.InputState.{stream_of}
 use Rattle.textarea_terminal.specs.InputStream.{Decoding, begun_bytes, idle_keys, idle_of, idle_decoding}
 use Rattle.textarea_terminal.specs.InputUnit.{unit_at, paste_end, after_mark, mark_index}
@@ -231,5 +231,5 @@ streamed (ask ∷ calls) s ready = streamed-cons s ask calls ready (streamed cal
 streamed (set_resizes b ∷ calls) s ready = streamed-cons s (set_resizes b) calls ready (streamed calls) ∙ sym (after_calls-cons s (set_resizes b) (stream_of calls))
 streamed (set_console b ∷ calls) s ready = streamed-cons s (set_console b) calls ready (streamed calls) ∙ sym (after_calls-cons s (set_console b) (stream_of calls))
 
-pub new-ready : IsReady new_state
+pub new-ready : IsReady new_decoder
 new-ready = record { begun = λ e. unit_at-nil; few = λ e. (cc) }

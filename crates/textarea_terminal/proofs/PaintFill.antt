@@ -16,78 +16,78 @@ use Rattle.textarea_screen.specs.declared.screen.buffer.Buffer.{Buffer}
 use Rattle.textarea_screen.specs.declared.screen.rect.Rect.{Rect}
 use Rattle.textarea_terminal.specs.Disputed.{can_widen, before_selector}
 use Rattle.textarea_terminal.specs.Pen.{look_of, in_look}
-use Rattle.textarea_terminal.specs.declared.output.look.Look.{Look}
+use Rattle.textarea_terminal.specs.declared.output.look.Pen.{Pen}
 use Rattle.textarea_terminal.specs.declared.output.colors.Colors.{Colors}
 use Rattle.textarea_terminal.specs.PaintCells.{cluster_columns, part_or_blank, shown_text, is_half, one_intensity, shown_look, displayed_alike, blanked, begins_empty, fits_in_row, displayed}
-use Rattle.textarea_terminal.specs.PaintCells.{cell_in, cells_from, frame_of_buffer, can_begin, are_whole}
+use Rattle.textarea_terminal.specs.PaintCells.{cell_in, cells_at, frame_of_buffer, can_begin, are_whole}
 use Rattle.textarea_terminal.proofs.ScreenPlain.{cluster_columns-blank}
 use Rattle.std.proofs.Math.Bool.{and-false}
 
 -- ---- from one cell to the next
 
 pub cells_from-next : (area : Rect) (buffer : Buffer) (index size : ℕ) → index < size →
-    cells_from area buffer index (size - index) ≡ cell_in area buffer index ∷ cells_from area buffer (index + 1) (size - (index + 1))
+    cells_at area buffer index (size - index) ≡ cell_in area buffer index ∷ cells_at area buffer (index + 1) (size - (index + 1))
 cells_from-next area buffer index size within =
     let more : size - index ≡ suc (size - (index + 1)) = omega arith in
-    ap (cells_from area buffer index) more
+    ap (cells_at area buffer index) more
 
 pub begins_empty-next : (area : Rect) (buffer : Buffer) (index end size : ℕ) → index < end → end ≤ size →
-    begins_empty (end - index) (cells_from area buffer index (size - index))
-    ≡ (is_half (cell_in area buffer index) && begins_empty (end - (index + 1)) (cells_from area buffer (index + 1) (size - (index + 1))))
+    begins_empty (end - index) (cells_at area buffer index (size - index))
+    ≡ (is_half (cell_in area buffer index) && begins_empty (end - (index + 1)) (cells_at area buffer (index + 1) (size - (index + 1))))
 begins_empty-next area buffer index end size within fit =
     let more : end - index ≡ suc (end - (index + 1)) = omega arith in
     ap (begins_empty (end - index)) (cells_from-next area buffer index size (omega arith))
-    ∙ ap (λ count. begins_empty count (cell_in area buffer index ∷ cells_from area buffer (index + 1) (size - (index + 1)))) more
+    ∙ ap (λ count. begins_empty count (cell_in area buffer index ∷ cells_at area buffer (index + 1) (size - (index + 1)))) more
 
 -- ---- one cell
 
 -- a cell that belongs to no cluster before it, and those after it
 displayed-next : (colors : Colors) (area : Rect) (buffer : Buffer) (index halves size : ℕ) (fits : Bool) → index < size → halves ≡ 0 →
-    fits_in_row area.width index (cell_in area buffer index) (cells_from area buffer (index + 1) (size - (index + 1))) ≡ fits →
-    displayed colors area.width index halves (cells_from area buffer index (size - index))
+    fits_in_row area.width index (cell_in area buffer index) (cells_at area buffer (index + 1) (size - (index + 1))) ≡ fits →
+    displayed colors area.width index halves (cells_at area buffer index (size - index))
     ≡ cond fits
-    (displayed_alike colors (cell_in area buffer index) ∷ displayed colors area.width (index + 1) (cluster_columns (shown_text (cell_in area buffer index).symbol) - 1) (cells_from area buffer (index + 1) (size - (index + 1))))
-    (blanked colors (cell_in area buffer index) ∷ displayed colors area.width (index + 1) 0 (cells_from area buffer (index + 1) (size - (index + 1))))
+    (displayed_alike colors (cell_in area buffer index) ∷ displayed colors area.width (index + 1) (cluster_columns (shown_text (cell_in area buffer index).symbol) - 1) (cells_at area buffer (index + 1) (size - (index + 1))))
+    (blanked colors (cell_in area buffer index) ∷ displayed colors area.width (index + 1) 0 (cells_at area buffer (index + 1) (size - (index + 1))))
 displayed-next colors area buffer index halves size fits within none fit =
     let cell = cell_in area buffer index in
-    let cells = cells_from area buffer (index + 1) (size - (index + 1)) in
+    let cells = cells_at area buffer (index + 1) (size - (index + 1)) in
     ap (displayed colors area.width index halves) (cells_from-next area buffer index size within)
     ∙ ap (λ count. displayed colors area.width index count (cell ∷ cells)) none
     ∙ ap (λ b. cond b (displayed_alike colors cell ∷ displayed colors area.width (index + 1) (cluster_columns (shown_text cell.symbol) - 1) cells)
     (blanked colors cell ∷ displayed colors area.width (index + 1) 0 cells)) fit
 
 -- the cell of a source, with what is shown of its cluster
-pub fill-visible : (colors : Colors) (area : Rect) (buffer : Buffer) (index halves size : ℕ) (source look : Look) (symbol : List ℕ) (columns left : ℕ) (view : CellView) → index < size →
+pub fill-visible : (colors : Colors) (area : Rect) (buffer : Buffer) (index halves size : ℕ) (source look : Pen) (symbol : List ℕ) (columns left : ℕ) (view : CellView) → index < size →
     halves ≡ 0 → in_look source symbol ≡ cell_in area buffer index → look ≡ shown_look colors source → columns ≡ cluster_columns symbol → view ≡ in_look look (shown_text symbol) →
     left ≡ cluster_columns (shown_text symbol) - 1 →
-    (ltb 0 columns && leb (index % area.width + columns) area.width && begins_empty (columns - 1) (cells_from area buffer (index + 1) (size - (index + 1)))) ≡ true →
-    displayed colors area.width index halves (cells_from area buffer index (size - index))
-    ≡ view ∷ displayed colors area.width (index + 1) left (cells_from area buffer (index + 1) (size - (index + 1)))
+    (ltb 0 columns && leb (index % area.width + columns) area.width && begins_empty (columns - 1) (cells_at area buffer (index + 1) (size - (index + 1)))) ≡ true →
+    displayed colors area.width index halves (cells_at area buffer index (size - index))
+    ≡ view ∷ displayed colors area.width (index + 1) left (cells_at area buffer (index + 1) (size - (index + 1)))
 fill-visible colors area buffer index halves size source look symbol columns left view within none is look_is columns_is view_is left_is fit =
-    let cells = cells_from area buffer (index + 1) (size - (index + 1)) in
+    let cells = cells_at area buffer (index + 1) (size - (index + 1)) in
     let fit_symbol : fits_in_row area.width index (in_look source symbol) cells ≡ true =
     subst (λ n. (ltb 0 n && leb (index % area.width + n) area.width && begins_empty (n - 1) cells) ≡ true) columns_is fit in
     let fit_cell : fits_in_row area.width index (cell_in area buffer index) cells ≡ true = subst (λ (cell : CellView). fits_in_row area.width index cell cells ≡ true) is fit_symbol in
     displayed-next colors area buffer index halves size true within none fit_cell
     ∙ ap (λ (cell : CellView). displayed_alike colors cell ∷ displayed colors area.width (index + 1) (cluster_columns (shown_text cell.symbol) - 1) cells) (sym is)
     ∙ ap (λ (first : CellView). first ∷ displayed colors area.width (index + 1) (cluster_columns (shown_text symbol) - 1) cells)
-    (sym (view_is ∙ ap (λ (l : Look). in_look l (shown_text symbol)) look_is))
+    (sym (view_is ∙ ap (λ (l : Pen). in_look l (shown_text symbol)) look_is))
     ∙ ap (λ n. view ∷ displayed colors area.width (index + 1) n cells) (sym left_is)
 
 -- the cell of a source whose cluster can't be shown
-pub fill-blank : (colors : Colors) (area : Rect) (buffer : Buffer) (index halves size : ℕ) (source look : Look) (symbol : List ℕ) (columns : ℕ) (view : CellView) → index < size →
+pub fill-blank : (colors : Colors) (area : Rect) (buffer : Buffer) (index halves size : ℕ) (source look : Pen) (symbol : List ℕ) (columns : ℕ) (view : CellView) → index < size →
     halves ≡ 0 → in_look source symbol ≡ cell_in area buffer index → look ≡ shown_look colors source → columns ≡ cluster_columns symbol → view ≡ in_look look (32 ∷ []) →
-    (ltb 0 columns && leb (index % area.width + columns) area.width && begins_empty (columns - 1) (cells_from area buffer (index + 1) (size - (index + 1)))) ≡ false →
-    displayed colors area.width index halves (cells_from area buffer index (size - index))
-    ≡ view ∷ displayed colors area.width (index + 1) 0 (cells_from area buffer (index + 1) (size - (index + 1)))
+    (ltb 0 columns && leb (index % area.width + columns) area.width && begins_empty (columns - 1) (cells_at area buffer (index + 1) (size - (index + 1)))) ≡ false →
+    displayed colors area.width index halves (cells_at area buffer index (size - index))
+    ≡ view ∷ displayed colors area.width (index + 1) 0 (cells_at area buffer (index + 1) (size - (index + 1)))
 fill-blank colors area buffer index halves size source look symbol columns view within none is look_is columns_is view_is other =
-    let cells = cells_from area buffer (index + 1) (size - (index + 1)) in
+    let cells = cells_at area buffer (index + 1) (size - (index + 1)) in
     let other_symbol : fits_in_row area.width index (in_look source symbol) cells ≡ false =
     subst (λ n. (ltb 0 n && leb (index % area.width + n) area.width && begins_empty (n - 1) cells) ≡ false) columns_is other in
     let other_cell : fits_in_row area.width index (cell_in area buffer index) cells ≡ false = subst (λ (cell : CellView). fits_in_row area.width index cell cells ≡ false) is other_symbol in
     displayed-next colors area buffer index halves size false within none other_cell
     ∙ ap (λ (cell : CellView). blanked colors cell ∷ displayed colors area.width (index + 1) 0 cells) (sym is)
-    ∙ ap (λ (first : CellView). first ∷ displayed colors area.width (index + 1) 0 cells) (sym (view_is ∙ ap (λ (l : Look). in_look l (32 ∷ [])) look_is))
+    ∙ ap (λ (first : CellView). first ∷ displayed colors area.width (index + 1) 0 cells) (sym (view_is ∙ ap (λ (l : Pen). in_look l (32 ∷ [])) look_is))
 
 -- what is shown of a cluster has some columns, and at most those of the whole
 pub shown-columns : (text : List ℕ) → 0 < cluster_columns text → (0 < cluster_columns (shown_text text)) × (cluster_columns (shown_text text) ≤ cluster_columns text)
@@ -199,14 +199,14 @@ row-fits index columns height (suc less) within some fit =
 
 -- ---- all cells
 
-pub fill-start : (colors : Colors) (area : Rect) (buffer : Buffer) → displayed colors area.width 0 0 (cells_from area buffer 0 (area.height * area.width - 0)) ≡ frame_of_buffer colors area buffer
+pub fill-start : (colors : Colors) (area : Rect) (buffer : Buffer) → displayed colors area.width 0 0 (cells_at area buffer 0 (area.height * area.width - 0)) ≡ frame_of_buffer colors area buffer
 fill-start colors area buffer =
     let all : area.height * area.width - 0 ≡ area.height * area.width = omega arith in
-    ap (λ count. displayed colors area.width 0 0 (cells_from area buffer 0 count)) all
+    ap (λ count. displayed colors area.width 0 0 (cells_at area buffer 0 count)) all
 
 pub fill-step : (colors : Colors) (area : Rect) (buffer : Buffer) (cells : List Cell) (index halves left : ℕ) (cell : Cell) (after frame : List CellView) → index < length cells →
-    displayed colors area.width index halves (cells_from area buffer index (area.height * area.width - index)) ≡ cell_view cell ∷ after →
-    map cell_view (take index cells) ++ displayed colors area.width index halves (cells_from area buffer index (area.height * area.width - index)) ≡ frame →
+    displayed colors area.width index halves (cells_at area buffer index (area.height * area.width - index)) ≡ cell_view cell ∷ after →
+    map cell_view (take index cells) ++ displayed colors area.width index halves (cells_at area buffer index (area.height * area.width - index)) ≡ frame →
     map cell_view (take (index + 1) (set cells index cell)) ++ after ≡ frame
 fill-step colors area buffer cells index halves left cell after frame within next before =
     ap (λ items. map cell_view items ++ after) (take_more_set cells index cell within)
@@ -216,13 +216,13 @@ fill-step colors area buffer cells index halves left cell after frame within nex
     ∙ before
 
 pub fill-end : (colors : Colors) (area : Rect) (buffer : Buffer) (cells : List Cell) (index halves : ℕ) (frame : List CellView) → index ≡ length cells → length cells ≡ area.height * area.width →
-    map cell_view (take index cells) ++ displayed colors area.width index halves (cells_from area buffer index (area.height * area.width - index)) ≡ frame → map cell_view cells ≡ frame
+    map cell_view (take index cells) ++ displayed colors area.width index halves (cells_at area buffer index (area.height * area.width - index)) ≡ frame → map cell_view cells ≡ frame
 fill-end colors area buffer cells index halves frame at full before =
     let none : area.height * area.width - index ≡ 0 = omega arith in
     let all : take index cells ≡ cells = ap (λ k. take k cells) at ∙ take-length cells in
     sym (append-nil (map cell_view cells))
     ∙ ap (λ items. map cell_view items ++ []) (sym all)
-    ∙ ap (λ count. map cell_view (take index cells) ++ displayed colors area.width index halves (cells_from area buffer index count)) (sym none)
+    ∙ ap (λ count. map cell_view (take index cells) ++ displayed colors area.width index halves (cells_at area buffer index count)) (sym none)
     ∙ before
 
 -- ---- fresh cells
@@ -243,8 +243,8 @@ frame-whole colors area buffer =
     ⊎_elim
     (λ none.
     let empty : area.height * area.width ≡ 0 = rw none (omega arith) in
-    ap (λ count. are_whole area.width 0 0 (displayed colors area.width 0 0 (cells_from area buffer 0 count))) empty)
-    (λ some. displayed-whole colors area.width 0 0 (cells_from area buffer 0 (area.height * area.width)) some (omega arith))
+    ap (λ count. are_whole area.width 0 0 (displayed colors area.width 0 0 (cells_at area buffer 0 count))) empty)
+    (λ some. displayed-whole colors area.width 0 0 (cells_at area buffer 0 (area.height * area.width)) some (omega arith))
     (zero_or area.width)
 
 pub erased-whole : (height width : ℕ) → are_whole width 0 0 (replicate (height * width) fresh_cell) ≡ true

@@ -15,7 +15,7 @@ use Rattle.textarea_terminal.specs.Pen.{Rendition, plain_look, rendered, rendere
 use Rattle.textarea_terminal.specs.Pen.{renditions_of, color_parameters, rendition_parameters, parameter_count, first_read, fits_one_control}
 use Rattle.textarea_terminal.specs.Pen.Rendition.{Add, Background}
 use Rattle.textarea_terminal.specs.PenControls.{pen_controls}
-use Rattle.textarea_terminal.specs.declared.output.look.Look.{Look}
+use Rattle.textarea_terminal.specs.declared.output.look.Pen.{Pen}
 use Rattle.ucd_table.proofs.TrieCheck.{all_below, all_below-at}
 
 -- ---- bytes
@@ -47,7 +47,7 @@ added-next modifier old new all i below written done =
     ∙ done
 
 -- the bytes of a look's renditions
-pub renditions_bytes-of : (look : Look) →
+pub renditions_bytes-of : (look : Pen) →
     renditions_bytes (renditions_of look) ≡ renditions_bytes (added look.modifier all_numbers) ++ renditions_bytes (foreground look.fg) ++ renditions_bytes (background look.bg)
 unfolding renditions_of
 renditions_bytes-of look =
@@ -55,7 +55,7 @@ renditions_bytes-of look =
     ∙ ap (λ bytes. bytes ++ renditions_bytes (background look.bg)) (renditions_bytes-append (added look.modifier all_numbers) (foreground look.fg))
 
 -- the bytes of a pen's control, one rendition after another
-SetPen-bytes : (look : Look) (before opened modified fore back closed : List ℕ) → opened ≡ before ++ 27 ∷ 91 ∷ 48 ∷ [] →
+SetPen-bytes : (look : Pen) (before opened modified fore back closed : List ℕ) → opened ≡ before ++ 27 ∷ 91 ∷ 48 ∷ [] →
     modified ≡ opened ++ renditions_bytes (added look.modifier all_numbers) → fore ≡ modified ++ renditions_bytes (foreground look.fg) →
     back ≡ fore ++ renditions_bytes (background look.bg) → closed ≡ back ++ 109 ∷ [] →
     closed ≡ before ++ control_bytes (SetPen (renditions_of look))
@@ -84,20 +84,20 @@ added-count-next modifier i below =
     let next : drop i all_numbers ≡ get_or all_numbers i 0 ∷ drop (i + 1) all_numbers = drop-cons all_numbers i 0 below ∙ ap (λ k. get_or all_numbers i 0 ∷ drop k all_numbers) (sym (add-one i)) in
     ap (λ numbers. parameter_count (added modifier numbers)) next ∙ added-count modifier (get_or all_numbers i 0) (drop (i + 1) all_numbers)
 
-renditions-count : (look : Look) →
+renditions-count : (look : Pen) →
     parameter_count (renditions_of look) ≡ parameter_count (added look.modifier all_numbers) + parameter_count (foreground look.fg) + parameter_count (background look.bg)
 unfolding renditions_of
 renditions-count look =
     omega (arith, parameter_count-append (before_background look) (background look.bg), parameter_count-append (added look.modifier all_numbers) (foreground look.fg))
 
-fits-by-count : (look : Look) (modifiers fg bg : ℕ) → modifiers ≡ parameter_count (added look.modifier all_numbers) → fg ≡ parameter_count (foreground look.fg) →
+fits-by-count : (look : Pen) (modifiers fg bg : ℕ) → modifiers ≡ parameter_count (added look.modifier all_numbers) → fg ≡ parameter_count (foreground look.fg) →
     bg ≡ parameter_count (background look.bg) → modifiers + fg + bg ≤ 15 → fits_one_control look ≡ true
 unfolding fits_one_control
 fits-by-count look modifiers fg bg a b c fit =
     let all : parameter_count (renditions_of look) ≤ 15 = omega (arith, renditions-count look) in
     le-leb (parameter_count (renditions_of look)) 15 all
 
-no-fit-by-count : (look : Look) (modifiers fg bg : ℕ) → modifiers ≡ parameter_count (added look.modifier all_numbers) → fg ≡ parameter_count (foreground look.fg) →
+no-fit-by-count : (look : Pen) (modifiers fg bg : ℕ) → modifiers ≡ parameter_count (added look.modifier all_numbers) → fg ≡ parameter_count (foreground look.fg) →
     bg ≡ parameter_count (background look.bg) → 15 < modifiers + fg + bg → fits_one_control look ≡ false
 unfolding fits_one_control
 no-fit-by-count look modifiers fg bg a b c past =
@@ -105,7 +105,7 @@ no-fit-by-count look modifiers fg bg a b c past =
     grind (arith, nat_tests, all)
 
 -- the bytes of the controls of a look
-pub pen-bytes-one : (look : Look) (before opened modified fore back closed : List ℕ) (modifiers fg bg : ℕ) → opened ≡ before ++ 27 ∷ 91 ∷ 48 ∷ [] →
+pub pen-bytes-one : (look : Pen) (before opened modified fore back closed : List ℕ) (modifiers fg bg : ℕ) → opened ≡ before ++ 27 ∷ 91 ∷ 48 ∷ [] →
     modified ≡ opened ++ renditions_bytes (added look.modifier all_numbers) → fore ≡ modified ++ renditions_bytes (foreground look.fg) →
     back ≡ fore ++ renditions_bytes (background look.bg) → closed ≡ back ++ 109 ∷ [] →
     modifiers ≡ parameter_count (added look.modifier all_numbers) → fg ≡ parameter_count (foreground look.fg) →
@@ -115,7 +115,7 @@ pen-bytes-one look before opened modified fore back closed modifiers fg bg a b c
     let one = SetPen-bytes look before opened modified fore back closed a b c d e in
     rw (fits-by-count look modifiers fg bg m f g fit) (one ∙ ap (λ more. before ++ more) (sym (append-nil (control_bytes (SetPen (renditions_of look))))))
 
-pub pen-bytes-two : (look : Look) (before opened modified fore back closed : List ℕ) (modifiers fg bg : ℕ) → opened ≡ before ++ 27 ∷ 91 ∷ 48 ∷ [] →
+pub pen-bytes-two : (look : Pen) (before opened modified fore back closed : List ℕ) (modifiers fg bg : ℕ) → opened ≡ before ++ 27 ∷ 91 ∷ 48 ∷ [] →
     modified ≡ opened ++ renditions_bytes (added look.modifier all_numbers) → fore ≡ modified ++ renditions_bytes (foreground look.fg) →
     back ≡ fore ++ codes "m" ++ introducer ++ color_bytes 40 look.bg → closed ≡ back ++ 109 ∷ [] →
     modifiers ≡ parameter_count (added look.modifier all_numbers) → fg ≡ parameter_count (foreground look.fg) →
@@ -127,11 +127,11 @@ pen-bytes-two look before opened modified fore back closed modifiers fg bg a b c
 
 -- ---- the pen
 
-rendered_all-append : (look : Look) (xs ys : List Rendition) → rendered_all look (xs ++ ys) ≡ rendered_all (rendered_all look xs) ys
+rendered_all-append : (look : Pen) (xs ys : List Rendition) → rendered_all look (xs ++ ys) ≡ rendered_all (rendered_all look xs) ys
 rendered_all-append look [] ys = refl
 rendered_all-append look (x ∷ xs) ys = rendered_all-append (rendered look x) xs ys
 
-added-keeps : (look : Look) (modifier : Modifier) (numbers : List ℕ) →
+added-keeps : (look : Pen) (modifier : Modifier) (numbers : List ℕ) →
     rendered_all look (added modifier numbers) ≡ record look { modifier = (rendered_all look (added modifier numbers)).modifier }
 added-keeps look modifier [] = refl
 added-keeps look modifier (number ∷ numbers) =
@@ -163,18 +163,18 @@ background-present : (color fg : Color) (modifier : Modifier) →
 background-present Reset fg modifier = refl
 background-present color fg modifier = refl
 
-rendered-before : (look : Look) → look.modifier.0 < 512 → rendered_all plain_look (before_background look) ≡ record look { bg = Reset }
+rendered-before : (look : Pen) → look.modifier.0 < 512 → rendered_all plain_look (before_background look) ≡ record look { bg = Reset }
 rendered-before look below =
     let mods = added look.modifier all_numbers in
-    rendered_all-append plain_look mods (foreground look.fg) ∙ ap (λ (l : Look). rendered_all l (foreground look.fg)) (added-all look.modifier.0 below)
+    rendered_all-append plain_look mods (foreground look.fg) ∙ ap (λ (l : Pen). rendered_all l (foreground look.fg)) (added-all look.modifier.0 below)
     ∙ foreground-present look.fg Reset look.modifier
 
 -- a pen that was reset has the look after the renditions of that look
-rendered-look : (look : Look) → look.modifier.0 < 512 → rendered_all plain_look (renditions_of look) ≡ look
+rendered-look : (look : Pen) → look.modifier.0 < 512 → rendered_all plain_look (renditions_of look) ≡ look
 unfolding renditions_of
 rendered-look look below =
     rendered_all-append plain_look (before_background look) (background look.bg)
-    ∙ ap (λ (l : Look). rendered_all l (background look.bg)) (rendered-before look below)
+    ∙ ap (λ (l : Pen). rendered_all l (background look.bg)) (rendered-before look below)
     ∙ background-present look.bg look.fg look.modifier
 
 -- ---- what is read
@@ -204,18 +204,18 @@ foreground-most Reset = omega arith
 foreground-most color = omega (arith, color-most color)
 
 -- the renditions of a look are read, and give it to the pen
-pub read-look : (look : Look) → look.modifier.0 < 512 → fits_one_control look ≡ true → rendered_all plain_look (first_read 15 (renditions_of look)) ≡ look
+pub read-look : (look : Pen) → look.modifier.0 < 512 → fits_one_control look ≡ true → rendered_all plain_look (first_read 15 (renditions_of look)) ≡ look
 unfolding fits_one_control
 read-look look below fits =
     let few : parameter_count (renditions_of look) ≤ 15 = leb-true (parameter_count (renditions_of look)) 15 fits in
     ap (rendered_all plain_look) (first_read-all 15 (renditions_of look) few) ∙ rendered-look look below
 
-pub read-before : (look : Look) → look.modifier.0 < 512 → rendered_all plain_look (first_read 15 (before_background look)) ≡ record look { bg = Reset }
+pub read-before : (look : Pen) → look.modifier.0 < 512 → rendered_all plain_look (first_read 15 (before_background look)) ≡ record look { bg = Reset }
 read-before look below =
     let few : parameter_count (before_background look) ≤ 15 =
     omega (arith, parameter_count-append (added look.modifier all_numbers) (foreground look.fg), added-most look.modifier all_numbers, foreground-most look.fg) in
     ap (rendered_all plain_look) (first_read-all 15 (before_background look) few) ∙ rendered-before look below
 
-pub read-background : (pen : Look) (color : Color) → rendered_all pen (first_read 16 (Background color ∷ [])) ≡ record pen { bg = color }
+pub read-background : (pen : Pen) (color : Color) → rendered_all pen (first_read 16 (Background color ∷ [])) ≡ record pen { bg = color }
 read-background pen color =
     ap (rendered_all pen) (first_read-all 16 (Background color ∷ []) (omega (arith, color-most color)))

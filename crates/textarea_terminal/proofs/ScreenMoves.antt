@@ -15,7 +15,7 @@ use Rattle.textarea_terminal.specs.PaintCells.{can_begin, cluster_columns}
 use Rattle.textarea_terminal.specs.Pen.{in_look, look_of}
 use Rattle.textarea_terminal.specs.Screen.{Terminal, is_plain, apply_control, run, unknown, printed, print_at, rest_of, cursor_after, cluster_cells, settled_cells}
 use Rattle.textarea_terminal.specs.declared.output.brush.Brush.{Brush}
-use Rattle.textarea_terminal.specs.declared.output.look.Look.{Look}
+use Rattle.textarea_terminal.specs.declared.output.look.Pen.{Pen}
 use Rattle.textarea_terminal.proofs.ControlLemmas.{run-append, bytes_of-append, prints_of-append, moves_of-append, pens_of-append}
 use Rattle.textarea_terminal.proofs.PaintFrames.{columns-some}
 use Rattle.textarea_terminal.proofs.SettledLemmas.{Shown, agreed-length}
@@ -87,7 +87,7 @@ print-there terminal columns index cell same modes begins agreed =
       is_updating = true;
     }) same
 
-needed-once : (pen : Option Look) (look : Look) (one all : ℕ) → IsNeeded pen look one → all ≡ one → IsNeeded pen look all
+needed-once : (pen : Option Pen) (look : Pen) (one all : ℕ) → IsNeeded pen look one → all ≡ one → IsNeeded pen look all
 needed-once pen look one all (inl known) same = inl (known.0, same ∙ known.1)
 needed-once pen look one all (inr other) same = inr (other.0, same ∙ other.1)
 
@@ -134,10 +134,10 @@ written-four a b c d e xs ys zs last first second third fourth =
     rw (fourth, third, second, first) (simp (bytes_of-append, append_assoc))
 
 -- the same as bytes
-pub Wrote-cell : (brush : Brush) (columns index : ℕ) (cell : CellView) (look : Look) → look ≡ look_of cell → {a b c d e : List ℕ} → Wrote a b (BeginsUpdate brush.is_updating) →
+pub Wrote-cell : (brush : Brush) (columns index : ℕ) (cell : CellView) (look : Pen) → look ≡ look_of cell → {a b c d e : List ℕ} → Wrote a b (BeginsUpdate brush.is_updating) →
     Wrote b c (MovesTo brush.at columns index) → Wrote c d (TakesLook brush.pen look) → Wrote d e (PrintsLast columns index cell) → Wrote a e (PrintsCell brush columns index cell)
 Wrote-cell brush columns index cell look is_look {a} {b} {c} {d} {e} begun moved consumed done =
-    let Takes : Look → Type 0 = λ l. TakesLook brush.pen l consumed.controls in
+    let Takes : Pen → Type 0 = λ l. TakesLook brush.pen l consumed.controls in
     record {
       controls = begun.controls ++ (moved.controls ++ (consumed.controls ++ done.controls));
       bytes = written-four a b c d e begun.controls moved.controls consumed.controls done.controls begun.bytes moved.bytes consumed.bytes done.bytes;

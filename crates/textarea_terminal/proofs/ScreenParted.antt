@@ -12,7 +12,7 @@ use Rattle.textarea_terminal.specs.PaintCells.{can_begin, cluster_columns, is_ha
 use Rattle.textarea_terminal.specs.Parted.{blank_prints, parted_controls}
 use Rattle.textarea_terminal.specs.Pen.{in_look, look_of}
 use Rattle.textarea_terminal.specs.Screen.{Terminal, is_plain, apply_control, run, begins_half, mended, mended_back, printed, rest_of, cursor_after, cluster_cells, settled_cells}
-use Rattle.textarea_terminal.specs.declared.output.look.Look.{Look}
+use Rattle.textarea_terminal.specs.declared.output.look.Pen.{Pen}
 use Rattle.textarea_terminal.proofs.ControlLemmas.{run-append, prints_of-append, moves_of-append, pens_of-append}
 use Rattle.textarea_terminal.proofs.PaintFrames.{columns-some}
 use Rattle.textarea_terminal.proofs.ScreenMoves.{move-there, print-fits, columns-fit}
@@ -57,11 +57,11 @@ module _ (rest : CellView → CellView) (blank : (cell : CellView) → is_half (
       (λ whole. rw whole refl)
       (cases_Bool (is_half cell))
 
-blanks-begin : (look : Look) (count : ℕ) (more : List CellView) → 0 < count → begins_half (replicate count (in_look look (32 ∷ [])) ++ more) ≡ false
+blanks-begin : (look : Pen) (count : ℕ) (more : List CellView) → 0 < count → begins_half (replicate count (in_look look (32 ∷ [])) ++ more) ≡ false
 blanks-begin look zero more some = absurd (omega arith)
 blanks-begin look (suc count) more some = refl
 
-blanks-mended : (rest : CellView → CellView) → ((cell : CellView) → is_half (rest cell) ≡ false) → (look : Look) (count : ℕ) (cells : List CellView) →
+blanks-mended : (rest : CellView → CellView) → ((cell : CellView) → is_half (rest cell) ≡ false) → (look : Pen) (count : ℕ) (cells : List CellView) →
     mended rest (replicate count (in_look look (32 ∷ [])) ++ mended rest cells) ≡ replicate count (in_look look (32 ∷ [])) ++ mended rest cells
 blanks-mended rest blank look zero cells = mended-whole rest blank (mended rest cells) (mended-begins rest blank cells)
 blanks-mended rest blank look (suc count) cells = refl

@@ -7,8 +7,8 @@ use Rattle.textarea_screen.specs.Cell.{CellView, fresh_cell}
 use Rattle.textarea_terminal.specs.Disputed.{is_disputed}
 use Rattle.textarea_terminal.specs.PaintCells.{cluster_columns, half, is_half, is_plain_half, can_begin, are_whole}
 use Rattle.textarea_terminal.specs.Pen.{in_look, look_of}
-use Rattle.textarea_terminal.specs.Screen.{IsOfFamily, CountsAlike, begins_text, text_cell, cluster_cells, first_of, settled_cells, settled}
-use Rattle.textarea_terminal.specs.declared.output.look.Look.{Look}
+use Rattle.textarea_terminal.specs.Screen.{IsOfFamily, CountsAlike, begins_text, text_cell, cluster_cells, first_of, settled_cells, settled_cells}
+use Rattle.textarea_terminal.specs.declared.output.look.Pen.{Pen}
 use Rattle.textarea_terminal.proofs.DisputedBlank.{is_disputed-blank}
 use Rattle.textarea_terminal.proofs.PaintFrames.{begins-whole, half-is, columns-some}
 use Rattle.textarea_terminal.proofs.ScreenPlain.{cluster_columns-blank}
@@ -18,23 +18,23 @@ Shown = List ℕ → List (List ℕ)
 
 -- ---- the cells of one cluster
 
-pub agreed-cells : (shown_as : Shown) (look : Look) (text : List ℕ) → is_disputed text ≡ false →
+pub agreed-cells : (shown_as : Shown) (look : Pen) (text : List ℕ) → is_disputed text ≡ false →
     cluster_cells shown_as look text ≡ in_look look text ∷ replicate (cluster_columns text - 1) half
 unfolding cluster_cells
 agreed-cells shown_as look text agreed =
     cond-false (is_disputed text) (map (text_cell look) (shown_as text)) (in_look look text ∷ replicate (cluster_columns text - 1) half) agreed
 
-pub disputed-cells : (shown_as : Shown) (look : Look) (text : List ℕ) → is_disputed text ≡ true → cluster_cells shown_as look text ≡ map (text_cell look) (shown_as text)
+pub disputed-cells : (shown_as : Shown) (look : Pen) (text : List ℕ) → is_disputed text ≡ true → cluster_cells shown_as look text ≡ map (text_cell look) (shown_as text)
 unfolding cluster_cells
 disputed-cells shown_as look text disputed =
     cond-true (is_disputed text) (map (text_cell look) (shown_as text)) (in_look look text ∷ replicate (cluster_columns text - 1) half) disputed
 
-pub agreed-length : (shown_as : Shown) (look : Look) (text : List ℕ) → 0 < cluster_columns text → is_disputed text ≡ false → length (cluster_cells shown_as look text) ≡ cluster_columns text
+pub agreed-length : (shown_as : Shown) (look : Pen) (text : List ℕ) → 0 < cluster_columns text → is_disputed text ≡ false → length (cluster_cells shown_as look text) ≡ cluster_columns text
 agreed-length shown_as look text some agreed =
     let cells = ap length (agreed-cells shown_as look text agreed) in
     omega (arith, length-replicate (cluster_columns text - 1) half)
 
-pub cluster_cells-length : (shown_as : Shown) (look : Look) (text : List ℕ) → IsOfFamily shown_as → 0 < cluster_columns text → length (cluster_cells shown_as look text) ≤ cluster_columns text
+pub cluster_cells-length : (shown_as : Shown) (look : Pen) (text : List ℕ) → IsOfFamily shown_as → 0 < cluster_columns text → length (cluster_cells shown_as look text) ≤ cluster_columns text
 cluster_cells-length shown_as look text family some =
     ⊎_elim
     (λ disputed. omega (arith, ap length (disputed-cells shown_as look text disputed), length-map (shown_as text) (text_cell look), family.width text some))
@@ -53,21 +53,21 @@ settled_cells-length shown_as cell family some =
     )
 
 -- a blank is shown as it is
-pub blank-cells : (shown_as : Shown) (look : Look) → cluster_cells shown_as look (32 ∷ []) ≡ in_look look (32 ∷ []) ∷ []
+pub blank-cells : (shown_as : Shown) (look : Pen) → cluster_cells shown_as look (32 ∷ []) ≡ in_look look (32 ∷ []) ∷ []
 blank-cells shown_as look =
     agreed-cells shown_as look (32 ∷ []) is_disputed-blank ∙ ap (λ n. in_look look (32 ∷ []) ∷ replicate (n - 1) half) cluster_columns-blank
 
 -- the first cell is no half
 
-whole-blank : (look : Look) (count : ℕ) (other : CellView) (more : List CellView) → 0 < count → is_half (first_of other (replicate count (in_look look (32 ∷ [])) ++ more)) ≡ false
+whole-blank : (look : Pen) (count : ℕ) (other : CellView) (more : List CellView) → 0 < count → is_half (first_of other (replicate count (in_look look (32 ∷ [])) ++ more)) ≡ false
 whole-blank look zero other more some = absurd (omega arith)
 whole-blank look (suc count) other more some = refl
 
-whole-text : (look : Look) (text : List ℕ) → 0 < length text → is_half (text_cell look text) ≡ false
+whole-text : (look : Pen) (text : List ℕ) → 0 < length text → is_half (text_cell look text) ≡ false
 whole-text look [] some = absurd (omega arith)
 whole-text look (c ∷ text) some = let test : (length (c ∷ text) == 0) ≡ false = grind (arith, nat_tests) in test
 
-whole-texts : (look : Look) (other : CellView) (texts : List (List ℕ)) (width : ℕ) → begins_text texts ≡ true → 0 < width →
+whole-texts : (look : Pen) (other : CellView) (texts : List (List ℕ)) (width : ℕ) → begins_text texts ≡ true → 0 < width →
     is_half (first_of other (map (text_cell look) texts ++ replicate (width - length (map (text_cell look) texts)) (in_look look (32 ∷ [])))) ≡ false
 whole-texts look other [] width begins some =
     let blank = in_look look (32 ∷ []) in
@@ -87,7 +87,7 @@ settled-first shown_as cell family some whole =
 
 -- ---- all cells
 
-pub settled-length : (shown_as : Shown) (first cells : List CellView) → length (settled shown_as first cells) ≡ length cells
+pub settled-length : (shown_as : Shown) (first cells : List CellView) → length (settled_cells shown_as first cells) ≡ length cells
 settled-length shown_as [] [] = refl
 settled-length shown_as (shown ∷ first) [] = refl
 settled-length shown_as [] (cell ∷ cells) = ap suc (settled-length shown_as (drop 1 (settled_cells shown_as cell)) cells)
@@ -105,7 +105,7 @@ rest-whole shown_as columns index cell cells family some whole =
 
 -- the cells from an index on
 pub settled-drop : (shown_as : Shown) → IsOfFamily shown_as → (columns count index : ℕ) (first cells : List CellView) → are_whole columns index (length first) cells ≡ true → count ≤ length cells →
-    (left : List CellView) × (are_whole columns (index + count) (length left) (drop count cells) ≡ true) × (drop count (settled shown_as first cells) ≡ settled shown_as left (drop count cells))
+    (left : List CellView) × (are_whole columns (index + count) (length left) (drop count cells) ≡ true) × (drop count (settled_cells shown_as first cells) ≡ settled_cells shown_as left (drop count cells))
 settled-drop shown_as family columns zero index first cells whole within =
     (first, subst (λ p. are_whole columns p (length first) cells ≡ true) (omega arith) whole, refl)
 settled-drop shown_as family columns (suc count) index first [] whole within = absurd (omega arith)
@@ -128,13 +128,13 @@ fresh-cells shown_as =
     let one = blank-cells shown_as (look_of fresh_cell) in
     rw (one, cluster_columns-blank) refl
 
-pub settled-fresh : (shown_as : Shown) (count : ℕ) → settled shown_as [] (replicate count fresh_cell) ≡ replicate count fresh_cell
+pub settled-fresh : (shown_as : Shown) (count : ℕ) → settled_cells shown_as [] (replicate count fresh_cell) ≡ replicate count fresh_cell
 settled-fresh shown_as zero = refl
 settled-fresh shown_as (suc count) = rw (fresh-cells shown_as) (ap (λ cells. fresh_cell ∷ cells) (settled-fresh shown_as count))
 
 -- ---- a terminal that counts as we do
 
-halves-exact : (look : Look) (count : ℕ) → map (text_cell look) (replicate count []) ≡ replicate count half
+halves-exact : (look : Pen) (count : ℕ) → map (text_cell look) (replicate count []) ≡ replicate count half
 halves-exact look zero = refl
 halves-exact look (suc count) = ap (λ cells. half ∷ cells) (halves-exact look count)
 
@@ -165,7 +165,7 @@ settled_cells-exact shown_as cell alike whole some =
     ∙ append-nil (cluster_cells shown_as (look_of cell) cell.symbol) ∙ cells
 
 pub settled-exact : (shown_as : Shown) → CountsAlike shown_as → (columns index halves : ℕ) (cells : List CellView) → are_whole columns index halves cells ≡ true →
-    settled shown_as (replicate halves half) cells ≡ cells
+    settled_cells shown_as (replicate halves half) cells ≡ cells
 settled-exact shown_as alike columns index zero [] whole = refl
 settled-exact shown_as alike columns index (suc halves) [] whole = refl
 settled-exact shown_as alike columns index zero (cell ∷ cells) whole =

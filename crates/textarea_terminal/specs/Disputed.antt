@@ -39,12 +39,12 @@ is_disputed text = list_any is_joining (chars text) || nat_lt 1 (count_by has_co
 abbrev pub is_emoji_selector : ℕ → Bool
 is_emoji_selector c = c == 0xFE0F
 
-abbrev pub is_narrow : ℕ → Bool
-is_narrow c = char_columns c == 1
+abbrev pub is_one_column : ℕ → Bool
+is_one_column c = char_columns c == 1
 
 -- some terminals give an emoji two columns whose character has one
 unfoldable pub can_widen : List ℕ → Bool
-can_widen text = list_any is_emoji_selector (chars text) && list_any is_narrow (chars text)
+can_widen text = list_any is_emoji_selector (chars text) && list_any is_one_column (chars text)
 
 -- the bytes of the characters before the first such selector
 abbrev pub before_selector : List ℕ → List ℕ

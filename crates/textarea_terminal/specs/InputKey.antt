@@ -9,8 +9,8 @@ use Rattle.textarea_terminal.specs.InputEvent.{EventValue, input, unknown}
 -- ---- inputs
 
 -- a key with no modifier
-abbrev pub input_of_key : Key → Input
-input_of_key k = record { key = k; ctrl = false; alt = false; shift = false }
+abbrev pub unmodified : Key → Input
+unmodified k = record { key = k; ctrl = false; alt = false; shift = false }
 
 -- a character with Ctrl
 abbrev pub ctrl_input : ℕ → Input
@@ -22,13 +22,13 @@ with_alt i = record { key = i.key; ctrl = i.ctrl; alt = true; shift = i.shift }
 
 -- whether a parameter of modifiers has some of these: it is 1 plus 1 for Shift, 2 for Alt, 4 for Ctrl, 8 for Meta (xterm,
 -- "Modifiers") or Super, 16 for Hyper, 32 for Meta, 64 and 128 for locks (kitty)
-abbrev pub has_modifier : ℕ → ℕ → Bool
-has_modifier parameter bits = not (bit_and (parameter - 1) bits == 0)
+abbrev pub has_modifier_bits : ℕ → ℕ → Bool
+has_modifier_bits parameter bits = not (bit_and (parameter - 1) bits == 0)
 
 -- A key with the modifiers of a parameter. Meta and Super count as Alt; 0 and 1 are no modifier.
 abbrev pub input_with : Key → ℕ → Input
 input_with k parameter =
-    record { key = k; ctrl = has_modifier parameter 4; alt = has_modifier parameter 42; shift = has_modifier parameter 1 }
+    record { key = k; ctrl = has_modifier_bits parameter 4; alt = has_modifier_bits parameter 42; shift = has_modifier_bits parameter 1 }
 
 -- the event of a key, if there is one, and of a modifier parameter
 abbrev pub key_event : Option Key → ℕ → EventValue
@@ -101,32 +101,32 @@ coded_keys =
 abbrev pub byte_input : ℕ → Input
 byte_input b =
     if b == 0 then ctrl_input 32
-    else (if b == 8 then input_of_key key.Backspace
-    else (if b == 9 then input_of_key key.Tab
-    else (if b == 13 then input_of_key key.Enter
-    else (if b == 127 then input_of_key key.Backspace
+    else (if b == 8 then unmodified key.Backspace
+    else (if b == 9 then unmodified key.Tab
+    else (if b == 13 then unmodified key.Enter
+    else (if b == 127 then unmodified key.Backspace
     else (if nat_lt b 27 then ctrl_input (b + 96)
     else (if nat_lt b 32 then ctrl_input (b + 64)
-    else input_of_key (key.Char b)))))))
+    else unmodified (key.Char b)))))))
 
 -- The byte after ESC O: the letters above, rxvt's arrows with Ctrl, and the keypad's keys; E is its 5 without NumLock.
 abbrev pub single_event : ℕ → EventValue
 single_event letter =
     if is_in_range 97 100 letter then key_event (entry small_letter_keys letter) 5
-    else (if letter == 69 then input (input_of_key (key.Char 53))
+    else (if letter == 69 then input (unmodified (key.Char 53))
     else key_event (or_key (entry letter_keys letter) (entry keypad_keys letter)) 1)
 
 -- ---- keys by the codes of their characters
 
 -- Whether a code is a character that a key types: none of the controls, none of kitty's private codes (57344 to 63743), and none
 -- above Unicode's last.
-abbrev pub is_typed : ℕ → Bool
-is_typed c = is_in_range 32 126 c || is_in_range 160 55295 c || is_in_range 63744 1114111 c
+abbrev pub is_typed_code : ℕ → Bool
+is_typed_code c = is_in_range 32 126 c || is_in_range 160 55295 c || is_in_range 63744 1114111 c
 
 -- The character of a key by its code, which is its character without Shift; by the character with Shift (0 if it isn't told);
 -- and by the text that it types (0 if it isn't told). Where only the code is told, Shift changes the letters of ASCII.
-abbrev pub character_of : ℕ → ℕ → ℕ → Bool → ℕ
-character_of code shifted text shift =
+abbrev pub character_of_code : ℕ → ℕ → ℕ → Bool → ℕ
+character_of_code code shifted text shift =
     if not (text == 0) then text
     else (if not shift then code
     else (if not (shifted == 0) then shifted
@@ -135,14 +135,14 @@ character_of code shifted text shift =
 -- A character with modifiers. Shift alone is in the character.
 abbrev pub typed_event : ℕ → Input → EventValue
 typed_event c i =
-    if is_typed c then input (record { key = key.Char c; ctrl = i.ctrl; alt = i.alt; shift = i.shift && (i.ctrl || i.alt) }) else unknown
+    if is_typed_code c then input (record { key = key.Char c; ctrl = i.ctrl; alt = i.alt; shift = i.shift && (i.ctrl || i.alt) }) else unknown
 
 -- the event of a key by its code, its character with Shift, the text, and a parameter of modifiers (kitty, "CSI u"; xterm,
 -- "modifyOtherKeys")
 abbrev pub coded_by : Option Key → ℕ → ℕ → ℕ → ℕ → EventValue
 coded_by (Some k) code shifted text parameter = input (input_with k parameter)
 coded_by None code shifted text parameter =
-    typed_event (character_of code shifted text (has_modifier parameter 1)) (input_with key.Null parameter)
+    typed_event (character_of_code code shifted text (has_modifier_bits parameter 1)) (input_with key.Null parameter)
 
 unfoldable pub coded_event : ℕ → ℕ → ℕ → ℕ → EventValue
 coded_event code shifted text parameter = coded_by (entry coded_keys code) code shifted text parameter

@@ -16,8 +16,8 @@ abbrev pub number_limit : ℕ
 number_limit = 2097151
 
 -- a size or a position, at most 65,535
-abbrev pub clamped : ℕ → ℕ
-clamped n = min 65535 n
+abbrev pub clamped_to_u16 : ℕ → ℕ
+clamped_to_u16 n = min 65535 n
 
 -- a number continued by the digits at the front, and the rest of the bytes
 unfoldable pub number_from : ℕ → List ℕ → ℕ × List ℕ

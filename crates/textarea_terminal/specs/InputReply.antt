@@ -86,12 +86,12 @@ pub data IsWithout : Expected → List ℕ → Stripped → Type 0 where
 -- ---- events
 
 -- whether a key is Tab with Alt only
-abbrev pub is_tab : Key → Bool
-is_tab key.Tab = true
-is_tab _ = false
+abbrev pub is_tab_key : Key → Bool
+is_tab_key key.Tab = true
+is_tab_key _ = false
 
 abbrev pub is_alt_tab : Input → Bool
-is_alt_tab i = is_tab i.key && i.alt && not i.ctrl && not i.shift
+is_alt_tab i = is_tab_key i.key && i.alt && not i.ctrl && not i.shift
 
 -- ESC and a tab is Tab with Shift on the Linux console
 abbrev pub console_input : Bool → Input → Input

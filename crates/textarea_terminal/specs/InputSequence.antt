@@ -7,10 +7,10 @@ use Rattle.textarea_data.specs.declared.input.Key.{Key}
 use Rattle.textarea_data.specs.declared.input.Key.TheVariants as key
 use Rattle.textarea_terminal.specs.declared.input.parameter.Parameters.{Parameters}
 use Rattle.textarea_terminal.specs.InputEvent.{EventValue, EventAndRest, input, size, resized, cursor, focus_gained, focus_lost, released, unknown}
-use Rattle.textarea_terminal.specs.InputKey.{input_of_key, with_alt, input_with, key_event, entry, or_key, letter_keys, numbered_keys, small_letter_keys, console_keys, keypad_keys, coded_event}
+use Rattle.textarea_terminal.specs.InputKey.{unmodified, with_alt, input_with, key_event, entry, or_key, letter_keys, numbered_keys, small_letter_keys, console_keys, keypad_keys, coded_event}
 use Rattle.textarea_terminal.specs.InputReading.{bound}
 use Rattle.textarea_terminal.specs.InputCharacter.{is_continuation, code_of_two}
-use Rattle.textarea_terminal.specs.InputParameter.{is_digit, clamped, parameters_of}
+use Rattle.textarea_terminal.specs.InputParameter.{is_digit, clamped_to_u16, parameters_of}
 use Rattle.textarea_terminal.specs.InputMouse.{mouse_event, raised_mouse_event}
 
 -- ---- the event of a sequence, by its parameters and its final byte
@@ -52,11 +52,11 @@ unfoldable pub event_of_three : ℕ → ℕ → ℕ → ℕ → EventValue
 event_of_three first second third last =
     if last == 77 then raised_mouse_event first second third
     else (if last == 126 && first == 27 then coded_event third 0 0 second
-    else (if last == 116 && first == 8 then size (clamped third) (clamped second) else unknown))
+    else (if last == 116 && first == 8 then size (clamped_to_u16 third) (clamped_to_u16 second) else unknown))
 
 -- the size in the terminal's own time (mode 2048), which ends in t: 48, the rows and the columns, and others
 unfoldable pub event_of_more : ℕ → ℕ → ℕ → ℕ → EventValue
-event_of_more first second third last = if last == 116 && first == 48 then resized (clamped third) (clamped second) else unknown
+event_of_more first second third last = if last == 116 && first == 48 then resized (clamped_to_u16 third) (clamped_to_u16 second) else unknown
 
 -- by the number of parameters
 abbrev pub event_by_count : Parameters → ℕ → EventValue
@@ -80,7 +80,7 @@ mouse_event_of p last = if p.count == 3 then mouse_event p.first p.second p.thir
 
 -- the cursor's position, from a row and a column that are counted from 1
 abbrev pub cursor_event : ℕ → ℕ → EventValue
-cursor_event row column = if row == 0 || column == 0 then unknown else cursor (clamped column - 1) (clamped row - 1)
+cursor_event row column = if row == 0 || column == 0 then unknown else cursor (clamped_to_u16 column - 1) (clamped_to_u16 row - 1)
 
 -- The reply to a query of the cursor's position, whose bytes begin with ?, ends in R: the row and the column, and maybe a page.
 abbrev pub reply_event_of : Parameters → ℕ → EventValue
@@ -115,7 +115,7 @@ inner_limit = 4094
 
 -- ESC [ that begins no sequence is Alt with [; an interrupted sequence is unknown.
 abbrev pub broken_event : List ℕ → EventValue
-broken_event [] = input (with_alt (input_of_key (key.Char 91)))
+broken_event [] = input (with_alt (unmodified (key.Char 91)))
 broken_event (b ∷ bytes) = unknown
 
 -- the byte after ESC [ [ is a function key of the Linux console

@@ -97,11 +97,11 @@ abbrev pub long_pause : DecoderState → List EventValue × DecoderState
 long_pause s = ((settled_by s.drops s.expected s.pending).1, settled s (settled_by s.drops s.expected s.pending).0)
 
 -- the events of a pause, which goes on from the one before if no byte came between, and the state after it
-abbrev pub pause : DecoderState → ℕ → List EventValue × DecoderState
-pause s quiet = if nat_lt quiet pause_limit then short_pause s quiet else long_pause s
+abbrev pub after_pause : DecoderState → ℕ → List EventValue × DecoderState
+after_pause s quiet = if nat_lt quiet pause_limit then short_pause s quiet else long_pause s
 
 unfoldable pub paused : DecoderState → ℕ → List EventValue × DecoderState
-paused s milliseconds = pause s (min pause_limit (s.quiet + milliseconds))
+paused s milliseconds = after_pause s (min pause_limit (s.quiet + milliseconds))
 
 -- ---- calls
 
@@ -119,8 +119,8 @@ abbrev pub on_console : Bool → Expected → Expected
 on_console b e = record { asked = e.asked; resizes = e.resizes; console = b }
 
 -- a decoder at first
-abbrev pub new_state : DecoderState
-new_state = record { pending = []; drops = false; expected = record { asked = 0; resizes = false; console = false }; quiet = 0 }
+abbrev pub new_decoder : DecoderState
+new_decoder = record { pending = []; drops = false; expected = record { asked = 0; resizes = false; console = false }; quiet = 0 }
 
 -- the calls of a decoder
 pub data Call : Type 0 where

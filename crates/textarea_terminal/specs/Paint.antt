@@ -8,9 +8,9 @@ use Rattle.textarea_terminal.specs.Control.Control.{Print, MoveTo, SetPen, Chang
 use Rattle.textarea_terminal.specs.PaintCells.{cluster_columns, is_half}
 use Rattle.textarea_terminal.specs.Pen.{look_of, plain_look, pen_count}
 use Rattle.textarea_terminal.specs.Disputed.{is_disputed}
-use Rattle.textarea_terminal.specs.Screen.{Terminal, IsOfFamily, CountsAlike, first_modes, is_plain, run, begins_half, printed, cluster_cells, settled_cells, settled, rest_of, cursor_after}
+use Rattle.textarea_terminal.specs.Screen.{Terminal, IsOfFamily, CountsAlike, first_modes, is_plain, run, begins_half, printed, cluster_cells, settled_cells, settled_cells, rest_of, cursor_after}
 use Rattle.textarea_terminal.specs.declared.output.brush.Brush.{Brush}
-use Rattle.textarea_terminal.specs.declared.output.look.Look.{Look}
+use Rattle.textarea_terminal.specs.declared.output.look.Pen.{Pen}
 
 -- the bytes after are those before and then those of controls with this property
 pub record Wrote (before after : List ℕ) (holds : List Control → Type 0) : Type 0 where
@@ -66,11 +66,11 @@ MovesTo at columns index controls =
 
 -- the needed number of changes of the pen: those that give the look, or none if it is known to have
 -- it
-abbrev pub IsNeeded : Option Look → Look → ℕ → Type 0
+abbrev pub IsNeeded : Option Pen → Pen → ℕ → Type 0
 IsNeeded pen look count = ((pen ≡ Some look) × (count ≡ 0)) ⊎ ((pen ≢ Some look) × (count ≡ pen_count look))
 
 -- they give the pen a look, from this one if it is known
-abbrev pub TakesLook : Option Look → Look → List Control → Type 0
+abbrev pub TakesLook : Option Pen → Pen → List Control → Type 0
 TakesLook pen look controls =
     (prints_of controls ≡ [])
     × ((terminal : Terminal) → IfSome pen (λ known. terminal.pen ≡ known) → run controls terminal ≡ record terminal { pen = look })
@@ -156,7 +156,7 @@ IsStep before after columns index old new controls =
 pub record Shows (brush : Brush) (width : ℕ) (frame : List CellView) (is_caret_visible : Bool) (terminal : Terminal) : Type 0 where
   pub knows : Knows brush terminal
   pub columns : terminal.columns ≡ width
-  pub cells : terminal.cells ≡ settled terminal.shown_as [] frame
+  pub cells : terminal.cells ≡ settled_cells terminal.shown_as [] frame
   pub caret : terminal.has_visible_cursor ≡ is_caret_visible
 
 -- these texts, in order, are those of the new clusters that begin in a changed cell, with the blanks
@@ -181,7 +181,7 @@ HasRuns columns index follows (old ∷ olds) (new ∷ news) runs =
 HasRuns columns index follows olds news runs = ⊥
 
 -- the number of changes of the look among changed clusters, from the look of the pen on
-abbrev pub HasLooks : Option Look → List CellView → List CellView → ℕ → Type 0
+abbrev pub HasLooks : Option Pen → List CellView → List CellView → ℕ → Type 0
 HasLooks pen [] [] looks = looks ≡ 0
 HasLooks pen (old ∷ olds) (new ∷ news) looks =
     (((is_half new ≡ true) ⊎ (old ≡ new)) × HasLooks pen olds news looks)
@@ -219,7 +219,7 @@ pub record ShowsFrame (width : ℕ) (frame : PaintedFrame) (terminal : Terminal)
   pub family : IsOfFamily terminal.shown_as
   pub modes : is_plain terminal.modes ≡ true
   pub columns : terminal.columns ≡ width
-  pub cells : terminal.cells ≡ settled terminal.shown_as [] frame.cells
+  pub cells : terminal.cells ≡ settled_cells terminal.shown_as [] frame.cells
   pub caret : IsCaret frame.caret terminal
   pub updating : terminal.is_updating ≡ false
 
@@ -244,7 +244,7 @@ first_cells size None = replicate size fresh_cell
 first_cells size (Some frame) = frame.cells
 
 -- the look of the pen before the first cell, if it is known: that of an erased terminal
-abbrev pub first_pen : Option PaintedFrame → Option Look
+abbrev pub first_pen : Option PaintedFrame → Option Pen
 first_pen None = Some plain_look
 first_pen (Some frame) = None
 
@@ -310,7 +310,7 @@ pub record Ends (brush : Brush) (known : Option Bool) (width : ℕ) (caret : Opt
 -- the cells and then the caret are changed from the known state to the frame
 pub record PaintsFrame (brush : Brush) (known : Option Bool) (width : ℕ) (old : List CellView) (frame : PaintedFrame) (controls : List Control) : Type 0 where
   pub brings : (terminal : Terminal) → Knows brush terminal → IfSome known (λ is_printed. terminal.has_visible_cursor ≡ is_printed) → terminal.columns ≡ width →
-      terminal.cells ≡ settled terminal.shown_as [] old → ShowsFrame width frame (run controls terminal)
+      terminal.cells ≡ settled_cells terminal.shown_as [] old → ShowsFrame width frame (run controls terminal)
   pub prints : AreChanges old frame.cells (prints_of controls)
   pub moves : (runs : ℕ) × (HasRuns width 0 false old frame.cells runs × (moves_of controls ≤ runs + 1))
   pub pens : (looks : ℕ) × (HasLooks brush.pen old frame.cells looks × (pens_of controls ≤ looks))

@@ -12,7 +12,7 @@ use Rattle.textarea_terminal.specs.Disputed.{can_widen, before_selector}
 use Rattle.textarea_terminal.specs.PaintColors.{shown_color}
 use Rattle.textarea_terminal.specs.Pen.{look_of, in_look}
 use Rattle.textarea_terminal.specs.declared.output.colors.Colors.{Colors}
-use Rattle.textarea_terminal.specs.declared.output.look.Look.{Look}
+use Rattle.textarea_terminal.specs.declared.output.look.Pen.{Pen}
 use Rattle.unicode_segmentation.specs.Grapheme.{graphemes}
 
 -- the columns of a text that is one grapheme cluster; 0 for other texts, and for clusters that
@@ -40,7 +40,7 @@ abbrev pub one_intensity : ℕ → ℕ
 one_intensity bits = if bit_and bits 3 == 3 then bits - 2 else bits
 
 -- the look as a terminal with these colours shows it, which has nine modifiers
-abbrev pub shown_look : Colors → Look → Look
+abbrev pub shown_look : Colors → Pen → Pen
 shown_look colors look = record {
   fg = shown_color colors look.fg;
   bg = shown_color colors look.bg;
@@ -84,13 +84,13 @@ abbrev pub cell_in : Rect → Buffer → ℕ → CellView
 cell_in area buffer index = unwrap_or (cell_at buffer (area.x + index % area.width) (area.y + index / area.width)) fresh_cell
 
 -- a number of cells from an index on
-abbrev pub cells_from : Rect → Buffer → ℕ → ℕ → List CellView
-cells_from area buffer index zero = []
-cells_from area buffer index (suc count) = cell_in area buffer index ∷ cells_from area buffer (index + 1) count
+abbrev pub cells_at : Rect → Buffer → ℕ → ℕ → List CellView
+cells_at area buffer index zero = []
+cells_at area buffer index (suc count) = cell_in area buffer index ∷ cells_at area buffer (index + 1) count
 
 -- the cells that a terminal of these colours and this area shows of a buffer
 abbrev pub frame_of_buffer : Colors → Rect → Buffer → List CellView
-frame_of_buffer colors area buffer = displayed colors area.width 0 0 (cells_from area buffer 0 (area.height * area.width))
+frame_of_buffer colors area buffer = displayed colors area.width 0 0 (cells_at area buffer 0 (area.height * area.width))
 
 -- the color is the terminal's own
 abbrev pub is_own : Color → Bool

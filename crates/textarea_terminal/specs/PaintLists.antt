@@ -21,9 +21,9 @@ ArePainted columns size shown [] = Unit {0}
 ArePainted columns size shown (step ∷ steps) =
     (length step.frame.cells ≡ size) × Paints columns size (frame_before shown step) step.frame step.controls × ArePainted columns size (Some step.frame) steps
 
-abbrev pub controls_of : List PaintedStep → List Control
-controls_of [] = []
-controls_of (step ∷ steps) = step.controls ++ controls_of steps
+abbrev pub all_controls : List PaintedStep → List Control
+all_controls [] = []
+all_controls (step ∷ steps) = step.controls ++ all_controls steps
 
 -- the frame that is shown after the steps
 abbrev pub last_frame : Option PaintedFrame → List PaintedStep → Option PaintedFrame

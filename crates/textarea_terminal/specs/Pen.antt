@@ -6,18 +6,18 @@ use Rattle.textarea_screen.specs.Modifier.{union_of}
 use Rattle.textarea_screen.specs.declared.screen.color.Color.{Color}
 use Rattle.textarea_screen.specs.declared.screen.color.Color.TheVariants.{Reset, Black, Red, Green, Yellow, Blue, Magenta, Cyan, Gray, DarkGray, LightRed, LightGreen, LightYellow, LightBlue, LightMagenta, LightCyan, White, Rgb, Indexed}
 use Rattle.textarea_screen.specs.declared.screen.modifier.Modifier.{Modifier}
-use Rattle.textarea_terminal.specs.declared.output.look.Look.{Look}
+use Rattle.textarea_terminal.specs.declared.output.look.Pen.{Pen}
 
 -- the look of a terminal that was reset: its own colours, and no modifier
-abbrev pub plain_look : Look
+abbrev pub plain_look : Pen
 plain_look = record { fg = Reset; bg = Reset; modifier = record { 0 = 0 } }
 
 -- the colours and modifiers of a cell
-abbrev pub look_of : CellView → Look
+abbrev pub look_of : CellView → Pen
 look_of cell = record { fg = cell.fg; bg = cell.bg; modifier = cell.modifier }
 
 -- a cell of this text in this look
-abbrev pub in_look : Look → List ℕ → CellView
+abbrev pub in_look : Pen → List ℕ → CellView
 in_look look symbol = record { symbol = symbol; fg = look.fg; bg = look.bg; modifier = look.modifier }
 
 -- ---- what a rendition changes
@@ -33,13 +33,13 @@ pub data Rendition : Type 0 where
 abbrev pub modifier_bit : ℕ → ℕ
 modifier_bit number = 2 ^ (number - 1)
 
-abbrev pub rendered : Look → Rendition → Look
+abbrev pub rendered : Pen → Rendition → Pen
 rendered look (Add number) = record look { modifier = union_of look.modifier (record { 0 = modifier_bit number }) }
 rendered look (Foreground color) = record look { fg = color }
 rendered look (Background color) = record look { bg = color }
 
 -- renditions one after another
-abbrev pub rendered_all : Look → List Rendition → Look
+abbrev pub rendered_all : Pen → List Rendition → Pen
 rendered_all look [] = look
 rendered_all look (rendition ∷ renditions) = rendered_all (rendered look rendition) renditions
 
@@ -123,17 +123,17 @@ background Reset = []
 background color = Background color ∷ []
 
 -- those before the background
-abbrev pub before_background : Look → List Rendition
+abbrev pub before_background : Pen → List Rendition
 before_background look = added look.modifier all_numbers ++ foreground look.fg
 
-unfoldable pub renditions_of : Look → List Rendition
+unfoldable pub renditions_of : Pen → List Rendition
 renditions_of look = before_background look ++ background look.bg
 
 -- whether they are read from one control, which has one more parameter, for the reset
-unfoldable pub fits_one_control : Look → Bool
+unfoldable pub fits_one_control : Pen → Bool
 fits_one_control look = nat_le (parameter_count (renditions_of look)) 15
 
 -- the number of controls that give the look: a second one has the background if the first has no
 -- room
-abbrev pub pen_count : Look → ℕ
+abbrev pub pen_count : Pen → ℕ
 pen_count look = if fits_one_control look then 1 else 2

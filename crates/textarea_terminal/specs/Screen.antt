@@ -7,7 +7,7 @@ use Rattle.textarea_terminal.specs.Control.Control.{Print, MoveTo, SetPen, Chang
 use Rattle.textarea_terminal.specs.Disputed.{is_disputed}
 use Rattle.textarea_terminal.specs.PaintCells.{cluster_columns, half, is_half}
 use Rattle.textarea_terminal.specs.Pen.{plain_look, in_look, look_of, rendered_all, first_read}
-use Rattle.textarea_terminal.specs.declared.output.look.Look.{Look}
+use Rattle.textarea_terminal.specs.declared.output.look.Pen.{Pen}
 
 -- what a shell, or a program that ended, may leave otherwise than it is at first
 pub record Modes : Type 0 where
@@ -51,12 +51,12 @@ pub record Terminal : Type 0 where
   pub cursor : Option ℕ
   pub has_visible_cursor : Bool
   -- the look of what is printed next
-  pub pen : Look
+  pub pen : Pen
   -- an update has begun, and has not ended
   pub is_updating : Bool
   -- the look of the blank that is left of a cluster that is partly printed over, by the look of the
   -- pen and the cell before; terminals differ in it
-  pub rest_look : Look → CellView → Look
+  pub rest_look : Pen → CellView → Pen
   pub modes : Modes
   -- the texts that it shows for a disputed cluster in the cells that it takes for it, the cluster or
   -- some parts of it, and none in a cell that the text before it covers; it moves as many columns
@@ -64,7 +64,7 @@ pub record Terminal : Type 0 where
 
 -- ---- printing
 
-abbrev pub rest_of : (Look → CellView → Look) → Look → CellView → CellView
+abbrev pub rest_of : (Pen → CellView → Pen) → Pen → CellView → CellView
 rest_of rest_look pen cell = in_look (rest_look pen cell) (32 ∷ [])
 
 -- the cells whose cluster has lost its beginning become blanks
@@ -87,12 +87,12 @@ printed rest cells before after =
     (if begins_half after then reverse (mended_back rest (reverse before)) else before) ++ cells ++ mended rest (drop (length cells) after)
 
 -- a cell of a terminal with this text, which is empty if another text covers the cell
-abbrev pub text_cell : Look → List ℕ → CellView
+abbrev pub text_cell : Pen → List ℕ → CellView
 text_cell look [] = half
 text_cell look text = in_look look text
 
 -- the cells that a cluster is shown in, at the cursor
-unfoldable pub cluster_cells : (List ℕ → List (List ℕ)) → Look → List ℕ → List CellView
+unfoldable pub cluster_cells : (List ℕ → List (List ℕ)) → Pen → List ℕ → List CellView
 cluster_cells shown_as look text =
     if is_disputed text then map (text_cell look) (shown_as text) else in_look look text ∷ replicate (cluster_columns text - 1) half
 
@@ -181,7 +181,7 @@ settled_cells shown_as cell =
 
 -- The cells of a frame as a terminal of the family shows them, of which the first are these. Only
 -- those of disputed clusters differ.
-abbrev pub settled : (List ℕ → List (List ℕ)) → List CellView → List CellView → List CellView
-settled shown_as first [] = []
-settled shown_as (shown ∷ first) (cell ∷ cells) = shown ∷ settled shown_as first cells
-settled shown_as [] (cell ∷ cells) = first_of cell (settled_cells shown_as cell) ∷ settled shown_as (drop 1 (settled_cells shown_as cell)) cells
+abbrev pub settled_cells : (List ℕ → List (List ℕ)) → List CellView → List CellView → List CellView
+settled_cells shown_as first [] = []
+settled_cells shown_as (shown ∷ first) (cell ∷ cells) = shown ∷ settled_cells shown_as first cells
+settled_cells shown_as [] (cell ∷ cells) = first_of cell (settled_cells shown_as cell) ∷ settled_cells shown_as (drop 1 (settled_cells shown_as cell)) cells

@@ -16,6 +16,6 @@ mod whole;
 mod width;
 
 pub use colors::Colors;
-pub use look::Look;
+pub use look::Pen;
 pub use painter::Painter;
 pub use title::CursorShape;

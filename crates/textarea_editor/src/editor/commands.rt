@@ -12,7 +12,7 @@ use super::Editor;
 use crate::editor::parts::wrap_mode;
 use crate::effect::Effect;
 use crate::focus::{Asked, Focus};
-use crate::keys::Command;
+use crate::keys::KeyCommand;
 use crate::message::Message;
 use std::alloc::AllocError;
 use textarea_calls::Call;
@@ -21,7 +21,7 @@ use textarea_screen::screen::{Color, Style};
 
 impl Editor {
     // Does what a command says.
-    pub(super) fn command(&mut self, command: Command) -> Result<Effect, AllocError>
+    pub(super) fn command(&mut self, command: KeyCommand) -> Result<Effect, AllocError>
         ensures ok { OnOk result (Makes self.old.draft (command_calls self.old.controls.wraps
             self.old.controls.numbers (is_selecting self.old.draft.area) command) self.new.draft) }
         ensures err { OnErr result (FailsIn self.old.draft (command_calls self.old.controls.wraps
@@ -35,33 +35,33 @@ impl Editor {
         ensures kept { OnErr result (self.new.controls ≡ self.old.controls) }
     {
         match command {
-            Command::Save => self.save(false),
-            Command::SaveAs => self.open_prompt(Asked::Name),
-            Command::Quit => Ok(self.quit()),
-            Command::Find => self.open_prompt(Asked::Text),
-            Command::GoToLine => self.open_prompt(Asked::Line),
-            Command::FindNext => self.find(true),
-            Command::FindPrevious => self.find(false),
-            Command::Undo => self.make(&[Call::Undo]),
-            Command::Redo => self.make(&[Call::Redo]),
-            Command::Paste => self.make(&[Call::Paste]),
-            Command::Cut => self.cut(),
-            Command::Copy => self.copy(),
-            Command::SelectAll => self.make(&[Call::SelectAll]),
-            Command::Cancel => self.make(&[Call::CancelSelection, Call::SetSearchPattern("")]),
-            Command::TextStart => self.make(&[
+            KeyCommand::Save => self.save(false),
+            KeyCommand::SaveAs => self.open_prompt(Asked::Name),
+            KeyCommand::Quit => Ok(self.quit()),
+            KeyCommand::Find => self.open_prompt(Asked::Text),
+            KeyCommand::GoToLine => self.open_prompt(Asked::Line),
+            KeyCommand::FindNext => self.find(true),
+            KeyCommand::FindPrevious => self.find(false),
+            KeyCommand::Undo => self.make(&[Call::Undo]),
+            KeyCommand::Redo => self.make(&[Call::Redo]),
+            KeyCommand::Paste => self.make(&[Call::Paste]),
+            KeyCommand::Cut => self.cut(),
+            KeyCommand::Copy => self.copy(),
+            KeyCommand::SelectAll => self.make(&[Call::SelectAll]),
+            KeyCommand::Cancel => self.make(&[Call::CancelSelection, Call::SetSearchPattern("")]),
+            KeyCommand::TextStart => self.make(&[
                 Call::CancelSelection,
                 Call::Move(CursorMove::Top),
                 Call::Move(CursorMove::Head),
             ]),
-            Command::TextEnd => self.make(&[
+            KeyCommand::TextEnd => self.make(&[
                 Call::CancelSelection,
                 Call::Move(CursorMove::Bottom),
                 Call::Move(CursorMove::End),
             ]),
-            Command::Wrap => self.set_wraps(!self.controls.wraps),
-            Command::LineNumbers => self.set_numbers(!self.controls.numbers),
-            Command::Help => {
+            KeyCommand::Wrap => self.set_wraps(!self.controls.wraps),
+            KeyCommand::LineNumbers => self.set_numbers(!self.controls.numbers),
+            KeyCommand::Help => {
                 self.controls.focus = Focus::Help;
                 Ok(Effect::Nothing)
             }
@@ -98,9 +98,9 @@ impl Editor {
     // Copies the selected text, if a selection is open, and gives it to the program.
     fn copy(&mut self) -> Result<Effect, AllocError>
         ensures ok { OnOk result (Makes self.old.draft (command_calls self.old.controls.wraps
-            self.old.controls.numbers (is_selecting self.old.draft.area) Command.Copy) self.new.draft) }
+            self.old.controls.numbers (is_selecting self.old.draft.area) KeyCommand.Copy) self.new.draft) }
         ensures err { OnErr result (FailsIn self.old.draft (command_calls self.old.controls.wraps
-            self.old.controls.numbers (is_selecting self.old.draft.area) Command.Copy) self.new.draft) }
+            self.old.controls.numbers (is_selecting self.old.draft.area) KeyCommand.Copy) self.new.draft) }
         ensures carries { IfOk result
             (Carries (MayQuit self.old) self.new.draft.area self.new.line_end) }
         ensures end { self.new.line_end ≡ self.old.line_end }
@@ -116,9 +116,9 @@ impl Editor {
     // Removes the selected text, if a selection is open, and gives it to the program.
     fn cut(&mut self) -> Result<Effect, AllocError>
         ensures ok { OnOk result (Makes self.old.draft (command_calls self.old.controls.wraps
-            self.old.controls.numbers (is_selecting self.old.draft.area) Command.Cut) self.new.draft) }
+            self.old.controls.numbers (is_selecting self.old.draft.area) KeyCommand.Cut) self.new.draft) }
         ensures err { OnErr result (FailsIn self.old.draft (command_calls self.old.controls.wraps
-            self.old.controls.numbers (is_selecting self.old.draft.area) Command.Cut) self.new.draft) }
+            self.old.controls.numbers (is_selecting self.old.draft.area) KeyCommand.Cut) self.new.draft) }
         ensures carries { IfOk result
             (Carries (MayQuit self.old) self.new.draft.area self.new.line_end) }
         ensures end { self.new.line_end ≡ self.old.line_end }

@@ -1,6 +1,6 @@
 // Drawing of a frame: the text or the help, and below it the status row.
 ghost use Rattle.std.specs.Prelude.{◌≡◌, ◌-◌, IfOk, OnOk};
-ghost use Rattle.textarea_editor.specs.Editor.{ShowsHelp, columns_of, draft_of, end_of, rows_of};
+ghost use Rattle.textarea_editor.specs.Editor.{ShowsHelp, columns_of, draft_of, end_of, screen_rows_of};
 ghost use Rattle.textarea_editor.specs.Screen.{IsPainted};
 ghost use Rattle.tui_textarea.specs.Drawing.{IsRendered, widget_of};
 ghost use Rattle.tui_textarea.specs.Rendered.{IsDrawn};
@@ -13,7 +13,7 @@ use textarea_screen::screen::{Alignment, Buffer, Line, Modifier, Position, Rect,
 
 /// A drawn frame, and the cell of the cursor, if it is shown.
 #[derive(Drop)]
-pub struct Frame {
+pub struct DrawnFrame {
     /// The cells of the screen.
     pub buffer: Buffer,
     /// The cell of the cursor.
@@ -34,12 +34,12 @@ impl Editor {
     }
 
     /// Draws the status row, and above it the text, or the help.
-    pub fn draw(&mut self) -> Result<Frame, AllocError>
+    pub fn draw(&mut self) -> Result<DrawnFrame, AllocError>
         ensures changed { (draft_of self.new).is_changed ≡ (draft_of self.old).is_changed }
         ensures end { end_of self.new ≡ end_of self.old }
         ensures text { ¬ ShowsHelp self.old → IfOk result (λ frame. IsPainted
             (draft_of self.old).area (draft_of self.new).area (columns_of self.old)
-            (rows_of self.old - 1) frame.buffer) }
+            (screen_rows_of self.old - 1) frame.buffer) }
     {
         let above = Rect::new(0, 0, self.columns, self.text_rows());
         let row = Rect::new(0, self.text_rows(), self.columns, self.rows.min(1));
@@ -47,7 +47,7 @@ impl Editor {
         let prompt_caret = self.draw_status(row, &mut buffer)?;
         self.draw_above(above, &mut buffer)?;
         let caret = self.caret(prompt_caret);
-        Ok(Frame { buffer, caret })
+        Ok(DrawnFrame { buffer, caret })
     }
 
     // Draws the text, or the help.

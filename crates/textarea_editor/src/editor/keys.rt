@@ -1,6 +1,6 @@
 // Keys in the text, and texts that are pasted into it.
 ghost use Rattle.std.specs.Prelude.{◌≡◌, ◌-◌, IfOk, OnErr, OnOk, is_some};
-ghost use Rattle.textarea_editor.specs.Controls.{IsAfterKey, after_step, after_typed, after_unbound};
+ghost use Rattle.textarea_editor.specs.Controls.{IsAfterKey, after_modal_step, after_typed, after_unbound};
 ghost use Rattle.textarea_editor.specs.Draft.{FailsIn, FailsInSome, Makes, MakesSome};
 ghost use Rattle.textarea_editor.specs.Editor.{MayQuit};
 ghost use Rattle.textarea_editor.specs.Effects.{Carries};
@@ -102,7 +102,7 @@ impl Editor {
         ensures carries { IfOk result
             (Carries (MayQuit self.old) self.new.draft.area self.new.line_end) }
         ensures end { self.new.line_end ≡ self.old.line_end }
-        ensures controls { OnOk result (self.new.controls ≡ after_step self.old.controls
+        ensures controls { OnOk result (self.new.controls ≡ after_modal_step self.old.controls
             self.new.draft.is_changed (step modal input.now)) }
         ensures kept { OnErr result (self.new.controls ≡ self.old.controls) }
     {

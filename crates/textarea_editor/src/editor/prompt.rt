@@ -12,7 +12,7 @@ ghost use Rattle.textarea_editor.specs.declared.focus.Focus.TheVariants as focus
 use super::Editor;
 use crate::effect::Effect;
 use crate::focus::{Asked, Focus, PromptKey, prompt_key};
-use crate::line_number::{line_number, row_of};
+use crate::line_number::{line_number, row_of_line};
 use crate::message::Message;
 use crate::pattern::{first_line, pattern_of};
 use std::alloc::AllocError;
@@ -188,7 +188,7 @@ impl Editor {
             (self.new.controls ≡ with_focus self.old.controls focus.Text) }
         ensures kept { OnErr result (self.new.controls ≡ self.old.controls) }
     {
-        match row_of(line_number(self.field.lines()[0].as_str())) {
+        match row_of_line(line_number(self.field.lines()[0].as_str())) {
             Some(row) => self.go_to_row(row),
             None => {
                 self.controls.focus = Focus::Text;

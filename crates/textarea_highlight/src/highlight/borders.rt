@@ -9,7 +9,7 @@ use textarea_screen::screen::Style;
 
 /// The effect of a border: it starts a highlight in this style, or ends the newest open one.
 #[derive(Clone, Copy, Debug, PartialEq, Eq)]
-pub enum Mark {
+pub enum BorderEffect {
     Start(Style),
     End,
 }
@@ -21,7 +21,7 @@ pub struct Border {
     pub offset: usize,
     /// Of the borders at one offset, those of a lower rank come first.
     pub rank: u8,
-    pub mark: Mark,
+    pub mark: BorderEffect,
 }
 
 const END_RANK: u8 = 0;
@@ -52,12 +52,12 @@ pub fn push_highlight(
             Border {
                 offset: start,
                 rank,
-                mark: Mark::Start(style),
+                mark: BorderEffect::Start(style),
             },
             Border {
                 offset: end,
                 rank: END_RANK,
-                mark: Mark::End,
+                mark: BorderEffect::End,
             },
         ])?;
     }

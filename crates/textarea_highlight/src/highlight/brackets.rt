@@ -1,7 +1,7 @@
 //! The style after a list of starts and ends of highlights.
 ghost use Rattle.std.specs.Prelude.{◌≡◌, OnOk, [], ◌∷◌, ◌++◌};
 
-use super::borders::Mark;
+use super::borders::BorderEffect;
 use std::alloc::{AllocError, Global};
 use textarea_screen::screen::Style;
 
@@ -37,14 +37,14 @@ impl OpenStyles {
     }
 
     /// Applies one more mark.
-    pub fn pass(&mut self, mark: Mark) -> Result<(), AllocError>
+    pub fn pass(&mut self, mark: BorderEffect) -> Result<(), AllocError>
         ensures base { base_of self.new ≡ base_of self.old }
         ensures ok { OnOk result ((marks : _) → ArePassed self.old marks
             → ArePassed self.new (marks ++ mark ∷ [])) }
     {
         match mark {
-            Mark::Start(style) => self.started.push(style)?,
-            Mark::End => {
+            BorderEffect::Start(style) => self.started.push(style)?,
+            BorderEffect::End => {
                 let _closed = self.started.pop();
             }
         }

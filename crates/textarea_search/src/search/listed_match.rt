@@ -3,7 +3,7 @@ ghost use Rattle.std.specs.Prelude.{ℕ, true, ◌≡◌, ◌↔◌, ◌+◌, �
 ghost use Rattle.std.specs.List.Sorted.{IsNonDecreasingBy};
 ghost use Rattle.std.specs.Str.{chars};
 ghost use Rattle.regex.specs.Strings.{matcher_pattern};
-ghost use Rattle.textarea_search.specs.ListedMatches.{IsMatchIn, IsOneOf, after_of};
+ghost use Rattle.textarea_search.specs.ListedMatches.{IsMatchIn, IsOneOf, after_match};
 ghost use Rattle.textarea_search.specs.Spans.{IsNeedleOf, columns_in, spans_after};
 ghost use Rattle.textarea_search.specs.Starts.{along, is_ahead_in_line, is_past};
 
@@ -32,10 +32,10 @@ pub(crate) fn match_after(
 ) -> Option<ListedMatch>
     requires { IfSome before (IsMatchIn line.now) }
     ensures found { let left = spans_after (matcher_pattern matcher.old) line.now in
-        MatchOption result (left (after_of before) ≡ [])
-        (λ found. left (after_of before) ≡ (found.start, found.end) ∷ left (found.end + 1)) }
+        MatchOption result (left (after_match before) ≡ [])
+        (λ found. left (after_match before) ≡ (found.start, found.end) ∷ left (found.end + 1)) }
     ensures place { IfSome result (IsMatchIn line.now) }
-    ensures forth { IfSome result (λ found. after_of before ≤ found.end) }
+    ensures forth { IfSome result (λ found. after_match before ≤ found.end) }
     ensures same { matcher_pattern matcher.new ≡ matcher_pattern matcher.old }
 {
     let (after, known) = match before {

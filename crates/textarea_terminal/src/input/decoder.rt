@@ -4,7 +4,7 @@ ghost use Rattle.std.specs.Prelude.{◌≡◌, ◌≤◌, ◌+◌, ◌++◌, [],
 ghost use Rattle.textarea_terminal.specs.InputUnit.{unit_at, after_mark, paste_start};
 ghost use Rattle.textarea_terminal.specs.InputStream.{Adds, AddsUpTo, begun_bytes, leading_key, keys_after_escape, idle_keys, values_of_keys, idle_decoding};
 ghost use Rattle.textarea_terminal.specs.InputReply.{made, refining};
-ghost use Rattle.textarea_terminal.specs.InputState.{reading, quiet_after, pause_limit, fed, paused, long_pause, keys_or_unknown, given, settled_by, with_expected, asked, resizing, on_console, new_state};
+ghost use Rattle.textarea_terminal.specs.InputState.{reading, quiet_after, pause_limit, fed, paused, long_pause, keys_or_unknown, given, settled_by, with_expected, asked, resizing, on_console, new_decoder};
 
 use crate::input::event::Event;
 use crate::input::key::{alt_input, plain_input};
@@ -473,7 +473,7 @@ impl Decoder {
     /// Returns a decoder with no pending bytes, of a terminal that is not the Linux console, reports
     /// no sizes by itself, and was asked nothing.
     pub fn new(alloc: Global) -> Decoder
-        ensures { result ≡ new_state }
+        ensures { result ≡ new_decoder }
     {
         Decoder {
             pending: Vec::new(alloc),

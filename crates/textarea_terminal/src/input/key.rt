@@ -2,7 +2,7 @@
 
 ghost use Rattle.std.specs.Prelude.{◌≡◌, ◌<◌};
 ghost use Rattle.textarea_terminal.specs.InputEvent.{unit_value};
-ghost use Rattle.textarea_terminal.specs.InputKey.{input_of_key, ctrl_input, with_alt, has_modifier, input_with, key_event, entry, letter_keys, numbered_keys, small_letter_keys, console_keys, keypad_keys, coded_keys, or_key, byte_input, single_event, is_typed, character_of, typed_event, coded_event};
+ghost use Rattle.textarea_terminal.specs.InputKey.{unmodified, ctrl_input, with_alt, has_modifier_bits, input_with, key_event, entry, letter_keys, numbered_keys, small_letter_keys, console_keys, keypad_keys, coded_keys, or_key, byte_input, single_event, is_typed_code, character_of_code, typed_event, coded_event};
 
 use crate::input::event::Unit;
 use textarea_data::input::{Input, Key};
@@ -10,7 +10,7 @@ use textarea_data::input::{Input, Key};
 /// The input of a key with no modifier.
 #[inline]
 pub fn plain_input(key: Key) -> Input
-    ensures { result ≡ input_of_key key }
+    ensures { result ≡ unmodified key }
 {
     Input {
         key,
@@ -41,8 +41,8 @@ pub fn alt_input(input: Input) -> Input
 
 // Whether a parameter of modifiers has some of these.
 #[inline]
-fn has_modifier(parameter: u32, bits: u32) -> bool
-    ensures { result ≡ has_modifier parameter bits }
+fn has_modifier_bits(parameter: u32, bits: u32) -> bool
+    ensures { result ≡ has_modifier_bits parameter bits }
 {
     parameter.saturating_sub(1) & bits != 0
 }
@@ -55,9 +55,9 @@ pub fn modified_input(key: Key, parameter: u32) -> Input
 {
     Input {
         key,
-        ctrl: has_modifier(parameter, 4),
-        alt: has_modifier(parameter, 42),
-        shift: has_modifier(parameter, 1),
+        ctrl: has_modifier_bits(parameter, 4),
+        alt: has_modifier_bits(parameter, 42),
+        shift: has_modifier_bits(parameter, 1),
     }
 }
 
@@ -287,8 +287,8 @@ fn coded_key(code: u32) -> Option<Key>
     }
 }
 
-fn is_typed(code: u32) -> bool
-    ensures { result ≡ is_typed code }
+fn is_typed_code(code: u32) -> bool
+    ensures { result ≡ is_typed_code code }
 {
     (32 <= code && code <= 126)
         || (160 <= code && code <= 55_295)
@@ -297,8 +297,8 @@ fn is_typed(code: u32) -> bool
 
 // The character of a key by its code, its character with Shift, and its text, or 0 for each that
 // isn't told.
-fn character_of(code: u32, shifted: u32, text: u32, shift: bool) -> u32
-    ensures { result ≡ character_of code shifted text shift }
+fn character_of_code(code: u32, shifted: u32, text: u32, shift: bool) -> u32
+    ensures { result ≡ character_of_code code shifted text shift }
 {
     if text != 0 {
         text
@@ -317,7 +317,7 @@ fn character_of(code: u32, shifted: u32, text: u32, shift: bool) -> u32
 fn typed(code: u32, modifiers: Input) -> Unit
     ensures { unit_value result ≡ typed_event code modifiers }
 {
-    if !is_typed(code) {
+    if !is_typed_code(code) {
         return Unit::Unknown;
     }
     match char::from_u32(code) {
@@ -340,8 +340,8 @@ pub fn coded_input(code: u32, shifted: u32, text: u32, parameter: u32) -> Unit
     match coded_key(code) {
         Some(key) => Unit::Input(modified_input(key, parameter)),
         None => {
-            let shift = has_modifier(parameter, 1);
-            let character = character_of(code, shifted, text, shift);
+            let shift = has_modifier_bits(parameter, 1);
+            let character = character_of_code(code, shifted, text, shift);
             typed(character, modified_input(Key::Null, parameter))
         }
     }

@@ -3,10 +3,10 @@
 ghost use Rattle.std.specs.Prelude.{◌≡◌, ◌<◌, Some};
 ghost use Rattle.textarea_terminal.specs.InputEvent.{unit_value};
 ghost use Rattle.textarea_terminal.specs.InputMouse.{has, button_of, mouse_kind, at_cell, with_code, wheel_event, button_event, mouse_at, mouse_event, old_mouse_event, raised_mouse_event};
-ghost use Rattle.textarea_terminal.specs.InputParameter.{clamped};
+ghost use Rattle.textarea_terminal.specs.InputParameter.{clamped_to_u16};
 
 use crate::input::event::{Mouse, MouseButton, MouseKind, Unit};
-use crate::input::parameter::clamped;
+use crate::input::parameter::clamped_to_u16;
 use textarea_data::input::{Input, Key};
 
 // Whether a code has a bit.
@@ -63,8 +63,8 @@ fn at_cell(code: u32, column: u32, row: u32, kind: MouseKind) -> Unit
 {
     Unit::Mouse(Mouse {
         kind,
-        column: clamped(column) - 1,
-        row: clamped(row) - 1,
+        column: clamped_to_u16(column) - 1,
+        row: clamped_to_u16(row) - 1,
         ctrl: has(code, 16),
         alt: has(code, 8),
         shift: has(code, 4),

@@ -2,7 +2,7 @@
 
 ghost use Rattle.std.specs.Prelude.{◌≡◌, ◌<◌, ◌+◌, ◌*◌, min, length, IfSome};
 ghost use Rattle.textarea_terminal.specs.InputReading.{Reads};
-ghost use Rattle.textarea_terminal.specs.InputParameter.{digit_at, clamped, number_limit, number_at, number_after, count_of, parameters_of};
+ghost use Rattle.textarea_terminal.specs.InputParameter.{digit_at, clamped_to_u16, number_limit, number_at, number_after, count_of, parameters_of};
 
 /// The numbers of a control sequence. A missing number is 0.
 #[derive(Clone, Copy, Debug, PartialEq, Eq)]
@@ -24,8 +24,8 @@ pub struct Parameters {
 const NUMBER_LIMIT: u32 = 2_097_151;
 
 /// A size or a position, at most 65,535.
-pub fn clamped(number: u32) -> u16
-    ensures { result ≡ clamped number }
+pub fn clamped_to_u16(number: u32) -> u16
+    ensures { result ≡ clamped_to_u16 number }
 {
     u16::try_from(number).unwrap_or(u16::MAX)
 }

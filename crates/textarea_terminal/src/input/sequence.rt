@@ -13,7 +13,7 @@ use crate::input::key::{
     numbered_key, plain_input, pressed_key, small_letter_key,
 };
 use crate::input::mouse::{read_mouse, read_old_mouse};
-use crate::input::parameter::{Parameters, clamped, read_parameters};
+use crate::input::parameter::{Parameters, clamped_to_u16, read_parameters};
 use textarea_data::input::{Input, Key};
 
 /// One more than the greatest number of bytes between `ESC [` and the final byte.
@@ -81,8 +81,8 @@ fn three(first: u32, second: u32, third: u32, last: u8) -> Unit
         coded_input(third, 0, 0, second)
     } else if last == b't' && first == 8 {
         Unit::Size {
-            columns: clamped(third),
-            rows: clamped(second),
+            columns: clamped_to_u16(third),
+            rows: clamped_to_u16(second),
         }
     } else {
         Unit::Unknown
@@ -95,8 +95,8 @@ fn more(first: u32, second: u32, third: u32, last: u8) -> Unit
 {
     if last == b't' && first == 48 {
         Unit::Resized {
-            columns: clamped(third),
-            rows: clamped(second),
+            columns: clamped_to_u16(third),
+            rows: clamped_to_u16(second),
         }
     } else {
         Unit::Unknown
@@ -151,8 +151,8 @@ fn cursor(row: u32, column: u32) -> Unit
         return Unit::Unknown;
     }
     Unit::Cursor {
-        column: clamped(column) - 1,
-        row: clamped(row) - 1,
+        column: clamped_to_u16(column) - 1,
+        row: clamped_to_u16(row) - 1,
     }
 }
 

@@ -11,7 +11,7 @@ ghost use Rattle.textarea_terminal.specs.Screen.{cursor_after};
 ghost use Rattle.textarea_terminal.specs.Paint.{Wrote, BeginsUpdate, MovesTo, TakesLook, PrintsLast, PrintsCell, IsStep, Repaints, at_after, brush_after};
 
 use super::controls::{write_move, write_pen};
-use super::look::{Look, PLAIN, has_look, is_same_look, look_of};
+use super::look::{PLAIN, Pen, has_look, is_same_look, look_of};
 use super::spot::Spot;
 use super::symbol::{is_same_symbol, write_symbol};
 use super::width::{cluster_columns, is_disputed};
@@ -24,7 +24,7 @@ pub(super) struct Brush {
     /// The index of the cell that the cursor is at, if it is known.
     pub(super) at: Option<usize>,
     /// The look of the pen, if it is known.
-    pub(super) pen: Option<Look>,
+    pub(super) pen: Option<Pen>,
     /// An update has begun.
     pub(super) is_updating: bool,
 }
@@ -61,7 +61,7 @@ pub(super) fn move_to(
 
 /// Changes the pen to a look that it doesn't have.
 #[inline(never)]
-fn change_look(bytes: &mut Vec<u8>, pen: &mut Option<Look>, look: Look) -> Result<(), AllocError>
+fn change_look(bytes: &mut Vec<u8>, pen: &mut Option<Pen>, look: Pen) -> Result<(), AllocError>
     requires modifier { look.modifier.0 < 512 }
     requires other { pen.old ≢ Some look }
     ensures pen { OnOk result (pen.new ≡ Some look) }
@@ -74,7 +74,7 @@ fn change_look(bytes: &mut Vec<u8>, pen: &mut Option<Look>, look: Look) -> Resul
 
 /// Changes the pen to a look, if it doesn't have it.
 #[inline]
-fn take_look(bytes: &mut Vec<u8>, pen: &mut Option<Look>, look: Look) -> Result<(), AllocError>
+fn take_look(bytes: &mut Vec<u8>, pen: &mut Option<Pen>, look: Pen) -> Result<(), AllocError>
     requires { look.modifier.0 < 512 }
     ensures pen { OnOk result (pen.new ≡ Some look) }
     ensures wrote { OnOk result (Wrote bytes.old.items bytes.new.items (TakesLook pen.old look)) }

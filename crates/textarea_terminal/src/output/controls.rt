@@ -5,7 +5,7 @@ ghost use Rattle.textarea_terminal.specs.Control.Control.{MoveTo};
 ghost use Rattle.textarea_terminal.specs.PenControls.{pen_controls};
 ghost use Rattle.textarea_terminal.specs.Pen.{Rendition, renditions_bytes, parameter_count, added, all_numbers, foreground, background, color_bytes};
 
-use super::look::Look;
+use super::look::Pen;
 use std::alloc::AllocError;
 use textarea_screen::screen::{Color, Modifier};
 
@@ -44,7 +44,7 @@ pub(super) fn write_move(bytes: &mut Vec<u8>, row: u64, column: u64) -> Result<(
 /// Resets the pen, and gives it a look. A second control has the background if the first would have
 /// too many parameters.
 #[inline(never)]
-pub(super) fn write_pen(bytes: &mut Vec<u8>, look: Look) -> Result<(), AllocError>
+pub(super) fn write_pen(bytes: &mut Vec<u8>, look: Pen) -> Result<(), AllocError>
     ensures { OnOk result
         (bytes.new.items ≡ bytes.old.items ++ bytes_of (pen_controls look)) }
 {

@@ -5,10 +5,10 @@ ghost use Rattle.textarea_screen.specs.Cell.{cell_view};
 ghost use Rattle.textarea_terminal.specs.Disputed.{can_widen};
 ghost use Rattle.textarea_terminal.specs.Pen.{in_look, look_of};
 ghost use Rattle.textarea_terminal.specs.PaintSpot.{IsSpot};
-ghost use Rattle.textarea_terminal.specs.PaintCells.{begins_empty, cell_in, cells_from, cluster_columns, displayed, shown_text, frame_of_buffer, is_half, one_intensity, shown_look};
+ghost use Rattle.textarea_terminal.specs.PaintCells.{begins_empty, cell_in, cells_at, cluster_columns, displayed, shown_text, frame_of_buffer, is_half, one_intensity, shown_look};
 
 use super::colors::{Colors, shown_color};
-use super::look::{Look, PLAIN, look_of};
+use super::look::{PLAIN, Pen, look_of};
 use super::part::{before_selector, can_widen};
 use super::spot::Spot;
 use super::symbol::is_same_symbol;
@@ -25,7 +25,7 @@ const BOLD_AND_DIM: u16 = 3;
 #[derive(Clone, Copy)]
 struct Source<'a> {
     symbol: &'a str,
-    look: Look,
+    look: Pen,
 }
 
 /// Fills cells with those of a buffer, as a terminal of this area can show them.
@@ -65,9 +65,9 @@ fn fill_cell(
     requires index { spot.index < area.height * area.width }
     requires spot { IsSpot area.width spot }
     ensures { IfOk result (λ left. displayed colors area.width spot.index halves
-        (cells_from area buffer.now spot.index (area.height * area.width - spot.index))
+        (cells_at area buffer.now spot.index (area.height * area.width - spot.index))
         ≡ cell_view cell.new ∷ displayed colors area.width (spot.index + 1) left
-        (cells_from area buffer.now (spot.index + 1)
+        (cells_at area buffer.now (spot.index + 1)
         (area.height * area.width - (spot.index + 1)))) }
 {
     if halves > 0 {
@@ -93,7 +93,7 @@ fn show_cluster(
     alloc: Global,
     cell: &mut Cell,
     symbol: &str,
-    look: Look,
+    look: Pen,
     columns: usize,
 ) -> Result<usize, AllocError>
     requires columns { columns ≡ cluster_columns symbol.now }
@@ -114,7 +114,7 @@ fn show_part(
     alloc: Global,
     cell: &mut Cell,
     symbol: &str,
-    look: Look,
+    look: Pen,
     columns: usize,
 ) -> Result<usize, AllocError>
     requires columns { columns ≡ cluster_columns symbol.now }
@@ -134,14 +134,14 @@ fn show_part(
 }
 
 /// Gives a cell a blank in a look.
-fn show_blank(alloc: Global, cell: &mut Cell, look: Look) -> Result<(), AllocError>
+fn show_blank(alloc: Global, cell: &mut Cell, look: Pen) -> Result<(), AllocError>
     ensures { OnOk result (cell_view cell.new ≡ in_look look (32 ∷ [])) }
 {
     show(alloc, cell, " ", look)
 }
 
 /// Gives a cell a text and a look.
-fn show(alloc: Global, cell: &mut Cell, symbol: &str, look: Look) -> Result<(), AllocError>
+fn show(alloc: Global, cell: &mut Cell, symbol: &str, look: Pen) -> Result<(), AllocError>
     ensures { OnOk result (cell_view cell.new ≡ in_look look symbol.now) }
 {
     if !is_same_symbol(cell.symbol(), symbol) {
@@ -155,10 +155,10 @@ fn show(alloc: Global, cell: &mut Cell, symbol: &str, look: Look) -> Result<(), 
 
 /// The look as a terminal with these colours shows it.
 #[inline]
-fn shown_look(colors: Colors, look: Look) -> Look
+fn shown_look(colors: Colors, look: Pen) -> Pen
     ensures { result ≡ shown_look colors look }
 {
-    Look {
+    Pen {
         fg: shown_color(colors, look.fg),
         bg: shown_color(colors, look.bg),
         modifier: Modifier(one_intensity(look.modifier.0 & NINE)),
@@ -203,7 +203,7 @@ fn can_show(buffer: &Buffer, area: Rect, spot: Spot, columns: usize) -> bool
     requires index { spot.index < area.height * area.width }
     requires spot { IsSpot area.width spot }
     ensures { result ≡ (nat_lt 0 columns && nat_le (spot.index % area.width + columns) area.width
-        && begins_empty (columns - 1) (cells_from area buffer.now (spot.index + 1)
+        && begins_empty (columns - 1) (cells_at area buffer.now (spot.index + 1)
         (area.height * area.width - (spot.index + 1)))) }
 {
     if columns == 0 {
@@ -219,7 +219,7 @@ fn can_show(buffer: &Buffer, area: Rect, spot: Spot, columns: usize) -> bool
 fn are_empty(buffer: &Buffer, area: Rect, from: usize, count: usize) -> bool
     requires { from + count ≤ area.height * area.width }
     ensures { result ≡ begins_empty count
-        (cells_from area buffer.now from (area.height * area.width - from)) }
+        (cells_at area buffer.now from (area.height * area.width - from)) }
 {
     let columns = usize::from(area.width);
     for index in from..from + count {

@@ -2,7 +2,7 @@
 //! than are counted.
 ghost use Rattle.std.specs.Prelude.{◌≡◌, ◌==◌, ◌&&◌, chars, string_bytes, IfOk};
 ghost use Rattle.std.specs.List.{list_any};
-ghost use Rattle.textarea_terminal.specs.Disputed.{before_selector, can_widen, is_emoji_selector, is_narrow};
+ghost use Rattle.textarea_terminal.specs.Disputed.{before_selector, can_widen, is_emoji_selector, is_one_column};
 
 use super::width::is_plain;
 use std::alloc::{AllocError, Global};
@@ -41,9 +41,9 @@ fn has_selector(text: &str) -> bool
 }
 
 fn has_narrow(text: &str) -> bool
-    ensures { result ≡ list_any is_narrow (chars text.now) }
+    ensures { result ≡ list_any is_one_column (chars text.now) }
 {
-    text.chars().any(|c| is_narrow(c))
+    text.chars().any(|c| is_one_column(c))
 }
 
 /// Whether the character selects the form of an emoji.
@@ -54,8 +54,8 @@ fn is_emoji_selector(c: char) -> bool
 }
 
 /// Whether the character takes one column.
-fn is_narrow(c: char) -> bool
-    ensures { result ≡ is_narrow c }
+fn is_one_column(c: char) -> bool
+    ensures { result ≡ is_one_column c }
 {
     c.width().unwrap_or(0) == 1
 }

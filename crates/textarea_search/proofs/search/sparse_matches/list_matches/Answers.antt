@@ -2,7 +2,7 @@ use Rattle.std.proofs.Common.{◌≡◌, ◌+◌, ◌∷◌, refl, sym, ◌∙�
 use Rattle.std.specs.Prelude.{All, Contains}
 use Rattle.std.proofs.lemmas.List.Elements.{All-contains_itself, All-head, All-nil, All-tail}
 use Rattle.regex.specs.Strings.{matcher_pattern}
-use Rattle.textarea_search.specs.ListedMatches.{IsOneOf, after_of}
+use Rattle.textarea_search.specs.ListedMatches.{IsOneOf, after_match}
 use Rattle.textarea_search.specs.Spans.{spans_after}
 use Rattle.textarea_search.proofs.search.sparse_matches.list_matches.Goals as goal
 
@@ -23,8 +23,8 @@ loop-found-preserved c =
     let all = spans_after tree line 0 in
     let found = c.in-Some.found in
     let rest = spans_after tree line (found.end + 1) in
-    let left : spans_after tree line (after_of c.loop-found.last) ≡ (found.start, found.end) ∷ rest =
-    subst (λ t. spans_after t line (after_of c.loop-found.last) ≡ (found.start, found.end) ∷ spans_after t line (found.end + 1)) inv.0 c.in-Some.ensures.found in
+    let left : spans_after tree line (after_match c.loop-found.last) ≡ (found.start, found.end) ∷ rest =
+    subst (λ t. spans_after t line (after_match c.loop-found.last) ≡ (found.start, found.end) ∷ spans_after t line (found.end + 1)) inv.0 c.in-Some.ensures.found in
     let listed = subst (All (Contains all)) left inv.2 in (
       c.in-Some.ensures.same ∙ inv.0,
       c.in-Some.ensures.place,
