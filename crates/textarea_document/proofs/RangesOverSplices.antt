@@ -1,7 +1,7 @@
 -- How the atomic ranges of a document move with its text, over one splice after another.
 use Rattle.std.proofs.Common.{◌≡◌, ℕ, zero, suc, Bool, true, false, List, [], ◌∷◌, ◌++◌, get_or, filter_map, Contains, Option, None, Some, sym, ap, refl, subst, ◌∙◌, arith, inl, inr, ◌⊎◌, suc-le-suc}
 use Rattle.std.proofs.lemmas.List.Elements.{All-cons, All-contains, All-nil, Contains-get_or}
-use Rattle.textarea_document.specs.Prelude.{cons_option, Symbol, lines, Place, end, CanApply, Fits, Splice, IsTextBefore, applied, applied_all, inverse, newest, next, AtomicRange, IsBeside, IsInside, TakesRange, CoversTheSame, DisturbsBy, moved_range, moved_ranges, AreValid, IsRangeOfLine, HasEffect, EditStep, splice_of_step, stepped, AllStayOrAreDropped, AllStemFrom, SplitNoRange, RangesFollowSplices, RangesStayWhole, IsDroppedBy, StemsFrom, carried_range, ranges_over, SplitsNoRange, SplitsNoRangeBy, after_redo, after_redo_by, after_undo, after_undo_by, IsSound, DocumentState}
+use Rattle.textarea_document.specs.Prelude.{cons_option, Symbol, lines, Place, end, CanApply, Fits, Splice, IsTextBefore, applied, applied_all, inverse, newest, next, AtomicRange, IsBeside, IsInside, TakesRange, Overlaps, CoversTheSame, DisturbsBy, moved_range, moved_ranges, AreValid, IsRangeOfLine, HasEffect, EditStep, splice_of_step, stepped, AllStayOrAreDropped, AllStemFrom, SplitNoRange, RangesFollowSplices, RangesStayWhole, IsDroppedBy, StemsFrom, carried_range, ranges_over, SplitsNoRange, SplitsNoRangeBy, after_redo, after_redo_by, after_undo, after_undo_by, IsSound, DocumentState, after_edit}
 use Rattle.textarea_ranges.proofs.Moving.{covers_the_same, dropped, valid_moved}
 use Rattle.textarea_document.proofs.Sounds.{newest_fits, next_fits}
 use Rattle.textarea_document.proofs.StepLaw.{step_keeps}
@@ -12,10 +12,13 @@ use Rattle.textarea_ranges.proofs.LookupLemmas.{not_beside}
 one : (old : DocumentState) (splice : Splice) (new : DocumentState) → Fits old.text splice → new.text ≡ applied old.text splice → new.ranges ≡ moved_ranges old.ranges splice → RangesFollowSplices old (splice ∷ []) new
 one old splice new fits text ranges = record { text = record { can = (fits, tt); leads = sym text }; ranges = ranges }
 
+pub ranges_follow_edit : (document : DocumentState) (splice : Splice) (typed : Bool) (now : ℕ) → Fits document.text splice → SplitsNoRange document.ranges splice → RangesStayWhole document (splice ∷ []) (after_edit document splice typed now)
+ranges_follow_edit document splice typed now fits whole = (one document splice (after_edit document splice typed now) fits refl refl, (whole, tt))
+
 pub ranges_follow_step : (document : DocumentState) (step : EditStep) (typed : Bool) (now : ℕ) → IsSound document → HasEffect document step → RangesStayWhole document (splice_of_step document step ∷ []) (stepped document step typed now)
 ranges_follow_step document step typed now sound made =
     let unchanged = step_keeps document step sound made in
-    (one document (splice_of_step document step) (stepped document step typed now) unchanged.0 refl refl, (unchanged.1, tt))
+    ranges_follow_edit document (splice_of_step document step) typed now unchanged.0 unchanged.1
 
 pub ranges_follow_undo : (document : DocumentState) (splice : Splice) → IsSound document → newest document.log ≡ Some splice → RangesFollowSplices document (inverse splice ∷ []) (after_undo document)
 ranges_follow_undo document splice sound is =

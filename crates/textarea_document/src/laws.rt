@@ -59,11 +59,14 @@ pub fn layout_changes_wrap()
     settings_wrap();
 }
 
-/// The ranges of a document move with its text: over the splice of each of the five steps, which
-/// splits no range, and over that of an undo or a redo. After such splices each range comes from an
-/// old one, and covers the same characters, all in one line; and each old range either is there, as
-/// the splices move it, or is disturbed by one of them: nothing else drops a range.
+/// The ranges of a document move with its text: over the splice of an edit that splits no range, as
+/// each of the five steps does, and over that of an undo or a redo. After such splices each range
+/// comes from an old one, and covers the same characters, all in one line; and each old range either
+/// is there, as the splices move it, or is disturbed by one of them: nothing else drops a range.
 pub fn ranges_follow_splices()
+    ensures edited { (document : DocumentState) (splice : Splice) (typed : Bool) (now : ℕ) →
+        Fits document.text splice → SplitsNoRange document.ranges splice →
+        RangesStayWhole document (splice ∷ []) (after_edit document splice typed now) }
     ensures stepped { (document : DocumentState) (step : EditStep) (typed : Bool) (now : ℕ) →
         IsSound document → HasEffect document step →
         RangesStayWhole document (splice_of_step document step ∷ [])
