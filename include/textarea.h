@@ -376,6 +376,13 @@ uint32_t ta_is_empty(ta_handle_t *handle);
 
 /* Insertions. Each first removes the selected text, as its own edit, and then moves a cursor that */
 
+/** Inserts the cursor's line once more below it, or the lines of the selection below the last of
+ * them, as one edit. The selection's lines are those of which it holds a character or the break.
+ * Cursor and selection move down into the copy, and keep their columns.
+ *
+ * Statuses: ok, out of memory, empty handle. */
+uint32_t ta_duplicate_line(ta_handle_t *handle);
+
 /** Inserts the character with this number at the cursor, or at the end of the atomic range that
  * strictly contains it, as typed; a line feed and a carriage return break the line.
  *

@@ -3,6 +3,7 @@ static const struct script_call script_calls[] = {
     {.name = "insert_newline", .bare = ta_insert_newline},
     {.name = "insert_tab", .has_flag = true, .bare = ta_insert_tab},
     {.name = "paste", .has_flag = true, .bare = ta_paste},
+    {.name = "duplicate_line", .bare = ta_duplicate_line},
     {.name = "delete_char", .has_flag = true, .bare = ta_delete_char},
     {.name = "delete_next_char", .has_flag = true, .bare = ta_delete_next_char},
     {.name = "delete_newline", .has_flag = true, .bare = ta_delete_newline},

@@ -5,6 +5,7 @@ METHODS = {
     "insert_newline": (None, False),
     "insert_tab": (None, True),
     "paste": (None, True),
+    "duplicate_line": (None, False),
     "delete_char": (None, True),
     "delete_next_char": (None, True),
     "delete_newline": (None, True),

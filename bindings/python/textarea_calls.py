@@ -24,6 +24,12 @@ class Calls:
         """Inserts the yanked text where `insert_str` inserts, and returns whether there was any."""
         return self._edit(_lib.ta_paste)
 
+    def duplicate_line(self) -> None:
+        """Inserts the cursor's line once more below it, or the lines of the selection below the
+        last of them, as one edit. The selection's lines are those of which it holds a character or
+        the break. Cursor and selection move down into the copy, and keep their columns."""
+        self._edit(_lib.ta_duplicate_line)
+
     def delete_char(self) -> bool:
         """Removes the atomic range that ends at the cursor or strictly contains it, or else the
         character before the cursor, or at column 0 the line break. Returns whether it removed

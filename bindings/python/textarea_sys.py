@@ -175,6 +175,8 @@ def declare(library):
     library.ta_text.restype = c_uint32
     library.ta_is_empty.argtypes = [POINTER(Handle)]
     library.ta_is_empty.restype = c_uint32
+    library.ta_duplicate_line.argtypes = [POINTER(Handle)]
+    library.ta_duplicate_line.restype = c_uint32
     library.ta_insert_char.argtypes = [POINTER(Handle), c_uint32]
     library.ta_insert_char.restype = c_uint32
     library.ta_insert_newline.argtypes = [POINTER(Handle)]

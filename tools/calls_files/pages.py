@@ -2,7 +2,6 @@
 from calls_files.commands_crate import READINGS, commands
 from calls_files.table import NOTE, ROOT, stop
 
-BEGIN = f"<!-- {NOTE} -->\n"
 END = "<!-- End of what tools/calls writes. -->\n"
 
 
@@ -15,8 +14,8 @@ def command_rows(table):
     for call in others:
         _, _, letters, meaning = READINGS[call.arguments[0][1]]
         rows[meaning].append(f"`{call.command} {letters}`")
-    filled = [(", ".join(names), meaning) for meaning, names in rows.items() if names]
-    return ["| Command | Arguments |", "|---|---|", *(f"| {names} | {meaning} |" for names, meaning in filled)]
+    given = [(", ".join(names), meaning) for meaning, names in rows.items() if names]
+    return ["| Command | Arguments |", "|---|---|", *(f"| {names} | {meaning} |" for names, meaning in given)]
 
 
 def new_rows(table):
@@ -30,15 +29,36 @@ def new_rows(table):
     return ["| Here | What it does |", "|---|---|", *rows]
 
 
-def page(file, written):
-    """The text of a page with its part that is written."""
-    before, begin, rest = (ROOT / file).read_text().partition(BEGIN)
+def rule_rows(topic):
+    """The rows of the calls of a topic, as the table of calls has them after the call's name."""
+
+    def rows(table):
+        heads = {"insert": "What it inserts | Result", "remove": "What it removes | Yanks"}
+        calls = [call for call in table.calls if call.topic == topic and call.rule]
+        written = [f"| `{call.name}({', '.join(call.names())})` {call.rule}" for call in calls]
+        return [f"| Call | {heads[topic]} | Definition |", "|---|---|---|---|", *written]
+
+    return rows
+
+
+def filled(file, text, name, written):
+    """The text of a page with the rows of one of its parts."""
+    begin = f"<!-- {name}: {NOTE} -->\n"
+    before, found, rest = text.partition(begin)
     _, end, after = rest.partition(END)
-    if not begin or not end:
-        stop(f"{file} doesn't have the two marks of what is written")
+    if not found or not end:
+        stop(f"{file} doesn't have the two marks of the part `{name}`")
     return before + begin + "\n".join(written) + "\n" + end + after
 
 
 def texts(table):
-    written = {"docs/RULES.md": command_rows, "docs/DIFFERENCES.md": new_rows}
-    return {file: page(file, rows(table)) for file, rows in written.items()}
+    parts = {
+        "docs/RULES.md": {"Insertions": rule_rows("insert"), "Removals": rule_rows("remove"), "Commands": command_rows},
+        "docs/DIFFERENCES.md": {"Calls": new_rows},
+    }
+    written = {}
+    for file, rows_of in parts.items():
+        written[file] = (ROOT / file).read_text()
+        for name, rows in rows_of.items():
+            written[file] = filled(file, written[file], name, rows(table))
+    return written

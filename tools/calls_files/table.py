@@ -52,7 +52,7 @@ class Call:
         self.variant, self.memory, self.edits, self.special = camel(name), False, False, False
         self.command, self.by_hand = None, []
         self.languages, self.is_new = set(), False
-        self.note, self.notes, self.doc = "", {}, ""
+        self.note, self.notes, self.doc, self.rule = "", {}, "", ""
 
     def borrows(self):
         return any(type.startswith("&") for _, type in self.arguments)
@@ -141,6 +141,8 @@ class Table:
             entry.notes[name] = words
         elif line.startswith("+ "):
             entry.note = line[2:]
+        elif line.startswith("| "):
+            entry.rule = line
         else:
             entry.doc = f"{entry.doc} {line}".strip()
 

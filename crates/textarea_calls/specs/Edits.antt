@@ -17,6 +17,7 @@ edits (call.InsertStr text) = true
 edits (call.InsertPasted text) = true
 edits call.InsertTab = true
 edits call.Paste = true
+edits call.DuplicateLine = true
 edits (call.SetLines lines cursor) = true
 edits call.DeleteChar = true
 edits call.DeleteNextChar = true

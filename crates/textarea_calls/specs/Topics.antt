@@ -35,6 +35,7 @@ call_of_insert (insert.InsertStr text) = call.InsertStr text
 call_of_insert (insert.InsertPasted text) = call.InsertPasted text
 call_of_insert insert.InsertTab = call.InsertTab
 call_of_insert insert.Paste = call.Paste
+call_of_insert insert.DuplicateLine = call.DuplicateLine
 call_of_insert (insert.SetLines lines cursor) = call.SetLines lines cursor
 
 abbrev pub call_of_remove : Remove → Call

@@ -24,6 +24,8 @@ pub enum Call<'a> {
     InsertTab,
     /// `TextArea::paste`
     Paste,
+    /// `TextArea::duplicate_line`
+    DuplicateLine,
     /// `TextArea::set_lines`, with a copy of these lines; there is at least one
     SetLines {
         /// The lines that are copied.

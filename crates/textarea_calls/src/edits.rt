@@ -21,6 +21,7 @@ impl Call<'_> {
             | Call::InsertPasted(_)
             | Call::InsertTab
             | Call::Paste
+            | Call::DuplicateLine
             | Call::SetLines { .. }
             | Call::DeleteChar
             | Call::DeleteNextChar

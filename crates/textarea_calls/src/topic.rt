@@ -37,6 +37,7 @@ pub enum Insert<'a> {
     InsertPasted(&'a str),
     InsertTab,
     Paste,
+    DuplicateLine,
     SetLines {
         lines: &'a [String],
         cursor: (usize, usize),
@@ -191,6 +192,7 @@ pub fn topic_of(call: Call<'_>) -> Topic<'_>
         Call::InsertPasted(text) => Topic::Insert(Insert::InsertPasted(text)),
         Call::InsertTab => Topic::Insert(Insert::InsertTab),
         Call::Paste => Topic::Insert(Insert::Paste),
+        Call::DuplicateLine => Topic::Insert(Insert::DuplicateLine),
         Call::SetLines { lines, cursor } => Topic::Insert(Insert::SetLines { lines, cursor }),
         Call::DeleteChar => Topic::Remove(Remove::DeleteChar),
         Call::DeleteNextChar => Topic::Remove(Remove::DeleteNextChar),

@@ -31,6 +31,7 @@ bare_commands =
     (codes "insert_newline", without_arguments call.InsertNewline)
     ∷ (codes "insert_tab", without_arguments call.InsertTab)
     ∷ (codes "paste", without_arguments call.Paste)
+    ∷ (codes "duplicate_line", without_arguments call.DuplicateLine)
     ∷ (codes "delete_char", without_arguments call.DeleteChar)
     ∷ (codes "delete_next_char", without_arguments call.DeleteNextChar)
     ∷ (codes "delete_newline", without_arguments call.DeleteNewline)

@@ -24,6 +24,7 @@ pub fn call_without_arguments(name: &str) -> Option<Call<'static>>
         "insert_newline" => Some(Call::InsertNewline),
         "insert_tab" => Some(Call::InsertTab),
         "paste" => Some(Call::Paste),
+        "duplicate_line" => Some(Call::DuplicateLine),
         "delete_char" => Some(Call::DeleteChar),
         "delete_next_char" => Some(Call::DeleteNextChar),
         "delete_newline" => Some(Call::DeleteNewline),

@@ -2,7 +2,6 @@
 #![tactic(auto)]
 
 pub mod inputs;
-mod memory;
 pub mod perform;
 pub mod printing;
 pub mod run;

@@ -4,7 +4,6 @@ ghost use Rattle.textarea_calls.specs.Possible.{CanBeMade};
 ghost use Rattle.tui_textarea.specs.RangesOverCalls.{RangesOfRun};
 ghost use Rattle.tui_textarea.specs.Run.{Run};
 
-use crate::memory::allocator;
 use crate::perform::perform;
 use textarea_calls::{Answer, Call};
 use textarea_screen::screen::Buffer;
@@ -47,7 +46,7 @@ pub fn run(area: &mut TextArea<'_>, calls: &[Call<'_>], buffer: &mut Buffer) -> 
 {
     is_sound(area);
     ranges_follow_each_run();
-    let mut answers = Vec::new(allocator(area));
+    let mut answers = Vec::new(area.allocator());
     if answers.try_reserve(calls.len()).is_err() {
         return RunEnd {
             answers,

@@ -8,7 +8,6 @@ ghost use Rattle.tui_textarea.specs.Measure.{with_surround};
 ghost use Rattle.tui_textarea.specs.Outcomes.{after_pattern, IsPatternCallResult};
 ghost use Rattle.tui_textarea.specs.Patterns.{IsNewPattern, IsPatternResult};
 
-use crate::memory::allocator;
 use std::alloc::AllocError;
 use textarea_calls::Answer;
 use textarea_data::range::AtomicRange;
@@ -27,7 +26,7 @@ pub fn set_lines(
     ensures ok { OnOk result (area.new ≡ with_lines area.old lines.now cursor) }
     ensures err { OnErr result (area.new ≡ area.old) }
 {
-    let alloc = allocator(area);
+    let alloc = area.allocator();
     area.set_lines(copy_fragment(alloc, lines)?, cursor)
 }
 
@@ -67,7 +66,7 @@ pub fn try_set_atomic_ranges(
         (area.new ≡ with_ranges_if (rejected_ranges area.old ranges.now) area.old ranges.now) }
     ensures err { OnErr result (area.new ≡ area.old) }
 {
-    let copies = ranges.to_vec(allocator(area))?;
+    let copies = ranges.to_vec(area.allocator())?;
     set_ranges(area, copies)
 }
 

@@ -31,6 +31,7 @@ pub(crate) fn insert_call(area: &mut TextArea<'_>, call: Insert<'_>) -> Result<A
         Insert::InsertPasted(text) => area.insert_pasted(text).map(Answer::Flag),
         Insert::InsertTab => area.insert_tab().map(Answer::Flag),
         Insert::Paste => area.paste().map(Answer::Flag),
+        Insert::DuplicateLine => area.duplicate_line().map(|()| Answer::Done),
         Insert::SetLines { lines, cursor } => {
             special::set_lines(area, lines, cursor).map(|()| Answer::Done)
         }

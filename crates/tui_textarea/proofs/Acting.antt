@@ -1,35 +1,50 @@
--- Inputs, by any fact of splices that steps have.
-use Rattle.std.proofs.Common.{◌≡◌, ℕ, List, Option, None, Some, ap, is_some, refl, subst, sym, unwrap_or, ◌∙◌, inl, inr, ⊎_elim}
+-- Each call and each input, by any fact of splices that edits have; and that each keeps documents sound.
+use Rattle.std.proofs.Common.{◌≡◌, ◌<◌, ℕ, List, [], ◌∷◌, length, Option, None, Some, ap, arith, false, is_some, refl, subst, sym, true, unwrap_or, ◌∙◌, inl, inr, ⊎_elim}
+use Rattle.std.proofs.lemmas.List.{length-map}
 use Rattle.std.specs.Str.{chars}
-use Rattle.textarea_calls.specs.declared.call.Call.{Call}
-use Rattle.textarea_calls.specs.declared.call.Call.TheVariants as call
-use Rattle.textarea_text.specs.Fragment.{fragment_symbols, pasted_symbols}
-use Rattle.textarea_text.specs.Place.{Place}
-use Rattle.textarea_document.specs.Splices.{selected_splices}
-use Rattle.tui_textarea.specs.Calls.{state_after}
-use Rattle.tui_textarea.specs.CallSplices.{OfSplicesOutOfMemory, call_splices, splices_of}
-use Rattle.tui_textarea.specs.Input.{IsInputOutOfMemory, asked_by, asked_without_shortcuts, call_of_action}
-use Rattle.tui_textarea.specs.Outcomes.{IsAfterCall, IsAfterOutOfMemory, after_pattern}
-use Rattle.tui_textarea.specs.Removals.{symbols_ahead_removed}
-use Rattle.tui_textarea.specs.CallResults.{CallResult, PatternRejected}
-use Rattle.tui_textarea.specs.Search.{next_match, previous_match, after_search}
-use Rattle.tui_textarea.specs.Selection.{selection_copied, unselected}
-use Rattle.tui_textarea.specs.Selection as selection
-use Rattle.tui_textarea.proofs.Stepping.{ahead_by, cursor_range_by, selected_by}
+use Rattle.textarea_calls.specs.Possible.{CanBeMade}
 use Rattle.textarea_calls.specs.declared.action.Action.{Action}
 use Rattle.textarea_calls.specs.declared.action.Action.TheVariants as action
+use Rattle.textarea_calls.specs.declared.call.Call.{Call}
+use Rattle.textarea_calls.specs.declared.call.Call.TheVariants as call
 use Rattle.textarea_data.specs.declared.cursor.CursorMove.TheVariants as move
+use Rattle.textarea_data.specs.declared.range.AtomicCursorBias.TheVariants.{Forward as BiasForward}
+use Rattle.textarea_history.specs.Log.{newest, next}
+use Rattle.textarea_ranges.specs.Lookup.{moved_out}
+use Rattle.textarea_ranges.proofs.LookupLemmas.{IsPlaceOf-moved_out}
+use Rattle.textarea_search.specs.declared.search.direction.Direction.TheVariants as toward
+use Rattle.textarea_text.specs.Between.{clip}
+use Rattle.textarea_text.specs.Fragment.{fragment_symbols, pasted_symbols}
+use Rattle.textarea_text.specs.Place.{Place, place_of}
 use Rattle.textarea_text.specs.Splice.{Splice}
-use Rattle.textarea_document.specs.Outcomes.{after_redo, after_undo}
-use Rattle.textarea_document.specs.Sound.{IsSound}
-use Rattle.textarea_document.specs.Splices.{redo_splices, undo_splices}
+use Rattle.textarea_text.specs.Text.{characters_of, lines, lines_of, text_of}
+use Rattle.textarea_text.proofs.Befores.{text_place}
 use Rattle.textarea_document.specs.DocumentState.{DocumentState}
-use Rattle.tui_textarea.specs.CallSplices.{splices_by}
+use Rattle.textarea_document.specs.Outcomes.{after_edit, after_redo, after_undo}
+use Rattle.textarea_document.specs.Selection.{lines_duplicated, selection_duplication}
+use Rattle.textarea_document.specs.Sound.{IsSound}
+use Rattle.textarea_document.specs.Splices.{redo_splices, selected_splices, undo_splices}
+use Rattle.textarea_document.proofs.Inserts.{duplication_splits_none, selection_duplication_fits, sound_duplicated}
+use Rattle.textarea_document.proofs.Ranges.{valid_none}
+use Rattle.textarea_document.proofs.Sounds.{sound_fresh, start_is_place}
+use Rattle.tui_textarea.specs.CallResults.{CallResult, PatternRejected}
+use Rattle.tui_textarea.specs.CallSplices.{OfSplicesOutOfMemory, splices_by, splices_of}
+use Rattle.tui_textarea.specs.Calls.{StateOutOfMemory, call_splices, rejected_ranges, state_after}
 use Rattle.tui_textarea.specs.Drawing.{viewport_scrolled}
-use Rattle.tui_textarea.specs.Input.{IsAfterAction}
-use Rattle.tui_textarea.specs.Removals.{break_before_removed, line_end_removed, line_head_removed, symbol_before_removed, symbol_after_removed, word_before_removed, word_after_removed}
+use Rattle.tui_textarea.specs.Input.{IsAfterAction, IsAnyOutOfMemory, asked_by, asked_without_shortcuts, call_of_action}
+use Rattle.tui_textarea.specs.LayoutCalls.{alignment_set, line_numbers_set, mode_set, tab_length_set}
+use Rattle.tui_textarea.specs.Outcomes.{IsAfterCall, IsAfterOutOfMemory, after_pattern}
+use Rattle.tui_textarea.specs.Removals.{break_before_removed, line_end_removed, line_head_removed, symbol_after_removed, symbol_before_removed, symbols_ahead_removed}
+use Rattle.tui_textarea.specs.Removals.{word_after_removed, word_before_removed}
+use Rattle.tui_textarea.specs.Search.{after_search, next_match, previous_match}
+use Rattle.tui_textarea.specs.Selection.{IsInsertOutOfMemory, unselected}
 use Rattle.tui_textarea.specs.State.{State}
-use Rattle.tui_textarea.proofs.Stepping.{Reckoning, after_by, before_by, break_by, char_by, cleared_by, copy_unchanged, wrapping_by, line_end_by, line_head_by, moves_unchanged, newline_by, layout_and_ranges, str_by, tab_by, unselected_by, word_after_by, word_before_by}
+use Rattle.tui_textarea.proofs.FoundPlaces.{match_is_place}
+use Rattle.tui_textarea.proofs.SoundStates.{sound_at, sound_cursor, sound_from, sound_goes, sound_ranges, sound_redo, sound_search, sound_settings, sound_unanchored, sound_undo}
+use Rattle.tui_textarea.proofs.Stepping.{Reckoning, after_by, ahead_by, before_by, break_by, char_by, cleared_by, copied_by, cursor_range_by, cut_by, edited, kept, moved}
+use Rattle.tui_textarea.proofs.Stepping.{layout_and_ranges, line_end_by, line_head_by, moves_unchanged, newline_by, selected_by, str_by, tab_by, unselected_by}
+use Rattle.tui_textarea.proofs.Stepping.{word_after_by, word_before_by}
+use Rattle.tui_textarea.proofs.Targets.{clip_is_place, index_is_place}
 
 -- a relation of two documents and the splices between them
 abbrev pub Fact : Type 1
@@ -42,12 +57,14 @@ ByAct By Past action.Redo old splices new = Past old splices new
 ByAct By Past asked old splices new = By old splices new
 
 -- if both relations are the same, each action has it
-pub by_any_act : (By : Fact) (asked : Action) (old new : DocumentState) (splices : List Splice) → ByAct By By asked old splices new → By old splices new
+pub by_any_act : (By : Fact) (asked : Action) (old new : DocumentState) (splices : List Splice)
+    → ByAct By By asked old splices new → By old splices new
 by_any_act By action.Undo old new splices h = h
 by_any_act By action.Redo old new splices h = h
 by_any_act By asked old new splices h = h
 
-as_outcome : (By : Fact) (old new outcome : State) (splices : List Splice) → new ≡ outcome → By old.document splices outcome.document → By old.document splices new.document
+as_outcome : (By : Fact) (old new outcome : State) (splices : List Splice) → new ≡ outcome → By old.document splices outcome.document
+    → By old.document splices new.document
 as_outcome By old new outcome splices is h = subst (λ (s : State). By old.document splices s.document) (sym is) h
 
 -- the relation for undo and redo, with and without an edit to undo or redo
@@ -93,88 +110,141 @@ search_unchanged : (state : State) (found : Option Place) → layout_and_ranges 
 search_unchanged state None = refl
 search_unchanged state (Some place) = refl
 
-module _ (By Own : Fact) (by : Reckoning By) (past : Past Own) where
-  -- a call with the state after it
-  by_state : (old : State) (made : Call) → IsSound old.document → ByState By Own made old.document (call_splices old made) (state_after old made).document
-  by_state old (call.InsertChar c) h = char_by By by old c h
-  by_state old (call.InsertStr text) h = str_by By by old (fragment_symbols (chars text.now)) h
-  by_state old (call.InsertPasted text) h = str_by By by old (pasted_symbols (chars text.now)) h
-  by_state old call.InsertTab h = tab_by By by old h
-  by_state old call.InsertNewline h = newline_by By by old h
-  by_state old call.Paste h = str_by By by old old.yank h
-  by_state old (call.DeleteStr count) h = unselected_by By by old (symbols_ahead_removed old count) _ h (ahead_by By by old count h)
-  by_state old call.DeleteNewline h = unselected_by By by old (break_before_removed old) _ h (break_by By by old.document old.time h)
-  by_state old call.DeleteChar h = unselected_by By by old (symbol_before_removed old) _ h (before_by By by old.document old.settings.undo_coalescing old.time h)
-  by_state old call.DeleteNextChar h = unselected_by By by old (symbol_after_removed old) _ h (after_by By by old.document old.settings.undo_coalescing old.time h)
-  by_state old call.DeleteLineByEnd h = unselected_by By by old (line_end_removed old) _ h (line_end_by By by old h)
-  by_state old call.DeleteLineByHead h = unselected_by By by old (line_head_removed old) _ h (line_head_by By by old h)
-  by_state old call.DeleteWord h = unselected_by By by old (word_before_removed old) _ h (word_before_by By by old h)
-  by_state old call.DeleteNextWord h = unselected_by By by old (word_after_removed old) _ h (word_after_by By by old h)
-  by_state old call.Clear h = cleared_by By by old h
-  by_state old call.Cut h = wrapping_by By by old h
-  by_state old call.Undo h = past.undos old.document h
-  by_state old call.Redo h = past.redos old.document h
-  by_state old (call.DeleteAtomicRangeAtCursor direction) h = cursor_range_by By by old direction h
-  by_state old call.Copy h = by.none old.document (selection_copied old).document (copy_unchanged old)
-  by_state old (call.SearchForward at_cursor) h = by.none old.document (after_search old (next_match old at_cursor)).document (search_unchanged old (next_match old at_cursor))
-  by_state old (call.SearchBack at_cursor) h = by.none old.document (after_search old (previous_match old at_cursor)).document (search_unchanged old (previous_match old at_cursor))
-  by_state old (call.Input input) h = tt
-  by_state old (call.InputWithoutShortcuts input) h = tt
-  by_state old (call.SetLines lines cursor) h = tt
-  by_state old (call.SetTabLength columns) h = tt
-  by_state old (call.SetWrapMode mode) h = tt
-  by_state old (call.SetLineNumberStyle style) h = tt
-  by_state old call.RemoveLineNumber h = tt
-  by_state old (call.SetAlignment alignment) h = tt
-  by_state old (call.TrySetAtomicRanges ranges) h = tt
-  by_state old call.ClearAtomicRanges h = tt
-  by_state old (call.Render area) h = tt
-  by_state old made h = by.none old.document (state_after old made).document refl
+-- what has no condition is also true under one
+given : {A B : Type 0} (Condition : Type 0) → A × B → A × (Condition → B)
+given Condition both = (both.0, λ condition. both.1)
 
-  pub acts_by : (old new : State) (asked : Action) → IsSound old.document → IsAfterAction old asked new → ByAct By Own asked old.document (splices_by old asked) new.document
-  acts_by old new action.Undo h k = as_outcome Own old new _ _ k (by_state old call.Undo h)
-  acts_by old new action.Redo h k = as_outcome Own old new _ _ k (by_state old call.Redo h)
+module _ (By Own : Fact) (by : Reckoning By) (past : Past Own) where
+  -- the fact of a call with the state after it, which is sound if the call can be made
+  abbrev ByCallSoundly : State → Call → Type 0
+  ByCallSoundly old made =
+      ByState By Own made old.document (call_splices old made) (state_after old made).document × (CanBeMade made → IsSound (state_after old made).document)
+
+  -- a call with the state after it
+  pub by_state : (old : State) (made : Call) → IsSound old.document → ByCallSoundly old made
+  by_state old (call.InsertChar c) h = given _ (char_by By by old c h)
+  by_state old (call.InsertStr text) h = given _ (str_by By by old (fragment_symbols (chars text.now)) h)
+  by_state old (call.InsertPasted text) h = given _ (str_by By by old (pasted_symbols (chars text.now)) h)
+  by_state old call.InsertTab h = given _ (tab_by By by old h)
+  by_state old call.InsertNewline h = given _ (newline_by By by old h)
+  by_state old call.Paste h = given _ (str_by By by old old.yank h)
+  by_state old call.DuplicateLine h =
+      let document = old.document in
+      let fits = selection_duplication_fits document h.cursor h.anchor in
+      let once = edited By by document (selection_duplication document) false old.time h fits (duplication_splits_none document h) in
+      given _ (moved By by document (after_edit document (selection_duplication document) false old.time) (lines_duplicated document old.time) (selection_duplication document ∷ []) refl
+      (sound_duplicated document old.time h) once)
+  by_state old (call.DeleteStr count) h = given _ (unselected_by By by old (symbols_ahead_removed old count) _ h (ahead_by By by old count h))
+  by_state old call.DeleteNewline h = given _ (unselected_by By by old (break_before_removed old) _ h (break_by By by old.document old.time h))
+  by_state old call.DeleteChar h =
+      given _ (unselected_by By by old (symbol_before_removed old) _ h (before_by By by old.document old.settings.undo_coalescing old.time h))
+  by_state old call.DeleteNextChar h =
+      given _ (unselected_by By by old (symbol_after_removed old) _ h (after_by By by old.document old.settings.undo_coalescing old.time h))
+  by_state old call.DeleteLineByEnd h = given _ (unselected_by By by old (line_end_removed old) _ h (line_end_by By by old h))
+  by_state old call.DeleteLineByHead h = given _ (unselected_by By by old (line_head_removed old) _ h (line_head_by By by old h))
+  by_state old call.DeleteWord h = given _ (unselected_by By by old (word_before_removed old) _ h (word_before_by By by old h))
+  by_state old call.DeleteNextWord h = given _ (unselected_by By by old (word_after_removed old) _ h (word_after_by By by old h))
+  by_state old call.Clear h = given _ (cleared_by By by old h)
+  by_state old call.Cut h = given _ (cut_by By by old h)
+  by_state old (call.DeleteAtomicRangeAtCursor direction) h = given _ (cursor_range_by By by old direction h)
+  by_state old call.Undo h = (past.undos old.document h, λ can. sound_undo old.document (newest old.document.log) h refl)
+  by_state old call.Redo h = (past.redos old.document h, λ can. sound_redo old.document (next old.document.log) h refl)
+  by_state old call.Copy h = given _ (copied_by By by old h)
+  by_state old (call.GoTo place) h =
+      let rows = lines old.document.text in
+      let near = clip_is_place rows place (omega (arith, h.cursor.0)) in
+      let at = moved_out old.document.ranges (clip rows place) BiasForward in
+      given _ (kept By by old.document (state_after old (call.GoTo place)).document refl
+      (sound_goes old (is_some old.document.anchor) (Some at) h (IsPlaceOf-moved_out rows old.document.ranges (clip rows place) BiasForward h.ranges near)))
+  by_state old call.StartSelection h =
+      given _ (kept By by old.document (state_after old call.StartSelection).document refl (sound_from old.document (Some old.document.cursor) h h.cursor))
+  by_state old call.CancelSelection h =
+      given _ (kept By by old.document (state_after old call.CancelSelection).document refl (sound_unanchored old.document h))
+  by_state old call.SelectAll h =
+      let text = old.document.text in
+      given _ (kept By by old.document (state_after old call.SelectAll).document refl
+      (sound_at old.document (place_of text (length text)) (Some (0, 0)) h (index_is_place text (length text)) (start_is_place text)))
+  by_state old (call.SearchForward at_cursor) h =
+      let found = next_match old at_cursor in
+      given _ (kept By by old.document (after_search old found).document (search_unchanged old found) (sound_search old found h (match_is_place toward.Forward old at_cursor)))
+  by_state old (call.SearchBack at_cursor) h =
+      let found = previous_match old at_cursor in
+      given _ (kept By by old.document (after_search old found).document (search_unchanged old found) (sound_search old found h (match_is_place toward.Back old at_cursor)))
+  by_state old (call.NormalizeCursorAroundAtomicRanges bias) h =
+      given _ (kept By by old.document (state_after old (call.NormalizeCursorAroundAtomicRanges bias)).document refl (sound_cursor old.document bias h))
+  by_state old (call.SetMaxHistories maximum) h =
+      given _ (kept By by old.document (state_after old (call.SetMaxHistories maximum)).document refl
+      (record { cursor = h.cursor; anchor = h.anchor; ranges = h.ranges; in_order = h.in_order; undo = tt; redo = tt; bounded = omega arith }))
+  by_state old (call.SetUndoCoalescing joins) h =
+      given _ (kept By by old.document (state_after old (call.SetUndoCoalescing joins)).document refl
+      (record { cursor = h.cursor; anchor = h.anchor; ranges = h.ranges; in_order = h.in_order; undo = h.undo; redo = h.redo; bounded = h.bounded }))
+  by_state old (call.Input input) h = (tt, λ can. h)
+  by_state old (call.InputWithoutShortcuts input) h = (tt, λ can. h)
+  by_state old (call.SetLines items cursor) h =
+      let place = clip (lines_of items.now) cursor in (
+        tt,
+        λ can. sound_fresh (text_of items.now) old.document.layout.settings old.document.layout.count place old.document.log.maximum
+            (text_place items.now place (clip_is_place (lines_of items.now) cursor (omega (arith, can, length-map items.now characters_of)))),
+      )
+  by_state old (call.SetTabLength columns) h = (tt, λ can. sound_settings old.document (tab_length_set old columns) h)
+  by_state old (call.SetWrapMode mode) h = (tt, λ can. sound_settings old.document (mode_set old mode) h)
+  by_state old (call.SetLineNumberStyle style) h = (tt, λ can. sound_settings old.document (line_numbers_set old true) h)
+  by_state old call.RemoveLineNumber h = (tt, λ can. sound_settings old.document (line_numbers_set old false) h)
+  by_state old (call.SetAlignment alignment) h = (tt, λ can. sound_settings old.document (alignment_set old alignment) h)
+  by_state old (call.TrySetAtomicRanges ranges) h = (tt, λ can. sound_ranges (rejected_ranges old ranges.now) old ranges.now h refl)
+  by_state old call.ClearAtomicRanges h =
+      (tt, λ can. record { cursor = h.cursor; anchor = h.anchor; ranges = valid_none (lines old.document.text); in_order = refl; undo = h.undo; redo = h.redo; bounded = h.bounded })
+  by_state old (call.Render area) h = (tt, λ can. h)
+  by_state old made h = given _ (kept By by old.document (state_after old made).document refl h)
+
+  pub acts_by : (old new : State) (asked : Action) → IsSound old.document → IsAfterAction old asked new
+      → ByAct By Own asked old.document (splices_by old asked) new.document
+  acts_by old new action.Undo h k = as_outcome Own old new _ _ k (by_state old call.Undo h).0
+  acts_by old new action.Redo h k = as_outcome Own old new _ _ k (by_state old call.Redo h).0
   acts_by old new action.Nothing h k = by.none old.document new.document (ap (λ (s : State). layout_and_ranges s.document) k)
   acts_by old new (action.MoveWithShift cursor_move shift) h k = by.none old.document new.document (moves_unchanged old new shift cursor_move k)
-  acts_by old new (action.ScrollWithShift scrolling shift) h k = by.none old.document new.document (moves_unchanged (viewport_scrolled old scrolling) new shift move.InViewport k)
-  acts_by old new (action.Scroll scrolling) h k = by.none old.document new.document (moves_unchanged (viewport_scrolled old scrolling) new (is_some old.document.anchor) move.InViewport k)
-  acts_by old new asked h k = as_outcome By old new (state_after old (the_call asked)) (splices_by old asked) k (by_state old (the_call asked) h)
+  acts_by old new (action.ScrollWithShift scrolling shift) h k =
+      by.none old.document new.document (moves_unchanged (viewport_scrolled old scrolling) new shift move.InViewport k)
+  acts_by old new (action.Scroll scrolling) h k =
+      by.none old.document new.document (moves_unchanged (viewport_scrolled old scrolling) new (is_some old.document.anchor) move.InViewport k)
+  acts_by old new asked h k = as_outcome By old new (state_after old (the_call asked)) (splices_by old asked) k (by_state old (the_call asked) h).0
 
-  pub calls_by : (old new : State) (made : Call) (returned : CallResult) → IsSound old.document → IsAfterCall old made returned new → ByCall By Own made old.document (splices_of old made) new.document
+  pub calls_by : (old new : State) (made : Call) (returned : CallResult) → IsSound old.document → IsAfterCall old made returned new
+      → ByCall By Own made old.document (splices_of old made) new.document
   calls_by old new (call.Input input) returned h k = acts_by old new (asked_by input.now) h k
   calls_by old new (call.InputWithoutShortcuts input) returned h k = acts_by old new (asked_without_shortcuts input.now) h k
   calls_by old new (call.Move cursor_move) returned h k = acts_by old new (action.MoveWithShift cursor_move (is_some old.document.anchor)) h k
   calls_by old new (call.Scroll scrolling) returned h k = acts_by old new (action.Scroll scrolling) h k
-  calls_by old new (call.SetSearchPattern text) returned h k = by.none old.document new.document (ap (λ (s : State). layout_and_ranges s.document) k ∙ pattern_unchanged old text.now returned)
+  calls_by old new (call.SetSearchPattern text) returned h k =
+      by.none old.document new.document (ap (λ (s : State). layout_and_ranges s.document) k ∙ pattern_unchanged old text.now returned)
   calls_by old new (call.Render area) returned h k = tt
-  calls_by old new made returned h k = as_outcome (ByState By Own made) old new (state_after old made) (splices_of old made) k (by_state old made h)
+  calls_by old new made returned h k = as_outcome (ByState By Own made) old new (state_after old made) (splices_of old made) k (by_state old made h).0
 
-  -- ---- calls that run out of memory
+-- ---- calls that run out of memory
 
-  left_by : (old new : State) → IsSound old.document → selection.IsInsertOutOfMemory old new → OfSplicesOutOfMemory old (λ splices. By old.document splices new.document)
-  left_by old new h k =
-      ⊎_elim
-      (λ same. inl (by.none old.document new.document (ap (λ (s : State). layout_and_ranges s.document) same)))
-      (λ gone. inr (as_outcome By old new (unselected old) (selected_splices old.document) gone (selected_by By by old.document old.time h)))
-      k
+-- they leave the old state, or it without the selected text
+call_left : (old new : State) (made : Call) → StateOutOfMemory old made new → IsInsertOutOfMemory old new
+call_left old new (call.InsertChar c) k = k
+call_left old new (call.InsertStr text) k = k
+call_left old new (call.InsertPasted text) k = k
+call_left old new call.InsertTab k = k
+call_left old new call.InsertNewline k = k
+call_left old new call.Paste k = k
+call_left old new made k = inl k
 
-  stayed : (old new : State) → new ≡ old → OfSplicesOutOfMemory old (λ splices. By old.document splices new.document)
-  stayed old new same = inl (by.none old.document new.document (ap (λ (s : State). layout_and_ranges s.document) same))
+any_left : (old new : State) (found : Option Call) → IsAnyOutOfMemory old found new → IsInsertOutOfMemory old new
+any_left old new None k = inl k
+any_left old new (Some made) k = call_left old new made k
 
-  act_left : (old new : State) (asked : Action) → IsSound old.document → IsInputOutOfMemory old asked new → OfSplicesOutOfMemory old (λ splices. By old.document splices new.document)
-  act_left old new (action.InsertChar c) h k = left_by old new h k
-  act_left old new action.InsertNewline h k = left_by old new h k
-  act_left old new action.InsertTab h k = left_by old new h k
-  act_left old new action.Paste h k = left_by old new h k
-  act_left old new asked h k = stayed old new k
+pub left : (old new : State) (made : Call) → IsAfterOutOfMemory old made new → IsInsertOutOfMemory old new
+left old new (call.Input input) k = any_left old new (call_of_action (asked_by input.now)) k
+left old new (call.InputWithoutShortcuts input) k = any_left old new (call_of_action (asked_without_shortcuts input.now)) k
+left old new made k = call_left old new made k
 
-  pub calls_left : (old new : State) (made : Call) → IsSound old.document → IsAfterOutOfMemory old made new → OfSplicesOutOfMemory old (λ splices. By old.document splices new.document)
-  calls_left old new (call.InsertChar c) h k = left_by old new h k
-  calls_left old new (call.InsertStr text) h k = left_by old new h k
-  calls_left old new (call.InsertPasted text) h k = left_by old new h k
-  calls_left old new call.InsertTab h k = left_by old new h k
-  calls_left old new call.InsertNewline h k = left_by old new h k
-  calls_left old new call.Paste h k = left_by old new h k
-  calls_left old new (call.Input input) h k = act_left old new (asked_by input.now) h k
-  calls_left old new (call.InputWithoutShortcuts input) h k = act_left old new (asked_without_shortcuts input.now) h k
-  calls_left old new made h k = stayed old new k
+pub calls_left : (By : Fact) (by : Reckoning By) (old new : State) (made : Call) → IsSound old.document → IsAfterOutOfMemory old made new
+    → OfSplicesOutOfMemory old (λ splices. By old.document splices new.document)
+calls_left By by old new made h k =
+    ⊎_elim
+    (λ same. inl (by.none old.document new.document (ap (λ (s : State). layout_and_ranges s.document) same)))
+    (λ gone. inr (as_outcome By old new (unselected old) (selected_splices old.document) gone (selected_by By by old.document old.time h).0))
+    (left old new made k)

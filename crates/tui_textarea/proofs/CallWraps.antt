@@ -27,13 +27,13 @@ use Rattle.textarea_calls.specs.declared.call.Call.TheVariants as call
 use Rattle.textarea_document.specs.DocumentRows.{with_inner_width, with_layout_settings}
 use Rattle.textarea_view.specs.Measure.{width_inside}
 use Rattle.tui_textarea.proofs.Acting.{by_any_act, calls_by, calls_left}
-use Rattle.tui_textarea.proofs.WrappedLines.{RedosWrap, StepsWrap, UndosWrap, past_wraps, reckoned}
+use Rattle.tui_textarea.proofs.WrappedLines.{RedosWrap, EditsWrap, UndosWrap, past_wraps, reckoned}
 use Rattle.tui_textarea.proofs.Frames.{drawn_document}
 
 -- ---- the laws of the text area
 
 pub record TheLaws : Type 0 where
-  pub stepped : StepsWrap
+  pub edited : EditsWrap
   pub undone : UndosWrap
   pub redone : RedosWrap
   pub width : (document : DocumentState) (inner_width : ℕ) → WrapsByWidth document (with_inner_width document inner_width)
@@ -70,13 +70,13 @@ module _ (laws : TheLaws) where
       ap (λ (s : State). text_and_layout s.document) k ∙ ranges_unchanged (rejected_ranges old ranges.now) old ranges.now
   call_wraps old new call.ClearAtomicRanges returned h k = ap (λ (s : State). text_and_layout s.document) k
   call_wraps old new (call.Input input) returned h k =
-      by_any_act SplicedBy (asked_by input.now) old.document new.document _ (calls_by SplicedBy SplicedBy (reckoned laws.stepped) (past_wraps laws.undone laws.redone) old new (call.Input input) returned h k)
+      by_any_act SplicedBy (asked_by input.now) old.document new.document _ (calls_by SplicedBy SplicedBy (reckoned laws.edited) (past_wraps laws.undone laws.redone) old new (call.Input input) returned h k)
   call_wraps old new (call.InputWithoutShortcuts input) returned h k =
-      by_any_act SplicedBy (asked_without_shortcuts input.now) old.document new.document _ (calls_by SplicedBy SplicedBy (reckoned laws.stepped) (past_wraps laws.undone laws.redone) old new (call.InputWithoutShortcuts input) returned h k)
-  call_wraps old new made returned h k = calls_by SplicedBy SplicedBy (reckoned laws.stepped) (past_wraps laws.undone laws.redone) old new made returned h k
+      by_any_act SplicedBy (asked_without_shortcuts input.now) old.document new.document _ (calls_by SplicedBy SplicedBy (reckoned laws.edited) (past_wraps laws.undone laws.redone) old new (call.InputWithoutShortcuts input) returned h k)
+  call_wraps old new made returned h k = calls_by SplicedBy SplicedBy (reckoned laws.edited) (past_wraps laws.undone laws.redone) old new made returned h k
 
   pub out_of_memory_wraps : (old new : State) (made : Call) → IsSound old.document → IsAfterOutOfMemory old made new → LeftBy old new
-  out_of_memory_wraps old new made h k = calls_left SplicedBy SplicedBy (reckoned laws.stepped) (past_wraps laws.undone laws.redone) old new made h k
+  out_of_memory_wraps old new made h k = calls_left SplicedBy (reckoned laws.edited) old new made h k
 
 -- ---- the wrap counter
 

@@ -1,7 +1,12 @@
 -- The hit test of the cell of a caret that is shown returns the cursor.
 use Rattle.std.proofs.Common.{◌≡◌, ℕ, zero, suc, ◌-◌, ◌<◌, ◌≤◌, ◌⊎◌, inl, inr, ◌==◌, ◌||◌, ◌&&◌, min, Bool, true, false, not, List, [], ◌∷◌, Option, None, Some, if◌then◌else◌, ap, ap₂, arith, refl, subst, sym, ◌∙◌}
 use Rattle.std.proofs.lemmas.Bool.Decides.{nat_tests}
-use Rattle.tui_textarea.specs.DrawingPrelude.{has_symbols, text_and_layout, with_inner_width, IsCaretHit, WidgetState, frame_of, FrameState, has_lines, number_width, shows_placeholder, IsLastArea, IsHitBy, IsHitInRows, IsHitOf, IsHitWith, IsNear, greatest_at, IsPlacement, IsPlacementInRows, IsPlacementWith, HasRowView, Placement, corner_caret, row_view, IsWidgetRendered, at_inner_width, drawn_into, TextAndLayout, at_width, with_settings, BorrowedRows, IsViewOf, LayoutSettings, AreRowsOf, row_total, greatest_column, row_at, HasNoZeroWidth, IsPlaceAt, IsVisualPosition, VisualPosition, Wrapping, SceneState, contains, Alignment, Left, Center, Right, Rect, IsPlace, Place, Symbol, caret_at, hit_column, hit_row, left_view, at_start, ViewportState, RowView, RowsView}
+use Rattle.tui_textarea.specs.DrawingPrelude.{has_symbols, text_and_layout, with_inner_width, IsCaretHit, WidgetState, frame_of, FrameState, has_lines, number_width}
+use Rattle.tui_textarea.specs.DrawingPrelude.{shows_placeholder, IsLastArea, IsHitBy, IsHitInRows, IsHitOf, IsHitWith, IsNear, greatest_at, IsPlacement, IsPlacementInRows}
+use Rattle.tui_textarea.specs.DrawingPrelude.{IsPlacementWith, HasRowView, Placement, corner_caret, row_view, IsWidgetRendered, at_inner_width, drawn_into, TextAndLayout, at_width}
+use Rattle.tui_textarea.specs.DrawingPrelude.{with_settings, BorrowedRows, IsViewOf, LayoutSettings, AreRowsOf, row_total, greatest_column, row_at, HasNoZeroWidth, IsPlaceAt}
+use Rattle.tui_textarea.specs.DrawingPrelude.{IsVisualPosition, VisualPosition, Wrapping, SceneState, contains, Alignment, Left, Center, Right, Rect, IsPlace, Place, Symbol}
+use Rattle.tui_textarea.specs.DrawingPrelude.{caret_at, hit_column, hit_row, left_view, at_start, ViewportState, RowView, RowsView}
 use Rattle.tui_textarea.proofs.DrawnRows.{IsViewedOnce, borrowed_right}
 use Rattle.tui_textarea.proofs.OneHit.{BeginsOnce, lies_once, some_same, wanted_at}
 use Rattle.tui_textarea.proofs.Rects.{last_area_once}
@@ -18,13 +23,16 @@ abbrev pub HasCornerCaret : Type 0
 HasCornerCaret = (area : Rect) → 0 < area.width → 0 < area.height → caret_at (left_view (at_start area) area 0) 0 0 ≡ Some (area.x, area.y)
 
 abbrev pub IsVisualInRow : Type 0
-IsVisualInRow = (wrapping : Wrapping) (lines : List (List ℕ)) (rows : List RowsView) (place : Place) (visual : VisualPosition) → AreRowsOf wrapping lines rows → IsVisualPosition wrapping.tab_len lines rows place visual → visual.row < row_total rows
+IsVisualInRow = (wrapping : Wrapping) (lines : List (List ℕ)) (rows : List RowsView) (place : Place) (visual : VisualPosition) → AreRowsOf wrapping lines rows
+    → IsVisualPosition wrapping.tab_len lines rows place visual → visual.row < row_total rows
 
 abbrev pub IsVisualAtColumn : Type 0
-IsVisualAtColumn = (tab_len : ℕ) (lines : List (List ℕ)) (rows : List RowsView) (place : Place) (visual : VisualPosition) → IsVisualPosition tab_len lines rows place visual → visual.column ≤ greatest_column tab_len (row_at lines rows visual.row)
+IsVisualAtColumn = (tab_len : ℕ) (lines : List (List ℕ)) (rows : List RowsView) (place : Place) (visual : VisualPosition)
+    → IsVisualPosition tab_len lines rows place visual → visual.column ≤ greatest_column tab_len (row_at lines rows visual.row)
 
 abbrev pub IsFoundAgain : Type 0
-IsFoundAgain = (tab_len : ℕ) (lines : List (List ℕ)) (rows : List RowsView) (place : Place) (visual : VisualPosition) (found : Place) → IsVisualPosition tab_len lines rows place visual → HasNoZeroWidth (row_at lines rows visual.row).text → IsPlaceAt tab_len lines rows visual found → found ≡ place
+IsFoundAgain = (tab_len : ℕ) (lines : List (List ℕ)) (rows : List RowsView) (place : Place) (visual : VisualPosition) (found : Place)
+    → IsVisualPosition tab_len lines rows place visual → HasNoZeroWidth (row_at lines rows visual.row).text → IsPlaceAt tab_len lines rows visual found → found ≡ place
 
 abbrev pub PutsSettings : Type 0
 PutsSettings = (text_layout : TextAndLayout) (settings : LayoutSettings) → (with_settings text_layout settings).layout.settings ≡ settings
@@ -66,7 +74,9 @@ record LeadsBack (b : Bool) (frame : FrameState) (viewport : ViewportState) (inn
 abbrev HasWideRow : SceneState → Type 0
 HasWideRow scene = (visual : VisualPosition) → IsVisualPosition scene.rows.wrapping.tab_len scene.rows.lines scene.rows.rows scene.cursor visual → HasNoZeroWidth (row_at scene.rows.lines scene.rows.rows visual.row).text
 
-in_rows : (laws : Laws) (frame : FrameState) (viewport : ViewportState) (inner : Rect) (placement : Placement) (x y : ℕ) → AreRowsOf frame.scene.rows.wrapping frame.scene.rows.lines frame.scene.rows.rows → IsPlacementInRows frame.scene frame.mode viewport inner placement → placement.caret ≡ Some (x, y) → HasWideRow frame.scene → LeadsBack false frame placement.viewport inner x y
+in_rows : (laws : Laws) (frame : FrameState) (viewport : ViewportState) (inner : Rect) (placement : Placement) (x y : ℕ)
+    → AreRowsOf frame.scene.rows.wrapping frame.scene.rows.lines frame.scene.rows.rows → IsPlacementInRows frame.scene frame.mode viewport inner placement
+    → placement.caret ≡ Some (x, y) → HasWideRow frame.scene → LeadsBack false frame placement.viewport inner x y
 in_rows laws frame viewport inner placement x y right h e wide =
     let scene = frame.scene in
     let rows = scene.rows in
@@ -129,14 +139,17 @@ cursor_at_start text cursor b place e =
 
 -- ---- both
 
-leads_back : (laws : Laws) (b : Bool) (frame : FrameState) (viewport : ViewportState) (inner : Rect) (placement : Placement) (x y : ℕ) → (b ≡ true → frame.scene.cursor ≡ (0, 0)) → AreRowsOf frame.scene.rows.wrapping frame.scene.rows.lines frame.scene.rows.rows → IsPlacementWith b frame viewport inner placement → placement.caret ≡ Some (x, y) → HasWideRow frame.scene → LeadsBack b frame placement.viewport inner x y
+leads_back : (laws : Laws) (b : Bool) (frame : FrameState) (viewport : ViewportState) (inner : Rect) (placement : Placement) (x y : ℕ)
+    → (b ≡ true → frame.scene.cursor ≡ (0, 0)) → AreRowsOf frame.scene.rows.wrapping frame.scene.rows.lines frame.scene.rows.rows
+    → IsPlacementWith b frame viewport inner placement → placement.caret ≡ Some (x, y) → HasWideRow frame.scene → LeadsBack b frame placement.viewport inner x y
 leads_back laws true frame viewport inner placement x y start right h e wide = record {
   inside = corner_inside laws inner x y (ap (λ (p : Placement). p.caret) (sym h) ∙ e);
   only = λ place k. k ∙ sym (start refl);
 }
 leads_back laws false frame viewport inner placement x y start right h e wide = in_rows laws frame viewport inner placement x y right h e wide
 
-result_leads_back : (frame : FrameState) (viewport : ViewportState) (inner : Rect) (x y : ℕ) (found : Option Place) → LeadsBack (shows_placeholder frame) frame viewport inner x y → IsHitOf frame viewport inner x y found → found ≡ Some frame.scene.cursor
+result_leads_back : (frame : FrameState) (viewport : ViewportState) (inner : Rect) (x y : ℕ) (found : Option Place)
+    → LeadsBack (shows_placeholder frame) frame viewport inner x y → IsHitOf frame viewport inner x y found → found ≡ Some frame.scene.cursor
 result_leads_back frame viewport inner x y found back h =
     let hit : IsHitBy true frame viewport inner x y found = subst (λ (b : Bool). IsHitBy b frame viewport inner x y found) back.inside h in
     hit.1 ∙ ap Some (back.only hit.0 hit.2)
@@ -156,13 +169,18 @@ made_area puts old inner placement =
       height = omega (arith, inner.bottom);
     }
 
-made_back : (laws : Laws) (old : WidgetState) (inner : Rect) (rows : BorrowedRows) (placement : Placement) → IsViewOf (text_and_layout (with_inner_width old.document inner.width)) rows → IsPlacement (frame_of (at_inner_width old inner.width) rows) old.drawing.viewport inner placement → IsPlace old.document.text old.document.cursor → IsCaretHit (made old inner placement)
+made_back : (laws : Laws) (old : WidgetState) (inner : Rect) (rows : BorrowedRows) (placement : Placement)
+    → IsViewOf (text_and_layout (with_inner_width old.document inner.width)) rows
+    → IsPlacement (frame_of (at_inner_width old inner.width) rows) old.drawing.viewport inner placement → IsPlace old.document.text old.document.cursor
+    → IsCaretHit (made old inner placement)
 made_back laws old inner rows placement view placed place = λ x y found caret wide k.
     let new = made old inner placement in
     let frame = frame_of new rows in
     let area : k.inner ≡ inner = last_area_once new.document new.drawing k.inner inner k.inner_is (made_area laws.settings_put old inner placement) in
     let same : k.rows ≡ rows = laws.viewed_once (text_and_layout new.document) k.rows rows k.rows_are view in
-    let back = leads_back laws (shows_placeholder frame) frame old.drawing.viewport inner placement x y (cursor_at_start old.document.text old.document.cursor (has_lines old.surround.placeholder.lines) place) (borrowed_right (text_and_layout new.document) rows view) placed caret (λ visual h. wide rows visual view h) in
+    let back = leads_back laws (shows_placeholder frame) frame old.drawing.viewport inner placement x y
+    (cursor_at_start old.document.text old.document.cursor (has_lines old.surround.placeholder.lines) place) (borrowed_right (text_and_layout new.document) rows view) placed caret
+    (λ visual h. wide rows visual view h) in
     result_leads_back frame placement.viewport inner x y found back
     (subst (λ (r : BorrowedRows). IsHitOf (frame_of new r) placement.viewport inner x y found) same
     (subst (λ (a : Rect). IsHitOf (frame_of new k.rows) placement.viewport a x y found) area k.found_is))

@@ -1,7 +1,12 @@
 -- The caret is shown if the inner area has room for it.
 use Rattle.std.proofs.Common.{◌≡◌, ◌≢◌, ℕ, ◌+◌, ◌-◌, ◌*◌, ◌^◌, ◌<◌, ◌≤◌, ◌==◌, ◌||◌, max, Bool, true, false, List, [], ◌∷◌, None, Some, IsSome, rules, if◌then◌else◌, length, refl, ap, ap₂, arith, subst, sym, ◌∙◌}
 use Rattle.std.proofs.lemmas.Bool.Decides.{nat_tests}
-use Rattle.tui_textarea.specs.DrawingPrelude.{size_limit, text_and_layout, with_inner_width, DocumentState, WidgetState, frame_of, scene_of, number_width, shows_placeholder, IsPlacement, IsPlacementInRows, IsPlacementWith, Placement, row_view, VisualPosition, viewport_at, IsWidgetRendered, at_inner_width, HasRoomForCaret, HasWidthForCaret, HasWidthForRows, IsCaretVisible, number_columns, at_width, wrapping_of, BorrowedRows, IsViewOf, is_wrapped, wrapping_for, LayoutSettings, AreRowsOf, row_total, size_total, greatest_column, row_at, Wrapping, Alignment, Left, Rect, weight, Symbol, Break, Character, following, joined, lines, on_first, caret_at, left_view, showing_row, showing_row_and_column, ViewportState, RowView, HaveFittingClusters, line_number_columns, RowsView, WrapMode}
+use Rattle.tui_textarea.specs.DrawingPrelude.{size_limit, text_and_layout, with_inner_width, DocumentState, WidgetState, frame_of, scene_of, number_width, shows_placeholder}
+use Rattle.tui_textarea.specs.DrawingPrelude.{IsPlacement, IsPlacementInRows, IsPlacementWith, Placement, row_view, VisualPosition, viewport_at, IsWidgetRendered, at_inner_width}
+use Rattle.tui_textarea.specs.DrawingPrelude.{HasRoomForCaret, HasWidthForCaret, HasWidthForRows, IsCaretVisible, number_columns, at_width, wrapping_of, BorrowedRows, IsViewOf}
+use Rattle.tui_textarea.specs.DrawingPrelude.{is_wrapped, wrapping_for, LayoutSettings, AreRowsOf, row_total, size_total, greatest_column, row_at, Wrapping, Alignment, Left, Rect}
+use Rattle.tui_textarea.specs.DrawingPrelude.{weight, Symbol, Break, Character, following, joined, lines, on_first, caret_at, left_view, showing_row, showing_row_and_column}
+use Rattle.tui_textarea.specs.DrawingPrelude.{ViewportState, RowView, HaveFittingClusters, line_number_columns, RowsView, WrapMode}
 use Rattle.tui_textarea.proofs.CaretHit.{IsVisualAtColumn, IsVisualInRow, PutsSettings, made, made_area}
 use Rattle.tui_textarea.proofs.DrawnRows.{borrowed_right}
 use Rattle.tui_textarea.proofs.Rects.{last_area_once}
@@ -11,16 +16,22 @@ use Rattle.textarea_wrap.specs.declared.wrap.WrapMode.TheVariants as wrap
 -- ---- the laws of the caret and of the map of visual rows
 
 abbrev pub IsVisible : Type 0
-IsVisible = (viewport : ViewportState) (area : Rect) (row column line_number_width : ℕ) → 0 < area.height → 2 * line_number_width < area.width → row < 2 ^ 64 → column + line_number_width < 2 ^ 64 → IsSome (caret_at (left_view (showing_row_and_column viewport area row column line_number_width) area line_number_width) row column)
+IsVisible = (viewport : ViewportState) (area : Rect) (row column line_number_width : ℕ) → 0 < area.height → 2 * line_number_width < area.width → row < 2 ^ 64
+    → column + line_number_width < 2 ^ 64
+    → IsSome (caret_at (left_view (showing_row_and_column viewport area row column line_number_width) area line_number_width) row column)
 
 abbrev pub IsVisibleInWrapped : Type 0
-IsVisibleInWrapped = (viewport : ViewportState) (area : Rect) (row column line_number_width : ℕ) → 0 < area.height → column + line_number_width < area.width → row < 2 ^ 64 → IsSome (caret_at (left_view (showing_row viewport area row) area line_number_width) row column)
+IsVisibleInWrapped = (viewport : ViewportState) (area : Rect) (row column line_number_width : ℕ) → 0 < area.height → column + line_number_width < area.width
+    → row < 2 ^ 64 → IsSome (caret_at (left_view (showing_row viewport area row) area line_number_width) row column)
 
 abbrev pub HasCursorsWithin : Type 0
-HasCursorsWithin = (wrapping : Wrapping) (lines : List (List ℕ)) (rows : List RowsView) (row : ℕ) → AreRowsOf wrapping lines rows → wrapping.mode ≢ wrap.None → 0 < wrapping.tab_len → HaveFittingClusters wrapping.tab_len (max wrapping.width 1) lines → row < row_total rows → greatest_column wrapping.tab_len (row_at lines rows row) ≤ max wrapping.width 1
+HasCursorsWithin = (wrapping : Wrapping) (lines : List (List ℕ)) (rows : List RowsView) (row : ℕ) → AreRowsOf wrapping lines rows → wrapping.mode ≢ wrap.None
+    → 0 < wrapping.tab_len → HaveFittingClusters wrapping.tab_len (max wrapping.width 1) lines → row < row_total rows
+    → greatest_column wrapping.tab_len (row_at lines rows row) ≤ max wrapping.width 1
 
 abbrev pub HasFewColumns : Type 0
-HasFewColumns = (wrapping : Wrapping) (lines : List (List ℕ)) (rows : List RowsView) (row : ℕ) → AreRowsOf wrapping lines rows → wrapping.tab_len < 2 ^ 8 → row < row_total rows → greatest_column wrapping.tab_len (row_at lines rows row) < 2 ^ 56
+HasFewColumns = (wrapping : Wrapping) (lines : List (List ℕ)) (rows : List RowsView) (row : ℕ) → AreRowsOf wrapping lines rows → wrapping.tab_len < 2 ^ 8
+    → row < row_total rows → greatest_column wrapping.tab_len (row_at lines rows row) < 2 ^ 56
 
 abbrev pub HasSize : Type 0
 HasSize = (wrapping : Wrapping) (lines : List (List ℕ)) (rows : List RowsView) → AreRowsOf wrapping lines rows → size_total rows ≡ weight (following lines)
@@ -41,13 +52,15 @@ pub record Laws : Type 0 where
 
 -- ---- the wrapping of the lines
 
-wraps_beside : (m : WrapMode) (t w n : ℕ) (numbers : Bool) → m ≢ wrap.None → line_number_columns numbers n + 2 ≤ w → wrapping_for (record { mode = m; tab_len = t; line_numbers = numbers; inner_width = w }) n ≡ record { mode = m; width = w - line_number_columns numbers n - 1; tab_len = t }
+wraps_beside : (m : WrapMode) (t w n : ℕ) (numbers : Bool) → m ≢ wrap.None → line_number_columns numbers n + 2 ≤ w
+    → wrapping_for (record { mode = m; tab_len = t; line_numbers = numbers; inner_width = w }) n ≡ record { mode = m; width = w - line_number_columns numbers n - 1; tab_len = t }
 wraps_beside m t w n numbers wraps h =
     let some : (w == 0) ≡ false = grind (arith, nat_tests) in
     let left : max (w - line_number_columns numbers n - 1) 1 ≡ w - line_number_columns numbers n - 1 = omega (arith, h) in
     by m wraps some left
   where
-    by : (k : WrapMode) → k ≢ wrap.None → (w == 0) ≡ false → max (w - line_number_columns numbers n - 1) 1 ≡ w - line_number_columns numbers n - 1 → wrapping_for (record { mode = k; tab_len = t; line_numbers = numbers; inner_width = w }) n ≡ record { mode = k; width = w - line_number_columns numbers n - 1; tab_len = t }
+    by : (k : WrapMode) → k ≢ wrap.None → (w == 0) ≡ false → max (w - line_number_columns numbers n - 1) 1 ≡ w - line_number_columns numbers n - 1
+        → wrapping_for (record { mode = k; tab_len = t; line_numbers = numbers; inner_width = w }) n ≡ record { mode = k; width = w - line_number_columns numbers n - 1; tab_len = t }
     by wrap.None wraps some left = absurd (wraps refl)
     by wrap.Word wraps some left = rw some (ap (λ (v : ℕ). record { mode = wrap.Word; width = v; tab_len = t }) left)
     by wrap.Glyph wraps some left = rw some (ap (λ (v : ℕ). record { mode = wrap.Glyph; width = v; tab_len = t }) left)
@@ -97,7 +110,10 @@ some_width wrap.WordOrGlyph document width h = omega (arith, h.columns)
 
 -- ---- a row
 
-visible_in : (laws : Laws) (m : WrapMode) (viewport : ViewportState) (inner : Rect) (columns : ℕ) (visual : VisualPosition) → 0 < inner.height → visual.row < 2 ^ 64 → (m ≡ wrap.None → 2 * columns < inner.width) → (m ≡ wrap.None → visual.column + columns < 2 ^ 64) → (m ≢ wrap.None → visual.column + columns < inner.width) → IsSome (caret_at (left_view (viewport_at m viewport inner columns visual) inner columns) visual.row visual.column)
+visible_in : (laws : Laws) (m : WrapMode) (viewport : ViewportState) (inner : Rect) (columns : ℕ) (visual : VisualPosition) → 0 < inner.height
+    → visual.row < 2 ^ 64 → (m ≡ wrap.None → 2 * columns < inner.width) → (m ≡ wrap.None → visual.column + columns < 2 ^ 64)
+    → (m ≢ wrap.None → visual.column + columns < inner.width)
+    → IsSome (caret_at (left_view (viewport_at m viewport inner columns visual) inner columns) visual.row visual.column)
 visible_in laws wrap.None viewport inner columns visual high few wide small beside = laws.visible viewport inner visual.row visual.column columns high (wide refl) few (small refl)
 visible_in laws wrap.Word viewport inner columns visual high few wide small beside = laws.wrapped_visible viewport inner visual.row visual.column columns high (beside (λ e. cc)) few
 visible_in laws wrap.Glyph viewport inner columns visual high few wide small beside = laws.wrapped_visible viewport inner visual.row visual.column columns high (beside (λ e. cc)) few
@@ -128,7 +144,8 @@ module _ (laws : Laws) (new : WidgetState) (rows : BorrowedRows) (view : IsViewO
       let tab : rows.wrapping.tab_len ≡ settings.tab_len = ap (λ (w : Wrapping). w.tab_len) view.wrapping ∙ tab_unchanged (is_wrapped settings) _ _ settings.tab_len refl refl in
       laws.few_columns rows.wrapping rows.lines rows.rows row right (omega (arith, tab, tabs)) below
 
-  within_row : settings.mode ≢ wrap.None → HasWidthForRows new.document settings.inner_width → (row : ℕ) → row < row_total rows.rows → greatest_column rows.wrapping.tab_len (row_at rows.lines rows.rows row) + number_columns new.document < settings.inner_width
+  within_row : settings.mode ≢ wrap.None → HasWidthForRows new.document settings.inner_width → (row : ℕ) → row < row_total rows.rows
+      → greatest_column rows.wrapping.tab_len (row_at rows.lines rows.rows row) + number_columns new.document < settings.inner_width
   within_row wraps room row below =
       let text = lines new.document.text in
       let left = settings.inner_width - number_columns new.document - 1 in
@@ -142,7 +159,8 @@ module _ (laws : Laws) (new : WidgetState) (rows : BorrowedRows) (view : IsViewO
       ap₂ (λ (t : ℕ) (l : List (List ℕ)). greatest_column t (row_at l rows.rows row)) (ap (λ (w : Wrapping). w.tab_len) (view.wrapping ∙ cut)) view.lines in
       omega (arith, bound, same, room.columns)
 
-  module _ (viewport : ViewportState) (inner : Rect) (placement : Placement) (width : settings.inner_width ≡ inner.width) (limit : weight new.document.text < size_limit) (tabs : settings.tab_len < 2 ^ 8) (room : HasRoomForCaret new inner) where
+  module _ (viewport : ViewportState) (inner : Rect) (placement : Placement) (width : settings.inner_width ≡ inner.width)
+      (limit : weight new.document.text < size_limit) (tabs : settings.tab_len < 2 ^ 8) (room : HasRoomForCaret new inner) where
     in_rows : IsPlacementInRows (scene_of new rows) settings.mode viewport inner placement → IsSome placement.caret
     in_rows h =
         let columns = number_width (scene_of new rows) in
@@ -166,7 +184,11 @@ module _ (laws : Laws) (new : WidgetState) (rows : BorrowedRows) (view : IsViewO
 
 -- ---- a drawing
 
-made_visible : (laws : Laws) (old : WidgetState) (inner : Rect) (rows : BorrowedRows) (placement : Placement) → IsViewOf (text_and_layout (with_inner_width old.document inner.width)) rows → IsPlacement (frame_of (at_inner_width old inner.width) rows) old.drawing.viewport inner placement → weight (made old inner placement).document.text < size_limit → (made old inner placement).document.layout.settings.tab_len < 2 ^ 8 → IsCaretVisible (made old inner placement)
+made_visible : (laws : Laws) (old : WidgetState) (inner : Rect) (rows : BorrowedRows) (placement : Placement)
+    → IsViewOf (text_and_layout (with_inner_width old.document inner.width)) rows
+    → IsPlacement (frame_of (at_inner_width old inner.width) rows) old.drawing.viewport inner placement
+    → weight (made old inner placement).document.text < size_limit → (made old inner placement).document.layout.settings.tab_len < 2 ^ 8
+    → IsCaretVisible (made old inner placement)
 made_visible laws old inner rows placement view is_placed limit tabs = λ other other_is room.
     let new = made old inner placement in
     let same : other ≡ inner = last_area_once new.document new.drawing other inner other_is (made_area laws.settings_put old inner placement) in

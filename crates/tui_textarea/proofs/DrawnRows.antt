@@ -8,7 +8,9 @@ IsViewedOnce = (text_layout : TextAndLayout) (view other : BorrowedRows) → IsV
 
 -- a position has one visual row and display column
 abbrev pub HasOneVisualPosition : Type 0
-HasOneVisualPosition = (wrapping : Wrapping) (lines : List (List ℕ)) (rows : List RowsView) (place : Place) (visual other : VisualPosition) → AreRowsOf wrapping lines rows → IsVisualPosition wrapping.tab_len lines rows place visual → IsVisualPosition wrapping.tab_len lines rows place other → visual ≡ other
+HasOneVisualPosition = (wrapping : Wrapping) (lines : List (List ℕ)) (rows : List RowsView) (place : Place) (visual other : VisualPosition)
+    → AreRowsOf wrapping lines rows → IsVisualPosition wrapping.tab_len lines rows place visual → IsVisualPosition wrapping.tab_len lines rows place other
+    → visual ≡ other
 
 -- a visual row and a display column have one position
 abbrev pub IsPlacedOnce : Type 0
@@ -21,7 +23,9 @@ borrowed_right text_layout rows h =
     (subst (λ (l : List (List ℕ)). AreRowsOf (wrapping_of text_layout) l rows.rows) (sym h.lines) h.rows.text_layout)
 
 -- the cursor's visual position in the rows of a view
-pub visual_in : (once : HasOneVisualPosition) (text_layout : TextAndLayout) (rows : BorrowedRows) (place : Place) (visual other : VisualPosition) → IsViewOf text_layout rows → IsVisualPosition rows.wrapping.tab_len rows.lines rows.rows place visual → IsVisualPosition rows.wrapping.tab_len rows.lines rows.rows place other → visual ≡ other
+pub visual_in : (once : HasOneVisualPosition) (text_layout : TextAndLayout) (rows : BorrowedRows) (place : Place) (visual other : VisualPosition)
+    → IsViewOf text_layout rows → IsVisualPosition rows.wrapping.tab_len rows.lines rows.rows place visual
+    → IsVisualPosition rows.wrapping.tab_len rows.lines rows.rows place other → visual ≡ other
 visual_in once text_layout rows place visual other h = once rows.wrapping rows.lines rows.rows place visual other (borrowed_right text_layout rows h)
 
 pub near_once : (once : IsPlacedOnce) (rows : BorrowedRows) (wanted : VisualPosition) (place other : Place) → IsNear rows wanted place → IsNear rows wanted other → place ≡ other

@@ -15,7 +15,7 @@ use Rattle.textarea_search.specs.Starts.{along, is_ahead, starts_from}
 use Rattle.textarea_search.specs.declared.search.direction.Direction.{Direction}
 use Rattle.tui_textarea.specs.Search.{found_match, starts_in}
 use Rattle.tui_textarea.specs.State.{State}
-use Rattle.tui_textarea.proofs.Stepping.{by_test}
+use Rattle.tui_textarea.proofs.Cases.{by_test}
 use Rattle.textarea_search.proofs.ColumnLemmas.{All-along}
 
 -- ---- the number of characters in the first bytes of a line

@@ -14,7 +14,8 @@ use Rattle.textarea_history.proofs.Joins.{right_of}
 fragment_some : (c : ℕ) (cs : List ℕ) → has_symbols (fragment_symbols (c ∷ cs)) ≡ true
 fragment_some c cs = by (c == 10) (c == 13 && begins_with_line_feed cs) cs refl refl
   where
-    by : (feed selection_cancelled : Bool) (after : List ℕ) → (c == 10) ≡ feed → (c == 13 && begins_with_line_feed after) ≡ selection_cancelled → has_symbols (cond feed (Break ∷ []) (cond selection_cancelled [] (Character c ∷ [])) ++ fragment_symbols after) ≡ true
+    by : (feed selection_cancelled : Bool) (after : List ℕ) → (c == 10) ≡ feed → (c == 13 && begins_with_line_feed after) ≡ selection_cancelled
+        → has_symbols (cond feed (Break ∷ []) (cond selection_cancelled [] (Character c ∷ [])) ++ fragment_symbols after) ≡ true
     by true selection_cancelled after e e' = refl
     by false true [] e e' = let no : false ≡ true = right_of (c == 13) false e' in absurd cc
     by false true (d ∷ after) e e' = ap (λ (b : Bool). has_symbols (cond b (Break ∷ []) (cond (d == 13 && begins_with_line_feed after) [] (Character d ∷ [])) ++ fragment_symbols after)) (right_of (c == 13) (d == 10) e')
@@ -54,7 +55,8 @@ replicate_characters : (n c : ℕ) → characters (replicate n c) ≡ replicate 
 replicate_characters zero c = refl
 replicate_characters (suc n) c = ap (λ (t : List Symbol). Character c ∷ t) (replicate_characters n c)
 
-pub spaces_text : {Z : Type 0} (items old : List (String Z)) (fragment_line : String Z) (count : ℕ) → items ≡ old ++ fragment_line ∷ [] → length old ≡ 0 → string_bytes fragment_line ≡ replicate count 32 → text_of items ≡ replicate count (Character 32)
+pub spaces_text : {Z : Type 0} (items old : List (String Z)) (fragment_line : String Z) (count : ℕ) → items ≡ old ++ fragment_line ∷ [] → length old ≡ 0
+    → string_bytes fragment_line ≡ replicate count 32 → text_of items ≡ replicate count (Character 32)
 spaces_text items old fragment_line count is none e =
     ap text_of (is ∙ ap (λ t. t ++ fragment_line ∷ []) (nil_from_length old none))
     ∙ append-nil (characters (characters_of fragment_line))

@@ -109,16 +109,19 @@ rows_with (line ∷ displayed) rows true e = refl
 rows_with (line ∷ displayed) rows false e = absurd cc
 
 -- the placeholder is shown before a drawing if it is shown after it
-shows_before : (old new : State) (area : Rect) (rows : BorrowedRows) (b : Bool) → IsRendered old area new → shows_placeholder (frame_of (widget_of new) rows) ≡ b → (not (has_symbols old.document.text) && has_lines old.surround.placeholder.lines) ≡ b
+shows_before : (old new : State) (area : Rect) (rows : BorrowedRows) (b : Bool) → IsRendered old area new
+    → shows_placeholder (frame_of (widget_of new) rows) ≡ b → (not (has_symbols old.document.text) && has_lines old.surround.placeholder.lines) ≡ b
 shows_before old new area rows b h e =
     ap (λ (t : List Symbol). not (has_symbols t) && has_lines old.surround.placeholder.lines) (ap (λ (d : DocumentState). d.text) (sym (drawn_document old new area h)))
     ∙ ap (λ (s : SurroundState). not (has_symbols new.document.text) && has_lines s.placeholder.lines) (sym (drawn_surround old new area h))
     ∙ e
 
-content : (state : State) (width : ℕ) (measure : TextAreaMeasure) → (h : IsMeasured state width measure) → measure.content_rows ≡ saturated_u16 (visible_row_count state.surround.placeholder.lines h.rows (not (has_symbols state.document.text)))
+content : (state : State) (width : ℕ) (measure : TextAreaMeasure) → (h : IsMeasured state width measure)
+    → measure.content_rows ≡ saturated_u16 (visible_row_count state.surround.placeholder.lines h.rows (not (has_symbols state.document.text)))
 content state width measure h = ap (λ (m : TextAreaMeasure). m.content_rows) h.measure_is
 
-rows_drawn : (texts : KeepsText) (wraps : WrapsAsMeasured) (document : DocumentState) (inner_width : ℕ) (rows : BorrowedRows) → 0 < inner_width → IsViewOf (text_and_layout (with_inner_width document inner_width)) rows → HasRowsAt document inner_width (row_total rows.rows)
+rows_drawn : (texts : KeepsText) (wraps : WrapsAsMeasured) (document : DocumentState) (inner_width : ℕ) (rows : BorrowedRows) → 0 < inner_width
+    → IsViewOf (text_and_layout (with_inner_width document inner_width)) rows → HasRowsAt document inner_width (row_total rows.rows)
 unfolding HasRowsAt
 rows_drawn texts wraps document inner_width rows some k =
     let text_layout = text_and_layout document in
@@ -128,7 +131,10 @@ rows_drawn texts wraps document inner_width rows some k =
     ap (λ (t : List Symbol). wrapping_of (record { text = t; layout = new.layout })) (sym (texts text_layout settings)) ∙ wraps text_layout inner_width some in
     (rows.rows, subst (λ (w : Wrapping). AreRowsOf w (lines document.text) rows.rows) cut k.rows.text_layout, refl)
 
-pub measured_rows : (texts : KeepsText) (wraps : WrapsAsMeasured) (counts : HasOneRowCount) (old new : State) (area : Rect) (measure : TextAreaMeasure) (rows : BorrowedRows) → IsMeasured old area.width measure → IsRendered old area new → 0 < width_inside old.surround.block area.width → IsViewOf (text_and_layout new.document) rows → shows_placeholder (frame_of (widget_of new) rows) ≡ false → measure.content_rows ≡ saturated_u16 (row_total rows.rows)
+pub measured_rows : (texts : KeepsText) (wraps : WrapsAsMeasured) (counts : HasOneRowCount) (old new : State) (area : Rect) (measure : TextAreaMeasure) (rows : BorrowedRows)
+    → IsMeasured old area.width measure → IsRendered old area new → 0 < width_inside old.surround.block area.width
+    → IsViewOf (text_and_layout new.document) rows → shows_placeholder (frame_of (widget_of new) rows) ≡ false
+    → measure.content_rows ≡ saturated_u16 (row_total rows.rows)
 measured_rows texts wraps counts old new area measure rows m h some k e =
     let width = width_inside old.surround.block area.width in
     let drawn : IsViewOf (text_and_layout (with_inner_width old.document width)) rows = subst (λ (d : DocumentState). IsViewOf (text_and_layout d) rows) (drawn_document old new area h) k in
@@ -136,7 +142,9 @@ measured_rows texts wraps counts old new area measure rows m h some k e =
     ∙ ap saturated_u16 (rows_without old.surround.placeholder.lines m.rows (not (has_symbols old.document.text)) (shows_before old new area rows false h e))
     ∙ ap saturated_u16 (counts old.document width m.rows (row_total rows.rows) m.rows_are (rows_drawn texts wraps old.document width rows some drawn))
 
-pub measured_placeholder : (old new : State) (area : Rect) (measure : TextAreaMeasure) (rows : BorrowedRows) → IsMeasured old area.width measure → IsRendered old area new → shows_placeholder (frame_of (widget_of new) rows) ≡ true → measure.content_rows ≡ saturated_u16 (length new.surround.placeholder.lines)
+pub measured_placeholder : (old new : State) (area : Rect) (measure : TextAreaMeasure) (rows : BorrowedRows) → IsMeasured old area.width measure
+    → IsRendered old area new → shows_placeholder (frame_of (widget_of new) rows) ≡ true
+    → measure.content_rows ≡ saturated_u16 (length new.surround.placeholder.lines)
 measured_placeholder old new area measure rows m h e =
     content old area.width measure m
     ∙ ap saturated_u16 (rows_with old.surround.placeholder.lines m.rows (not (has_symbols old.document.text)) (shows_before old new area rows true h e))

@@ -21,6 +21,8 @@ mod Removing
 mod Targets
 mod FoundPlaces
 mod StaysSound
+mod SoundStates
+mod Cases
 mod WrappedLines
 mod Stepping
 mod RangesOverActions

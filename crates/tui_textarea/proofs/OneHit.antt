@@ -1,7 +1,9 @@
 -- A cell shows at most one position.
 use Rattle.std.proofs.Common.{◌≡◌, ◌↔◌, ℕ, Bool, true, false, Option, None, Some, refl, sym, subst, ap, ap₂, ◌∙◌, inl, inr, arith}
 use Rattle.std.proofs.lemmas.Bool.Decides.{nat_tests}
-use Rattle.tui_textarea.specs.DrawingPrelude.{is_some, text_and_layout, WidgetState, frame_of, FrameState, number_width, shows_placeholder, IsHitTest, IsLastArea, IsHitBy, IsHitInRows, IsHitOf, IsHitWith, IsNear, VisualPosition, greatest_at, IsStart, HasRowView, row_area, row_view, BorrowedRows, RowArea, IsRowStart, SceneState, contains, Alignment, Left, Center, Right, Rect, Place, hit_column, ViewportState, RowView}
+use Rattle.tui_textarea.specs.DrawingPrelude.{is_some, text_and_layout, WidgetState, frame_of, FrameState, number_width, shows_placeholder, IsHitTest, IsLastArea, IsHitBy}
+use Rattle.tui_textarea.specs.DrawingPrelude.{IsHitInRows, IsHitOf, IsHitWith, IsNear, VisualPosition, greatest_at, IsStart, HasRowView, row_area, row_view, BorrowedRows, RowArea}
+use Rattle.tui_textarea.specs.DrawingPrelude.{IsRowStart, SceneState, contains, Alignment, Left, Center, Right, Rect, Place, hit_column, ViewportState, RowView}
 use Rattle.tui_textarea.proofs.DrawnRows.{IsPlacedOnce, IsViewedOnce, near_once}
 use Rattle.tui_textarea.specs.Drawing.{widget_of}
 use Rattle.tui_textarea.specs.Hit.{IsWithoutCell}
@@ -33,18 +35,21 @@ some_same row other found e f = cc (e, f)
 abbrev pub wanted_at : BorrowedRows → ℕ → ℕ → RowView → VisualPosition
 wanted_at rows x row view = record { row = row; column = hit_column view (greatest_at rows row) x }
 
-in_rows_once : (placed_once : IsPlacedOnce) (begins_once : BeginsOnce) (scene : SceneState) (viewport : ViewportState) (inner : Rect) (x y : ℕ) (place other : Place) → IsHitInRows scene viewport inner x y place → IsHitInRows scene viewport inner x y other → place ≡ other
+in_rows_once : (placed_once : IsPlacedOnce) (begins_once : BeginsOnce) (scene : SceneState) (viewport : ViewportState) (inner : Rect) (x y : ℕ) (place other : Place)
+    → IsHitInRows scene viewport inner x y place → IsHitInRows scene viewport inner x y other → place ≡ other
 in_rows_once placed_once begins_once scene viewport inner x y place other h k =
     let row : k.row ≡ h.row = some_same h.row k.row _ h.row_is k.row_is in
     let view : k.view ≡ h.view = lies_once begins_once scene viewport inner h.row k.view h.view (subst (λ (r : ℕ). HasRowView scene viewport inner r k.view) row k.view_is) h.view_is in
     near_once placed_once scene.rows (wanted_at scene.rows x h.row h.view) place other h.near
     (subst (λ (wanted : VisualPosition). IsNear scene.rows wanted other) (ap₂ (wanted_at scene.rows x) row view) k.near)
 
-hit_with_once : (placed_once : IsPlacedOnce) (begins_once : BeginsOnce) (b : Bool) (frame : FrameState) (viewport : ViewportState) (inner : Rect) (x y : ℕ) (place other : Place) → IsHitWith b frame viewport inner x y place → IsHitWith b frame viewport inner x y other → place ≡ other
+hit_with_once : (placed_once : IsPlacedOnce) (begins_once : BeginsOnce) (b : Bool) (frame : FrameState) (viewport : ViewportState) (inner : Rect) (x y : ℕ) (place other : Place)
+    → IsHitWith b frame viewport inner x y place → IsHitWith b frame viewport inner x y other → place ≡ other
 hit_with_once placed_once begins_once true frame viewport inner x y place other h k = h ∙ sym k
 hit_with_once placed_once begins_once false frame viewport inner x y place other h k = in_rows_once placed_once begins_once frame.scene viewport inner x y place other h k
 
-hit_by_once : (placed_once : IsPlacedOnce) (begins_once : BeginsOnce) (b : Bool) (frame : FrameState) (viewport : ViewportState) (inner : Rect) (x y : ℕ) (found other : Option Place) → IsHitBy b frame viewport inner x y found → IsHitBy b frame viewport inner x y other → found ≡ other
+hit_by_once : (placed_once : IsPlacedOnce) (begins_once : BeginsOnce) (b : Bool) (frame : FrameState) (viewport : ViewportState) (inner : Rect) (x y : ℕ) (found other : Option Place)
+    → IsHitBy b frame viewport inner x y found → IsHitBy b frame viewport inner x y other → found ≡ other
 hit_by_once placed_once begins_once false frame viewport inner x y found other h k = h ∙ sym k
 hit_by_once placed_once begins_once true frame viewport inner x y found other h k =
     h.1 ∙ ap Some (hit_with_once placed_once begins_once (shows_placeholder frame) frame viewport inner x y h.0 k.0 h.2 k.2) ∙ sym k.1

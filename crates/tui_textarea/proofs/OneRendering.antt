@@ -1,6 +1,8 @@
 -- A drawing leads to one state.
 use Rattle.std.proofs.Common.{◌≡◌, ℕ, Bool, true, false, Option, sym, subst, ap, ap₂, ◌∙◌}
-use Rattle.tui_textarea.specs.DrawingPrelude.{text_and_layout, with_inner_width, WidgetState, frame_of, FrameState, number_width, shows_placeholder, IsPlacement, IsPlacementInRows, IsPlacementWith, HasRowView, Placement, viewport_at, IsWidgetRendered, at_inner_width, drawn_into, BorrowedRows, IsViewOf, AreRowsOf, SceneState, Rect, VisualPosition, caret_at, ViewportState, RowView, WrapMode}
+use Rattle.tui_textarea.specs.DrawingPrelude.{text_and_layout, with_inner_width, WidgetState, frame_of, FrameState, number_width, shows_placeholder, IsPlacement, IsPlacementInRows}
+use Rattle.tui_textarea.specs.DrawingPrelude.{IsPlacementWith, HasRowView, Placement, viewport_at, IsWidgetRendered, at_inner_width, drawn_into, BorrowedRows, IsViewOf, AreRowsOf}
+use Rattle.tui_textarea.specs.DrawingPrelude.{SceneState, Rect, VisualPosition, caret_at, ViewportState, RowView, WrapMode}
 use Rattle.tui_textarea.proofs.DrawnRows.{HasOneVisualPosition, IsViewedOnce, borrowed_right}
 use Rattle.tui_textarea.proofs.OneHit.{BeginsOnce, lies_once}
 use Rattle.tui_textarea.proofs.Rects.{inner_once}
@@ -9,7 +11,8 @@ use Rattle.tui_textarea.proofs.Rects.{inner_once}
 abbrev HasRightRows : SceneState → Type 0
 HasRightRows scene = AreRowsOf scene.rows.wrapping scene.rows.lines scene.rows.rows
 
-in_rows_once : (one_visual_position : HasOneVisualPosition) (begins_once : BeginsOnce) (scene : SceneState) (mode : WrapMode) (viewport : ViewportState) (inner : Rect) (placement other : Placement) → HasRightRows scene → IsPlacementInRows scene mode viewport inner placement → IsPlacementInRows scene mode viewport inner other → placement ≡ other
+in_rows_once : (one_visual_position : HasOneVisualPosition) (begins_once : BeginsOnce) (scene : SceneState) (mode : WrapMode) (viewport : ViewportState) (inner : Rect) (placement other : Placement)
+    → HasRightRows scene → IsPlacementInRows scene mode viewport inner placement → IsPlacementInRows scene mode viewport inner other → placement ≡ other
 in_rows_once one_visual_position begins_once scene mode viewport inner placement other right h k =
     let visual : h.visual ≡ k.visual = one_visual_position scene.rows.wrapping scene.rows.lines scene.rows.rows scene.cursor h.visual k.visual right h.visual_is k.visual_is in
     let displayed : placement.viewport ≡ other.viewport = h.viewport_is ∙ ap (viewport_at mode viewport inner (number_width scene)) visual ∙ sym k.viewport_is in
@@ -20,7 +23,8 @@ in_rows_once one_visual_position begins_once scene mode viewport inner placement
     let caret : placement.caret ≡ other.caret = h.caret_is ∙ ap₂ (λ (v : RowView) (p : VisualPosition). caret_at v p.row p.column) view visual ∙ sym k.caret_is in
     ap₂ (λ (v : ViewportState) (c : Option (ℕ × ℕ)). record { viewport = v; caret = c }) displayed caret
 
-placed_with_once : (one_visual_position : HasOneVisualPosition) (begins_once : BeginsOnce) (b : Bool) (frame : FrameState) (viewport : ViewportState) (inner : Rect) (placement other : Placement) → HasRightRows frame.scene → IsPlacementWith b frame viewport inner placement → IsPlacementWith b frame viewport inner other → placement ≡ other
+placed_with_once : (one_visual_position : HasOneVisualPosition) (begins_once : BeginsOnce) (b : Bool) (frame : FrameState) (viewport : ViewportState) (inner : Rect) (placement other : Placement)
+    → HasRightRows frame.scene → IsPlacementWith b frame viewport inner placement → IsPlacementWith b frame viewport inner other → placement ≡ other
 placed_with_once one_visual_position begins_once true frame viewport inner placement other right h k = h ∙ sym k
 placed_with_once one_visual_position begins_once false frame viewport inner placement other right h k =
     in_rows_once one_visual_position begins_once frame.scene frame.mode viewport inner placement other right h k
@@ -29,7 +33,8 @@ placed_with_once one_visual_position begins_once false frame viewport inner plac
 abbrev IsPlacedAt : WidgetState → Rect → Placement → Type 0
 IsPlacedAt old inner placement = (rows : BorrowedRows) × IsViewOf (text_and_layout (with_inner_width old.document inner.width)) rows × IsPlacement (frame_of (at_inner_width old inner.width) rows) old.drawing.viewport inner placement
 
-placed_once : (viewed_once : IsViewedOnce) (one_visual_position : HasOneVisualPosition) (begins_once : BeginsOnce) (old : WidgetState) (inner : Rect) (placement other : Placement) → IsPlacedAt old inner placement → IsPlacedAt old inner other → placement ≡ other
+placed_once : (viewed_once : IsViewedOnce) (one_visual_position : HasOneVisualPosition) (begins_once : BeginsOnce) (old : WidgetState) (inner : Rect) (placement other : Placement)
+    → IsPlacedAt old inner placement → IsPlacedAt old inner other → placement ≡ other
 placed_once viewed_once one_visual_position begins_once old inner placement other h k =
     let text_layout = text_and_layout (with_inner_width old.document inner.width) in
     let frame = frame_of (at_inner_width old inner.width) h.0 in
@@ -40,7 +45,8 @@ placed_once viewed_once one_visual_position begins_once old inner placement othe
 abbrev after_drawing : WidgetState → Rect → Placement → WidgetState
 after_drawing old inner placement = record (at_inner_width old inner.width) { drawing = drawn_into old.drawing inner placement }
 
-pub rendered_once : (viewed_once : IsViewedOnce) (one_visual_position : HasOneVisualPosition) (begins_once : BeginsOnce) (old first second : WidgetState) (area : Rect) → IsWidgetRendered old area first → IsWidgetRendered old area second → first ≡ second
+pub rendered_once : (viewed_once : IsViewedOnce) (one_visual_position : HasOneVisualPosition) (begins_once : BeginsOnce) (old first second : WidgetState) (area : Rect)
+    → IsWidgetRendered old area first → IsWidgetRendered old area second → first ≡ second
 rendered_once viewed_once one_visual_position begins_once old first second area h k =
     let inner : h.inner ≡ k.inner = inner_once old.surround.block area h.inner k.inner h.inner_is k.inner_is in
     let placement : h.placement ≡ k.placement =

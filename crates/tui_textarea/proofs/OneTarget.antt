@@ -19,7 +19,8 @@ IsFoundOnce Finds = (document : DocumentState) (found other : Option Place) → 
 abbrev pub IsInsideOnce : Type 0
 IsInsideOnce = (document : DocumentState) (viewport : ViewportState) (place other : Place) → IsNearestVisible document viewport place → IsNearestVisible document viewport other → place ≡ other
 
-pub one_target : (state : State) (cursor_move : CursorMove) (found other : Option Place) → IsFoundOnce IsAboveCursor → IsFoundOnce IsBelowCursor → IsInsideOnce → IsTarget state cursor_move found → IsTarget state cursor_move other → found ≡ other
+pub one_target : (state : State) (cursor_move : CursorMove) (found other : Option Place) → IsFoundOnce IsAboveCursor → IsFoundOnce IsBelowCursor → IsInsideOnce
+    → IsTarget state cursor_move found → IsTarget state cursor_move other → found ≡ other
 one_target state move.Up found other above below inside h k = above state.document found other h k
 one_target state move.Down found other above below inside h k = below state.document found other h k
 one_target state move.InViewport found other above below inside h k = h.1 ∙ ap Some (inside state.document state.drawing.viewport h.0 k.0 h.2 k.2) ∙ sym k.1

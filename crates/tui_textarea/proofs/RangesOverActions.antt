@@ -2,10 +2,10 @@
 use Rattle.std.proofs.Common.{◌≡◌, ℕ, Bool, List, [], ◌∷◌, Option, None, Some, ap, refl, sym, subst, ◌∙◌}
 use Rattle.textarea_history.specs.Log.{newest, next}
 use Rattle.textarea_screen.specs.declared.screen.rect.Rect.{Rect}
-use Rattle.textarea_text.specs.Splice.{Splice, IsTextBefore, inverse}
-use Rattle.textarea_document.specs.Edits.{HasEffect, EditStep, splice_of_step, stepped}
+use Rattle.textarea_text.specs.Splice.{Fits, Splice, IsTextBefore, inverse}
 use Rattle.textarea_document.specs.RangesOverSplices.{RangesFollowSplices, RangesStayWhole}
-use Rattle.textarea_document.specs.Outcomes.{after_redo, after_redo_by, after_undo, after_undo_by}
+use Rattle.textarea_document.specs.Ranges.{SplitsNoRange}
+use Rattle.textarea_document.specs.Outcomes.{after_edit, after_redo, after_redo_by, after_undo, after_undo_by}
 use Rattle.textarea_document.specs.Sound.{IsSound}
 use Rattle.textarea_document.specs.Splices.{redo_splices_by, undo_splices_by}
 use Rattle.textarea_document.specs.DocumentState.{DocumentState}
@@ -16,9 +16,10 @@ use Rattle.tui_textarea.proofs.Frames.{drawn_document}
 use Rattle.tui_textarea.proofs.Acting.{Past}
 use Rattle.tui_textarea.proofs.Stepping.{Reckoning, LayoutAndRanges, layout_and_ranges}
 
--- the law of documents for a step, an undo and a redo
-abbrev pub StepsGo : Type 0
-StepsGo = (document : DocumentState) (step : EditStep) (typed : Bool) (now : ℕ) → IsSound document → HasEffect document step → RangesStayWhole document (splice_of_step document step ∷ []) (stepped document step typed now)
+-- the law of documents for an edit, an undo and a redo
+abbrev pub EditsGo : Type 0
+EditsGo = (document : DocumentState) (splice : Splice) (typed : Bool) (now : ℕ) → Fits document.text splice → SplitsNoRange document.ranges splice
+    → RangesStayWhole document (splice ∷ []) (after_edit document splice typed now)
 
 abbrev pub UndosGo : Type 0
 UndosGo = (document : DocumentState) (splice : Splice) → IsSound document → newest document.log ≡ Some splice → RangesFollowSplices document (inverse splice ∷ []) (after_undo document)
@@ -39,8 +40,8 @@ follows_as old new other splices same h = (
   h.1,
 )
 
-pub reckoning_of : StepsGo → Reckoning RangesStayWhole
-reckoning_of steps = record { none = still; same = follows_as; two = ranges_stay_on; one = steps }
+pub reckoning_of : EditsGo → Reckoning RangesStayWhole
+reckoning_of edits = record { none = still; same = follows_as; two = ranges_stay_on; one = edits }
 
 -- ---- undo and redo
 

@@ -21,12 +21,12 @@ use Rattle.tui_textarea.specs.CallSplices.{OfSplicesOutOfMemory, splices_of, spl
 use Rattle.textarea_calls.specs.declared.call.Call.{Call}
 use Rattle.textarea_calls.specs.declared.call.Call.TheVariants as call
 use Rattle.tui_textarea.proofs.Acting.{ByAct, ByCall, acts_by, calls_by, calls_left}
-use Rattle.tui_textarea.proofs.RangesOverActions.{RedosGo, StepsGo, UndosGo, ranges_stay_in_drawing, reckoning_of, past_follows}
+use Rattle.tui_textarea.proofs.RangesOverActions.{RedosGo, EditsGo, UndosGo, ranges_stay_in_drawing, reckoning_of, past_follows}
 
 -- ---- the laws of the text area
 
 pub record TheLaws : Type 0 where
-  pub stepped : StepsGo
+  pub edited : EditsGo
   pub undone : UndosGo
   pub redone : RedosGo
 
@@ -37,7 +37,8 @@ unchanged old new outcome is text ranges =
     stays old.document new.document (ap (λ (s : State). s.document.text) is ∙ text) (ap (λ (s : State). s.document.ranges) is ∙ ranges)
 
 -- ranges that are set, where none is rejected
-set_ranges : (old new : State) (ranges : Bor (List AtomicRange)) (rejected : List RejectedAtomicRange) (returned : CallResult) → returned ≡ ranges_result rejected → new ≡ with_ranges_if rejected old ranges.now → RangesFollowCall old (call.TrySetAtomicRanges ranges) returned new
+set_ranges : (old new : State) (ranges : Bor (List AtomicRange)) (rejected : List RejectedAtomicRange) (returned : CallResult)
+    → returned ≡ ranges_result rejected → new ≡ with_ranges_if rejected old ranges.now → RangesFollowCall old (call.TrySetAtomicRanges ranges) returned new
 set_ranges old new ranges [] returned e k =
     subst (λ (a : CallResult). RangesFollowCall old (call.TrySetAtomicRanges ranges) a new) (sym e)
     (record { text = ap (λ (s : State). s.document.text) k; ranges = ap (λ (s : State). s.document.ranges) k })
@@ -64,7 +65,7 @@ follows_by_action asked old new splices h = h
 
 module _ (laws : TheLaws) where
   ranges_follow : (old new : State) (made : Call) (returned : CallResult) → IsSound old.document → IsAfterCall old made returned new → ByCall RangesStayWhole RangesFollowSplices made old.document (splices_of old made) new.document
-  ranges_follow old new made returned h k = calls_by RangesStayWhole RangesFollowSplices (reckoning_of laws.stepped) (past_follows laws.undone laws.redone) old new made returned h k
+  ranges_follow old new made returned h k = calls_by RangesStayWhole RangesFollowSplices (reckoning_of laws.edited) (past_follows laws.undone laws.redone) old new made returned h k
 
   pub ranges_follow_call : (old new : State) (made : Call) (returned : CallResult) → IsSound old.document → IsResultOf old made returned → IsAfterCall old made returned new → RangesFollowCall old made returned new
   ranges_follow_call old new (call.SetLines lines cursor) returned h e k = ap (λ (s : State). s.document.ranges) k
@@ -81,13 +82,13 @@ module _ (laws : TheLaws) where
   ranges_follow_call old new made returned h e k = ranges_follow old new made returned h k
 
   pub out_of_memory_follows : (old new : State) (made : Call) → IsSound old.document → IsAfterOutOfMemory old made new → LeftUnwrapped old new
-  out_of_memory_follows old new made h k = calls_left RangesStayWhole RangesFollowSplices (reckoning_of laws.stepped) (past_follows laws.undone laws.redone) old new made h k
+  out_of_memory_follows old new made h k = calls_left RangesStayWhole (reckoning_of laws.edited) old new made h k
 
   -- ---- the splices of each call, in any case
 
   inputs_go : (old new : State) (asked : Action) → IsSound old.document → IsAfterAction old asked new → RangesFollowAction asked old.document (splices_by old asked) new.document
   inputs_go old new asked h k =
-      follows_by_action asked old.document new.document _ (acts_by RangesStayWhole RangesFollowSplices (reckoning_of laws.stepped) (past_follows laws.undone laws.redone) old new asked h k)
+      follows_by_action asked old.document new.document _ (acts_by RangesStayWhole RangesFollowSplices (reckoning_of laws.edited) (past_follows laws.undone laws.redone) old new asked h k)
 
   act_fits : (state : State) (asked : Action) → IsSound state.document → Fitting state (IsUndoOrRedoAct asked) (splices_by state asked)
   act_fits state action.Undo h = ((inputs_go state (with_document state (after_undo state.document)) action.Undo h refl).text.can, λ no. absurd (no tt))

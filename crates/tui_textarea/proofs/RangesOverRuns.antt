@@ -131,7 +131,8 @@ StaysOrIsDropped document splices range =
     ((carried : AtomicRange) × (carried_range (Some range) (map underlying splices) ≡ Some carried) × Contains (ranges_over document.ranges (map underlying splices)) carried)
     ⊎ OneDrops splices range
 
-one_stays : (document : DocumentState) (splice : Splice) (range : AtomicRange) → CanApply document.text (splice ∷ []) → Contains document.ranges range → IsCarriedTo range (splice ∷ []) (spliced document splice) ⊎ IsDroppedBy range (splice ∷ [])
+one_stays : (document : DocumentState) (splice : Splice) (range : AtomicRange) → CanApply document.text (splice ∷ []) → Contains document.ranges range
+    → IsCarriedTo range (splice ∷ []) (spliced document splice) ⊎ IsDroppedBy range (splice ∷ [])
 one_stays document splice range can stored =
     let new = spliced document splice in
     let follow : RangesFollowSplices document (splice ∷ []) new = record { text = record { can = can; leads = refl }; ranges = refl } in
@@ -146,7 +147,8 @@ drops_by : (ranges : List AtomicRange) (made : CallSplice) (range : AtomicRange)
 drops_by ranges (OfUndoOrRedo splice) range whole stored disturbs = disturbs
 drops_by ranges (OfEdit splice) range whole stored disturbs = only_removed ranges splice range whole stored ((dropped splice range).1 disturbs)
 
-stays_or_dropped : (document : DocumentState) (splices : List CallSplice) (range : AtomicRange) → CanApply document.text (map underlying splices) → AllKeepWhole document.ranges splices → Contains document.ranges range → StaysOrIsDropped document splices range
+stays_or_dropped : (document : DocumentState) (splices : List CallSplice) (range : AtomicRange) → CanApply document.text (map underlying splices)
+    → AllKeepWhole document.ranges splices → Contains document.ranges range → StaysOrIsDropped document splices range
 stays_or_dropped document [] range can whole stored = inl (range, refl, stored)
 stays_or_dropped document (made ∷ rest) range can whole stored =
     let splice = underlying made in
@@ -191,7 +193,9 @@ NoneSetsRanges-append [] (a ∷ results) made returned h none = absurd h
 NoneSetsRanges-append (c ∷ calls) [] made returned h none = absurd h
 NoneSetsRanges-append (c ∷ calls) (a ∷ results) made returned h none = (h.0, NoneSetsRanges-append calls results made returned h.1 none)
 
-LeadsBy-append : (old mid new : State) (buffer screen displayed : Buffer) (calls : List Call) (results : List CallResult) (splices : List CallSplice) (made : Call) (returned : CallResult) → LeadsBy old buffer calls results splices mid screen → CallLeads mid screen made returned new displayed → LeadsBy old buffer (calls ++ made ∷ []) (results ++ returned ∷ []) (splices ++ marked_splices mid made) new displayed
+LeadsBy-append : (old mid new : State) (buffer screen displayed : Buffer) (calls : List Call) (results : List CallResult) (splices : List CallSplice) (made : Call) (returned : CallResult)
+    → LeadsBy old buffer calls results splices mid screen → CallLeads mid screen made returned new displayed
+    → LeadsBy old buffer (calls ++ made ∷ []) (results ++ returned ∷ []) (splices ++ marked_splices mid made) new displayed
 LeadsBy-append old mid new buffer screen displayed [] [] splices made returned so_far makes = (
   new,
   displayed,
@@ -244,7 +248,9 @@ at_start old buffer sound = record {
 }
 
 -- a call that replaces the ranges
-ranges_set_again : (old mid new : State) (buffer screen displayed : Buffer) (calls : List Call) (results : List CallResult) (made : Call) (returned : CallResult) → IsSound new.document → Leads old buffer calls results mid screen → CallLeads mid screen made returned new displayed → SetsRanges made returned → SoFar old buffer (calls ++ made ∷ []) (results ++ returned ∷ []) new displayed
+ranges_set_again : (old mid new : State) (buffer screen displayed : Buffer) (calls : List Call) (results : List CallResult) (made : Call) (returned : CallResult)
+    → IsSound new.document → Leads old buffer calls results mid screen → CallLeads mid screen made returned new displayed → SetsRanges made returned
+    → SoFar old buffer (calls ++ made ∷ []) (results ++ returned ∷ []) new displayed
 ranges_set_again old mid new buffer screen displayed calls results made returned sound led makes gives = record {
   led = Leads-append old mid new buffer screen displayed calls results made returned led makes;
   since = record {
@@ -268,7 +274,9 @@ ranges_set_again old mid new buffer screen displayed calls results made returned
 }
 
 -- a call over which the ranges move
-gone_on : (old mid new : State) (buffer screen displayed : Buffer) (calls : List Call) (results : List CallResult) (made : Call) (returned : CallResult) → CallLeads mid screen made returned new displayed → ¬ SetsRanges made returned → Goes mid.document (marked_splices mid made) new.document → IsSound new.document → SoFar old buffer calls results mid screen → SoFar old buffer (calls ++ made ∷ []) (results ++ returned ∷ []) new displayed
+gone_on : (old mid new : State) (buffer screen displayed : Buffer) (calls : List Call) (results : List CallResult) (made : Call) (returned : CallResult)
+    → CallLeads mid screen made returned new displayed → ¬ SetsRanges made returned → Goes mid.document (marked_splices mid made) new.document
+    → IsSound new.document → SoFar old buffer calls results mid screen → SoFar old buffer (calls ++ made ∷ []) (results ++ returned ∷ []) new displayed
 gone_on old mid new buffer screen displayed calls results made returned makes none on sound h =
     let since = h.since in
     record {
@@ -294,7 +302,9 @@ gone_on old mid new buffer screen displayed calls results made returned makes no
     }
 
 module _ (laws : TheLaws) where
-  one_more : (old mid new : State) (buffer screen displayed : Buffer) (calls : List Call) (results : List CallResult) (made : Call) (returned : CallResult) → CanBeMade made → CallLeads mid screen made returned new displayed → SoFar old buffer calls results mid screen → SoFar old buffer (calls ++ made ∷ []) (results ++ returned ∷ []) new displayed
+  one_more : (old mid new : State) (buffer screen displayed : Buffer) (calls : List Call) (results : List CallResult) (made : Call) (returned : CallResult)
+      → CanBeMade made → CallLeads mid screen made returned new displayed → SoFar old buffer calls results mid screen
+      → SoFar old buffer (calls ++ made ∷ []) (results ++ returned ∷ []) new displayed
   one_more old mid new buffer screen displayed calls results made returned can makes h =
       let sound = laws.sound mid new made returned h.sound_now can makes.after in
       let on = laws.follow mid new made returned h.sound_now makes.answered makes.after in
@@ -303,7 +313,9 @@ module _ (laws : TheLaws) where
         | inr none ↦ gone_on old mid new buffer screen displayed calls results made returned makes none (goes_by_call mid new made returned none on) sound h
       ]
 
-  so_far : (old mid new : State) (buffer screen displayed : Buffer) (before calls : List Call) (given results : List CallResult) → All CanBeMade calls → Leads mid screen calls results new displayed → SoFar old buffer before given mid screen → SoFar old buffer (before ++ calls) (given ++ results) new displayed
+  so_far : (old mid new : State) (buffer screen displayed : Buffer) (before calls : List Call) (given results : List CallResult) → All CanBeMade calls
+      → Leads mid screen calls results new displayed → SoFar old buffer before given mid screen
+      → SoFar old buffer (before ++ calls) (given ++ results) new displayed
   so_far old mid new buffer screen displayed before [] given [] can led h =
       subst (λ (c : List Call). SoFar old buffer c (given ++ []) new displayed) (sym (append-nil before))
       (subst (λ (r : List CallResult). SoFar old buffer before r new displayed) (sym (append-nil given))
@@ -328,7 +340,8 @@ module _ (laws : TheLaws) where
     ];
   }
 
-  over_each : (old new : State) (buffer displayed : Buffer) (calls : List Call) (results : List CallResult) → IsSound old.document → All CanBeMade calls → Leads old buffer calls results new displayed → RangesOverCalls old buffer calls results new displayed
+  over_each : (old new : State) (buffer displayed : Buffer) (calls : List Call) (results : List CallResult) → IsSound old.document → All CanBeMade calls
+      → Leads old buffer calls results new displayed → RangesOverCalls old buffer calls results new displayed
   over_each old new buffer displayed [] [] sound can led = led
   over_each old new buffer displayed [] (returned ∷ results) sound can led = absurd led
   over_each old new buffer displayed (made ∷ calls) [] sound can led = absurd led
@@ -344,7 +357,9 @@ module _ (laws : TheLaws) where
 
   -- ---- a whole run
 
-  ranges_left : (old mid new : State) (buffer screen : Buffer) (calls : List Call) (results : List CallResult) (left : List Splice) → IsSound old.document → All CanBeMade calls → Leads old buffer calls results mid screen → (left ≡ []) ⊎ (left ≡ selected_splices mid.document) → RangesStayWhole mid.document left new.document → RangesInRun old buffer calls results left new
+  ranges_left : (old mid new : State) (buffer screen : Buffer) (calls : List Call) (results : List CallResult) (left : List Splice) → IsSound old.document
+      → All CanBeMade calls → Leads old buffer calls results mid screen → (left ≡ []) ⊎ (left ≡ selected_splices mid.document)
+      → RangesStayWhole mid.document left new.document → RangesInRun old buffer calls results left new
   ranges_left old mid new buffer screen calls results left sound can led left_are on =
       let h = so_far old old mid buffer buffer screen [] calls [] results can led (at_start old buffer sound) in
       record {
@@ -357,7 +372,9 @@ module _ (laws : TheLaws) where
             (goes_on h.since.then.document mid.document new.document h.since.splices (map OfEdit left) h.goes (goes_by_edits mid.document new.document left on));
       }
 
-  in_run : (old mid new : State) (buffer screen : Buffer) (calls : List Call) (results : List CallResult) → IsSound old.document → All CanBeMade calls → Leads old buffer calls results mid screen → OfSplicesOutOfMemory mid (λ splices. RangesStayWhole mid.document splices new.document) → (left : List Splice) × RangesInRun old buffer calls results left new
+  in_run : (old mid new : State) (buffer screen : Buffer) (calls : List Call) (results : List CallResult) → IsSound old.document → All CanBeMade calls
+      → Leads old buffer calls results mid screen → OfSplicesOutOfMemory mid (λ splices. RangesStayWhole mid.document splices new.document)
+      → (left : List Splice) × RangesInRun old buffer calls results left new
   in_run old mid new buffer screen calls results sound can led on =
       elim on [
         | inl none ↦ ([], ranges_left old mid new buffer screen calls results [] sound can led (inl refl) none)
@@ -365,7 +382,8 @@ module _ (laws : TheLaws) where
       ]
 
   -- the calls that have results
-  counted : (old new : State) (buffer : Buffer) (calls made : List Call) (results : List Answer) → take (length results) calls ≡ made → (left : List Splice) × RangesInRun old buffer made (map call_result results) left new → RangesOfRun old buffer calls results new
+  counted : (old new : State) (buffer : Buffer) (calls made : List Call) (results : List Answer) → take (length results) calls ≡ made
+      → (left : List Splice) × RangesInRun old buffer made (map call_result results) left new → RangesOfRun old buffer calls results new
   counted old new buffer calls made results same h =
       (h.0, subst (λ (c : List Call). RangesInRun old buffer c (map call_result results) h.0 new) (sym same) h.1)
 
@@ -378,7 +396,8 @@ module _ (laws : TheLaws) where
   unmoved : (state : State) → OfSplicesOutOfMemory state (λ splices. RangesStayWhole state.document splices state.document)
   unmoved state = inl (stays state.document state.document refl refl)
 
-  pub ranges_follow_run : (calls : List Call) (results : List Answer) (refused : Option ℕ) (old new : State) (buffer displayed : Buffer) → IsSound old.document → All CanBeMade calls → Run old buffer calls results refused new displayed → RangesOfRun old buffer calls results new
+  pub ranges_follow_run : (calls : List Call) (results : List Answer) (refused : Option ℕ) (old new : State) (buffer displayed : Buffer) → IsSound old.document
+      → All CanBeMade calls → Run old buffer calls results refused new displayed → RangesOfRun old buffer calls results new
   ranges_follow_run calls results None old new buffer displayed sound can led =
       let many = as_many old new buffer displayed calls (map call_result results) led in
       counted old new buffer calls calls results (take_all (length results) calls (omega (arith, many, length-map results call_result)))

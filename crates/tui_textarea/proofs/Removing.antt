@@ -44,7 +44,8 @@ selected_made document h selected =
 
 -- ---- the range at the cursor
 
-pub range_removal_made : (document : DocumentState) (direction : AtomicDeleteDirection) (range : AtomicRange) → IsSound document → range_at_cursor document direction ≡ Some range → HasEffect document (Remove (range_start range) (range_end range))
+pub range_removal_made : (document : DocumentState) (direction : AtomicDeleteDirection) (range : AtomicRange) → IsSound document
+    → range_at_cursor document direction ≡ Some range → HasEffect document (Remove (range_start range) (range_end range))
 range_removal_made document direction range h is =
     let stored : IsStoredRange document.text range = subst (λ (found : Option AtomicRange). IfSome found (IsStoredRange document.text)) is (range_is_stored document.text document.ranges document.cursor direction h.ranges) in
     (stored.start_is, stored.end_is, stored.ordered)
@@ -59,7 +60,8 @@ index_is_place text index within =
       ap (λ t. index_of t (end (0, 0) front)) (sym whole) ∙ index_of-end front (drop index text) ∙ length-take-le index text within,
     )
 
-pub ahead_made : (document : DocumentState) (count : ℕ) → IsSound document → nat_lt (cursor_index document) (index_ahead document count) ≡ true → HasEffect document (Remove document.cursor (place_of document.text (index_ahead document count)))
+pub ahead_made : (document : DocumentState) (count : ℕ) → IsSound document → nat_lt (cursor_index document) (index_ahead document count) ≡ true
+    → HasEffect document (Remove document.cursor (place_of document.text (index_ahead document count)))
 ahead_made document count h some =
     let less : cursor_index document < index_ahead document count = grind (arith, nat_tests) in
     let to = index_is_place document.text (index_ahead document count) (omega arith) in

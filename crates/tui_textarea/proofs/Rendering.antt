@@ -1,6 +1,7 @@
 -- The state after a drawing, from its steps.
 use Rattle.std.proofs.Common.{◌≡◌, ℕ, ap, sym, subst, ◌∙◌}
-use Rattle.tui_textarea.specs.DrawingPrelude.{widget_state, text_and_layout, with_inner_width, DocumentState, WidgetState, frame_of, FrameState, Placement, IsDrawn, IsWidgetRendered, at_inner_width, drawn_into, DrawingState, IsDrawnAt, IsFrameDrawn, IsViewOf, Buffer, Rect, IsInner}
+use Rattle.tui_textarea.specs.DrawingPrelude.{widget_state, text_and_layout, with_inner_width, DocumentState, WidgetState, frame_of, FrameState, Placement, IsDrawn}
+use Rattle.tui_textarea.specs.DrawingPrelude.{IsWidgetRendered, at_inner_width, drawn_into, DrawingState, IsDrawnAt, IsFrameDrawn, IsViewOf, Buffer, Rect, IsInner}
 use Rattle.tui_textarea.proofs.Widths.{frame_at_width}
 
 -- the parts, with another document and another state of drawing

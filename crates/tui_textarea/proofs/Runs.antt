@@ -25,7 +25,9 @@ use Rattle.textarea_calls.specs.declared.answer.Answer.{Answer}
 
 -- ---- one more call
 
-pub Leads-append : (old mid new : State) (buffer screen displayed : Buffer) (calls : List Call) (results : List CallResult) (call : Call) (returned : CallResult) → Leads old buffer calls results mid screen → CallLeads mid screen call returned new displayed → Leads old buffer (calls ++ call ∷ []) (results ++ returned ∷ []) new displayed
+pub Leads-append : (old mid new : State) (buffer screen displayed : Buffer) (calls : List Call) (results : List CallResult) (call : Call) (returned : CallResult)
+    → Leads old buffer calls results mid screen → CallLeads mid screen call returned new displayed
+    → Leads old buffer (calls ++ call ∷ []) (results ++ returned ∷ []) new displayed
 Leads-append old mid new buffer screen displayed [] [] call returned so_far made =
     (new, displayed, subst (λ (b : Buffer). CallLeads old b call returned new displayed) so_far.1 (subst (λ (s : State). CallLeads s screen call returned new displayed) so_far.0 made), (refl, refl))
 Leads-append old mid new buffer screen displayed [] (a ∷ results) call returned so_far made = absurd so_far
@@ -39,7 +41,10 @@ one_more calls index call within is_call =
     ap (λ (this : Call). take index calls ++ this ∷ []) is_call ∙ sym (take_more calls index call within)
 
 -- the calls up to the one at the index lead to the state and buffer after that one
-pub leads_more : (old mid new : State) (buffer screen displayed : Buffer) (calls : List Call) (results : List Answer) (index : ℕ) (call : Call) (returned : Answer) → index < length calls → call ≡ get_or calls index call → Leads old buffer (take index calls) (map call_result results) mid screen → CallLeads mid screen call (call_result returned) new displayed → Leads old buffer (take (index + 1) calls) (map call_result (results ++ returned ∷ [])) new displayed
+pub leads_more : (old mid new : State) (buffer screen displayed : Buffer) (calls : List Call) (results : List Answer) (index : ℕ) (call : Call) (returned : Answer)
+    → index < length calls → call ≡ get_or calls index call → Leads old buffer (take index calls) (map call_result results) mid screen
+    → CallLeads mid screen call (call_result returned) new displayed
+    → Leads old buffer (take (index + 1) calls) (map call_result (results ++ returned ∷ [])) new displayed
 leads_more old mid new buffer screen displayed calls results index call returned within is_call so_far made =
     subst (λ (a : List CallResult). Leads old buffer (take (index + 1) calls) a new displayed) (sym (map-append call_result results (returned ∷ [])))
     (subst (λ (done : List Call). Leads old buffer done (map call_result results ++ call_result returned ∷ []) new displayed) (one_more calls index call within is_call)
@@ -71,7 +76,9 @@ one_after moves inputs renderings old (InputWithoutShortcuts input) returned fir
 one_after moves inputs renderings old (Render area) returned first second e f = one_rendered renderings old first second area e f
 one_after moves inputs renderings old call returned first second e f = e ∙ sym f
 
-pub one_end : OneMove → OneInput → OneRendering → (calls : List Call) (results : List CallResult) (old first second : State) (buffer other displayed drawn : Buffer) → Leads old buffer calls results first displayed → Leads old other calls results second drawn → first ≡ second
+pub one_end : OneMove → OneInput → OneRendering
+    → (calls : List Call) (results : List CallResult) (old first second : State) (buffer other displayed drawn : Buffer)
+    → Leads old buffer calls results first displayed → Leads old other calls results second drawn → first ≡ second
 one_end moves inputs renderings [] [] old first second buffer other displayed drawn e f = e.0 ∙ sym f.0
 one_end moves inputs renderings [] (a ∷ results) old first second buffer other displayed drawn e f = absurd e
 one_end moves inputs renderings (call ∷ calls) [] old first second buffer other displayed drawn e f = absurd e
@@ -117,7 +124,9 @@ one_buffer : OneDrawing → (call : Call) (state : State) (old other first secon
 one_buffer drawings (Render area) state old other first second e f same = drawn_same drawings (widget_of state) area old other first second e f same
 one_buffer drawings call state old other first second e f same = still_same old other first second e f same
 
-pub one_screen : OneMove → OneInput → OneRendering → OneDrawing → (calls : List Call) (results : List CallResult) (old first second : State) (buffer other displayed drawn : Buffer) → Leads old buffer calls results first displayed → Leads old other calls results second drawn → ShowsSame buffer other → ShowsSame displayed drawn
+pub one_screen : OneMove → OneInput → OneRendering → OneDrawing
+    → (calls : List Call) (results : List CallResult) (old first second : State) (buffer other displayed drawn : Buffer)
+    → Leads old buffer calls results first displayed → Leads old other calls results second drawn → ShowsSame buffer other → ShowsSame displayed drawn
 one_screen moves inputs renderings drawings [] [] old first second buffer other displayed drawn e f same = still_same buffer other displayed drawn e.1 f.1 same
 one_screen moves inputs renderings drawings [] (a ∷ results) old first second buffer other displayed drawn e f same = absurd e
 one_screen moves inputs renderings drawings (call ∷ calls) [] old first second buffer other displayed drawn e f same = absurd e

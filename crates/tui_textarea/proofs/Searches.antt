@@ -24,7 +24,9 @@ starts_are (Some pattern) strings text e =
     ap (starts_from (match_columns pattern) 0) (bytes_of strings ∙ ap (map encode_utf8_all) e)
 
 -- a search of the lines of a document's text, from its cursor, is one of the text
-pub search_is : (leads : List Place → Place → Bool → Option Place) (pattern : Option (List ℕ)) (strings : List (String Global)) (document : DocumentState) (cursor : Place) (at_cursor : Bool) → lines_of strings ≡ lines document.text → cursor ≡ document.cursor → leads (starts_of pattern strings) cursor at_cursor ≡ leads (starts_in pattern document.text) document.cursor at_cursor
+pub search_is : (leads : List Place → Place → Bool → Option Place) (pattern : Option (List ℕ)) (strings : List (String Global)) (document : DocumentState) (cursor : Place) (at_cursor : Bool)
+    → lines_of strings ≡ lines document.text → cursor ≡ document.cursor
+    → leads (starts_of pattern strings) cursor at_cursor ≡ leads (starts_in pattern document.text) document.cursor at_cursor
 search_is leads pattern strings document cursor at_cursor e at =
     ap (λ starts. leads starts cursor at_cursor) (starts_are pattern strings document.text e)
     ∙ ap (λ (place : Place). leads (starts_in pattern document.text) place at_cursor) at
@@ -37,7 +39,9 @@ in_text (Some place) strings text e within =
     subst (λ (rows : List (List ℕ)). IsPlaceOf rows place) e (row, within.1)
 
 -- the same for a position that a search of the lines found
-pub target_in_text : (result : Result (Option Place) AllocError) (leads : Option Place) (strings : List (String Global)) (text : List Symbol) → lines_of strings ≡ lines text → IfOk result (λ found. found ≡ leads) → IfOk result (λ found. IfSome found (IsPlaceIn strings)) → OnOk result (IfSome leads (IsPlace text))
+pub target_in_text : (result : Result (Option Place) AllocError) (leads : Option Place) (strings : List (String Global)) (text : List Symbol)
+    → lines_of strings ≡ lines text → IfOk result (λ found. found ≡ leads) → IfOk result (λ found. IfSome found (IsPlaceIn strings))
+    → OnOk result (IfSome leads (IsPlace text))
 target_in_text (Ok found) leads strings text e is within =
     subst (λ (f : Option Place). IfSome f (IsPlace text)) is (in_text found strings text e within)
 target_in_text (Err error) leads strings text e is within = tt

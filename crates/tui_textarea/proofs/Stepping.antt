@@ -1,34 +1,44 @@
--- The state after an edit is reached by the splices in the definitions, each that of one step.
-use Rattle.std.proofs.Common.{◌≡◌, ◌≢◌, ℕ, ◌==◌, ◌<◌, nat_lt, Bool, true, false, cond, if◌then◌else◌, List, [], ◌∷◌, ◌++◌, length, replicate, Option, None, Some, ap, refl, ◌∙◌, arith, eq-eqb}
+-- The state after an edit is reached by the splices in the definitions, and is sound.
+use Rattle.std.proofs.Common.{◌≡◌, ℕ, ◌==◌, ◌<◌, nat_lt, Bool, true, false, if◌then◌else◌, List, [], ◌∷◌, ◌++◌, length, replicate}
+use Rattle.std.proofs.Common.{Option, None, Some, option_map, ap, refl, ◌∙◌, arith}
 use Rattle.textarea_data.specs.declared.cursor.CursorMove.{CursorMove}
-use Rattle.textarea_lines.specs.TextLayout.{TextAndLayout}
-use Rattle.textarea_ranges.specs.Lookup.{range_end, range_start}
+use Rattle.textarea_data.specs.declared.range.AtomicCursorBias.TheVariants.{Forward as BiasForward}
 use Rattle.textarea_data.specs.declared.range.AtomicDeleteDirection.{AtomicDeleteDirection}
 use Rattle.textarea_data.specs.declared.range.AtomicDeleteDirection.TheVariants.{Backward, Forward}
 use Rattle.textarea_data.specs.declared.range.AtomicRange.{AtomicRange}
+use Rattle.textarea_lines.specs.TextLayout.{TextAndLayout}
+use Rattle.textarea_ranges.specs.Lookup.{moved_out, range_end, range_start}
+use Rattle.textarea_text.specs.Between.{clip}
 use Rattle.textarea_text.specs.Place.{Place}
-use Rattle.textarea_document.specs.Target.{word_end_after, word_start_before}
-use Rattle.textarea_text.specs.Splice.{Splice}
-use Rattle.textarea_text.specs.Text.{Symbol, Break, Character}
-use Rattle.textarea_document.specs.Edits.{Insert, HasEffect, Remove, RemoveBefore, RemoveAfter, RemoveBreak, EditStep, break_removed, cursor_index, range_at_cursor, range_before, range_after, is_at_end, is_at_start, has_symbols, nothing_inserted, between_removed, removed_range_or, removed_before, removed_after, splice_of_step, stepped, symbol_removed_before, symbol_removed_after, symbols_inserted}
-use Rattle.textarea_document.specs.Outcomes.{unanchored}
-use Rattle.textarea_document.specs.Ranges.{range_removed}
+use Rattle.textarea_text.specs.Splice.{Fits, Splice}
+use Rattle.textarea_text.specs.Text.{Symbol, Break, Character, lines}
 use Rattle.textarea_document.specs.DocumentRows.{text_and_layout}
+use Rattle.textarea_document.specs.DocumentState.{DocumentState}
+use Rattle.textarea_document.specs.Edits.{Insert, HasEffect, Remove, RemoveBefore, RemoveAfter, RemoveBreak, EditStep, splice_of_step, stepped}
+use Rattle.textarea_document.specs.Edits.{between_removed, break_removed, removed_after, removed_before, removed_range_or, symbol_removed_after, symbol_removed_before}
+use Rattle.textarea_document.specs.Edits.{cursor_index, has_symbols, is_at_end, is_at_start, nothing_inserted, range_after, range_at_cursor, range_before, symbols_inserted}
+use Rattle.textarea_document.specs.Outcomes.{after_edit, unanchored}
+use Rattle.textarea_document.specs.Ranges.{SplitsNoRange, range_removed}
 use Rattle.textarea_document.specs.Selection.{is_selected, selected_removed, selection_end, selection_start}
 use Rattle.textarea_document.specs.Sound.{IsSound}
-use Rattle.textarea_document.specs.Splices.{after_splices, before_splices, break_splices, cursor_range_splices, insertion_splices, range_splices_or, removal_splices, selected_splices}
-use Rattle.textarea_document.specs.DocumentState.{DocumentState}
+use Rattle.textarea_document.specs.Splices.{after_splices, before_splices, break_splices, cursor_range_splices, insertion_splices, range_splices_or}
+use Rattle.textarea_document.specs.Splices.{removal_splices, selected_splices}
+use Rattle.textarea_document.specs.Target.{word_end_after, word_start_before}
 use Rattle.textarea_document.proofs.Sounds.{sound_edited}
 use Rattle.textarea_document.proofs.StepLaw.{step_keeps}
 use Rattle.tui_textarea.specs.Edits.{breaks_line, char_inserted, newline_inserted, spaces_to_stop, str_inserted, tab_inserted, typed_character_inserted}
 use Rattle.tui_textarea.specs.LayoutCalls.{tab_length}
 use Rattle.tui_textarea.specs.Moves.{IsMovedWith, after_move_by, pushed}
 use Rattle.tui_textarea.specs.Ranges.{atomic_range_removed}
-use Rattle.tui_textarea.specs.Removals.{back_to_word_removed, cursor_line, cursor_range_removed_or, in_line, index_ahead, is_at_line_end, line_end_removed, line_head_removed, on_to_word_end_removed, symbols_ahead_removed, text_cleared, unselected_or, word_before_removed, word_after_removed, yanked}
+use Rattle.tui_textarea.specs.Removals.{back_to_word_removed, cursor_line, cursor_range_removed_or, in_line, index_ahead, is_at_line_end, on_to_word_end_removed}
+use Rattle.tui_textarea.specs.Removals.{line_end_removed, line_head_removed, symbols_ahead_removed, text_cleared, unselected_or, word_after_removed, word_before_removed, yanked}
 use Rattle.tui_textarea.specs.Selection.{selection_cancelled, selection_copied, selection_cut, unselected}
-use Rattle.tui_textarea.specs.Splices.{ahead_splices, char_splices, clear_splices, line_end_splices, line_head_splices, selected_splices_or, str_splices, tab_splices, word_after_splices, word_before_splices}
+use Rattle.tui_textarea.specs.Splices.{ahead_splices, char_splices, clear_splices, line_end_splices, line_head_splices, selected_splices_or, str_splices}
+use Rattle.tui_textarea.specs.Splices.{tab_splices, word_after_splices, word_before_splices}
 use Rattle.tui_textarea.specs.State.{State}
+use Rattle.tui_textarea.proofs.Cases.{apart, by_both, by_test}
 use Rattle.tui_textarea.proofs.Removing.{ahead_made, range_removal_made, line_end_made, line_head_made, selected_made, whole_made, word_end_made, word_start_made}
+use Rattle.tui_textarea.proofs.SoundStates.{clipped, sound_cursor, sound_from, sound_unanchored}
 
 -- the visible side of a document's text: its layout and ranges
 abbrev pub LayoutAndRanges : Type 0
@@ -37,99 +47,104 @@ LayoutAndRanges = TextAndLayout × List AtomicRange
 abbrev pub layout_and_ranges : DocumentState → LayoutAndRanges
 layout_and_ranges document = (text_and_layout document, document.ranges)
 
--- a property that both cases of a test have
-pub by_test : {X : Type 0} (P : X → Type 0) (b : Bool) (x y : X) → (b ≡ true → P x) → (b ≡ false → P y) → P (cond b x y)
-by_test P true x y h k = h refl
-by_test P false x y h k = k refl
-
--- the same for two values that one test chooses
-pub by_both : {X Y : Type 0} (P : Y → X → Type 0) (b : Bool) (u v : Y) (x y : X) → (b ≡ true → P u x) → (b ≡ false → P v y) → P (cond b u v) (cond b x y)
-by_both P true u v x y h k = h refl
-by_both P false u v x y h k = k refl
-
 -- ---- what leaves text, layout and ranges unchanged
 
-move_unchanged : (state : State) (shift : Bool) (found : Option Place) → layout_and_ranges (after_move_by state shift found).document ≡ layout_and_ranges state.document
+move_unchanged : (state : State) (shift : Bool) (found : Option Place)
+    → layout_and_ranges (after_move_by state shift found).document ≡ layout_and_ranges state.document
 move_unchanged state shift None = refl
 move_unchanged state shift (Some place) = refl
 
-pub moves_unchanged : (old new : State) (shift : Bool) (cursor_move : CursorMove) → IsMovedWith old shift cursor_move new → layout_and_ranges new.document ≡ layout_and_ranges old.document
+pub moves_unchanged : (old new : State) (shift : Bool) (cursor_move : CursorMove) → IsMovedWith old shift cursor_move new
+    → layout_and_ranges new.document ≡ layout_and_ranges old.document
 moves_unchanged old new shift cursor_move h =
     ap (λ (s : State). layout_and_ranges s.document) h.new_is ∙ move_unchanged old shift (pushed old.document.ranges cursor_move h.found)
 
-pub copy_unchanged : (state : State) → layout_and_ranges (selection_copied state).document ≡ layout_and_ranges state.document
-copy_unchanged state = by_test (λ (s : State). layout_and_ranges s.document ≡ layout_and_ranges state.document) (is_selected state.document) _ _ (λ selected. refl) (λ none. refl)
-
 -- ---- steps
-
--- two numbers that the test finds different are different
-pub apart : (m n : ℕ) → (m == n) ≡ false → m ≢ n
-apart m n e same = absurd (cc (e, eq-eqb m n same))
 
 pub some_symbols : (symbols : List Symbol) → has_symbols symbols ≡ true → 0 < length symbols
 some_symbols [] e = absurd cc
 some_symbols (symbol ∷ symbols) e = omega arith
 
--- the document without the selected text is sound too
-pub sound_between : (document : DocumentState) (from to : Place) (now : ℕ) → IsSound document → HasEffect document (Remove from to) → IsSound (between_removed document from to now)
-unfolding between_removed
-sound_between document from to now h made =
-    sound_edited document (splice_of_step document (Remove from to)) false now h (step_keeps document (Remove from to) h made).0
-
-pub sound_unselected : (state : State) → IsSound state.document → IsSound (unselected state).document
-sound_unselected state h =
-    by_test IsSound (is_selected state.document) _ _
-    (λ selected. sound_between state.document (selection_start state.document) (selection_end state.document) state.time h (selected_made state.document h selected))
-    (λ none. h)
-
 -- A relation of two documents and the splices between them. No splices relate documents of the same
--- text, layout and ranges; the splice of a step relates a document to the one after the step,
--- whatever its cursor and anchor; and splices compose.
+-- text, layout and ranges; a splice that fits and splits no range relates a document to the one
+-- after its edit, whatever its cursor and anchor; and splices compose.
 pub record Reckoning (By : DocumentState → List Splice → DocumentState → Type 0) : Type 0 where
   pub none : (old new : DocumentState) → layout_and_ranges new ≡ layout_and_ranges old → By old [] new
   pub same : (old new other : DocumentState) (splices : List Splice) → layout_and_ranges other ≡ layout_and_ranges new → By old splices new → By old splices other
   pub two : (old between new : DocumentState) (first second : List Splice) → By old first between → By between second new → By old (first ++ second) new
-  pub one : (document : DocumentState) (step : EditStep) (typed : Bool) (now : ℕ) → IsSound document → HasEffect document step → By document (splice_of_step document step ∷ []) (stepped document step typed now)
+  pub one : (document : DocumentState) (splice : Splice) (typed : Bool) (now : ℕ) → Fits document.text splice → SplitsNoRange document.ranges splice
+      → By document (splice ∷ []) (after_edit document splice typed now)
 
 module _ (By : DocumentState → List Splice → DocumentState → Type 0) (by : Reckoning By) where
-  -- the relation for the documents of two states
-  abbrev From : State → List Splice → State → Type 0
-  From old splices new = By old.document splices new.document
+  -- the relation, and that the new document is sound
+  abbrev pub Sound : DocumentState → List Splice → DocumentState → Type 0
+  Sound old splices new = By old splices new × IsSound new
 
-  pub between_by : (document : DocumentState) (from to : Place) (now : ℕ) → IsSound document → HasEffect document (Remove from to) → By document (removal_splices document from to) (between_removed document from to now)
+  -- the same for the documents of two states
+  abbrev pub From : State → List Splice → State → Type 0
+  From old splices new = Sound old.document splices new.document
+
+  pub kept : (old new : DocumentState) → layout_and_ranges new ≡ layout_and_ranges old → IsSound new → Sound old [] new
+  kept old new same h = (by.none old new same, h)
+
+  pub edited : (document : DocumentState) (splice : Splice) (typed : Bool) (now : ℕ) → IsSound document → Fits document.text splice
+      → SplitsNoRange document.ranges splice → Sound document (splice ∷ []) (after_edit document splice typed now)
+  edited document splice typed now h fits whole = (by.one document splice typed now fits whole, sound_edited document splice typed now h fits)
+
+  -- the document has another cursor and anchor than after these splices
+  pub moved : (old new other : DocumentState) (splices : List Splice) → layout_and_ranges other ≡ layout_and_ranges new → IsSound other
+      → Sound old splices new → Sound old splices other
+  moved old new other splices same h k = (by.same old new other splices same k.0, h)
+
+  step_by : (document : DocumentState) (step : EditStep) (typed : Bool) (now : ℕ) → IsSound document → HasEffect document step
+      → Sound document (splice_of_step document step ∷ []) (stepped document step typed now)
+  step_by document step typed now h made =
+      let keeps = step_keeps document step h made in
+      edited document (splice_of_step document step) typed now h keeps.0 keeps.1
+
+  unanchored_by : (document : DocumentState) → IsSound document → Sound document [] (unanchored document)
+  unanchored_by document h = kept document (unanchored document) refl (sound_unanchored document h)
+
+  between_by : (document : DocumentState) (from to : Place) (now : ℕ) → IsSound document → HasEffect document (Remove from to)
+      → Sound document (removal_splices document from to) (between_removed document from to now)
   unfolding between_removed
-  between_by document from to now h made = by.one document (Remove from to) false now h made
+  between_by document from to now h made = step_by document (Remove from to) false now h made
 
   -- ---- removals
 
-  pub range_or_by : (document other : DocumentState) (splices : List Splice) (direction : AtomicDeleteDirection) (found : Option AtomicRange) (now : ℕ) → IsSound document → range_at_cursor document direction ≡ found → (found ≡ None → By document splices other) → By document (range_splices_or found document splices) (removed_range_or found document now other)
+  range_or_by : (document other : DocumentState) (splices : List Splice) (direction : AtomicDeleteDirection) (found : Option AtomicRange) (now : ℕ)
+      → IsSound document → range_at_cursor document direction ≡ found → (found ≡ None → Sound document splices other)
+      → Sound document (range_splices_or found document splices) (removed_range_or found document now other)
   range_or_by document other splices direction None now h is k = k refl
   range_or_by document other splices direction (Some range) now h is k =
       between_by document (range_start range) (range_end range) now h (range_removal_made document direction range h is)
 
-  pub before_by : (document : DocumentState) (typed : Bool) (now : ℕ) → IsSound document → By document (before_splices document) (removed_before document typed now)
+  pub before_by : (document : DocumentState) (typed : Bool) (now : ℕ) → IsSound document → Sound document (before_splices document) (removed_before document typed now)
   unfolding removed_before
   before_by document typed now h =
-      range_or_by document (symbol_removed_before document typed now) (if is_at_start document then [] else splice_of_step document RemoveBefore ∷ []) Backward (range_before document) now h refl
-      (λ none. by_both (By document) (is_at_start document) _ _ _ _
-      (λ at. by.none document (unanchored document) refl)
-      (λ inside. by.one document RemoveBefore typed now h (none, apart (cursor_index document) 0 inside)))
+      range_or_by document (symbol_removed_before document typed now) (if is_at_start document then [] else splice_of_step document RemoveBefore ∷ []) Backward
+      (range_before document) now h refl
+      (λ none. by_both (Sound document) (is_at_start document) _ _ _ _
+      (λ at. unanchored_by document h)
+      (λ inside. step_by document RemoveBefore typed now h (none, apart (cursor_index document) 0 inside)))
 
-  pub after_by : (document : DocumentState) (typed : Bool) (now : ℕ) → IsSound document → By document (after_splices document) (removed_after document typed now)
+  pub after_by : (document : DocumentState) (typed : Bool) (now : ℕ) → IsSound document → Sound document (after_splices document) (removed_after document typed now)
   unfolding removed_after
   after_by document typed now h =
-      range_or_by document (symbol_removed_after document typed now) (if is_at_end document then [] else splice_of_step document RemoveAfter ∷ []) Forward (range_after document) now h refl
-      (λ none. by_both (By document) (is_at_end document) _ _ _ _
-      (λ at. by.none document (unanchored document) refl)
-      (λ inside. by.one document RemoveAfter typed now h (none, apart (cursor_index document) (length document.text) inside)))
+      range_or_by document (symbol_removed_after document typed now) (if is_at_end document then [] else splice_of_step document RemoveAfter ∷ []) Forward
+      (range_after document) now h refl
+      (λ none. by_both (Sound document) (is_at_end document) _ _ _ _
+      (λ at. unanchored_by document h)
+      (λ inside. step_by document RemoveAfter typed now h (none, apart (cursor_index document) (length document.text) inside)))
 
-  pub break_by : (document : DocumentState) (now : ℕ) → IsSound document → By document (break_splices document) (break_removed document now)
+  pub break_by : (document : DocumentState) (now : ℕ) → IsSound document → Sound document (break_splices document) (break_removed document now)
   break_by document now h =
-      by_both (By document) (document.cursor.0 == 0) _ _ _ _
-      (λ at. by.none document (unanchored document) refl)
-      (λ inside. by.one document RemoveBreak false now h (apart document.cursor.0 0 inside))
+      by_both (Sound document) (document.cursor.0 == 0) _ _ _ _
+      (λ at. unanchored_by document h)
+      (λ inside. step_by document RemoveBreak false now h (apart document.cursor.0 0 inside))
 
-  pub yanked_by : (state : State) (from to : Place) → IsSound state.document → HasEffect state.document (Remove from to) → From state (removal_splices state.document from to) (yanked state from to)
+  yanked_by : (state : State) (from to : Place) → IsSound state.document → HasEffect state.document (Remove from to)
+      → From state (removal_splices state.document from to) (yanked state from to)
   unfolding yanked
   yanked_by state from to h made = between_by state.document from to state.time h made
 
@@ -137,7 +152,7 @@ module _ (By : DocumentState → List Splice → DocumentState → Type 0) (by :
   ahead_by state count h =
       by_both (From state) (nat_lt (cursor_index state.document) (index_ahead state.document count)) _ _ _ _
       (λ some. yanked_by state _ _ h (ahead_made state.document count h some))
-      (λ none. by.none state.document (unanchored state.document) refl)
+      (λ none. unanchored_by state.document h)
 
   pub line_end_by : (state : State) → IsSound state.document → From state (line_end_splices state.document) (line_end_removed state)
   line_end_by state h =
@@ -151,21 +166,29 @@ module _ (By : DocumentState → List Splice → DocumentState → Type 0) (by :
       (λ at. break_by state.document state.time h)
       (λ inside. yanked_by state _ _ h (line_head_made state.document h inside))
 
-  back_to_word_by : (state : State) → IsSound state.document → From state (if state.document.cursor.1 == 0 then break_splices state.document else removal_splices state.document (in_line state.document (word_start_before (cursor_line state.document) state.document.cursor.1)) state.document.cursor) (back_to_word_removed state)
+  back_to_word_by : (state : State) → IsSound state.document
+      → From state (if state.document.cursor.1 == 0 then break_splices state.document
+      else removal_splices state.document (in_line state.document (word_start_before (cursor_line state.document) state.document.cursor.1)) state.document.cursor)
+      (back_to_word_removed state)
   unfolding back_to_word_removed
   back_to_word_by state h =
       by_both (From state) (state.document.cursor.1 == 0) _ _ _ _
       (λ at. break_by state.document state.time h)
       (λ inside. yanked_by state _ _ h (word_start_made state.document h inside))
 
-  on_to_word_end_by : (state : State) → IsSound state.document → From state (if is_at_line_end state.document then after_splices state.document else removal_splices state.document state.document.cursor (in_line state.document (word_end_after (cursor_line state.document) state.document.cursor.1))) (on_to_word_end_removed state)
+  on_to_word_end_by : (state : State) → IsSound state.document
+      → From state (if is_at_line_end state.document then after_splices state.document
+      else removal_splices state.document state.document.cursor (in_line state.document (word_end_after (cursor_line state.document) state.document.cursor.1)))
+      (on_to_word_end_removed state)
   unfolding on_to_word_end_removed
   on_to_word_end_by state h =
       by_both (From state) (is_at_line_end state.document) _ _ _ _
       (λ at. after_by state.document state.settings.undo_coalescing state.time h)
       (λ inside. yanked_by state _ _ h (word_end_made state.document h inside))
 
-  range_removed_by : (state other : State) (splices : List Splice) (direction : AtomicDeleteDirection) (found : Option AtomicRange) → IsSound state.document → range_at_cursor state.document direction ≡ found → From state splices other → From state (range_splices_or found state.document splices) (cursor_range_removed_or found state other)
+  range_removed_by : (state other : State) (splices : List Splice) (direction : AtomicDeleteDirection) (found : Option AtomicRange)
+      → IsSound state.document → range_at_cursor state.document direction ≡ found → From state splices other
+      → From state (range_splices_or found state.document splices) (cursor_range_removed_or found state other)
   range_removed_by state other splices direction None h is k = k
   range_removed_by state other splices direction (Some range) h is k =
       between_by state.document (range_start range) (range_end range) state.time h (range_removal_made state.document direction range h is)
@@ -182,59 +205,76 @@ module _ (By : DocumentState → List Splice → DocumentState → Type 0) (by :
   cleared_by state h =
       by_both (From state) (has_symbols state.document.text) _ _ _ _
       (λ filled. yanked_by state _ _ h (whole_made state.document (some_symbols state.document.text filled)))
-      (λ empty. by.none state.document state.document refl)
+      (λ empty. kept state.document state.document refl h)
 
-  range_by : (document : DocumentState) (direction : AtomicDeleteDirection) (found : Option AtomicRange) (now : ℕ) → IsSound document → range_at_cursor document direction ≡ found → By document (range_splices_or found document []) (range_removed found document now)
-  range_by document direction None now h is = by.none document document refl
+  range_by : (document : DocumentState) (direction : AtomicDeleteDirection) (found : Option AtomicRange) (now : ℕ) → IsSound document
+      → range_at_cursor document direction ≡ found → Sound document (range_splices_or found document []) (range_removed found document now)
+  range_by document direction None now h is = kept document document refl h
   range_by document direction (Some range) now h is =
-      by.same document (between_removed document (range_start range) (range_end range) now) (range_removed (Some range) document now) (removal_splices document (range_start range) (range_end range)) refl
-      (between_by document (range_start range) (range_end range) now h (range_removal_made document direction range h is))
+      let left = between_removed document (range_start range) (range_end range) now in
+      let gone = between_by document (range_start range) (range_end range) now h (range_removal_made document direction range h is) in
+      moved document left (range_removed (Some range) document now) (removal_splices document (range_start range) (range_end range)) refl
+      (sound_from left (option_map (clip (lines left.text)) document.anchor) gone.1 (clipped left.text document.anchor (omega (arith, gone.1.cursor.0)))) gone
 
-  pub cursor_range_by : (state : State) (direction : AtomicDeleteDirection) → IsSound state.document → From state (cursor_range_splices state.document direction) (atomic_range_removed state direction)
+  pub cursor_range_by : (state : State) (direction : AtomicDeleteDirection) → IsSound state.document
+      → From state (cursor_range_splices state.document direction) (atomic_range_removed state direction)
   cursor_range_by state direction h =
       range_by state.document direction (range_at_cursor state.document direction) state.time h refl
 
   -- ---- over a selection
 
-  pub selected_by : (document : DocumentState) (now : ℕ) → IsSound document → By document (selected_splices document) (selected_removed document now)
+  pub selected_by : (document : DocumentState) (now : ℕ) → IsSound document → Sound document (selected_splices document) (selected_removed document now)
   selected_by document now h =
-      by_both (By document) (is_selected document) _ _ _ _
+      by_both (Sound document) (is_selected document) _ _ _ _
       (λ selected. between_by document (selection_start document) (selection_end document) now h (selected_made document h selected))
-      (λ none. by.none document document refl)
+      (λ none. kept document document refl h)
 
-  pub unselected_by : (state other : State) (splices : List Splice) → IsSound state.document → From state splices other → From state (selected_splices_or state.document splices) (unselected_or state other)
+  pub unselected_by : (state other : State) (splices : List Splice) → IsSound state.document → From state splices other
+      → From state (selected_splices_or state.document splices) (unselected_or state other)
   unselected_by state other splices h k =
       by_both (From state) (is_selected state.document) _ _ _ _ (λ selected. selected_by state.document state.time h) (λ none. k)
 
-  pub wrapping_by : (state : State) → IsSound state.document → From state (selected_splices state.document) (selection_cut state)
-  wrapping_by state h =
+  pub cut_by : (state : State) → IsSound state.document → From state (selected_splices state.document) (selection_cut state)
+  cut_by state h =
       by_test (From state (selected_splices state.document)) (is_selected state.document) _ _
       (λ selected. selected_by state.document state.time h)
-      (λ none. by.same state.document (unselected state).document (unanchored state.document) (selected_splices state.document)
-      (by_test (λ (d : DocumentState). layout_and_ranges (unanchored state.document) ≡ layout_and_ranges d) (is_selected state.document) _ _ (λ selected. absurd (cc (selected, none))) (λ free. refl))
-      (selected_by state.document state.time h))
+      (λ none. moved state.document (unselected state).document (unanchored state.document) (selected_splices state.document)
+      (by_test (λ (d : DocumentState). layout_and_ranges (unanchored state.document) ≡ layout_and_ranges d) (is_selected state.document) _ _
+      (λ selected. absurd (cc (selected, none))) (λ free. refl))
+      (sound_unanchored state.document h) (selected_by state.document state.time h))
+
+  pub copied_by : (state : State) → IsSound state.document → From state [] (selection_copied state)
+  copied_by state h =
+      by_test (From state []) (is_selected state.document) _ _ (λ selected. unanchored_by state.document h) (λ none. unanchored_by state.document h)
 
   -- ---- insertions
 
-  pub symbols_by : (document : DocumentState) (symbols : List Symbol) (now : ℕ) → IsSound document → By document (insertion_splices document symbols) (symbols_inserted document symbols now)
-  symbols_by document [] now h = by.none document (nothing_inserted document) refl
-  symbols_by document (symbol ∷ symbols) now h = by.one document (Insert (symbol ∷ symbols)) false now h (omega arith)
+  symbols_by : (document : DocumentState) (symbols : List Symbol) (now : ℕ) → IsSound document
+      → Sound document (insertion_splices document symbols) (symbols_inserted document symbols now)
+  symbols_by document [] now h =
+      kept document (nothing_inserted document) refl
+      (sound_unanchored (record document { cursor = moved_out document.ranges document.cursor BiasForward }) (sound_cursor document BiasForward h))
+  symbols_by document (symbol ∷ symbols) now h = step_by document (Insert (symbol ∷ symbols)) false now h (omega arith)
 
-  after_removal : (state new : State) (splices : List Splice) → IsSound state.document → From (unselected state) splices new → From state (selected_splices state.document ++ splices) new
+  after_removal : (state new : State) (splices : List Splice) → IsSound state.document
+      → (IsSound (unselected state).document → From (unselected state) splices new) → From state (selected_splices state.document ++ splices) new
   after_removal state new splices h k =
-      by.two state.document (unselected state).document new.document (selected_splices state.document) splices (selected_by state.document state.time h) k
+      let gone = selected_by state.document state.time h in
+      let after = k gone.1 in
+      (by.two state.document (unselected state).document new.document (selected_splices state.document) splices gone.0 after.0, after.1)
 
   pub str_by : (state : State) (symbols : List Symbol) → IsSound state.document → From state (str_splices state symbols) (str_inserted state symbols)
   str_by state symbols h =
-      after_removal state (str_inserted state symbols) _ h (symbols_by (unselected state).document symbols state.time (sound_unselected state h))
+      after_removal state (str_inserted state symbols) _ h (λ left. symbols_by (unselected state).document symbols state.time left)
 
   pub newline_by : (state : State) → IsSound state.document → From state (str_splices state (Break ∷ [])) (newline_inserted state)
   newline_by state h =
-      after_removal state (newline_inserted state) _ h (by.one (unselected state).document (Insert (Break ∷ [])) false state.time (sound_unselected state h) (omega arith))
+      after_removal state (newline_inserted state) _ h (λ left. step_by (unselected state).document (Insert (Break ∷ [])) false state.time left (omega arith))
 
   typed_by : (state : State) (c : ℕ) → IsSound state.document → From state (str_splices state (Character c ∷ [])) (typed_character_inserted (unselected state) c)
   typed_by state c h =
-      after_removal state (typed_character_inserted (unselected state) c) _ h (by.one (unselected state).document (Insert (Character c ∷ [])) state.settings.undo_coalescing state.time (sound_unselected state h) (omega arith))
+      after_removal state (typed_character_inserted (unselected state) c) _ h
+      (λ left. step_by (unselected state).document (Insert (Character c ∷ [])) state.settings.undo_coalescing state.time left (omega arith))
 
   pub char_by : (state : State) (c : ℕ) → IsSound state.document → From state (char_splices state c) (char_inserted state c)
   char_by state c h =
@@ -245,5 +285,5 @@ module _ (By : DocumentState → List Splice → DocumentState → Type 0) (by :
       let left = unselected state in
       let spaces = replicate (spaces_to_stop left.document (tab_length state.document)) (Character 32) in
       by_both (From state) (tab_length state.document == 0) _ _ _ _
-      (λ none. after_removal state (selection_cancelled left) _ h (by.none left.document (unanchored left.document) refl))
+      (λ none. after_removal state (selection_cancelled left) _ h (λ sound. unanchored_by left.document sound))
       (λ some. by_both (From state) left.settings.hard_tab_indent _ _ _ _ (λ hard. typed_by state 9 h) (λ soft. str_by state spaces h))

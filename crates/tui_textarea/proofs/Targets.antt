@@ -28,7 +28,7 @@ use Rattle.tui_textarea.specs.Moves.{IsTarget}
 use Rattle.tui_textarea.specs.State.{State}
 use Rattle.tui_textarea.proofs.DrawnRows.{borrowed_right}
 use Rattle.tui_textarea.proofs.Removing.{below, some_number}
-use Rattle.tui_textarea.proofs.Stepping.{by_test}
+use Rattle.tui_textarea.proofs.Cases.{by_test}
 use Rattle.textarea_lines.proofs.Stores.{tab_len_of}
 
 -- the law of the map: a visual row and a display column lead to a position of the lines
@@ -137,7 +137,9 @@ module _ (leads : LeadsToPlaces) where
       leads wrapping lines rows (record visual { column = min visual.column (greatest_column wrapping.tab_len (row_at lines rows visual.row)) }) place right near
 
   -- the same in the layout of a document
-  near_in_document : (document : DocumentState) (rows : List RowsView) (visual : VisualPosition) (place : Place) → AreRowsOf (wrapping_of (text_and_layout document)) (lines document.text) rows → IsPlaceNear document.layout.settings.tab_len (lines document.text) rows visual place → IsPlace document.text place
+  near_in_document : (document : DocumentState) (rows : List RowsView) (visual : VisualPosition) (place : Place)
+      → AreRowsOf (wrapping_of (text_and_layout document)) (lines document.text) rows
+      → IsPlaceNear document.layout.settings.tab_len (lines document.text) rows visual place → IsPlace document.text place
   near_in_document document rows visual place right near =
       near_is_place (wrapping_of (text_and_layout document)) (lines document.text) rows visual place right
       (subst (λ (t : ℕ). IsPlaceNear t (lines document.text) rows visual place) (sym (tab_len_of document.layout.settings (length (lines document.text)))) near)
@@ -152,7 +154,9 @@ module _ (leads : LeadsToPlaces) where
   below_is_place document None h = tt
   below_is_place document (Some place) h = near_in_document document h.0 (record h.2.visual { row = h.2.visual.row + 1 }) place h.1.text_layout h.2.near
 
-  reached_is_place : (document : DocumentState) (b : Bool) (rows : BorrowedRows) (wanted : VisualPosition) (place : Place) → AreRowsOf rows.wrapping rows.lines rows.rows → rows.lines ≡ lines document.text → IsPlace document.text document.cursor → IsReached b rows wanted document.cursor place → IsPlace document.text place
+  reached_is_place : (document : DocumentState) (b : Bool) (rows : BorrowedRows) (wanted : VisualPosition) (place : Place)
+      → AreRowsOf rows.wrapping rows.lines rows.rows → rows.lines ≡ lines document.text → IsPlace document.text document.cursor
+      → IsReached b rows wanted document.cursor place → IsPlace document.text place
   reached_is_place document true rows wanted place right same h k = subst (IsPlace document.text) (sym k) h
   reached_is_place document false rows wanted place right same h k =
       subst (λ (l : List (List ℕ)). IsPlaceOf l place) same (near_is_place rows.wrapping rows.lines rows.rows wanted place right k)

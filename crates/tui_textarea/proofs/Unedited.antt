@@ -71,46 +71,13 @@ record IsActUnedited (state : State) (asked : Action) : Type 0 where
   text_stays : (new : State) → IsAfterAction state asked new → SameText state new
 
 act_unedited : (state : State) (asked : Action) → may_change_text asked ≡ false → IsActUnedited state asked
-act_unedited state (action.InsertChar c) is = absurd (false≢true (sym is))
-act_unedited state action.InsertNewline is = absurd (false≢true (sym is))
-act_unedited state action.InsertTab is = absurd (false≢true (sym is))
-act_unedited state action.Paste is = absurd (false≢true (sym is))
-act_unedited state action.DeleteChar is = absurd (false≢true (sym is))
-act_unedited state action.DeleteNextChar is = absurd (false≢true (sym is))
-act_unedited state action.DeleteLineByEnd is = absurd (false≢true (sym is))
-act_unedited state action.DeleteLineByHead is = absurd (false≢true (sym is))
-act_unedited state action.DeleteWord is = absurd (false≢true (sym is))
-act_unedited state action.DeleteNextWord is = absurd (false≢true (sym is))
-act_unedited state action.Cut is = absurd (false≢true (sym is))
-act_unedited state action.Undo is = absurd (false≢true (sym is))
-act_unedited state action.Redo is = absurd (false≢true (sym is))
-act_unedited state action.Nothing is = record { no_splice = refl; text_stays = λ new after. ap text after }
 act_unedited state action.Copy is = record { no_splice = refl; text_stays = λ new after. ap text after ∙ copied state }
 act_unedited state (action.MoveWithShift cursor_move shift) is = record { no_splice = refl; text_stays = λ new after. moved_with state shift cursor_move new after }
 act_unedited state (action.ScrollWithShift scrolling shift) is = record { no_splice = refl; text_stays = λ new after. moved_with (viewport_scrolled state scrolling) shift InViewport new after }
 act_unedited state (action.Scroll scrolling) is = record { no_splice = refl; text_stays = λ new after. moved_with (viewport_scrolled state scrolling) (is_some state.document.anchor) InViewport new after }
+act_unedited state asked is = record { no_splice = cc is; text_stays = λ new after. ap text after ∙ cc is }
 
 pub unedited : (state : State) (made : Call) → edits made ≡ false → IsUnedited state made
-unedited state (call.InsertChar c) is = absurd (false≢true (sym is))
-unedited state (call.InsertStr text) is = absurd (false≢true (sym is))
-unedited state (call.InsertPasted text) is = absurd (false≢true (sym is))
-unedited state call.InsertTab is = absurd (false≢true (sym is))
-unedited state call.InsertNewline is = absurd (false≢true (sym is))
-unedited state call.Paste is = absurd (false≢true (sym is))
-unedited state (call.SetLines lines cursor) is = absurd (false≢true (sym is))
-unedited state call.DeleteChar is = absurd (false≢true (sym is))
-unedited state call.DeleteNextChar is = absurd (false≢true (sym is))
-unedited state call.DeleteNewline is = absurd (false≢true (sym is))
-unedited state (call.DeleteStr count) is = absurd (false≢true (sym is))
-unedited state call.DeleteLineByEnd is = absurd (false≢true (sym is))
-unedited state call.DeleteLineByHead is = absurd (false≢true (sym is))
-unedited state call.DeleteWord is = absurd (false≢true (sym is))
-unedited state call.DeleteNextWord is = absurd (false≢true (sym is))
-unedited state call.Clear is = absurd (false≢true (sym is))
-unedited state call.Cut is = absurd (false≢true (sym is))
-unedited state call.Undo is = absurd (false≢true (sym is))
-unedited state call.Redo is = absurd (false≢true (sym is))
-unedited state (call.DeleteAtomicRangeAtCursor direction) is = absurd (false≢true (sym is))
 unedited state (call.Input input) is =
     let act = act_unedited state (asked_by input.now) is in
     record { no_splice = act.no_splice; text_stays = λ returned new after. act.text_stays new after }
@@ -125,4 +92,4 @@ unedited state (call.SearchForward at_cursor) is = record { no_splice = refl; te
 unedited state (call.SearchBack at_cursor) is = record { no_splice = refl; text_stays = λ returned new after. ap text after ∙ searched state (previous_match state at_cursor) }
 unedited state (call.TrySetAtomicRanges ranges) is = record { no_splice = refl; text_stays = λ returned new after. ap text after ∙ ranges_set (rejected_ranges state ranges.now) state ranges.now }
 unedited state (call.Render area) is = record { no_splice = refl; text_stays = λ returned new after. ap (λ (d : DocumentState). d.text) (drawn_document state new area after) }
-unedited state other is = record { no_splice = refl; text_stays = λ returned new after. ap text after }
+unedited state other is = record { no_splice = cc is; text_stays = λ returned new after. ap text after ∙ cc is }

@@ -3,10 +3,9 @@ use Rattle.std.proofs.Common.{◌≡◌, ℕ, Bool, List, [], ◌∷◌, ◌++�
 use Rattle.textarea_history.specs.Log.{newest, next}
 use Rattle.textarea_lines.specs.LineWraps.{WrapsForSplices}
 use Rattle.textarea_lines.specs.TextLayout.{TextAndLayout}
-use Rattle.textarea_text.specs.Splice.{Splice, inverse}
+use Rattle.textarea_text.specs.Splice.{Fits, Splice, inverse}
 use Rattle.textarea_document.specs.DocumentWraps.{SplicedBy, SplicesBy}
-use Rattle.textarea_document.specs.Edits.{HasEffect, EditStep, splice_of_step, stepped}
-use Rattle.textarea_document.specs.Outcomes.{after_redo, after_redo_by, after_undo, after_undo_by}
+use Rattle.textarea_document.specs.Outcomes.{after_edit, after_redo, after_redo_by, after_undo, after_undo_by}
 use Rattle.textarea_document.specs.DocumentRows.{text_and_layout}
 use Rattle.textarea_document.specs.Sound.{IsSound}
 use Rattle.textarea_document.specs.Splices.{redo_splices_by, undo_splices_by}
@@ -14,9 +13,10 @@ use Rattle.textarea_document.specs.DocumentState.{DocumentState}
 use Rattle.tui_textarea.proofs.Acting.{Past}
 use Rattle.tui_textarea.proofs.Stepping.{Reckoning, LayoutAndRanges}
 
--- the law of documents for a step, an undo and a redo
-abbrev pub StepsWrap : Type 0
-StepsWrap = (document : DocumentState) (step : EditStep) (typed : Bool) (now : ℕ) → IsSound document → HasEffect document step → SplicesBy document (splice_of_step document step) (stepped document step typed now)
+-- the law of documents for an edit, an undo and a redo
+abbrev pub EditsWrap : Type 0
+EditsWrap = (document : DocumentState) (splice : Splice) (typed : Bool) (now : ℕ) → Fits document.text splice
+    → SplicesBy document splice (after_edit document splice typed now)
 
 abbrev pub UndosWrap : Type 0
 UndosWrap = (document : DocumentState) (splice : Splice) → IsSound document → newest document.log ≡ Some splice → SplicesBy document (inverse splice) (after_undo document)
@@ -30,13 +30,13 @@ spliced_on : (old between new : TextAndLayout) (first second : List Splice) → 
 spliced_on old between new [] second h k = subst (λ (l : TextAndLayout). WrapsForSplices l second new) h k
 spliced_on old between new (splice ∷ first) second h k = (h.0, h.1, spliced_on h.0 between new first second h.2 k)
 
--- the lines that are wrapped by a step's splice, by none, and by several
-pub reckoned : StepsWrap → Reckoning SplicedBy
+-- the lines that are wrapped by an edit's splice, by none, and by several
+pub reckoned : EditsWrap → Reckoning SplicedBy
 reckoned cut = record {
   none = λ old new same. ap (λ (s : LayoutAndRanges). s.0) same;
   same = λ old new other splices is h. subst (WrapsForSplices (text_and_layout old) splices) (sym (ap (λ (s : LayoutAndRanges). s.0) is)) h;
   two = λ old between new first second h k. spliced_on (text_and_layout old) (text_and_layout between) (text_and_layout new) first second h k;
-  one = λ document step typed now h made. (text_and_layout (stepped document step typed now), cut document step typed now h made, refl);
+  one = λ document splice typed now fits whole. (text_and_layout (after_edit document splice typed now), cut document splice typed now fits, refl);
 }
 
 -- ---- undo and redo

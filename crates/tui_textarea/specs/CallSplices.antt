@@ -1,46 +1,17 @@
--- The splices by which each call changes the text: a list for a state and a call, and for a run.
+-- The splices of any call and of a run, and which of them are of an undo or a redo.
 use Rattle.std.specs.Prelude.{◌≡◌, ◌⊎◌, List, [], ◌∷◌, ◌++◌, map, Option, None, Some}
-use Rattle.std.specs.Str.{chars}
 use Rattle.textarea_text.specs.Splice.{Splice}
-use Rattle.textarea_text.specs.Fragment.{fragment_symbols, pasted_symbols}
-use Rattle.textarea_text.specs.Text.{Break}
 use Rattle.textarea_calls.specs.declared.action.Action.TheVariants as action
 use Rattle.textarea_screen.specs.declared.screen.buffer.Buffer.{Buffer}
-use Rattle.textarea_document.specs.Splices.{after_splices, before_splices, break_splices, cursor_range_splices, redo_splices, selected_splices, undo_splices}
+use Rattle.textarea_document.specs.Splices.{selected_splices}
+use Rattle.tui_textarea.specs.Calls.{call_splices}
 use Rattle.textarea_calls.specs.declared.action.Action.{Action}
 use Rattle.tui_textarea.specs.Input.{asked_by, asked_without_shortcuts, call_of_action}
-use Rattle.tui_textarea.specs.Splices.{ahead_splices, char_splices, clear_splices, line_end_splices, line_head_splices, selected_splices_or, str_splices, tab_splices, word_after_splices, word_before_splices}
 use Rattle.tui_textarea.specs.State.{State}
 use Rattle.tui_textarea.specs.Run.{CallLeads}
 use Rattle.tui_textarea.specs.CallResults.{CallResult}
 use Rattle.textarea_calls.specs.declared.call.Call.{Call}
-use Rattle.textarea_calls.specs.declared.call.Call.TheVariants.{InsertChar, InsertStr, InsertPasted, InsertTab, InsertNewline, DeleteStr, DeleteNewline, DeleteChar, DeleteNextChar, DeleteLineByEnd, DeleteLineByHead, DeleteWord, DeleteNextWord, Clear, Cut, Paste, Undo, Redo, DeleteAtomicRangeAtCursor, Input, InputWithoutShortcuts}
-
--- The splices of the call in this state, one after another. An insertion over selected text has
--- two, first the removal of that text; any other edit, undo or redo has one; a call that changes
--- nothing in the text has none. The call that sets lines replaces the text, and has none. Those of
--- inputs are defined below.
-abbrev pub call_splices : State → Call → List Splice
-call_splices state (InsertChar c) = char_splices state c
-call_splices state (InsertStr text) = str_splices state (fragment_symbols (chars text.now))
-call_splices state (InsertPasted text) = str_splices state (pasted_symbols (chars text.now))
-call_splices state InsertTab = tab_splices state
-call_splices state InsertNewline = str_splices state (Break ∷ [])
-call_splices state Paste = str_splices state state.yank
-call_splices state (DeleteStr count) = selected_splices_or state.document (ahead_splices state.document count)
-call_splices state DeleteNewline = selected_splices_or state.document (break_splices state.document)
-call_splices state DeleteChar = selected_splices_or state.document (before_splices state.document)
-call_splices state DeleteNextChar = selected_splices_or state.document (after_splices state.document)
-call_splices state DeleteLineByEnd = selected_splices_or state.document (line_end_splices state.document)
-call_splices state DeleteLineByHead = selected_splices_or state.document (line_head_splices state.document)
-call_splices state DeleteWord = selected_splices_or state.document (word_before_splices state.document)
-call_splices state DeleteNextWord = selected_splices_or state.document (word_after_splices state.document)
-call_splices state Clear = clear_splices state.document
-call_splices state Cut = selected_splices state.document
-call_splices state Undo = undo_splices state.document
-call_splices state Redo = redo_splices state.document
-call_splices state (DeleteAtomicRangeAtCursor direction) = cursor_range_splices state.document direction
-call_splices state call = []
+use Rattle.textarea_calls.specs.declared.call.Call.TheVariants.{Undo, Redo, Input, InputWithoutShortcuts}
 
 -- those of the call, if there is one
 abbrev pub any_splices : State → Option Call → List Splice

@@ -1,9 +1,10 @@
--- The result of each call, the state after it, and where it may run out of memory.
+-- What each call does: its result, the state after it, its splices, and where it may run out of memory.
 use Rattle.std.specs.Prelude.{◌≡◌, ◌≢◌, true, false, List, [], ◌∷◌, is_some, not, None, Some, String}
 use Rattle.std.specs.Duration.{as_nanos}
 use Rattle.std.specs.Str.{chars}
 use Rattle.textarea_text.specs.Place.{Place}
-use Rattle.textarea_text.specs.Text.{lines, lines_of, text_of}
+use Rattle.textarea_text.specs.Splice.{Splice}
+use Rattle.textarea_text.specs.Text.{Break, lines, lines_of, text_of}
 use Rattle.textarea_data.specs.declared.range.AtomicRange.{AtomicRange}
 use Rattle.textarea_data.specs.declared.range.RejectedAtomicRange.{RejectedAtomicRange}
 use Rattle.textarea_ranges.specs.Lookup.{range_around}
@@ -15,11 +16,15 @@ use Rattle.textarea_text.specs.Between.{clip}
 use Rattle.textarea_document.specs.DocumentState.{fresh_document}
 use Rattle.textarea_document.specs.Edits.{range_at_cursor, has_symbols}
 use Rattle.textarea_document.specs.Outcomes.{after_redo, run_ended, after_undo}
-use Rattle.textarea_document.specs.Selection.{is_selected}
+use Rattle.textarea_document.specs.Selection.{is_selected, lines_duplicated, selection_duplication}
 use Rattle.textarea_document.specs.Selection as document_selection
+use Rattle.textarea_document.specs.Splices.{after_splices, before_splices, break_splices, cursor_range_splices, redo_splices, selected_splices, undo_splices}
 use Rattle.tui_textarea.specs.State.{State, with_document, with_other_lines}
+use Rattle.tui_textarea.specs.Splices.{ahead_splices, char_splices, clear_splices, line_end_splices, line_head_splices, selected_splices_or, str_splices, tab_splices, word_after_splices, word_before_splices}
 use Rattle.tui_textarea.specs.Edits.{inserts_tab, inserts_text, char_inserted, newline_inserted, tab_inserted, str_inserted}
-use Rattle.tui_textarea.specs.Removals.{break_before_removed, text_cleared, has_ahead, has_before, has_after, has_break_before, has_line_before, has_line_after, has_word_before, has_word_after, line_end_removed, line_head_removed, removes_or, symbol_before_removed, symbol_after_removed, symbols_ahead_removed, unselected_or, word_before_removed, word_after_removed}
+use Rattle.tui_textarea.specs.Removals.{break_before_removed, text_cleared, has_ahead, has_before, has_after, has_break_before, has_line_before, has_line_after, has_word_before}
+use Rattle.tui_textarea.specs.Removals.{has_word_after, line_end_removed, line_head_removed, removes_or, symbol_before_removed, symbol_after_removed, symbols_ahead_removed}
+use Rattle.tui_textarea.specs.Removals.{unselected_or, word_before_removed, word_after_removed}
 use Rattle.tui_textarea.specs.Selection.{all_selected, selection_copied, selection_cut, selection_cancelled, selection_started, unselected}
 use Rattle.tui_textarea.specs.Selection as selection
 use Rattle.textarea_screen.specs.Block.{block_view}
@@ -38,7 +43,6 @@ use Rattle.tui_textarea.specs.CallResults as reported
 use Rattle.tui_textarea.specs.CallResults.{CallResult, Done, Flag, Range, Rejected, Text}
 use Rattle.textarea_calls.specs.declared.call.Call.{Call}
 use Rattle.textarea_calls.specs.declared.call.Call.TheVariants as call
-use Rattle.textarea_calls.specs.declared.call.Call.TheVariants.{InsertChar, InsertStr, InsertPasted, GoTo, InsertTab, InsertNewline, DeleteStr, DeleteNewline, DeleteChar, DeleteNextChar, DeleteLineByEnd, DeleteLineByHead, DeleteWord, DeleteNextWord, Clear, Cut, Copy, Paste, Undo, Redo, StartSelection, CancelSelection, SelectAll, SetYankText, YankText, SetTabLength, SetHardTabIndent, SetMaxHistories, SetUndoCoalescing, SetNow, SetLines, TrySetAtomicRanges, ClearAtomicRanges, NormalizeCursorAroundAtomicRanges, AtomicRangeAtCursor, DeleteAtomicRangeAtCursor, SetSearchPattern, SearchForward, SearchBack, SetWrapMode, SetLineNumberStyle, RemoveLineNumber, Measure, SetBlock, RemoveBlock, SetPlaceholderText, SetStyledPlaceholder, SetPlaceholderStyle, SetMinRows, SetMaxRows, SetStyle, Style, SetCursorStyle, CursorStyle, SetCursorLineStyle, CursorLineStyle, SetSelectionStyle, SelectionStyle, SetSearchStyle, SearchStyle, SetMaskChar, ClearMaskChar, MaskChar, SetCursorRenderMode, CursorRenderMode, SetAlignment, Alignment, CustomHighlight, ClearCustomHighlight, Render, RenderedCursorPosition, CursorAtPosition, Cursor, IsEmpty, IsSelecting, SelectionRange, TabLength, HardTabIndent, MaxHistories, UndoCoalescing, WrapMode, LineNumberStyle, PlaceholderStyle, MinRows, MaxRows}
 
 -- those of the ranges that are rejected, in their order, each with its reason
 abbrev pub rejected_ranges : State → List AtomicRange → List RejectedAtomicRange
@@ -57,52 +61,52 @@ with_ranges_if (range ∷ rejected) state ranges = state
 -- the result of the call; of one that sets a pattern, if the pattern is accepted. The results of a
 -- measure, a hit test and an input are defined elsewhere
 abbrev pub result_of_call : State → Call → CallResult
-result_of_call state (InsertStr text) = Flag (inserts_text state (fragment_symbols (chars text.now)))
-result_of_call state (InsertPasted text) = Flag (inserts_text state (pasted_symbols (chars text.now)))
-result_of_call state InsertTab = Flag (inserts_tab state)
-result_of_call state (DeleteStr count) = Flag (removes_or state (has_ahead state count))
-result_of_call state DeleteNewline = Flag (removes_or state (has_break_before state))
-result_of_call state DeleteChar = Flag (removes_or state (has_before state))
-result_of_call state DeleteNextChar = Flag (removes_or state (has_after state))
-result_of_call state DeleteLineByEnd = Flag (removes_or state (has_line_after state))
-result_of_call state DeleteLineByHead = Flag (removes_or state (has_line_before state))
-result_of_call state DeleteWord = Flag (removes_or state (has_word_before state))
-result_of_call state DeleteNextWord = Flag (removes_or state (has_word_after state))
-result_of_call state Clear = Flag (has_symbols state.document.text)
-result_of_call state Cut = Flag (is_selected state.document)
-result_of_call state Paste = Flag (has_symbols state.yank)
-result_of_call state Undo = Flag (is_some (newest state.document.log))
-result_of_call state Redo = Flag (is_some (next state.document.log))
+result_of_call state (call.InsertStr text) = Flag (inserts_text state (fragment_symbols (chars text.now)))
+result_of_call state (call.InsertPasted text) = Flag (inserts_text state (pasted_symbols (chars text.now)))
+result_of_call state call.InsertTab = Flag (inserts_tab state)
+result_of_call state (call.DeleteStr count) = Flag (removes_or state (has_ahead state count))
+result_of_call state call.DeleteNewline = Flag (removes_or state (has_break_before state))
+result_of_call state call.DeleteChar = Flag (removes_or state (has_before state))
+result_of_call state call.DeleteNextChar = Flag (removes_or state (has_after state))
+result_of_call state call.DeleteLineByEnd = Flag (removes_or state (has_line_after state))
+result_of_call state call.DeleteLineByHead = Flag (removes_or state (has_line_before state))
+result_of_call state call.DeleteWord = Flag (removes_or state (has_word_before state))
+result_of_call state call.DeleteNextWord = Flag (removes_or state (has_word_after state))
+result_of_call state call.Clear = Flag (has_symbols state.document.text)
+result_of_call state call.Cut = Flag (is_selected state.document)
+result_of_call state call.Paste = Flag (has_symbols state.yank)
+result_of_call state call.Undo = Flag (is_some (newest state.document.log))
+result_of_call state call.Redo = Flag (is_some (next state.document.log))
 result_of_call state call.Text = Text (fragment_text state.document.text)
-result_of_call state YankText = Text (fragment_text state.yank)
-result_of_call state (TrySetAtomicRanges ranges) = ranges_result (rejected_ranges state ranges.now)
-result_of_call state (NormalizeCursorAroundAtomicRanges bias) = Flag (is_some (range_around state.document.ranges state.document.cursor))
-result_of_call state (AtomicRangeAtCursor direction) = Range (range_at_cursor state.document direction)
-result_of_call state (DeleteAtomicRangeAtCursor direction) = Range (range_at_cursor state.document direction)
-result_of_call state (SearchForward at_cursor) = Flag (is_some (next_match state at_cursor))
-result_of_call state (SearchBack at_cursor) = Flag (is_some (previous_match state at_cursor))
-result_of_call state Style = reported.Style state.drawing.look.style
-result_of_call state CursorStyle = reported.Style state.drawing.look.cursor_style
-result_of_call state CursorLineStyle = reported.Style state.drawing.look.cursor_line_style
-result_of_call state SelectionStyle = reported.Style state.drawing.look.selection_style
-result_of_call state SearchStyle = reported.Style state.drawing.look.search_style
-result_of_call state MaskChar = reported.Character state.drawing.look.mask
-result_of_call state CursorRenderMode = reported.CursorRenderMode state.drawing.look.cursor_render_mode
-result_of_call state Alignment = reported.Alignment state.drawing.look.alignment
-result_of_call state RenderedCursorPosition = reported.Position state.drawing.caret
-result_of_call state Cursor = reported.Cursor state.document.cursor
-result_of_call state IsEmpty = Flag (not (has_symbols state.document.text))
-result_of_call state IsSelecting = Flag (is_some state.document.anchor)
-result_of_call state SelectionRange = reported.Selection (document_selection.selection state.document)
-result_of_call state TabLength = reported.Number (tab_length state.document)
-result_of_call state HardTabIndent = Flag state.settings.hard_tab_indent
-result_of_call state MaxHistories = reported.Number state.document.log.maximum
-result_of_call state UndoCoalescing = Flag state.settings.undo_coalescing
-result_of_call state WrapMode = reported.WrapMode state.document.layout.settings.mode
-result_of_call state LineNumberStyle = reported.StyleIfVisible (number_style state)
-result_of_call state PlaceholderStyle = reported.StyleIfVisible (style_with_lines state.surround.placeholder.lines state.surround.placeholder.style)
-result_of_call state MinRows = reported.Number state.surround.min_rows
-result_of_call state MaxRows = reported.Number state.surround.max_rows
+result_of_call state call.YankText = Text (fragment_text state.yank)
+result_of_call state (call.TrySetAtomicRanges ranges) = ranges_result (rejected_ranges state ranges.now)
+result_of_call state (call.NormalizeCursorAroundAtomicRanges bias) = Flag (is_some (range_around state.document.ranges state.document.cursor))
+result_of_call state (call.AtomicRangeAtCursor direction) = Range (range_at_cursor state.document direction)
+result_of_call state (call.DeleteAtomicRangeAtCursor direction) = Range (range_at_cursor state.document direction)
+result_of_call state (call.SearchForward at_cursor) = Flag (is_some (next_match state at_cursor))
+result_of_call state (call.SearchBack at_cursor) = Flag (is_some (previous_match state at_cursor))
+result_of_call state call.Style = reported.Style state.drawing.look.style
+result_of_call state call.CursorStyle = reported.Style state.drawing.look.cursor_style
+result_of_call state call.CursorLineStyle = reported.Style state.drawing.look.cursor_line_style
+result_of_call state call.SelectionStyle = reported.Style state.drawing.look.selection_style
+result_of_call state call.SearchStyle = reported.Style state.drawing.look.search_style
+result_of_call state call.MaskChar = reported.Character state.drawing.look.mask
+result_of_call state call.CursorRenderMode = reported.CursorRenderMode state.drawing.look.cursor_render_mode
+result_of_call state call.Alignment = reported.Alignment state.drawing.look.alignment
+result_of_call state call.RenderedCursorPosition = reported.Position state.drawing.caret
+result_of_call state call.Cursor = reported.Cursor state.document.cursor
+result_of_call state call.IsEmpty = Flag (not (has_symbols state.document.text))
+result_of_call state call.IsSelecting = Flag (is_some state.document.anchor)
+result_of_call state call.SelectionRange = reported.Selection (document_selection.selection state.document)
+result_of_call state call.TabLength = reported.Number (tab_length state.document)
+result_of_call state call.HardTabIndent = Flag state.settings.hard_tab_indent
+result_of_call state call.MaxHistories = reported.Number state.document.log.maximum
+result_of_call state call.UndoCoalescing = Flag state.settings.undo_coalescing
+result_of_call state call.WrapMode = reported.WrapMode state.document.layout.settings.mode
+result_of_call state call.LineNumberStyle = reported.StyleIfVisible (number_style state)
+result_of_call state call.PlaceholderStyle = reported.StyleIfVisible (style_with_lines state.surround.placeholder.lines state.surround.placeholder.style)
+result_of_call state call.MinRows = reported.Number state.surround.min_rows
+result_of_call state call.MaxRows = reported.Number state.surround.max_rows
 result_of_call state call = Done
 
 -- the lines replace the old ones, and all edits and custom highlights are forgotten: the cursor
@@ -114,124 +118,153 @@ with_lines state lines cursor =
 -- the state after the call; after one that sets a pattern, if the pattern is accepted. The states
 -- after moves, scrolls, inputs and drawings are defined elsewhere
 abbrev pub state_after : State → Call → State
-state_after state (InsertChar c) = char_inserted state c
-state_after state (InsertStr text) = str_inserted state (fragment_symbols (chars text.now))
-state_after state (InsertPasted text) = str_inserted state (pasted_symbols (chars text.now))
-state_after state InsertTab = tab_inserted state
-state_after state InsertNewline = newline_inserted state
-state_after state (DeleteStr count) = unselected_or state (symbols_ahead_removed state count)
-state_after state DeleteNewline = unselected_or state (break_before_removed state)
-state_after state DeleteChar = unselected_or state (symbol_before_removed state)
-state_after state DeleteNextChar = unselected_or state (symbol_after_removed state)
-state_after state DeleteLineByEnd = unselected_or state (line_end_removed state)
-state_after state DeleteLineByHead = unselected_or state (line_head_removed state)
-state_after state DeleteWord = unselected_or state (word_before_removed state)
-state_after state DeleteNextWord = unselected_or state (word_after_removed state)
-state_after state Clear = text_cleared state
-state_after state Cut = selection_cut state
-state_after state Copy = selection_copied state
-state_after state Paste = str_inserted state state.yank
-state_after state Undo = with_document state (after_undo state.document)
-state_after state Redo = with_document state (after_redo state.document)
-state_after state (SetYankText text) = record state { yank = fragment_symbols (chars text.now) }
-state_after state YankText = state
-state_after state (TrySetAtomicRanges ranges) = with_ranges_if (rejected_ranges state ranges.now) state ranges.now
-state_after state (NormalizeCursorAroundAtomicRanges bias) = cursor_normalized state bias
-state_after state (AtomicRangeAtCursor direction) = state
-state_after state (DeleteAtomicRangeAtCursor direction) = atomic_range_removed state direction
-state_after state (SetLines lines cursor) = with_lines state lines.now cursor
-state_after state (SetSearchPattern text) = with_pattern state text.now
-state_after state (SearchForward at_cursor) = after_search state (next_match state at_cursor)
-state_after state (SearchBack at_cursor) = after_search state (previous_match state at_cursor)
-state_after state (GoTo place) = gone_to state place
-state_after state StartSelection = selection_started state
-state_after state CancelSelection = selection_cancelled state
-state_after state SelectAll = all_selected state
-state_after state (SetTabLength columns) = with_tab_length state columns
-state_after state (SetWrapMode mode) = with_wrap_mode state mode
-state_after state (SetLineNumberStyle style) = with_line_numbers state style
-state_after state RemoveLineNumber = without_line_numbers state
-state_after state (SetBlock block) = with_surround state (record state.surround { block = Some (block_view block.now) })
-state_after state RemoveBlock = with_surround state (record state.surround { block = None })
-state_after state (SetPlaceholderText text) = with_surround state (with_placeholder_text state.surround text.now)
-state_after state (SetStyledPlaceholder text) = with_surround state (record state.surround { placeholder = text_view text.now })
-state_after state (SetPlaceholderStyle style) = with_surround state (with_placeholder_style state.surround style)
-state_after state (SetMinRows rows) = with_surround state (with_min_rows state.surround rows)
-state_after state (SetMaxRows rows) = with_surround state (with_max_rows state.surround rows)
-state_after state (SetHardTabIndent hard) = record state { settings = record state.settings { hard_tab_indent = hard } }
-state_after state (SetMaxHistories maximum) =
+state_after state (call.InsertChar c) = char_inserted state c
+state_after state (call.InsertStr text) = str_inserted state (fragment_symbols (chars text.now))
+state_after state (call.InsertPasted text) = str_inserted state (pasted_symbols (chars text.now))
+state_after state call.InsertTab = tab_inserted state
+state_after state call.InsertNewline = newline_inserted state
+state_after state call.DuplicateLine = with_document state (lines_duplicated state.document state.time)
+state_after state (call.DeleteStr count) = unselected_or state (symbols_ahead_removed state count)
+state_after state call.DeleteNewline = unselected_or state (break_before_removed state)
+state_after state call.DeleteChar = unselected_or state (symbol_before_removed state)
+state_after state call.DeleteNextChar = unselected_or state (symbol_after_removed state)
+state_after state call.DeleteLineByEnd = unselected_or state (line_end_removed state)
+state_after state call.DeleteLineByHead = unselected_or state (line_head_removed state)
+state_after state call.DeleteWord = unselected_or state (word_before_removed state)
+state_after state call.DeleteNextWord = unselected_or state (word_after_removed state)
+state_after state call.Clear = text_cleared state
+state_after state call.Cut = selection_cut state
+state_after state call.Copy = selection_copied state
+state_after state call.Paste = str_inserted state state.yank
+state_after state call.Undo = with_document state (after_undo state.document)
+state_after state call.Redo = with_document state (after_redo state.document)
+state_after state (call.SetYankText text) = record state { yank = fragment_symbols (chars text.now) }
+state_after state call.YankText = state
+state_after state (call.TrySetAtomicRanges ranges) = with_ranges_if (rejected_ranges state ranges.now) state ranges.now
+state_after state (call.NormalizeCursorAroundAtomicRanges bias) = cursor_normalized state bias
+state_after state (call.AtomicRangeAtCursor direction) = state
+state_after state (call.DeleteAtomicRangeAtCursor direction) = atomic_range_removed state direction
+state_after state (call.SetLines lines cursor) = with_lines state lines.now cursor
+state_after state (call.SetSearchPattern text) = with_pattern state text.now
+state_after state (call.SearchForward at_cursor) = after_search state (next_match state at_cursor)
+state_after state (call.SearchBack at_cursor) = after_search state (previous_match state at_cursor)
+state_after state (call.GoTo place) = gone_to state place
+state_after state call.StartSelection = selection_started state
+state_after state call.CancelSelection = selection_cancelled state
+state_after state call.SelectAll = all_selected state
+state_after state (call.SetTabLength columns) = with_tab_length state columns
+state_after state (call.SetWrapMode mode) = with_wrap_mode state mode
+state_after state (call.SetLineNumberStyle style) = with_line_numbers state style
+state_after state call.RemoveLineNumber = without_line_numbers state
+state_after state (call.SetBlock block) = with_surround state (record state.surround { block = Some (block_view block.now) })
+state_after state call.RemoveBlock = with_surround state (record state.surround { block = None })
+state_after state (call.SetPlaceholderText text) = with_surround state (with_placeholder_text state.surround text.now)
+state_after state (call.SetStyledPlaceholder text) = with_surround state (record state.surround { placeholder = text_view text.now })
+state_after state (call.SetPlaceholderStyle style) = with_surround state (with_placeholder_style state.surround style)
+state_after state (call.SetMinRows rows) = with_surround state (with_min_rows state.surround rows)
+state_after state (call.SetMaxRows rows) = with_surround state (with_max_rows state.surround rows)
+state_after state (call.SetHardTabIndent hard) = record state { settings = record state.settings { hard_tab_indent = hard } }
+state_after state (call.SetMaxHistories maximum) =
     with_document state (record state.document { log = empty_log maximum })
-state_after state (SetUndoCoalescing joins) =
+state_after state (call.SetUndoCoalescing joins) =
     record state { document = record state.document { log = run_ended state.document.log }; settings = record state.settings { undo_coalescing = joins } }
-state_after state (SetNow time) = record state { time = as_nanos time }
-state_after state ClearAtomicRanges = ranges_cleared state
-state_after state (SetStyle style) = with_look_set state (record state.drawing.look { style = style })
-state_after state (SetCursorStyle style) = with_look_set state (record state.drawing.look { cursor_style = style })
-state_after state (SetCursorLineStyle style) = with_look_set state (record state.drawing.look { cursor_line_style = style })
-state_after state (SetSelectionStyle style) = with_look_set state (record state.drawing.look { selection_style = style })
-state_after state (SetSearchStyle style) = with_look_set state (record state.drawing.look { search_style = style })
-state_after state (SetMaskChar mask) = with_look_set state (record state.drawing.look { mask = Some mask })
-state_after state ClearMaskChar = with_look_set state (record state.drawing.look { mask = None })
-state_after state (SetCursorRenderMode mode) = with_look_set state (record state.drawing.look { cursor_render_mode = mode })
-state_after state (SetAlignment alignment) = with_alignment state alignment
-state_after state (CustomHighlight range style priority) = highlighted state range style priority
-state_after state ClearCustomHighlight = unhighlighted state
+state_after state (call.SetNow time) = record state { time = as_nanos time }
+state_after state call.ClearAtomicRanges = ranges_cleared state
+state_after state (call.SetStyle style) = with_look_set state (record state.drawing.look { style = style })
+state_after state (call.SetCursorStyle style) = with_look_set state (record state.drawing.look { cursor_style = style })
+state_after state (call.SetCursorLineStyle style) = with_look_set state (record state.drawing.look { cursor_line_style = style })
+state_after state (call.SetSelectionStyle style) = with_look_set state (record state.drawing.look { selection_style = style })
+state_after state (call.SetSearchStyle style) = with_look_set state (record state.drawing.look { search_style = style })
+state_after state (call.SetMaskChar mask) = with_look_set state (record state.drawing.look { mask = Some mask })
+state_after state call.ClearMaskChar = with_look_set state (record state.drawing.look { mask = None })
+state_after state (call.SetCursorRenderMode mode) = with_look_set state (record state.drawing.look { cursor_render_mode = mode })
+state_after state (call.SetAlignment alignment) = with_alignment state alignment
+state_after state (call.CustomHighlight range style priority) = highlighted state range style priority
+state_after state call.ClearCustomHighlight = unhighlighted state
 state_after state call = state
+
+-- The splices of the call in this state, one after another. An insertion over selected text has
+-- two, first the removal of that text; any other edit, undo or redo has one; a call that changes
+-- nothing in the text has none. The call that sets lines replaces the text, and has none. Those of
+-- inputs are defined elsewhere.
+abbrev pub call_splices : State → Call → List Splice
+call_splices state (call.InsertChar c) = char_splices state c
+call_splices state (call.InsertStr text) = str_splices state (fragment_symbols (chars text.now))
+call_splices state (call.InsertPasted text) = str_splices state (pasted_symbols (chars text.now))
+call_splices state call.InsertTab = tab_splices state
+call_splices state call.InsertNewline = str_splices state (Break ∷ [])
+call_splices state call.Paste = str_splices state state.yank
+call_splices state call.DuplicateLine = selection_duplication state.document ∷ []
+call_splices state (call.DeleteStr count) = selected_splices_or state.document (ahead_splices state.document count)
+call_splices state call.DeleteNewline = selected_splices_or state.document (break_splices state.document)
+call_splices state call.DeleteChar = selected_splices_or state.document (before_splices state.document)
+call_splices state call.DeleteNextChar = selected_splices_or state.document (after_splices state.document)
+call_splices state call.DeleteLineByEnd = selected_splices_or state.document (line_end_splices state.document)
+call_splices state call.DeleteLineByHead = selected_splices_or state.document (line_head_splices state.document)
+call_splices state call.DeleteWord = selected_splices_or state.document (word_before_splices state.document)
+call_splices state call.DeleteNextWord = selected_splices_or state.document (word_after_splices state.document)
+call_splices state call.Clear = clear_splices state.document
+call_splices state call.Cut = selected_splices state.document
+call_splices state call.Undo = undo_splices state.document
+call_splices state call.Redo = redo_splices state.document
+call_splices state (call.DeleteAtomicRangeAtCursor direction) = cursor_range_splices state.document direction
+call_splices state call = []
 
 -- the call may need memory: not if it has nothing to do, if a setting keeps the layout, if a
 -- measure reads the cached rows, or for a hit test with left alignment; and never a move, a scroll,
 -- any other setting or a call that reads one, a call that begins, drops or completes a selection,
 -- one that clears or looks up ranges, or one that clears highlights
 abbrev pub NeedsMemory : State → Call → Type 0
-NeedsMemory state (InsertChar c) = Unit {0}
-NeedsMemory state (InsertStr text) = inserts_text state (fragment_symbols (chars text.now)) ≢ false
-NeedsMemory state (InsertPasted text) = inserts_text state (pasted_symbols (chars text.now)) ≢ false
-NeedsMemory state InsertTab = inserts_tab state ≢ false
-NeedsMemory state InsertNewline = Unit {0}
-NeedsMemory state (DeleteStr count) = removes_or state (has_ahead state count) ≢ false
-NeedsMemory state DeleteNewline = removes_or state (has_break_before state) ≢ false
-NeedsMemory state DeleteChar = removes_or state (has_before state) ≢ false
-NeedsMemory state DeleteNextChar = removes_or state (has_after state) ≢ false
-NeedsMemory state DeleteLineByEnd = removes_or state (has_line_after state) ≢ false
-NeedsMemory state DeleteLineByHead = removes_or state (has_line_before state) ≢ false
-NeedsMemory state DeleteWord = removes_or state (has_word_before state) ≢ false
-NeedsMemory state DeleteNextWord = removes_or state (has_word_after state) ≢ false
-NeedsMemory state Clear = has_symbols state.document.text ≢ false
-NeedsMemory state Cut = is_selected state.document ≢ false
-NeedsMemory state Copy = is_selected state.document ≢ false
-NeedsMemory state Paste = inserts_text state state.yank ≢ false
-NeedsMemory state Undo = newest state.document.log ≢ None
-NeedsMemory state Redo = next state.document.log ≢ None
-NeedsMemory state (SetYankText text) = Unit {0}
+NeedsMemory state (call.InsertChar c) = Unit {0}
+NeedsMemory state (call.InsertStr text) = inserts_text state (fragment_symbols (chars text.now)) ≢ false
+NeedsMemory state (call.InsertPasted text) = inserts_text state (pasted_symbols (chars text.now)) ≢ false
+NeedsMemory state call.InsertTab = inserts_tab state ≢ false
+NeedsMemory state call.InsertNewline = Unit {0}
+NeedsMemory state call.DuplicateLine = Unit {0}
+NeedsMemory state (call.DeleteStr count) = removes_or state (has_ahead state count) ≢ false
+NeedsMemory state call.DeleteNewline = removes_or state (has_break_before state) ≢ false
+NeedsMemory state call.DeleteChar = removes_or state (has_before state) ≢ false
+NeedsMemory state call.DeleteNextChar = removes_or state (has_after state) ≢ false
+NeedsMemory state call.DeleteLineByEnd = removes_or state (has_line_after state) ≢ false
+NeedsMemory state call.DeleteLineByHead = removes_or state (has_line_before state) ≢ false
+NeedsMemory state call.DeleteWord = removes_or state (has_word_before state) ≢ false
+NeedsMemory state call.DeleteNextWord = removes_or state (has_word_after state) ≢ false
+NeedsMemory state call.Clear = has_symbols state.document.text ≢ false
+NeedsMemory state call.Cut = is_selected state.document ≢ false
+NeedsMemory state call.Copy = is_selected state.document ≢ false
+NeedsMemory state call.Paste = inserts_text state state.yank ≢ false
+NeedsMemory state call.Undo = newest state.document.log ≢ None
+NeedsMemory state call.Redo = next state.document.log ≢ None
+NeedsMemory state (call.SetYankText text) = Unit {0}
 NeedsMemory state call.Text = Unit {0}
-NeedsMemory state YankText = Unit {0}
-NeedsMemory state (TrySetAtomicRanges ranges) = Unit {0}
-NeedsMemory state (DeleteAtomicRangeAtCursor direction) = range_at_cursor state.document direction ≢ None
-NeedsMemory state (SetLines lines cursor) = Unit {0}
-NeedsMemory state (SetSearchPattern text) = IsNewPattern state text.now
-NeedsMemory state (SearchForward at_cursor) = state.pattern ≢ None
-NeedsMemory state (SearchBack at_cursor) = state.pattern ≢ None
-NeedsMemory state (SetTabLength columns) = keeps_layout state (tab_length_set state columns) ≢ true
-NeedsMemory state (SetWrapMode mode) = keeps_layout state (mode_set state mode) ≢ true
-NeedsMemory state (SetLineNumberStyle style) = keeps_layout state (line_numbers_set state true) ≢ true
-NeedsMemory state RemoveLineNumber = keeps_layout state (line_numbers_set state false) ≢ true
-NeedsMemory state (Measure width) = reads_rows state width ≢ true
-NeedsMemory state (SetBlock block) = Unit {0}
-NeedsMemory state (SetPlaceholderText text) = text.now ≢ []
-NeedsMemory state (SetStyledPlaceholder text) = Unit {0}
-NeedsMemory state (SetAlignment alignment) = keeps_layout state (alignment_set state alignment) ≢ true
-NeedsMemory state (CustomHighlight range style priority) = Unit {0}
-NeedsMemory state (Render area) = Unit {0}
-NeedsMemory state (CursorAtPosition position) = state.drawing.look.alignment ≢ Left
+NeedsMemory state call.YankText = Unit {0}
+NeedsMemory state (call.TrySetAtomicRanges ranges) = Unit {0}
+NeedsMemory state (call.DeleteAtomicRangeAtCursor direction) = range_at_cursor state.document direction ≢ None
+NeedsMemory state (call.SetLines lines cursor) = Unit {0}
+NeedsMemory state (call.SetSearchPattern text) = IsNewPattern state text.now
+NeedsMemory state (call.SearchForward at_cursor) = state.pattern ≢ None
+NeedsMemory state (call.SearchBack at_cursor) = state.pattern ≢ None
+NeedsMemory state (call.SetTabLength columns) = keeps_layout state (tab_length_set state columns) ≢ true
+NeedsMemory state (call.SetWrapMode mode) = keeps_layout state (mode_set state mode) ≢ true
+NeedsMemory state (call.SetLineNumberStyle style) = keeps_layout state (line_numbers_set state true) ≢ true
+NeedsMemory state call.RemoveLineNumber = keeps_layout state (line_numbers_set state false) ≢ true
+NeedsMemory state (call.Measure width) = reads_rows state width ≢ true
+NeedsMemory state (call.SetBlock block) = Unit {0}
+NeedsMemory state (call.SetPlaceholderText text) = text.now ≢ []
+NeedsMemory state (call.SetStyledPlaceholder text) = Unit {0}
+NeedsMemory state (call.SetAlignment alignment) = keeps_layout state (alignment_set state alignment) ≢ true
+NeedsMemory state (call.CustomHighlight range style priority) = Unit {0}
+NeedsMemory state (call.Render area) = Unit {0}
+NeedsMemory state (call.CursorAtPosition position) = state.drawing.look.alignment ≢ Left
 NeedsMemory state call = ⊥
 
 -- the state after a call that ran out of memory: the old state, or, after an insertion, that
 -- without the selected text
 abbrev pub StateOutOfMemory : State → Call → State → Type 0
-StateOutOfMemory old (InsertChar c) new = selection.IsInsertOutOfMemory old new
-StateOutOfMemory old (InsertStr text) new = selection.IsInsertOutOfMemory old new
-StateOutOfMemory old (InsertPasted text) new = selection.IsInsertOutOfMemory old new
-StateOutOfMemory old InsertTab new = selection.IsInsertOutOfMemory old new
-StateOutOfMemory old InsertNewline new = selection.IsInsertOutOfMemory old new
-StateOutOfMemory old Paste new = selection.IsInsertOutOfMemory old new
+StateOutOfMemory old (call.InsertChar c) new = selection.IsInsertOutOfMemory old new
+StateOutOfMemory old (call.InsertStr text) new = selection.IsInsertOutOfMemory old new
+StateOutOfMemory old (call.InsertPasted text) new = selection.IsInsertOutOfMemory old new
+StateOutOfMemory old call.InsertTab new = selection.IsInsertOutOfMemory old new
+StateOutOfMemory old call.InsertNewline new = selection.IsInsertOutOfMemory old new
+StateOutOfMemory old call.Paste new = selection.IsInsertOutOfMemory old new
 StateOutOfMemory old call new = new ≡ old

@@ -64,7 +64,10 @@ pub use Rattle.tui_textarea.specs.Moves.{IsMoved, gone_to, IsMovedWith, IsScroll
 pub use Rattle.tui_textarea.specs.Outcomes.{IsAfterCall, IsAfterOutOfMemory, IsResultOf, RanOutOfMemory}
 pub use Rattle.tui_textarea.specs.Ranges.{atomic_range_removed, cursor_normalized, ranges_accepted, ranges_cleared}
 pub use Rattle.tui_textarea.specs.RangesOverCalls.{IsUndoOrRedo, RangesFollowCall, RangesOfRun}
-pub use Rattle.tui_textarea.specs.Removals.{back_to_word_removed, break_before_removed, has_after, has_ahead, has_before, has_break_before, has_line_after, has_line_before, has_word_after, has_word_before, index_ahead, line_end_removed, line_head_removed, on_to_word_end_removed, removes_or, symbol_after_removed, symbol_before_removed, symbols_ahead_removed, text_cleared, unselected_or, word_after_removed, word_before_removed, yanked}
+pub use Rattle.tui_textarea.specs.Removals.{back_to_word_removed, break_before_removed, has_after, has_ahead, has_before, has_break_before, has_line_after, has_line_before}
+pub use Rattle.tui_textarea.specs.Removals.{has_word_after, has_word_before, index_ahead, line_end_removed, line_head_removed, on_to_word_end_removed, removes_or}
+pub use Rattle.tui_textarea.specs.Removals.{symbol_after_removed, symbol_before_removed, symbols_ahead_removed, text_cleared, unselected_or, word_after_removed}
+pub use Rattle.tui_textarea.specs.Removals.{word_before_removed, yanked}
 pub use Rattle.tui_textarea.specs.Rendered.{IsDrawn}
 pub use Rattle.tui_textarea.specs.Run.{Leads, Run, ShowsSame}
 pub use Rattle.tui_textarea.specs.Search.{after_search, found_match, next_match, previous_match, with_pattern}

@@ -210,7 +210,8 @@ impl<'a> TextArea<'a> {
         self.document.is_empty()
     }
 
-    fn allocator(&self) -> Global {
+    /// Returns the allocator of all memory of the text area.
+    pub fn allocator(&self) -> Global {
         self.document.allocator()
     }
 }

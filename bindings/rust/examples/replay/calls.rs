@@ -17,6 +17,7 @@ pub fn call(area: &mut TextArea, name: &str, words: &str) -> Option<&'static str
         "insert_newline" => done(area.insert_newline()),
         "insert_tab" => flag(area.insert_tab()),
         "paste" => flag(area.paste()),
+        "duplicate_line" => done(area.duplicate_line()),
         "delete_char" => flag(area.delete_char()),
         "delete_next_char" => flag(area.delete_next_char()),
         "delete_newline" => flag(area.delete_newline()),

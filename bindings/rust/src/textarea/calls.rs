@@ -42,6 +42,19 @@ impl TextArea<'_> {
         self.edit(|h| unsafe { sys::ta_paste(h) })
     }
 
+    /// Inserts the cursor's line once more below it, or the lines of the selection below the last
+    /// of them, as one edit. The selection's lines are those of which it holds a character or the
+    /// break. Cursor and selection move down into the copy, and keep their columns.
+    pub fn duplicate_line(&mut self) {
+        must(self.try_duplicate_line());
+    }
+
+    /// As `duplicate_line`, but returns that memory ran out.
+    pub fn try_duplicate_line(&mut self) -> Result<(), OutOfMemory> {
+        self.edit(|h| unsafe { sys::ta_duplicate_line(h) })?;
+        Ok(())
+    }
+
     /// Removes the atomic range that ends at the cursor or strictly contains it, or else the
     /// character before the cursor, or at column 0 the line break. Returns whether it removed text.
     pub fn delete_char(&mut self) -> bool {

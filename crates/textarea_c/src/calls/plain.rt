@@ -2,6 +2,7 @@
 //! The exports that only pass their arguments and return their result.
 
 pub mod appearance;
+pub mod edits;
 pub mod history;
 pub mod ranges;
 pub mod removals;

@@ -1,9 +1,10 @@
-//! Insertions. Each first removes the selected text, as its own edit, and then moves a cursor that
-//! is strictly inside an atomic range to the range's end.
+//! Insertions. Each but `duplicate_line` first removes the selected text, as its own edit, and then
+//! moves a cursor that is strictly inside an atomic range to the range's end.
 ghost use Rattle.std.specs.Prelude.{◌≡◌, ◌<◌, OnOk, OnErr, IsOk, IfOk, false, [], replicate, vec_len};
 ghost use Rattle.std.specs.Arc.{arc_value};
 ghost use Rattle.std.specs.Str.{chars};
-ghost use Rattle.tui_textarea.specs.Prelude.{Character, text_of, has_symbols, is_selected, fragment_symbols, pasted_symbols, inserts_tab, inserts_text, symbols_or_none_inserted, spaces_to_stop, char_inserted, char_or_break_inserted, newline_inserted, tab_inserted, tab_or_spaces_inserted, str_inserted, IsInsertOutOfMemory, selection_cancelled, unselected};
+ghost use Rattle.textarea_document.specs.Selection.{first_selected_row, last_selected_row, lines_duplicated, with_lines_again};
+ghost use Rattle.tui_textarea.specs.Prelude.{Character, lines, with_document, text_of, has_symbols, is_selected, fragment_symbols, pasted_symbols, inserts_tab, inserts_text, symbols_or_none_inserted, spaces_to_stop, char_inserted, char_or_break_inserted, newline_inserted, tab_inserted, tab_or_spaces_inserted, str_inserted, IsInsertOutOfMemory, selection_cancelled, unselected};
 
 use crate::textarea::TextArea;
 use std::alloc::{AllocError, Global};
@@ -112,6 +113,22 @@ impl TextArea<'_> {
     {
         self.document.remove_selection(self.time)?;
         self.document.insert(fragment_lines, self.time)
+    }
+
+    /// Inserts the cursor's line once more below it, or the lines of the selection below the last of
+    /// them, as one edit: those of which the selection holds a character or the break. Cursor and
+    /// selection move down into the copy, and keep their columns; a run of typing ends. Atomic
+    /// ranges stay with the first lines, and the copy has none. What was yanked stays. After it the
+    /// lines are those up to the last of these lines, and then those from the first of them on.
+    pub fn duplicate_line(&mut self) -> Result<(), AllocError>
+        ensures ok { OnOk result (self.new
+            ≡ with_document self.old (lines_duplicated self.old.document self.old.time)) }
+        ensures err { OnErr result (self.new ≡ self.old) }
+        ensures lines { OnOk result (lines self.new.document.text
+            ≡ with_lines_again (lines self.old.document.text)
+            (first_selected_row self.old.document) (last_selected_row self.old.document)) }
+    {
+        self.document.duplicate_lines(self.time)
     }
 
     /// Inserts a tab at the cursor, or at the end of the atomic range that strictly contains it,

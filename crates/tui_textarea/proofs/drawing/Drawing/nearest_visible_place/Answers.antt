@@ -4,7 +4,9 @@ use Rattle.tui_textarea.proofs.drawing.Drawing.nearest_visible_place.Goals as go
 use Rattle.tui_textarea.proofs.drawing.Drawing.nearest_visible_place.Goals.{After-eq}
 
 -- the position at the row and column
-inside : (c : After-eq) (place : Place) → IsReached c.eq.result c.view-rows.result (record { row = c.clamp_row-row.result; column = c.clamp_column-column.result }) c.args.document.now.cursor place → IsNearestVisible c.args.document.now c.args.self.now.viewport place
+inside : (c : After-eq) (place : Place)
+    → IsReached c.eq.result c.view-rows.result (record { row = c.clamp_row-row.result; column = c.clamp_column-column.result }) c.args.document.now.cursor place
+    → IsNearestVisible c.args.document.now c.args.self.now.viewport place
 inside c place reached =
     let rows = c.view-rows.result in
     let visual = c.visual_position-visual.result in

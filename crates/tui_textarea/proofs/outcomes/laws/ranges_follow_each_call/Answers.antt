@@ -3,5 +3,5 @@ use Rattle.tui_textarea.proofs.outcomes.laws.ranges_follow_each_call.Goals as go
 
 pub returns : goal.returns
 returns c =
-    let laws : TheLaws = record { stepped = c.ranges_follow_splices.ensures.stepped; undone = c.ranges_follow_splices.ensures.undone; redone = c.ranges_follow_splices.ensures.redone } in
+    let laws : TheLaws = record { edited = c.ranges_follow_splices.ensures.edited; undone = c.ranges_follow_splices.ensures.undone; redone = c.ranges_follow_splices.ensures.redone } in
     record { made = ranges_follow_call laws; out_of_memory = out_of_memory_follows laws }

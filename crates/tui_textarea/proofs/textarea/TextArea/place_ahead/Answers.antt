@@ -8,7 +8,8 @@ use Rattle.tui_textarea.proofs.textarea.TextArea.place_ahead.Goals.{else-end-cur
 known : (c : goal.Joined-else-end-cursor) → IsAhead c.args.self.now.document c.ahead-end.result c.args.count
 known c =
     subst (λ d. IsAhead d c.ahead-end.result c.args.count) (ap (λ (s : State). s.document) c.self.view_is)
-    (is_ahead c.self.inside.document (text_of c.lines.result.now) (lines_of c.lines.result.now) c.cursor-cursor.result c.ahead-end.result c.args.count c.lines.ensures.value c.lines.ensures.lines c.cursor-cursor.ensures.value c.cursor-cursor.ensures.place c.ahead-end.ensures.is_place c.ahead-end.ensures.index
+    (is_ahead c.self.inside.document (text_of c.lines.result.now) (lines_of c.lines.result.now) c.cursor-cursor.result c.ahead-end.result c.args.count
+    c.lines.ensures.value c.lines.ensures.lines c.cursor-cursor.ensures.value c.cursor-cursor.ensures.place c.ahead-end.ensures.is_place c.ahead-end.ensures.index
     (elim c.else-end-cursor.branch [
       | else-end-cursor-via-then-end-cursor+else-end-cursor-2 w ↦ (λ rows columns. w.if-end-cursor-2.false columns)
       | else-end-cursor-via-else-end-cursor w ↦ (λ rows columns. w.if-end-cursor.false rows)
