@@ -3,7 +3,8 @@ use Rattle.std.proofs.lemmas.Grind.{common_steps}
 use Rattle.std.proofs.Common.{◌≡◌, ℕ, zero, suc, ◌+◌, ◌-◌, ◌<◌, ◌≤◌, inl, inr, List, Result, Ok, Err, cond, [], ◌∷◌, ◌++◌, Vec, length, take, drop, get_or, set, vec_len, vec_capacity, sym, ap, refl, ◌∙◌, arith}
 use Rattle.textarea_blocks.specs.Prelude.{IsOk, is_ok, BlocksView, RowsView, replaced, IsBlockOf, IsEdge, all_rows, lines_before, rows_of_each, spare_of_each, marks_at, ranges_at, row_total}
 use Rattle.std.proofs.lemmas.Bool.{cases_lt}
-use Rattle.std.proofs.lemmas.List.{append-nil, append_assoc, drop-append-le, drop_all, drop_at, drop-drop, drop_more, get_or-append-add, get_or_append_left, get_or-map, get_or-set_same, length-append, length-drop, length-map, map-append, length-set, map-set, set_split, take_all, take-append-drop, take-append-le, take-map, take_more, take_more_set, take-set-le, drop-map, drop-set-lt}
+use Rattle.std.proofs.lemmas.List.{append-nil, append_assoc, drop-append-le, drop_all, drop_at, drop-drop, drop_more, get_or-append-add, get_or_append_left, get_or-map, get_or-set_same, length-append, length-drop}
+use Rattle.std.proofs.lemmas.List.{length-map, map-append, length-set, map-set, set_split, take_all, take-append-drop, take-append-le, take-map, take_more, take_more_set, take-set-le, drop-map, drop-set-lt}
 use Rattle.std.proofs.Math.Seq.{take-add, take-append-add}
 use Rattle.textarea_blocks.proofs.Numbers.{row_total-append}
 use Rattle.textarea_blocks.proofs.LineSums.{IsSum, Sum}
@@ -29,24 +30,25 @@ total_before total blocks block = total (all_rows (take block blocks))
 pub before_all : (total : Sum) (blocks : List (List RowsView)) (n : ℕ) → length blocks ≤ n → total_before total blocks n ≡ total (all_rows blocks)
 before_all total blocks n all = ap (λ t. total (all_rows t)) (take_all n blocks all)
 
-pub before_more : (total : Sum) → IsSum total → (blocks : List (List RowsView)) (block : ℕ) → block < length blocks → total_before total blocks (block + 1) ≡ total_before total blocks block + total (get_or blocks block [])
-before_more total sum blocks block within = grind (arith, common_steps, take_more blocks block [] within, all_rows-append, append-nil)
+module _ (total : Sum) (sum : IsSum total) where
+  pub before_more : (blocks : List (List RowsView)) (block : ℕ) → block < length blocks → total_before total blocks (block + 1) ≡ total_before total blocks block + total (get_or blocks block [])
+  before_more blocks block within = grind (arith, common_steps, take_more blocks block [] within, all_rows-append, append-nil)
 
--- and of the blocks between it and another
-pub before_further : (total : Sum) → IsSum total → (blocks : List (List RowsView)) (block more : ℕ) → total_before total blocks (block + more) ≡ total_before total blocks block + total (all_rows (take more (drop block blocks)))
-before_further total sum blocks block more =
-    grind (arith, common_steps, take-add block more blocks, all_rows-append (take block blocks) (take more (drop block blocks)))
+  -- and of the blocks between it and another
+  pub before_further : (blocks : List (List RowsView)) (block more : ℕ) → total_before total blocks (block + more) ≡ total_before total blocks block + total (all_rows (take more (drop block blocks)))
+  before_further blocks block more =
+      grind (arith, common_steps, take-add block more blocks, all_rows-append (take block blocks) (take more (drop block blocks)))
 
-pub before_ordered : (total : Sum) → IsSum total → (blocks : List (List RowsView)) (block other : ℕ) → block ≤ other → total_before total blocks block ≤ total_before total blocks other
-before_ordered total sum blocks block other ordered = grind (arith, common_steps, before_further total sum blocks block (other - block))
+  pub before_ordered : (blocks : List (List RowsView)) (block other : ℕ) → block ≤ other → total_before total blocks block ≤ total_before total blocks other
+  before_ordered blocks block other ordered = grind (arith, common_steps, before_further blocks block (other - block))
 
-pub before_within : (total : Sum) → IsSum total → (blocks : List (List RowsView)) (block : ℕ) → total_before total blocks block ≤ total (all_rows blocks)
-before_within total sum blocks block =
-    elim (cases_lt block (length blocks)) [
-      | inl less ↦
-          omega (arith, before_ordered total sum blocks block (length blocks) (omega arith), before_all total blocks (length blocks) (omega arith))
-      | inr most ↦ omega (arith, before_all total blocks block most)
-    ]
+  pub before_within : (blocks : List (List RowsView)) (block : ℕ) → total_before total blocks block ≤ total (all_rows blocks)
+  before_within blocks block =
+      elim (cases_lt block (length blocks)) [
+        | inl less ↦
+            omega (arith, before_ordered blocks block (length blocks) (omega arith), before_all total blocks (length blocks) (omega arith))
+        | inr most ↦ omega (arith, before_all total blocks block most)
+      ]
 
 -- a line is in one block only
 pub one_block : (blocks : List (List RowsView)) (line block other : ℕ) → IsBlockOf blocks line block → IsBlockOf blocks line other → block ≡ other
@@ -78,11 +80,15 @@ rows_around_block blocks block within =
     grind (arith, common_steps, take-append-drop block blocks, all_rows-append (take block blocks) (drop block blocks), drop_more blocks block [] within)
 
 -- the lines up to one of the block
-pub take_in_block : (blocks : List (List RowsView)) (block index : ℕ) → block < length blocks → index ≤ length (get_or blocks block []) → take (lines_before blocks block + index) (all_rows blocks) ≡ all_rows (take block blocks) ++ take index (get_or blocks block [])
+pub take_in_block :
+    (blocks : List (List RowsView)) (block index : ℕ) → block < length blocks → index ≤ length (get_or blocks block [])
+    → take (lines_before blocks block + index) (all_rows blocks) ≡ all_rows (take block blocks) ++ take index (get_or blocks block [])
 take_in_block blocks block index within inside = grind (arith, common_steps, rows_around_block blocks block within, take-append-add, take-append-le)
 
 -- and those from one of it on
-pub drop_in_block : (blocks : List (List RowsView)) (block index : ℕ) → block < length blocks → index ≤ length (get_or blocks block []) → drop (lines_before blocks block + index) (all_rows blocks) ≡ drop index (get_or blocks block []) ++ all_rows (drop (block + 1) blocks)
+pub drop_in_block :
+    (blocks : List (List RowsView)) (block index : ℕ) → block < length blocks → index ≤ length (get_or blocks block [])
+    → drop (lines_before blocks block + index) (all_rows blocks) ≡ drop index (get_or blocks block []) ++ all_rows (drop (block + 1) blocks)
 drop_in_block blocks block index within inside =
     let above = all_rows (take block blocks) in
     let rows = get_or blocks block [] in
@@ -92,10 +98,14 @@ drop_in_block blocks block index within inside =
     ∙ ap (drop index) (drop_at above (rows ++ below) (length above) refl)
     ∙ drop-append-le index rows below inside
 
-pub rows_of_block : (blocks : List (List RowsView)) (block index count : ℕ) → block < length blocks → index + count ≤ length (get_or blocks block []) → take count (drop (lines_before blocks block + index) (all_rows blocks)) ≡ take count (drop index (get_or blocks block []))
+pub rows_of_block :
+    (blocks : List (List RowsView)) (block index count : ℕ) → block < length blocks → index + count ≤ length (get_or blocks block [])
+    → take count (drop (lines_before blocks block + index) (all_rows blocks)) ≡ take count (drop index (get_or blocks block []))
 rows_of_block blocks block index count within inside = grind (arith, common_steps, drop_in_block, take-append-le, length-drop)
 
-pub line_in_block : (blocks : List (List RowsView)) (block index : ℕ) (d : RowsView) → block < length blocks → index < length (get_or blocks block []) → get_or (all_rows blocks) (lines_before blocks block + index) d ≡ get_or (get_or blocks block []) index d
+pub line_in_block :
+    (blocks : List (List RowsView)) (block index : ℕ) (d : RowsView) → block < length blocks → index < length (get_or blocks block [])
+    → get_or (all_rows blocks) (lines_before blocks block + index) d ≡ get_or (get_or blocks block []) index d
 line_in_block blocks block index d within inside = grind (arith, common_steps, rows_around_block blocks block within, get_or-append-add, get_or_append_left)
 
 -- a line at which a block begins is the first of its block
@@ -114,23 +124,34 @@ line_there blocks block index within inside =
     omega (arith, before_more length lines_sum blocks block within, before_within length lines_sum blocks (block + 1))
 
 -- the ranges and the marks of a line, and the total before it
-pub ranges_in_block : (blocks : List (List RowsView)) (block index line : ℕ) (rows : RowsView) → block < length blocks → index < length (get_or blocks block []) → lines_before blocks block + index ≡ line → rows ≡ get_or (get_or blocks block []) index rows → rows.ranges ≡ ranges_at (all_rows blocks) line
+pub ranges_in_block :
+    (blocks : List (List RowsView)) (block index line : ℕ) (rows : RowsView) → block < length blocks → index < length (get_or blocks block [])
+    → lines_before blocks block + index ≡ line → rows ≡ get_or (get_or blocks block []) index rows → rows.ranges ≡ ranges_at (all_rows blocks) line
 ranges_in_block blocks block index line rows within inside at is =
     grind (arith, common_steps, line_there blocks block index within inside, line_in_block blocks block index rows within inside, get_or-map)
 
-pub ranges_there : (blocks : List (List RowsView)) (block index line : ℕ) → block < length blocks → index < length (get_or blocks block []) → lines_before blocks block + index ≡ line → ranges_at (all_rows blocks) line ≡ ranges_at (get_or blocks block []) index
+pub ranges_there :
+    (blocks : List (List RowsView)) (block index line : ℕ) → block < length blocks → index < length (get_or blocks block [])
+    → lines_before blocks block + index ≡ line → ranges_at (all_rows blocks) line ≡ ranges_at (get_or blocks block []) index
 ranges_there blocks block index line within inside at =
     grind (arith, common_steps, line_there blocks block index within inside, line_in_block blocks block index (record { ranges = []; marks = []; tick = 0 }) within inside, get_or-map)
 
-pub marks_in_block : (blocks : List (List RowsView)) (block index line : ℕ) (rows : RowsView) → block < length blocks → index < length (get_or blocks block []) → lines_before blocks block + index ≡ line → rows ≡ get_or (get_or blocks block []) index rows → rows.marks ≡ marks_at (all_rows blocks) line
+pub marks_in_block :
+    (blocks : List (List RowsView)) (block index line : ℕ) (rows : RowsView) → block < length blocks → index < length (get_or blocks block [])
+    → lines_before blocks block + index ≡ line → rows ≡ get_or (get_or blocks block []) index rows → rows.marks ≡ marks_at (all_rows blocks) line
 marks_in_block blocks block index line rows within inside at is =
     grind (arith, common_steps, line_there blocks block index within inside, line_in_block blocks block index rows within inside, get_or-map)
 
-pub total_in_block : (total : Sum) → IsSum total → (blocks : List (List RowsView)) (block index line : ℕ) → block < length blocks → index ≤ length (get_or blocks block []) → lines_before blocks block + index ≡ line → total (take line (all_rows blocks)) ≡ total_before total blocks block + total (take index (get_or blocks block []))
+pub total_in_block :
+    (total : Sum) → IsSum total → (blocks : List (List RowsView)) (block index line : ℕ) → block < length blocks → index ≤ length (get_or blocks block []) → lines_before blocks block + index ≡ line
+    → total (take line (all_rows blocks)) ≡ total_before total blocks block + total (take index (get_or blocks block []))
 total_in_block total sum blocks block index line within inside at = grind (arith, common_steps, take_in_block blocks block index within inside)
 
 -- the totals of consecutive lines, of which the last ones are in one block
-pub total_further : (total : Sum) → IsSum total → (blocks : List (List RowsView)) (here : List RowsView) (block index count line done : ℕ) → block < length blocks → here ≡ get_or blocks block [] → index + count ≤ length here → lines_before blocks block + index ≡ line + done → total (take (done + count) (drop line (all_rows blocks))) ≡ total (take done (drop line (all_rows blocks))) + total (take (index + count - index) (drop index here))
+pub total_further :
+    (total : Sum) → IsSum total → (blocks : List (List RowsView)) (here : List RowsView) (block index count line done : ℕ) → block < length blocks
+    → here ≡ get_or blocks block [] → index + count ≤ length here → lines_before blocks block + index ≡ line + done
+    → total (take (done + count) (drop line (all_rows blocks))) ≡ total (take done (drop line (all_rows blocks))) + total (take (index + count - index) (drop index here))
 total_further total sum blocks here block index count line done within is inside at = grind (arith, common_steps, take-add, drop-drop, rows_of_block)
 
 -- ---- blocks that change
@@ -138,7 +159,11 @@ total_further total sum blocks here block index count line done within is inside
 -- lines in the middle of a list are replaced
 replaced_between : (above rows below new : List RowsView) (start count : ℕ) → start + count ≤ length rows → replaced (above ++ (rows ++ below)) (length above + start) count new ≡ above ++ (replaced rows start count new ++ below)
 replaced_between above rows below new start count within =
-    grind (arith, common_steps, take-append-add above (rows ++ below) start, take-append-le, drop-drop, drop_at above (rows ++ below) (length above), drop-append-le (start + count) rows below within, append_assoc above (take start rows) (new ++ (drop (start + count) rows ++ below)), append_assoc new (drop (start + count) rows) below, append_assoc (take start rows) (new ++ drop (start + count) rows) below)
+    let rest = drop (start + count) rows in
+    let outer = append_assoc above (take start rows) (new ++ (rest ++ below)) in
+    let inner = append_assoc (take start rows) (new ++ rest) below in
+    let last = drop-append-le (start + count) rows below within in
+    grind (arith, common_steps, take-append-add above (rows ++ below) start, take-append-le, drop-drop, drop_at above (rows ++ below) (length above), last, outer, append_assoc new rest below, inner)
 
 -- one block is replaced
 pub block_set : (blocks : List (List RowsView)) (block : ℕ) (rows : List RowsView) → block < length blocks → all_rows (set blocks block rows) ≡ all_rows (take block blocks) ++ (rows ++ all_rows (drop (block + 1) blocks))
@@ -159,21 +184,27 @@ after_set total sum blocks block rows within =
     ∙ ap (λ t. total_before total blocks block + total t) (get_or-set_same blocks block rows [] within)
 
 -- lines of one block are replaced
-pub block_replaced : (blocks : List (List RowsView)) (block start count : ℕ) (new : List RowsView) → block < length blocks → start + count ≤ length (get_or blocks block []) → all_rows (set blocks block (replaced (get_or blocks block []) start count new)) ≡ replaced (all_rows blocks) (lines_before blocks block + start) count new
+pub block_replaced :
+    (blocks : List (List RowsView)) (block start count : ℕ) (new : List RowsView) → block < length blocks → start + count ≤ length (get_or blocks block [])
+    → all_rows (set blocks block (replaced (get_or blocks block []) start count new)) ≡ replaced (all_rows blocks) (lines_before blocks block + start) count new
 block_replaced blocks block start count new within inside = grind (arith, common_steps, block_set, replaced_between, rows_around_block blocks block within)
 
 drop_all_of : (rows : List RowsView) → drop (0 + length rows) rows ≡ []
 drop_all_of rows = drop_all (0 + length rows) rows (omega arith)
 
 -- whole blocks are replaced
-pub blocks_replaced : (blocks new : List (List RowsView)) (from to : ℕ) → from ≤ to → to ≤ length blocks → all_rows (replaced blocks from (to - from) new) ≡ replaced (all_rows blocks) (lines_before blocks from) (lines_before blocks to - lines_before blocks from) (all_rows new)
+pub blocks_replaced :
+    (blocks new : List (List RowsView)) (from to : ℕ) → from ≤ to → to ≤ length blocks
+    → all_rows (replaced blocks from (to - from) new) ≡ replaced (all_rows blocks) (lines_before blocks from) (lines_before blocks to - lines_before blocks from) (all_rows new)
 blocks_replaced blocks new from to ordered within =
     let above = all_rows (take from blocks) in
     let between = all_rows (take (to - from) (drop from blocks)) in
     let below = all_rows (drop (from + (to - from)) blocks) in
     let components : all_rows blocks ≡ above ++ (between ++ below) =
     ap all_rows (sym (take-append-drop from blocks)) ∙ all_rows-append (take from blocks) (drop from blocks)
-    ∙ ap (λ t. above ++ t) (ap all_rows (sym (take-append-drop (to - from) (drop from blocks))) ∙ all_rows-append (take (to - from) (drop from blocks)) (drop (to - from) (drop from blocks)) ∙ ap (λ t. between ++ all_rows t) (drop-drop (to - from) from blocks)) in
+    ∙ ap (λ t. above ++ t)
+    (ap all_rows (sym (take-append-drop (to - from) (drop from blocks))) ∙ all_rows-append (take (to - from) (drop from blocks)) (drop (to - from) (drop from blocks)) ∙ ap (λ t. between ++ all_rows t) (drop-drop (to - from) from blocks))
+    in
     let size : from + (to - from) ≡ to = omega arith in
     let lines : lines_before blocks to - lines_before blocks from ≡ length between =
     omega (arith, before_further length lines_sum blocks from (to - from), ap (lines_before blocks) size) in
@@ -199,7 +230,12 @@ block_split blocks block at within =
     let rows = get_or blocks block [] in
     let above = take block blocks in
     let below = drop (block + 1) blocks in
-    grind (arith, common_steps, take_more_set blocks block (take at rows) within, drop-set-lt (block + 1) blocks block (take at rows) (omega arith), all_rows-append (above ++ take at rows ∷ []) (drop at rows ∷ below), block_pushed above (take at rows), append_assoc (all_rows above) (take at rows) (drop at rows ++ all_rows below), append_assoc (take at rows) (drop at rows) (all_rows below), take-append-drop at rows, rows_around_block blocks block within)
+    let cut = take_more_set blocks block (take at rows) within in
+    let same = drop-set-lt (block + 1) blocks block (take at rows) (omega arith) in
+    let halves = all_rows-append (above ++ take at rows ∷ []) (drop at rows ∷ below) in
+    let outer = append_assoc (all_rows above) (take at rows) (drop at rows ++ all_rows below) in
+    let inner = append_assoc (take at rows) (drop at rows) (all_rows below) in
+    grind (arith, common_steps, cut, same, halves, block_pushed above (take at rows), outer, inner, take-append-drop at rows, rows_around_block blocks block within)
 
 -- ---- elements of vectors
 

@@ -48,7 +48,9 @@ pub record AreJoined (items old : List ℕ) (from gone come l m : ℕ) : Type 0 
   pub can : CanShift items from l m
   pub shifted : AreShifted old (shifted_numbers from l m items) from gone come
 
-pub joined : (items old : List ℕ) (from less more gone come l m : ℕ) → shifted_numbers from less more items ≡ old → CanShift items from less more → CanShift old from gone come → l ≡ less + gone - (more + come) → m ≡ more + come - (less + gone) → AreJoined items old from gone come l m
+pub joined :
+    (items old : List ℕ) (from less more gone come l m : ℕ) → shifted_numbers from less more items ≡ old → CanShift items from less more
+    → CanShift old from gone come → l ≡ less + gone - (more + come) → m ≡ more + come - (less + gone) → AreJoined items old from gone come l m
 joined items old from less more gone come l m is can more_can l_is m_is =
     let size : length items ≡ length old = sym (length-turned from less more items) ∙ ap length is in
     record {

@@ -1,11 +1,11 @@
 -- A block that is split in two.
 use Rattle.std.proofs.Common.{◌≡◌, ℕ, ◌+◌, ◌-◌, ◌<◌, ◌≤◌, inl, inr, min, List, Result, Ok, Err, [], ◌∷◌, length, take, drop, get_or, set, sym, ap, ◌∙◌, arith, subst}
 use Rattle.std.proofs.lemmas.Bool.{cases_lt}
-use Rattle.std.proofs.lemmas.List.{append-nil, get_or_append_left, get_or-append-add, get_or-set_same, get_or-take, length-append, length-drop, length-set, length-take-le}
+use Rattle.std.proofs.lemmas.List.{append-nil, get_or_append_left, get_or-append-add, get_or-take, length-append, length-drop, length-set, length-take-le}
 use Rattle.std.specs.Result.{OnErr, OnOk}
 use Rattle.textarea_util.proofs.Replacing.{length-replaced}
 use Rattle.textarea_blocks.specs.Prelude.{BlocksView, FitsInBlock, IsBlockOf, IsSplit, RowsView, replaced, all_rows, lines_before}
-use Rattle.textarea_blocks.proofs.InBlocks.{after_set, all_rows-append, before_more, before_ordered, before_set, lines_sum, one_block}
+use Rattle.textarea_blocks.proofs.InBlocks.{after_set, all_rows-append, before_more, before_set, lines_sum, one_block}
 use Rattle.textarea_blocks.proofs.Totals.{take_above, take_between}
 
 -- the blocks after the split, and the lines before them
@@ -15,7 +15,9 @@ pub record HasHalves (old now : List (List RowsView)) (block at : ℕ) : Type 0 
   pub second : lines_before now (block + 1) ≡ lines_before old block + at
   pub after : lines_before now (block + 2) ≡ lines_before old block + length (get_or old block [])
 
-pub halves : (old : List (List RowsView)) (block at : ℕ) → block < length old → at ≤ length (get_or old block []) → HasHalves old (replaced (set old block (take at (get_or old block []))) (block + 1) 0 (drop at (get_or old block []) ∷ [])) block at
+pub halves :
+    (old : List (List RowsView)) (block at : ℕ) → block < length old → at ≤ length (get_or old block [])
+    → HasHalves old (replaced (set old block (take at (get_or old block []))) (block + 1) 0 (drop at (get_or old block []) ∷ [])) block at
 halves old block at within inside =
     let here = get_or old block [] in
     let cut = set old block (take at here) in
@@ -47,7 +49,10 @@ halves old block at within inside =
     next_two = omega arith
 
 -- The half with the line `row` has room for the lines that the block had room for.
-split_fits : (old now : BlocksView) (block at extra row index count come : ℕ) → IsSplit old now block at extra → block < length old.blocks → at ≤ length (get_or old.blocks block []) → lines_before old.blocks block + index ≡ row → index < length (get_or old.blocks block []) → FitsInBlock old row count come → come ≤ extra + min count (length (get_or old.blocks block []) - index) → FitsInBlock now row count come
+split_fits :
+    (old now : BlocksView) (block at extra row index count come : ℕ) → IsSplit old now block at extra → block < length old.blocks
+    → at ≤ length (get_or old.blocks block []) → lines_before old.blocks block + index ≡ row → index < length (get_or old.blocks block [])
+    → FitsInBlock old row count come → come ≤ extra + min count (length (get_or old.blocks block []) - index) → FitsInBlock now row count come
 split_fits old now block at extra row index count come h within inside line there fits enough = λ k in_k.
     let here = get_or old.blocks block [] in
     let known = subst (λ t. HasHalves old.blocks t block at) (sym h.blocks) (halves old.blocks block at within inside) in
@@ -68,7 +73,11 @@ split_fits old now block at extra row index count come h within inside line ther
     ]
 
 -- the same whether or not there was memory for the split
-pub halved_fits : {T E : Type 0} (result : Result T E) (old now : BlocksView) (block at extra row index count come : ℕ) → OnOk result (IsSplit old now block at extra) → OnErr result (now ≡ old) → block < length old.blocks → at ≤ length (get_or old.blocks block []) → lines_before old.blocks block + index ≡ row → index < length (get_or old.blocks block []) → FitsInBlock old row count come → come ≤ extra + min count (length (get_or old.blocks block []) - index) → FitsInBlock now row count come
+pub halved_fits :
+    {T E : Type 0} (result : Result T E) (old now : BlocksView) (block at extra row index count come : ℕ)
+    → OnOk result (IsSplit old now block at extra) → OnErr result (now ≡ old) → block < length old.blocks → at ≤ length (get_or old.blocks block [])
+    → lines_before old.blocks block + index ≡ row → index < length (get_or old.blocks block []) → FitsInBlock old row count come
+    → come ≤ extra + min count (length (get_or old.blocks block []) - index) → FitsInBlock now row count come
 halved_fits (Ok v) old now block at extra row index count come h same within inside line there fits enough =
     split_fits old now block at extra row index count come h within inside line there fits enough
 halved_fits (Err e) old now block at extra row index count come h same within inside line there fits enough =

@@ -48,10 +48,13 @@ impl Clone for RowBlocks {
 
     /// Returns the same rows in the same blocks, or an error if memory runs out.
     fn clone(&self) -> Result<RowBlocks, AllocError> {
+        let blocks = self.blocks.clone()?;
+        let lines = self.lines.clone()?;
+        let rows = self.rows.clone()?;
         Ok(RowBlocks {
-            blocks: self.blocks.clone()?,
-            lines: self.lines.clone()?,
-            rows: self.rows.clone()?,
+            blocks,
+            lines,
+            rows,
         })
     }
 }

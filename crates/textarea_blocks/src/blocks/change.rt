@@ -3,7 +3,7 @@ ghost use Rattle.std.specs.Prelude.{◌≡◌, ◌+◌, ◌-◌, ◌*◌, ◌<�
 ghost use Rattle.textarea_blocks.specs.Prelude.{size_limit, replaced, FitsInBlock, IsEdge, all_rows, lines_before, row_total};
 
 use super::RowBlocks;
-use super::numbers::Exchanged;
+use super::numbers::{Exchanged, exchange_both, shift_both};
 use crate::sums::count_rows;
 use std::alloc::AllocError;
 use textarea_util::replace::replace_items;
@@ -21,12 +21,12 @@ impl RowBlocks {
         ensures { self.new.blocks ≡ set self.old.blocks block
             (replaced (get_or self.old.blocks block []) start count rows.items) }
     {
-        let come = rows.len();
         let removed_rows = &self.blocks[block].as_slice()[start..start + count];
-        let (rows_gone, rows_come) = (count_rows(removed_rows), count_rows(rows.as_slice()));
+        let new_rows = rows.as_slice();
+        let (rows_gone, rows_come) = (count_rows(removed_rows), count_rows(new_rows));
+        let (gone, come) = ((count, rows_gone), (new_rows.len(), rows_come));
         replace_items(&mut self.blocks[block], start, count, rows);
-        self.lines.shift_from(block + 1, count, come);
-        self.rows.shift_from(block + 1, rows_gone, rows_come);
+        shift_both(&mut self.lines, &mut self.rows, block + 1, gone, come);
     }
 
     // Replaces the blocks `from..to`. Allocates nothing.
@@ -63,8 +63,25 @@ impl RowBlocks {
             rows,
         } = new;
         replace_items(&mut self.blocks, from, to - from, blocks);
-        self.lines.exchange(lines, lines_exchanged);
-        self.rows.exchange(rows, rows_exchanged);
+        exchange_both(
+            &mut self.lines,
+            &mut self.rows,
+            (lines, rows),
+            (lines_exchanged, rows_exchanged),
+        );
+    }
+
+    // Removes the blocks `from..to`. Allocates nothing.
+    #[tactic(auto, using(crate::proofs::InBlocks::blocks_replaced))]
+    fn remove_blocks(&mut self, from: usize, to: usize)
+        requires ordered { from ≤ to }
+        requires within { to ≤ length self.old.blocks }
+        ensures { all_rows self.new.blocks
+            ≡ replaced (all_rows self.old.blocks) (lines_before self.old.blocks from)
+            (lines_before self.old.blocks to - lines_before self.old.blocks from) [] }
+    {
+        let alloc = *self.blocks.allocator();
+        self.exchange_blocks(from, to, RowBlocks::new(alloc));
     }
 
     // Removes `count` lines from this block's start on, with blocks that become empty. Allocates
@@ -80,13 +97,14 @@ impl RowBlocks {
             return;
         }
         let alloc = *self.blocks.allocator();
-        let (last, index) = self.place_of(self.lines_before(block) + count - 1);
-        if index + 1 == self.blocks[last].len() {
-            self.exchange_blocks(block, last + 1, RowBlocks::new(alloc));
-            return;
+        let end = self.lines_before(block) + count;
+        if end == self.line_count() {
+            self.remove_blocks(block, self.block_count());
+        } else {
+            let (last, index) = self.place_of(end);
+            self.exchange(last, 0, index, Vec::new(alloc));
+            self.remove_blocks(block, last);
         }
-        self.exchange(last, 0, index + 1, Vec::new(alloc));
-        self.exchange_blocks(block, last, RowBlocks::new(alloc));
     }
 
     /// Replaces the rows of the `count` lines from `row` on by those of a few lines, in the block
@@ -122,6 +140,7 @@ impl RowBlocks {
         let block = self.edge_of(row);
         let after = self.block_count() - block;
         self.exchange_blocks(block, block, rows);
-        self.remove_first(self.block_count() - after, count);
+        let blocks_now = self.block_count();
+        self.remove_first(blocks_now - after, count);
     }
 }

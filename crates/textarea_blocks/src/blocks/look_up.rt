@@ -80,8 +80,10 @@ impl RowBlocks {
         ensures number { result.1 < length (ranges_at (all_rows self.now.blocks) result.0) }
     {
         let block = self.rows.last_at_most(row);
-        let (index, left) = row_in(self.blocks[block].as_slice(), row - self.rows.at(block));
-        (self.lines.at(block) + index, left)
+        let rows_before = self.rows.at(block);
+        let (index, left) = row_in(self.blocks[block].as_slice(), row - rows_before);
+        let lines_before = self.lines.at(block);
+        (lines_before + index, left)
     }
 
     /// Returns the number of visual rows of the `count` lines from `line` on, and the sum of the

@@ -1,6 +1,6 @@
 //! For each block, the number of items (lines or visual rows) before it.
-ghost use Rattle.std.specs.Prelude.{◌≡◌, ℕ, ◌+◌, ◌-◌, ◌<◌, ◌≤◌, ◌++◌, ◌∷◌, [], length, get_or, vec_len, vec_capacity, OnErr, OnOk};
-ghost use Rattle.textarea_blocks.specs.Prelude.{AreExchanged, AreShifted, CanShift};
+ghost use Rattle.std.specs.Prelude.{◌≡◌, ℕ, ◌+◌, ◌-◌, ◌<◌, ◌≤◌, ◌++◌, ◌∷◌, [], length, get_or, vec_len, vec_capacity, OnErr, OnOk, true, false};
+ghost use Rattle.textarea_blocks.specs.Prelude.{AreExchanged, AreShifted, CanExchange, CanShift, shifted_numbers};
 
 use std::alloc::{AllocError, Global};
 use std::marker::Model;
@@ -141,55 +141,115 @@ impl Numbers {
         ensures shifted { AreShifted self.old.numbers self.new.numbers from gone come }
         ensures room { self.new.spare ≡ self.old.spare }
     {
-        if gone == come {
+        if gone == come || self.combine(from, gone, come) {
             return;
         }
-        if from == self.from {
-            let sums = (self.less.checked_add(gone), self.more.checked_add(come));
-            if let (Some(less), Some(more)) = sums {
-                self.less = less.saturating_sub(more);
-                self.more = more.saturating_sub(less);
-                return;
-            }
-        }
         move_numbers(&mut self.items, self.from, self.less, self.more);
+        let (less, more) = (gone.saturating_sub(come), come.saturating_sub(gone));
         self.from = from;
-        self.less = gone.saturating_sub(come);
-        self.more = come.saturating_sub(gone);
+        self.less = less;
+        self.more = more;
+    }
+
+    // Combines the difference with the pending one, and returns whether it did: not if they have
+    // different `from`, or a sum overflows.
+    fn combine(&mut self, from: usize, gone: usize, come: usize) -> bool
+        requires { CanShift self.old.numbers from gone come }
+        ensures shifted { result ≡ true
+            → AreShifted self.old.numbers self.new.numbers from gone come }
+        ensures same { result ≡ false → self.new ≡ self.old }
+        ensures room { self.new.spare ≡ self.old.spare }
+    {
+        if from != self.from {
+            return false;
+        }
+        let less = self.less.checked_add(gone);
+        let more = self.more.checked_add(come);
+        let (Some(less), Some(more)) = (less, more) else {
+            return false;
+        };
+        let (less, more) = (less.saturating_sub(more), more.saturating_sub(less));
+        self.less = less;
+        self.more = more;
+        true
     }
 
     /// Replaces the numbers of removed blocks by those of new blocks, which count from 0, and
     /// adjusts the numbers after them. Allocates nothing.
     pub(super) fn exchange(&mut self, new: Numbers, exchanged: Exchanged)
-        requires ordered { exchanged.from ≤ exchanged.to }
-        requires within { exchanged.to ≤ length self.old.numbers }
-        requires room { length new.numbers ≤ self.old.spare + (exchanged.to - exchanged.from) }
-        requires after { CanShift self.old.numbers exchanged.to exchanged.gone exchanged.come }
-        requires small_new { (k : ℕ) → k < length new.numbers
-            → get_or new.numbers k 0 + exchanged.before ≤ usize.MAX }
+        requires { CanExchange self.old.numbers new.numbers self.old.spare exchanged }
         ensures exchanged { AreExchanged self.old.numbers new.numbers exchanged self.new.numbers }
         ensures room { self.old.spare + (exchanged.to - exchanged.from)
             ≤ self.new.spare + length new.numbers }
     {
-        let Numbers {
-            mut items,
-            from,
-            less,
-            more,
-        } = new;
-        move_numbers(&mut items, from, less, more);
+        let items = new.into_items();
         move_numbers(&mut self.items, self.from, self.less, self.more);
         exchange_numbers(&mut self.items, items, exchanged);
         self.from = self.items.len();
         self.less = 0;
         self.more = 0;
     }
+
+    // Returns the numbers as a vector. Allocates nothing.
+    fn into_items(self) -> Vec<usize>
+        ensures { result.items ≡ self.numbers }
+    {
+        let Numbers {
+            mut items,
+            from,
+            less,
+            more,
+        } = self;
+        move_numbers(&mut items, from, less, more);
+        items
+    }
+}
+
+/// Adds `come` to the numbers of lines and of rows from the block `from` on, and subtracts `gone`.
+/// Allocates nothing.
+pub(super) fn shift_both(
+    lines: &mut Numbers,
+    rows: &mut Numbers,
+    from: usize,
+    gone: (usize, usize),
+    come: (usize, usize),
+)
+    requires lines { CanShift lines.old.numbers from gone.0 come.0 }
+    requires rows { CanShift rows.old.numbers from gone.1 come.1 }
+    ensures lines { AreShifted lines.old.numbers lines.new.numbers from gone.0 come.0 }
+    ensures rows { AreShifted rows.old.numbers rows.new.numbers from gone.1 come.1 }
+    ensures lines_room { lines.new.spare ≡ lines.old.spare }
+    ensures rows_room { rows.new.spare ≡ rows.old.spare }
+{
+    lines.shift_from(from, gone.0, come.0);
+    rows.shift_from(from, gone.1, come.1);
+}
+
+/// Replaces the numbers of lines and of rows of removed blocks, each as `Numbers::exchange` does.
+pub(super) fn exchange_both(
+    lines: &mut Numbers,
+    rows: &mut Numbers,
+    new: (Numbers, Numbers),
+    exchanged: (Exchanged, Exchanged),
+)
+    requires lines { CanExchange lines.old.numbers new.0.numbers lines.old.spare exchanged.0 }
+    requires rows { CanExchange rows.old.numbers new.1.numbers rows.old.spare exchanged.1 }
+    ensures lines { AreExchanged lines.old.numbers new.0.numbers exchanged.0 lines.new.numbers }
+    ensures rows { AreExchanged rows.old.numbers new.1.numbers exchanged.1 rows.new.numbers }
+    ensures lines_room { lines.old.spare + (exchanged.0.to - exchanged.0.from)
+        ≤ lines.new.spare + length new.0.numbers }
+    ensures rows_room { rows.old.spare + (exchanged.1.to - exchanged.1.from)
+        ≤ rows.new.spare + length new.1.numbers }
+{
+    lines.exchange(new.0, exchanged.0);
+    rows.exchange(new.1, exchanged.1);
 }
 
 // Adds `come` to each number from `from` on, and subtracts `gone`.
 fn move_numbers(numbers: &mut Vec<usize>, from: usize, gone: usize, come: usize)
     requires { CanShift numbers.old.items from gone come }
     ensures shifted { AreShifted numbers.old.items numbers.new.items from gone come }
+    ensures items { numbers.new.items ≡ shifted_numbers from gone come numbers.old.items }
     ensures capacity { vec_capacity numbers.new ≡ vec_capacity numbers.old }
 {
     move_slice(numbers.as_mut_slice(), from, gone, come);
@@ -209,13 +269,8 @@ fn move_slice(numbers: &mut [usize], from: usize, gone: usize, come: usize)
 
 // Replaces the numbers of removed blocks by those of new blocks, and adjusts those after them.
 fn exchange_numbers(numbers: &mut Vec<usize>, mut new: Vec<usize>, exchanged: Exchanged)
-    requires ordered { exchanged.from ≤ exchanged.to }
-    requires within { exchanged.to ≤ vec_len numbers.old }
-    requires room { vec_len numbers.old + vec_len new
-        ≤ vec_capacity numbers.old + (exchanged.to - exchanged.from) }
-    requires after { CanShift numbers.old.items exchanged.to exchanged.gone exchanged.come }
-    requires small_new { (k : ℕ) → k < vec_len new
-        → get_or new.items k 0 + exchanged.before ≤ usize.MAX }
+    requires { CanExchange numbers.old.items new.items
+        (vec_capacity numbers.old - vec_len numbers.old) exchanged }
     ensures exchanged { AreExchanged numbers.old.items new.items exchanged numbers.new.items }
     ensures capacity { vec_capacity numbers.old ≤ vec_capacity numbers.new }
 {

@@ -1,11 +1,12 @@
 //! Room for changes of blocks, and block edges: all that allocates. Each call makes what it needs
 //! before it changes anything, so out of memory leaves the blocks and their room as they are.
-ghost use Rattle.std.specs.Prelude.{◌≡◌, ◌+◌, ◌-◌, ◌*◌, ◌<◌, ◌≤◌, ◌∷◌, [], length, take, drop, get_or, set, vec_capacity, vec_len, OnErr, OnOk};
+ghost use Rattle.std.specs.Prelude.{◌≡◌, ◌+◌, ◌-◌, ◌*◌, ◌<◌, ◌≤◌, ◌∷◌, [], length, take, drop, get_or, set, vec_capacity, vec_len, IfOk, OnErr, OnOk};
 ghost use Rattle.textarea_blocks.specs.Prelude.{size_limit, FitsInBlock, IsEdge, IsSplit, all_rows, row_total};
 
 use super::RowBlocks;
+use super::numbers::shift_both;
 use crate::sums::count_rows;
-use std::alloc::AllocError;
+use std::alloc::{AllocError, Global};
 use textarea_util::limit::within_limit;
 use textarea_wrap::rows::Rows;
 
@@ -92,14 +93,23 @@ impl RowBlocks {
     {
         let alloc = *self.blocks.allocator();
         let more = within_limit(more.saturating_add(1))?;
-        let len = within_limit((self.blocks[block].len() - at).saturating_add(extra))?;
+        let room = (self.blocks[block].len() - at).saturating_add(extra);
+        let len = within_limit(room)?;
         let rest = Vec::with_capacity(alloc, len)?;
-        let mut after = RowBlocks::new(alloc);
-        after.reserve(1)?;
+        let mut after = RowBlocks::for_one_block(alloc)?;
         self.reserve(more)?;
         after.put_first(self.split_block_off(block, at, rest));
         self.exchange_blocks(block + 1, block + 1, after);
         Ok(())
+    }
+
+    // Returns no blocks, with room for one.
+    fn for_one_block(alloc: Global) -> Result<RowBlocks, AllocError>
+        ensures { IfOk result (λ blocks. (blocks.blocks ≡ []) × (1 ≤ blocks.more)) }
+    {
+        let mut blocks = RowBlocks::new(alloc);
+        blocks.reserve(1)?;
+        Ok(blocks)
     }
 
     // Moves the rows of all lines of a block from the line `at` on to an empty vector that has room
@@ -118,9 +128,10 @@ impl RowBlocks {
         ensures room { self.new.more ≡ self.old.more }
     {
         move_tail(&mut self.blocks[block], at, &mut rest);
-        self.lines.shift_from(block + 1, rest.len(), 0);
-        let rows_gone = count_rows(rest.as_slice());
-        self.rows.shift_from(block + 1, rows_gone, 0);
+        let removed_rows = rest.as_slice();
+        let rows_gone = count_rows(removed_rows);
+        let gone = (removed_rows.len(), rows_gone);
+        shift_both(&mut self.lines, &mut self.rows, block + 1, gone, (0, 0));
         rest
     }
 

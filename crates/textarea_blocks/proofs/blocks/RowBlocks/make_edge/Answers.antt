@@ -1,4 +1,4 @@
-use Rattle.std.proofs.Common.{◌+◌, ◌<◌, ◌≤◌, [], ap, arith, get_or, length, subst, sym}
+use Rattle.std.proofs.Common.{◌+◌, arith, subst, sym}
 use Rattle.std.proofs.lemmas.Result.{on_ok_weaker}
 use Rattle.textarea_blocks.specs.Blocks.{IsSplit}
 use Rattle.textarea_blocks.proofs.Splits.{HasHalves, halves}

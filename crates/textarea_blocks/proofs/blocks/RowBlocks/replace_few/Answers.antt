@@ -1,3 +1,4 @@
+use Rattle.std.proofs.lemmas.Grind.{common_steps}
 use Rattle.std.proofs.Common.{◌≡◌, ◌+◌, ◌-◌, ◌<◌, ◌≤◌, ◌∙◌, inl, inr, List, [], ap, arith, get_or, length, min, ℕ}
 use Rattle.std.proofs.lemmas.Bool.{cases_lt}
 use Rattle.textarea_blocks.specs.Prelude.{replaced, RowsView, BlocksView, all_rows, lines_before}
@@ -26,7 +27,7 @@ first_place c =
       within = c.place_of-block.ensures.block.within;
       at = c.place_of-block.ensures.line;
       inside = c.place_of-block.ensures.within;
-      shared_is = omega (arith, c.min-shared.ensures, c.len.ensures, c.index.result.now.ok.0, ap length (rows_are items block c.index.result.now within c.index.ensures), ap (λ (v : BlocksView). length (get_or v.blocks block [])) c.self.view_is);
+      shared_is = grind (arith, common_steps, rows_are, block_count);
       next = before_more length lines_sum blocks block c.place_of-block.ensures.block.within;
     }
 
@@ -36,7 +37,9 @@ record Exchanged (blocks now : List (List RowsView)) (row shared block : ℕ) (n
   size : length (all_rows now) + shared ≡ length (all_rows blocks) + length new
   next : lines_before now (block + 1) + shared ≡ lines_before blocks (block + 1) + length new
 
-exchanged : (c : After-exchange) → First c.args.self.now.blocks c.args.row c.args.count c.place_of-block.result.0 c.place_of-block.result.1 c.min-shared.result → Exchanged c.args.self.now.blocks c.exchange.new.self.blocks c.args.row c.min-shared.result c.place_of-block.result.0 c.args.rows.items
+exchanged :
+    (c : After-exchange) → First c.args.self.now.blocks c.args.row c.args.count c.place_of-block.result.0 c.place_of-block.result.1 c.min-shared.result
+    → Exchanged c.args.self.now.blocks c.exchange.new.self.blocks c.args.row c.min-shared.result c.place_of-block.result.0 c.args.rows.items
 exchanged c known =
     let blocks = c.args.self.now.blocks in
     let block = c.place_of-block.result.0 in

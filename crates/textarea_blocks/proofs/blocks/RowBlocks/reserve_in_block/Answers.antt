@@ -2,7 +2,7 @@ use Rattle.std.proofs.lemmas.Grind.{common_steps}
 use Rattle.std.proofs.Common.{◌≡◌, ◌+◌, ◌-◌, ◌<◌, ◌≤◌, ◌∙◌, [], ap, arith, get_or, length, refl, set, sym, vec_capacity, vec_len}
 use Rattle.std.proofs.lemmas.List.{get_or-set_same, length-set, set-get_or}
 use Rattle.std.proofs.lemmas.Result.{on_err_weaker, on_ok_weaker}
-use Rattle.textarea_blocks.specs.Blocks.{BlocksView, IsBlockOf, all_rows, lines_before, rows_of_each, spare_of_each}
+use Rattle.textarea_blocks.specs.Blocks.{BlocksView, IsBlockOf, lines_before, rows_of_each, spare_of_each}
 use Rattle.textarea_blocks.proofs.InBlocks.{before_more, block_count, blocks_set, lines_sum, one_block, rows_are, spare_is, spare_set, view_same}
 use Rattle.textarea_blocks.proofs.blocks.RowBlocks.reserve_in_block.Goals as goal
 use Rattle.textarea_blocks.proofs.blocks.RowBlocks.reserve_in_block.Goals.{After-reserve}

@@ -1,3 +1,4 @@
+use Rattle.std.proofs.lemmas.Grind.{common_steps}
 use Rattle.std.proofs.Common.{◌≡◌, ◌+◌, ◌-◌, ◌<◌, ◌≤◌, ◌∷◌, ◌∙◌, List, [], ap, arith, drop, get_or, length, refl, set, take, vec_capacity, vec_len, ℕ}
 use Rattle.std.proofs.lemmas.List.{append-nil, get_or-set_same, length-drop, length-set, length-take-le}
 use Rattle.textarea_blocks.specs.Prelude.{RowsView, BlocksView, replaced, all_rows, row_total}
@@ -23,7 +24,7 @@ split_is c =
     let block = c.args.block in
     let at = c.args.at in
     let here = get_or blocks block [] in
-    let same = c.in_ok-reserve-2.ensures.same in
+    let same = c.in_ok-reserve.ensures.same in
     let rest : c.split_block_off.result.items ≡ drop at here = c.split_block_off.ensures.portion ∙ ap (λ (t : List (List RowsView)). drop at (get_or t block [])) same in
     let now : c.split_block_off.new.self.blocks ≡ set blocks block (take at here) = c.split_block_off.ensures.retained ∙ ap (λ (t : List (List RowsView)). set t block (take at (get_or t block []))) same in
     record {
@@ -59,7 +60,9 @@ exchange_blocks-requires-clause-rows c =
     omega (arith, known.row_sum, known.few_rows, ap (λ t. row_total (all_rows t)) c.put_first.ensures.blocks, ap row_total (one c.split_block_off.result.items))
 
 -- the blocks after the split
-blocks_are : (c : After-exchange_blocks) → SplitBlocks c.args.self.now.blocks c.split_block_off.new.self.blocks c.args.block c.args.at c.split_block_off.result.items → c.exchange_blocks.new.self.blocks ≡ replaced (set c.args.self.now.blocks c.args.block (take c.args.at (get_or c.args.self.now.blocks c.args.block []))) (c.args.block + 1) 0 (drop c.args.at (get_or c.args.self.now.blocks c.args.block []) ∷ [])
+blocks_are :
+    (c : After-exchange_blocks) → SplitBlocks c.args.self.now.blocks c.split_block_off.new.self.blocks c.args.block c.args.at c.split_block_off.result.items → c.exchange_blocks.new.self.blocks
+    ≡ replaced (set c.args.self.now.blocks c.args.block (take c.args.at (get_or c.args.self.now.blocks c.args.block []))) (c.args.block + 1) 0 (drop c.args.at (get_or c.args.self.now.blocks c.args.block []) ∷ [])
 blocks_are c known =
     let next = c.args.block + 1 in
     let none : next - next ≡ 0 = omega arith in
@@ -83,13 +86,13 @@ returns-clause-split c =
     let next = block + 1 in
     let here = get_or old.blocks block [] in
     let cut = c.split_block_off.new.self.spare in
-    let whole = c.reserve-2.new.self in
-    let same = c.in_ok-reserve-2.ensures.same in
-    let room : whole.spare ≡ old.spare = c.in_ok-reserve-2.ensures.spare in
+    let whole = c.reserve.new.self in
+    let same = c.in_ok-reserve.ensures.same in
+    let room : whole.spare ≡ old.spare = c.in_ok-reserve.ensures.spare in
     let there : block < length items = omega (arith, c.requires.block, ap (λ (v : BlocksView). length v.blocks) c.self.view_is, block_count items) in
     let within : block < length whole.spare = omega (arith, there, spare_count items, ap (λ (v : BlocksView). length v.spare) c.self.view_is, ap length room) in
     let count : length cut ≡ length whole.spare = ap length c.split_block_off.ensures.spare ∙ length-set whole.spare block _ in
-    let size : c.len.result ≡ length here = omega (arith, c.len.ensures, c.index.result.now.ok.0, ap length (rows_are items block c.index.result.now there c.index.ensures), ap (λ (v : BlocksView). length (get_or v.blocks block [])) c.self.view_is) in
+    let size : c.len.result ≡ length here = grind (arith, common_steps, rows_are, block_count) in
     let rest = vec_capacity c.split_block_off.result - vec_len c.split_block_off.result in
     record {
       blocks = blocks_are at.After-exchange_blocks known;
@@ -109,7 +112,7 @@ returns-clause-split c =
         c.in_ok-rest.ensures.capacity,
         c.in_ok-len.ensures.size,
         c.in_ok-len.ensures.limit.0 refl,
-        c.saturating_add-2.ensures,
+        c.saturating_add-room.ensures,
         size,
         ap length known.rows_are,
         length-drop c.args.at here,

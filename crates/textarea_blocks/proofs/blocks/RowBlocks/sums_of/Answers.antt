@@ -12,7 +12,11 @@ here_is : (c : After-count_rows-rows) → c.as_slice-here.result.now ≡ get_or 
 here_is c = grind (arith, common_steps, rows_are)
 
 -- the total of the lines, with those of one block more
-further : (c : After-count_rows-rows) (total : Sum) → IsSum total → total (take (c.args.count - (c.walking.left - c.min-portion.result)) (drop c.args.line (all_rows (rows_of_each c.self.inside.blocks.items)))) ≡ total (take (c.args.count - c.walking.left) (drop c.args.line (all_rows (rows_of_each c.self.inside.blocks.items)))) + total (take (c.walking.index + c.min-portion.result - c.walking.index) (drop c.walking.index c.as_slice-here.result.now))
+further :
+    (c : After-count_rows-rows) (total : Sum) → IsSum total
+    → total (take (c.args.count - (c.walking.left - c.min-portion.result)) (drop c.args.line (all_rows (rows_of_each c.self.inside.blocks.items))))
+    ≡ total (take (c.args.count - c.walking.left) (drop c.args.line (all_rows (rows_of_each c.self.inside.blocks.items))))
+    + total (take (c.walking.index + c.min-portion.result - c.walking.index) (drop c.walking.index c.as_slice-here.result.now))
 further c total sum =
     let items = c.self.inside.blocks.items in
     let blocks = rows_of_each items in
@@ -25,7 +29,10 @@ further c total sum =
     (omega (arith, c.min-portion.ensures, c.walking.invariant.4 c.walking-test.true, ap length (here_is c)))
     (omega (arith, c.walking.invariant.5 c.walking-test.true, c.walking.invariant.0))
 
-counted : (c : After-count_rows-rows) → (c.walking.rows + c.count_rows-rows.result ≡ row_total (take (c.args.count - (c.walking.left - c.min-portion.result)) (drop c.args.line (all_rows (rows_of_each c.self.inside.blocks.items))))) × (c.walking.rows + c.count_rows-rows.result ≤ row_total (all_rows (rows_of_each c.self.inside.blocks.items)))
+counted :
+    (c : After-count_rows-rows)
+    → (c.walking.rows + c.count_rows-rows.result ≡ row_total (take (c.args.count - (c.walking.left - c.min-portion.result)) (drop c.args.line (all_rows (rows_of_each c.self.inside.blocks.items)))))
+    × (c.walking.rows + c.count_rows-rows.result ≤ row_total (all_rows (rows_of_each c.self.inside.blocks.items)))
 counted c =
     let rows = all_rows (rows_of_each c.self.inside.blocks.items) in
     let below = drop c.args.line rows in

@@ -1,28 +1,23 @@
 use Rattle.std.proofs.Common.{◌≡◌, ◌∷◌, ◌∙◌, List, [], Vec, ap, refl, vec_len}
+use Rattle.std.specs.List.{each_same}
 use Rattle.textarea_blocks.specs.Prelude.{AllZip, RowsView, BlocksView, rows_of_each}
 use Rattle.textarea_blocks.proofs.blocks.RowBlocksClone.clone.Goals as goal
 
-all_same : {X : Type 0} (items copies : List X) → AllZip (λ a b. b ≡ a) items copies → copies ≡ items
-all_same [] [] h = refl
-all_same [] (y ∷ copies) h = absurd h
-all_same (x ∷ items) [] h = absurd h
-all_same (x ∷ items) (y ∷ copies) h = ap (λ t. t ∷ copies) h.0 ∙ ap (λ t. x ∷ t) (all_same items copies h.1)
-
-blocks_same : {A : Type 0} (blocks copies : List (Vec RowsView A)) → AllZip (λ (v : Vec RowsView A) (w : Vec RowsView A). AllZip (λ a b. b ≡ a) v.items w.items × (vec_len w ≡ vec_len v)) blocks copies → rows_of_each copies ≡ rows_of_each blocks
+blocks_same :
+    {A : Type 0} (blocks copies : List (Vec RowsView A)) → AllZip (λ (v : Vec RowsView A) (w : Vec RowsView A). AllZip (λ a b. b ≡ a) v.items w.items × (vec_len w ≡ vec_len v)) blocks copies
+    → rows_of_each copies ≡ rows_of_each blocks
 blocks_same [] [] h = refl
 blocks_same [] (y ∷ copies) h = absurd h
 blocks_same (x ∷ blocks) [] h = absurd h
 blocks_same (x ∷ blocks) (y ∷ copies) h =
-    ap (λ t. t ∷ rows_of_each copies) (all_same x.items y.items h.0.0) ∙ ap (λ t. x.items ∷ t) (blocks_same blocks copies h.1)
+    ap (λ t. t ∷ rows_of_each copies) (each_same x.items y.items h.0.0) ∙ ap (λ t. x.items ∷ t) (blocks_same blocks copies h.1)
 
 pub invariant_of-result : goal.invariant_of-result
 invariant_of-result c =
-    let inside = c.self.inside in
-    let blocks = blocks_same inside.blocks.items c.in_ok-clone.field-0.items c.in_ok-clone.ensures.cases.0 in
-    rw (blocks, c.in_ok-clone-2.ensures.cases, c.in_ok-clone-3.ensures.cases) c.self.invariant
+    rw (blocks_same c.self.inside.blocks.items c.in_ok-blocks.blocks.items c.in_ok-blocks.ensures.cases.0, c.in_ok-lines.ensures.cases, c.in_ok-rows.ensures.cases) c.self.invariant
 
 pub returns : goal.returns
 returns c =
     record {
-      cases = blocks_same c.self.inside.blocks.items c.in_ok-clone.field-0.items c.in_ok-clone.ensures.cases.0 ∙ ap (λ (v : BlocksView). v.blocks) c.self.view_is;
+      cases = blocks_same c.self.inside.blocks.items c.in_ok-blocks.blocks.items c.in_ok-blocks.ensures.cases.0 ∙ ap (λ (v : BlocksView). v.blocks) c.self.view_is;
     }
