@@ -28,13 +28,13 @@ def rust_wrappers(table):
 
 def rust_wrapper(call):
     """The wrapper of one call, and its form that returns that memory ran out."""
-    given = "".join(f", {name}: {type}" for name, type in call.arguments)
+    given = "".join(f", {name}: {'impl Into<Style>' if type == 'Style' else type}" for name, type in call.arguments)
     if call.memory:
         return rust_wrapper_with_memory(call, given)
     receiver = "&self" if call.topic == "read" else "&mut self"
     head = f"pub fn {call.name}({receiver}{given})" + (f" -> {call.result}" if call.result else "") + " {"
-    if given == ", style: Style":
-        body = ["    let style = style.into();", *on_core(call, "is", ["&style"], ";")]
+    if given == ", style: impl Into<Style>":
+        body = ["    let style = sys::Style::from(style.into());", *on_core(call, "is", ["&style"], ";")]
     elif call.result == "Style":
         body = ["    let mut style = BLANK;", *on_core(call, "is", ["&mut style"], ";"), "    style.into()"]
     elif call.result in ("u8", "u16", "usize"):

@@ -1,6 +1,8 @@
 //! Plain data.
 
 use crate::sys;
+#[cfg(feature = "serde")]
+use serde::{Deserialize, Serialize};
 use std::error::Error;
 use std::fmt;
 use std::ops::Deref;
@@ -8,6 +10,7 @@ use std::ops::Deref;
 /// A way to move the cursor.
 #[non_exhaustive]
 #[derive(Clone, Copy, Debug, PartialEq, Eq)]
+#[cfg_attr(feature = "serde", derive(Serialize, Deserialize))]
 pub enum CursorMove {
     /// To the next position; from the end of a line, to the start of the next one.
     Forward,
@@ -44,6 +47,7 @@ pub enum CursorMove {
 /// How far to scroll, and in which direction.
 #[non_exhaustive]
 #[derive(Clone, Copy, Debug, PartialEq, Eq)]
+#[cfg_attr(feature = "serde", derive(Serialize, Deserialize))]
 pub enum Scrolling {
     /// By visual rows, down if positive, and by columns, to the right if positive.
     Delta { rows: i16, cols: i16 },
@@ -65,6 +69,7 @@ impl From<(i16, i16)> for Scrolling {
 
 /// How lines are wrapped into visual rows.
 #[derive(Clone, Copy, Debug, Default, PartialEq, Eq)]
+#[cfg_attr(feature = "serde", derive(Serialize, Deserialize))]
 pub enum WrapMode {
     /// One row per line.
     #[default]
@@ -91,6 +96,7 @@ pub enum CursorRenderMode {
 /// Characters of a line that are edited as a whole: from `start_col` up to, but not including,
 /// `end_col`. Row and columns count from 0, columns in characters.
 #[derive(Clone, Copy, Debug, PartialEq, Eq)]
+#[cfg_attr(feature = "serde", derive(Serialize, Deserialize))]
 pub struct AtomicRange {
     pub row: usize,
     pub start_col: usize,
@@ -99,6 +105,7 @@ pub struct AtomicRange {
 
 /// The end to which a cursor strictly inside an atomic range moves.
 #[derive(Clone, Copy, Debug, PartialEq, Eq)]
+#[cfg_attr(feature = "serde", derive(Serialize, Deserialize))]
 pub enum AtomicCursorBias {
     /// To the range's start.
     Backward,
@@ -108,6 +115,7 @@ pub enum AtomicCursorBias {
 
 /// The side of the cursor on which an atomic range is looked for.
 #[derive(Clone, Copy, Debug, PartialEq, Eq)]
+#[cfg_attr(feature = "serde", derive(Serialize, Deserialize))]
 pub enum AtomicDeleteDirection {
     /// A range that starts before the cursor and ends at or after it.
     Backward,
@@ -117,6 +125,7 @@ pub enum AtomicDeleteDirection {
 
 /// Why an atomic range is rejected.
 #[derive(Clone, Copy, Debug, PartialEq, Eq)]
+#[cfg_attr(feature = "serde", derive(Serialize, Deserialize))]
 pub enum AtomicRangeRejectReason {
     /// It ends where it starts.
     Empty,
@@ -141,6 +150,7 @@ impl fmt::Display for AtomicRangeRejectReason {
 
 /// A rejected atomic range, and why it is rejected.
 #[derive(Clone, Copy, Debug, PartialEq, Eq)]
+#[cfg_attr(feature = "serde", derive(Serialize, Deserialize))]
 pub struct RejectedAtomicRange {
     pub range: AtomicRange,
     pub reason: AtomicRangeRejectReason,
@@ -148,6 +158,7 @@ pub struct RejectedAtomicRange {
 
 /// The rejected ranges of a list, ordered by row and start.
 #[derive(Clone, Debug, PartialEq, Eq)]
+#[cfg_attr(feature = "serde", derive(Serialize, Deserialize))]
 pub struct AtomicRangeError {
     pub rejected: Vec<RejectedAtomicRange>,
 }

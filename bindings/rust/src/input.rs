@@ -1,10 +1,18 @@
 //! Key inputs, independent of the terminal library.
 
+#[cfg(feature = "crossterm")]
+mod crossterm;
+#[cfg(feature = "termion")]
+mod termion;
+
 use crate::sys;
+#[cfg(feature = "serde")]
+use serde::{Deserialize, Serialize};
 
 /// A key.
 #[non_exhaustive]
 #[derive(Clone, Copy, Debug, Default, PartialEq, Eq, Hash)]
+#[cfg_attr(feature = "serde", derive(Serialize, Deserialize))]
 pub enum Key {
     /// A key that types a character.
     Char(char),
@@ -40,6 +48,7 @@ pub enum Key {
 
 /// A key with the modifiers that are pressed. The default is [`Key::Null`] without any.
 #[derive(Clone, Debug, Default, PartialEq, Eq, Hash)]
+#[cfg_attr(feature = "serde", derive(Serialize, Deserialize))]
 pub struct Input {
     pub key: Key,
     pub ctrl: bool,

@@ -28,6 +28,8 @@ pub mod ratatui;
 #[rustfmt::skip]
 mod sys;
 mod textarea;
+#[cfg(feature = "tui")]
+mod tui;
 
 pub use data::{
     AtomicCursorBias, AtomicDeleteDirection, AtomicRange, AtomicRangeError,

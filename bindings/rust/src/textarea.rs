@@ -1,6 +1,8 @@
 //! The text area.
 
+mod block;
 mod calls;
+mod drawing;
 mod edits;
 mod looks;
 mod settings;
@@ -27,6 +29,9 @@ pub struct TextArea<'a> {
     /// What is returned by reference is copied from the core when it is first asked for.
     lines: OnceCell<Vec<String>>,
     block: OnceCell<Option<Block<'static>>>,
+    /// The block that is set, if another library draws it.
+    #[cfg(feature = "tui")]
+    foreign: Option<Block<'a>>,
     placeholder: OnceCell<Text<'static>>,
     pattern: OnceCell<Option<Pattern>>,
     ranges: OnceCell<Vec<crate::AtomicRange>>,
@@ -79,6 +84,8 @@ impl<'a> TextArea<'a> {
             core,
             lines: OnceCell::new(),
             block: OnceCell::new(),
+            #[cfg(feature = "tui")]
+            foreign: None,
             placeholder: OnceCell::new(),
             pattern: OnceCell::new(),
             ranges: OnceCell::new(),
@@ -93,6 +100,8 @@ impl<'a> TextArea<'a> {
     pub fn try_clone(&self) -> Result<TextArea<'a>, OutOfMemory> {
         let mut copy = TextArea::of(self.core.copy()?, self.clock);
         copy.coalesces = self.coalesces;
+        #[cfg(feature = "tui")]
+        copy.foreign.clone_from(&self.foreign);
         Ok(copy)
     }
 

@@ -99,6 +99,13 @@ impl Rect {
     }
 }
 
+impl From<(u16, u16, u16, u16)> for Rect {
+    /// Returns the rectangle of a left column, a top row, a width and a height.
+    fn from((x, y, width, height): (u16, u16, u16, u16)) -> Rect {
+        Rect::new(x, y, width, height)
+    }
+}
+
 impl From<Rect> for sys::Area {
     fn from(area: Rect) -> sys::Area {
         sys::Area {

@@ -48,6 +48,20 @@ pub struct Block<'a> {
     pub(crate) title: Option<Line<'a>>,
     pub(crate) style: Style,
     pub(crate) border_style: Style,
+    /// A block that another library draws in place of this one, whose padding is its frame.
+    #[cfg(feature = "tui")]
+    pub(crate) foreign: Option<Foreign<'a>>,
+}
+
+/// A block of the library tui.
+#[cfg(feature = "tui")]
+#[derive(Clone, Debug, PartialEq, Eq)]
+pub(crate) struct Foreign<'a>(pub tui::widgets::Block<'a>);
+
+#[cfg(feature = "tui")]
+impl std::hash::Hash for Foreign<'_> {
+    // The block doesn't show what it has.
+    fn hash<H: std::hash::Hasher>(&self, _: &mut H) {}
 }
 
 impl<'a> Block<'a> {
@@ -58,6 +72,8 @@ impl<'a> Block<'a> {
             title: None,
             style: Style::new(),
             border_style: Style::new(),
+            #[cfg(feature = "tui")]
+            foreign: None,
         }
     }
 

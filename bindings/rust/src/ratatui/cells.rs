@@ -8,7 +8,7 @@ use std::ops::{Index, IndexMut};
 /// One cell of a screen: its text, mostly one character, its colours and its modifiers.
 #[derive(Clone, Debug, PartialEq, Eq, Hash)]
 pub struct Cell {
-    symbol: String,
+    pub(crate) symbol: String,
     pub fg: Color,
     pub bg: Color,
     pub modifier: Modifier,
@@ -77,18 +77,19 @@ impl Cell {
         *self = Cell::default();
     }
 
-    /// Writes a cell of the core here; `whole` returns the text of one that is too long for it.
-    pub(crate) fn set(&mut self, cell: &sys::Cell, whole: impl FnOnce() -> String) {
+    /// Returns whether the cell is as a fresh one.
+    pub(crate) fn is_blank(&self) -> bool {
+        self.symbol == " "
+            && self.modifier.is_empty()
+            && (self.fg, self.bg) == (Color::Reset, Color::Reset)
+    }
+
+    /// Writes a cell of the core with this text here.
+    pub(crate) fn set(&mut self, cell: &sys::Cell, symbol: &str) {
+        self.set_symbol(symbol);
         self.fg = from_core(cell.fg).unwrap_or_default();
         self.bg = from_core(cell.bg).unwrap_or_default();
         self.modifier = Modifier::from_core(cell.modifier);
-        match cell.symbol.get(..usize::from(cell.bytes)) {
-            Some(bytes) => {
-                let symbol = std::str::from_utf8(bytes).expect("texts of the core are UTF-8");
-                self.set_symbol(symbol);
-            }
-            None => self.symbol = whole(),
-        }
     }
 }
 

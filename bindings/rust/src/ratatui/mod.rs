@@ -36,6 +36,9 @@ pub mod widgets {
     pub use super::area::Padding;
     pub use super::block::{Block, Borders};
 
+    #[cfg(feature = "tui")]
+    pub(crate) use super::block::Foreign;
+
     use super::area::Rect;
     use super::cells::Buffer;
 

@@ -278,6 +278,18 @@ impl From<sys::Style> for Style {
     }
 }
 
+impl From<&sys::Cell> for Style {
+    /// Returns the style of a cell; a colour is `None` where it is the terminal's own.
+    fn from(cell: &sys::Cell) -> Style {
+        let color = |color| from_core(color).filter(|color| *color != Color::Reset);
+        Style {
+            fg: color(cell.fg),
+            bg: color(cell.bg),
+            ..Style::from(Modifier::from_core(cell.modifier))
+        }
+    }
+}
+
 /// The style of the core that changes nothing.
 pub(crate) const BLANK: sys::Style = sys::Style {
     fg: sys::Color {

@@ -286,35 +286,35 @@ impl TextArea<'_> {
     }
 
     /// Sets the style of each cell of the inner area, under all others; a placeholder has its own.
-    pub fn set_style(&mut self, style: Style) {
-        let style = style.into();
+    pub fn set_style(&mut self, style: impl Into<Style>) {
+        let style = sys::Style::from(style.into());
         self.core.is(|h| unsafe { sys::ta_set_style(h, &style) });
     }
 
     /// Sets the style of the cell at the cursor.
-    pub fn set_cursor_style(&mut self, style: Style) {
-        let style = style.into();
+    pub fn set_cursor_style(&mut self, style: impl Into<Style>) {
+        let style = sys::Style::from(style.into());
         self.core
             .is(|h| unsafe { sys::ta_set_cursor_style(h, &style) });
     }
 
     /// Sets the style of the cursor's line, in all its visual rows, where no highlight is.
-    pub fn set_cursor_line_style(&mut self, style: Style) {
-        let style = style.into();
+    pub fn set_cursor_line_style(&mut self, style: impl Into<Style>) {
+        let style = sys::Style::from(style.into());
         self.core
             .is(|h| unsafe { sys::ta_set_cursor_line_style(h, &style) });
     }
 
     /// Sets the style of selected text.
-    pub fn set_selection_style(&mut self, style: Style) {
-        let style = style.into();
+    pub fn set_selection_style(&mut self, style: impl Into<Style>) {
+        let style = sys::Style::from(style.into());
         self.core
             .is(|h| unsafe { sys::ta_set_selection_style(h, &style) });
     }
 
     /// Sets the style of the search pattern's matches.
-    pub fn set_search_style(&mut self, style: Style) {
-        let style = style.into();
+    pub fn set_search_style(&mut self, style: impl Into<Style>) {
+        let style = sys::Style::from(style.into());
         self.core
             .is(|h| unsafe { sys::ta_set_search_style(h, &style) });
     }

@@ -1,13 +1,9 @@
-//! The mask, the cursor's cell, custom highlights, and drawing.
+//! The mask, the cursor's cell, and custom highlights.
 
 use super::TextArea;
 use crate::data::{CursorRenderMode, OutOfMemory};
 use crate::handle::must;
-use crate::ratatui::BLANK;
-use crate::ratatui::buffer::{Buffer, Cell};
-use crate::ratatui::layout::{Position, Rect};
 use crate::ratatui::style::Style;
-use crate::ratatui::widgets::Widget;
 use crate::sys;
 
 impl TextArea<'_> {
@@ -52,7 +48,7 @@ impl TextArea<'_> {
     pub fn custom_highlight(
         &mut self,
         range: ((usize, usize), (usize, usize)),
-        style: Style,
+        style: impl Into<Style>,
         priority: u8,
     ) {
         must(self.try_custom_highlight(range, style, priority));
@@ -62,105 +58,13 @@ impl TextArea<'_> {
     pub fn try_custom_highlight(
         &mut self,
         (start, end): ((usize, usize), (usize, usize)),
-        style: Style,
+        style: impl Into<Style>,
         priority: u8,
     ) -> Result<(), OutOfMemory> {
-        let style = style.into();
+        let style = sys::Style::from(style.into());
         self.core.on(|h| unsafe {
             sys::ta_custom_highlight(h, start.0, start.1, end.0, end.1, &style, priority)
         })?;
         Ok(())
-    }
-
-    /// Returns what draws the text area; `&area` is the same.
-    #[deprecated(note = "a reference to a text area is a widget itself")]
-    pub fn widget(&self) -> impl Widget + '_ {
-        self
-    }
-
-    /// Draws the text area into an area of a buffer, or returns that memory ran out; then cells of
-    /// the area may have been drawn.
-    pub fn try_render(&self, area: Rect, buf: &mut Buffer) -> Result<(), OutOfMemory> {
-        let part = area.intersection(buf.area);
-        self.clear_screen(part)?;
-        for y in part.top()..part.bottom() {
-            for x in part.left()..part.right() {
-                self.lend(x, y, &buf[(x, y)])?;
-            }
-        }
-        let drawn = self.core.on(|h| unsafe { sys::ta_render(h, &area.into()) });
-        self.take_back(part, buf);
-        drawn?;
-        Ok(())
-    }
-
-    /// Gives the core's screen the cells of this rectangle, each fresh. Takes memory only if it had
-    /// others.
-    fn clear_screen(&self, part: Rect) -> Result<(), OutOfMemory> {
-        if self.screen.get() == part {
-            self.core.is(|h| unsafe { sys::ta_screen_clear(h) });
-            return Ok(());
-        }
-        self.core
-            .on(|h| unsafe { sys::ta_screen_reset(h, &part.into()) })?;
-        self.screen.set(part);
-        Ok(())
-    }
-
-    /// Copies a cell of a buffer to the core's screen, whose cell is fresh.
-    fn lend(&self, x: u16, y: u16, cell: &Cell) -> Result<(), OutOfMemory> {
-        if *cell == Cell::default() {
-            return Ok(());
-        }
-        let (symbol, style) = (cell.symbol(), cell.style().into());
-        self.core.on(|h| unsafe {
-            sys::ta_screen_put(h, x, y, symbol.as_ptr(), symbol.len(), &style)
-        })?;
-        Ok(())
-    }
-
-    /// Copies the cells of the core's screen to a buffer.
-    fn take_back(&self, part: Rect, buf: &mut Buffer) {
-        let blank = sys::Cell {
-            fg: BLANK.fg,
-            bg: BLANK.bg,
-            modifier: 0,
-            bytes: 0,
-            symbol: [0; 24],
-        };
-        let mut cells = vec![blank; part.area() as usize];
-        let mut needed = 0;
-        self.core.is(|h| unsafe {
-            sys::ta_screen_cells(h, cells.as_mut_ptr(), cells.len(), &mut needed)
-        });
-        let mut cells = cells.iter();
-        for y in part.top()..part.bottom() {
-            for (x, cell) in (part.left()..part.right()).zip(&mut cells) {
-                buf[(x, y)].set(cell, || self.symbol(x, y));
-            }
-        }
-    }
-
-    fn symbol(&self, x: u16, y: u16) -> String {
-        let text = self.core.text(|h, out, room, needed| unsafe {
-            sys::ta_screen_symbol(h, x, y, out, room, needed)
-        });
-        must(text).unwrap_or_default()
-    }
-
-    /// Returns the cursor's cell at the last drawing, for the terminal's own cursor; `None` if the
-    /// cursor was outside the viewport, and before the first drawing.
-    pub fn rendered_cursor_position(&self) -> Option<Position> {
-        let (mut x, mut y) = (0, 0);
-        let is_shown = self
-            .core
-            .is(|h| unsafe { sys::ta_rendered_cursor_position(h, &mut x, &mut y) });
-        is_shown.then_some(Position { x, y })
-    }
-}
-
-impl Widget for &TextArea<'_> {
-    fn render(self, area: Rect, buf: &mut Buffer) {
-        must(self.try_render(area, buf));
     }
 }

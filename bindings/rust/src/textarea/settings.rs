@@ -54,13 +54,16 @@ impl TextArea<'_> {
     }
 
     /// Shows line numbers, counted from 1, in this style.
-    pub fn set_line_number_style(&mut self, style: Style) {
+    pub fn set_line_number_style(&mut self, style: impl Into<Style>) {
         must(self.try_set_line_number_style(style));
     }
 
     /// As `set_line_number_style`, but returns that memory ran out.
-    pub fn try_set_line_number_style(&mut self, style: Style) -> Result<(), OutOfMemory> {
-        let style = style.into();
+    pub fn try_set_line_number_style(
+        &mut self,
+        style: impl Into<Style>,
+    ) -> Result<(), OutOfMemory> {
+        let style = sys::Style::from(style.into());
         self.core
             .on(|h| unsafe { sys::ta_set_line_number_style(h, &style) })?;
         Ok(())
@@ -77,13 +80,16 @@ impl TextArea<'_> {
 
     /// Sets the alignment of visual rows. In the middle and at the right it also hides the line
     /// numbers.
-    pub fn set_alignment(&mut self, alignment: Alignment) {
+    pub fn set_alignment(&mut self, alignment: impl Into<Alignment>) {
         must(self.try_set_alignment(alignment));
     }
 
     /// As `set_alignment`, but returns that memory ran out.
-    pub fn try_set_alignment(&mut self, alignment: Alignment) -> Result<(), OutOfMemory> {
-        let number = match alignment {
+    pub fn try_set_alignment(
+        &mut self,
+        alignment: impl Into<Alignment>,
+    ) -> Result<(), OutOfMemory> {
+        let number = match alignment.into() {
             Alignment::Left => sys::ALIGNMENT_LEFT,
             Alignment::Center => sys::ALIGNMENT_CENTER,
             Alignment::Right => sys::ALIGNMENT_RIGHT,

@@ -1,4 +1,4 @@
-//! Lines, yanked text, the search pattern, atomic ranges, the block and the placeholder.
+//! Lines, yanked text, the search pattern, atomic ranges and the placeholder.
 
 use super::TextArea;
 use crate::data::{
@@ -9,7 +9,6 @@ use crate::handle::must;
 use crate::ratatui::layout::Position;
 use crate::ratatui::style::Style;
 use crate::ratatui::text::Text;
-use crate::ratatui::widgets::{Block, Borders, Padding};
 use crate::ratatui::{BLANK, Parts};
 use crate::sys;
 
@@ -270,104 +269,6 @@ impl<'a> TextArea<'a> {
         Ok(is_found.then_some(range.into()))
     }
 
-    /// Draws this block around the text, and replaces the old one.
-    pub fn set_block(&mut self, block: Block<'a>) {
-        must(self.try_set_block(block));
-    }
-
-    /// As `set_block`, but returns that memory ran out.
-    pub fn try_set_block(&mut self, block: Block<'a>) -> Result<(), OutOfMemory> {
-        let title = Parts::of(block.title.as_slice());
-        let plain = sys::Block {
-            borders: block.borders.bits(),
-            has_title: block.title.is_some(),
-            padding: sys::Padding {
-                left: block.padding.left,
-                right: block.padding.right,
-                top: block.padding.top,
-                bottom: block.padding.bottom,
-            },
-            style: block.style.into(),
-            border_style: block.border_style.into(),
-            title_style: title.lines.first().map_or(BLANK, |line| line.style),
-        };
-        self.block.take();
-        self.core.on(|h| unsafe {
-            sys::ta_set_block(
-                h,
-                &plain,
-                title.text.as_ptr(),
-                title.text.len(),
-                title.spans.as_ptr(),
-                title.spans.len(),
-            )
-        })?;
-        Ok(())
-    }
-
-    /// Removes the block, if there is one.
-    pub fn remove_block(&mut self) {
-        self.block.take();
-        self.core.is(|h| unsafe { sys::ta_remove_block(h) });
-    }
-
-    /// Returns the block around the text, if there is one.
-    pub fn block(&self) -> Option<&Block<'a>> {
-        let block: &Option<Block<'static>> = self.block.get_or_init(|| self.core_block());
-        block.as_ref()
-    }
-
-    fn core_block(&self) -> Option<Block<'static>> {
-        let mut block = NO_BLOCK;
-        let (mut bytes, mut spans) = (Vec::new(), Vec::new());
-        let (mut needed, mut count) = (0, 0);
-        loop {
-            let is_there = self.core.is(|h| unsafe {
-                sys::ta_block(
-                    h,
-                    &mut block,
-                    bytes.as_mut_ptr(),
-                    bytes.len(),
-                    &mut needed,
-                    spans.as_mut_ptr(),
-                    spans.len(),
-                    &mut count,
-                )
-            });
-            if !is_there {
-                return None;
-            }
-            if needed == bytes.len() && count == spans.len() {
-                break;
-            }
-            bytes.resize(needed, 0);
-            spans.resize(count, NO_SPAN);
-        }
-        let title = Parts {
-            text: String::from_utf8(bytes).expect("texts of the core are UTF-8"),
-            lines: vec![sys::Line {
-                spans: spans.len(),
-                style: block.title_style,
-            }],
-            spans,
-        };
-        let padding = block.padding;
-        let found = Block::new()
-            .borders(Borders::from_core(block.borders))
-            .padding(Padding::new(
-                padding.left,
-                padding.right,
-                padding.top,
-                padding.bottom,
-            ))
-            .style(block.style)
-            .border_style(block.border_style);
-        Some(match title.lines().pop() {
-            Some(line) if block.has_title => found.title(line),
-            _ => found,
-        })
-    }
-
     /// Sets the placeholder, which is shown while the text is empty, to this text; the empty text
     /// removes it. The placeholder's style stays.
     pub fn set_placeholder_text(&mut self, placeholder: impl Into<String>) {
@@ -417,8 +318,8 @@ impl<'a> TextArea<'a> {
     }
 
     /// Sets the style under those of the placeholder's lines, even while it has none.
-    pub fn set_placeholder_style(&mut self, style: Style) {
-        let style = style.into();
+    pub fn set_placeholder_style(&mut self, style: impl Into<Style>) {
+        let style = sys::Style::from(style.into());
         self.placeholder.take();
         self.core
             .is(|h| unsafe { sys::ta_set_placeholder_style(h, &style) });
@@ -516,21 +417,7 @@ const NO_RANGE: sys::Range = sys::Range {
     end_col: 0,
 };
 
-const NO_SPAN: sys::Span = sys::Span {
+pub(super) const NO_SPAN: sys::Span = sys::Span {
     bytes: 0,
     style: BLANK,
-};
-
-const NO_BLOCK: sys::Block = sys::Block {
-    borders: 0,
-    has_title: false,
-    padding: sys::Padding {
-        left: 0,
-        right: 0,
-        top: 0,
-        bottom: 0,
-    },
-    style: BLANK,
-    border_style: BLANK,
-    title_style: BLANK,
 };

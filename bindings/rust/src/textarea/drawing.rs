@@ -1,0 +1,201 @@
+//! Drawing.
+
+use super::TextArea;
+use crate::data::OutOfMemory;
+use crate::handle::must;
+use crate::ratatui::BLANK;
+use crate::ratatui::buffer::{Buffer, Cell};
+use crate::ratatui::layout::{Position, Rect};
+use crate::ratatui::style::Style;
+use crate::ratatui::widgets::Widget;
+use crate::sys;
+
+impl TextArea<'_> {
+    /// Returns what draws the text area; `&area` is the same.
+    #[deprecated(note = "a reference to a text area is a widget itself")]
+    pub fn widget(&self) -> impl Widget + '_ {
+        self
+    }
+
+    /// Draws the text area into an area of a buffer, or returns that memory ran out; then cells of
+    /// the area may have been drawn.
+    pub fn try_render(&self, area: Rect, buf: &mut Buffer) -> Result<(), OutOfMemory> {
+        self.draw_foreign_block(area, buf);
+        let part = area.intersection(buf.area);
+        self.clear_screen(part)?;
+        self.lend_all(part, buf)?;
+        self.draw(area, part, |x, y, cell, symbol| {
+            buf[(x, y)].set(cell, symbol)
+        })
+    }
+
+    /// Draws the text area into an area that the library at hand has, whichever it is: makes a call
+    /// `(x, y, symbol, style)` for each cell of the area, row after row. The cell after a wide symbol
+    /// is blank. The style has the cell's colours and modifiers; a colour is `None` where it is the
+    /// terminal's own.
+    ///
+    /// A widget of another library, such as a ratatui of another version, is made by it:
+    ///
+    /// ```
+    /// use ratatui::{buffer::Buffer, layout::Rect, style::Style, widgets::Widget};
+    /// use tui_textarea::TextArea;
+    ///
+    /// struct Shown<'a>(&'a TextArea<'a>);
+    ///
+    /// impl Widget for Shown<'_> {
+    ///     fn render(self, area: Rect, buf: &mut Buffer) {
+    ///         let place = (area.x, area.y, area.width, area.height);
+    ///         self.0.render_with(place, |x, y, symbol, style| {
+    ///             buf[(x, y)].set_symbol(symbol).set_style(style);
+    ///         });
+    ///     }
+    /// }
+    /// # let area = TextArea::from(["one"]);
+    /// # let mut buf = Buffer::empty(Rect::new(0, 0, 5, 1));
+    /// # Shown(&area).render(buf.area, &mut buf);
+    /// # assert_eq!(buf[(2, 0)].symbol(), "e");
+    /// ```
+    pub fn render_with(&self, area: impl Into<Rect>, call: impl FnMut(u16, u16, &str, Style)) {
+        must(self.try_render_with(area, call));
+    }
+
+    /// As `render_with`, but returns that memory ran out; then it makes no call.
+    pub fn try_render_with(
+        &self,
+        area: impl Into<Rect>,
+        mut call: impl FnMut(u16, u16, &str, Style),
+    ) -> Result<(), OutOfMemory> {
+        let area = area.into();
+        self.clear_screen(area)?;
+        if self.has_foreign_block() {
+            let mut below = Buffer::empty(area);
+            self.draw_foreign_block(area, &mut below);
+            self.lend_all(area, &below)?;
+        }
+        self.draw(area, area, |x, y, cell, symbol| {
+            call(x, y, symbol, cell.into())
+        })
+    }
+
+    /// Gives the core's screen the cells of this rectangle, each fresh. Takes memory only if it had
+    /// others.
+    fn clear_screen(&self, part: Rect) -> Result<(), OutOfMemory> {
+        if self.screen.get() == part {
+            self.core.is(|h| unsafe { sys::ta_screen_clear(h) });
+            return Ok(());
+        }
+        self.core
+            .on(|h| unsafe { sys::ta_screen_reset(h, &part.into()) })?;
+        self.screen.set(part);
+        Ok(())
+    }
+
+    /// Copies cells of a buffer to the core's screen, whose cells are fresh.
+    fn lend_all(&self, part: Rect, buf: &Buffer) -> Result<(), OutOfMemory> {
+        for y in part.top()..part.bottom() {
+            for x in part.left()..part.right() {
+                self.lend(x, y, &buf[(x, y)])?;
+            }
+        }
+        Ok(())
+    }
+
+    fn lend(&self, x: u16, y: u16, cell: &Cell) -> Result<(), OutOfMemory> {
+        if cell.is_blank() {
+            return Ok(());
+        }
+        let (symbol, style) = (cell.symbol(), cell.style().into());
+        self.core.on(|h| unsafe {
+            sys::ta_screen_put(h, x, y, symbol.as_ptr(), symbol.len(), &style)
+        })?;
+        Ok(())
+    }
+
+    /// Draws the text area over the cells of the core's screen, and makes a call for each of them,
+    /// with its text.
+    fn draw(
+        &self,
+        area: Rect,
+        part: Rect,
+        mut call: impl FnMut(u16, u16, &sys::Cell, &str),
+    ) -> Result<(), OutOfMemory> {
+        self.core
+            .on(|h| unsafe { sys::ta_render(h, &area.into()) })?;
+        let cells = self.screen_cells(part);
+        let mut cells = cells.iter();
+        for y in part.top()..part.bottom() {
+            for (x, cell) in (part.left()..part.right()).zip(&mut cells) {
+                match cell.symbol.get(..usize::from(cell.bytes)) {
+                    Some(bytes) => call(x, y, cell, text_of(bytes)),
+                    None => call(x, y, cell, &self.long_symbol(x, y)),
+                }
+            }
+        }
+        Ok(())
+    }
+
+    fn screen_cells(&self, part: Rect) -> Vec<sys::Cell> {
+        let blank = sys::Cell {
+            fg: BLANK.fg,
+            bg: BLANK.bg,
+            modifier: 0,
+            bytes: 0,
+            symbol: [0; 24],
+        };
+        let mut cells = vec![blank; part.area() as usize];
+        let mut needed = 0;
+        self.core.is(|h| unsafe {
+            sys::ta_screen_cells(h, cells.as_mut_ptr(), cells.len(), &mut needed)
+        });
+        cells
+    }
+
+    /// Returns the text of a cell of the core's screen that has no room in a `sys::Cell`.
+    fn long_symbol(&self, x: u16, y: u16) -> String {
+        let text = self.core.text(|h, out, room, needed| unsafe {
+            sys::ta_screen_symbol(h, x, y, out, room, needed)
+        });
+        must(text).unwrap_or_default()
+    }
+
+    #[cfg(feature = "tui")]
+    fn has_foreign_block(&self) -> bool {
+        self.foreign.is_some()
+    }
+
+    #[cfg(not(feature = "tui"))]
+    fn has_foreign_block(&self) -> bool {
+        false
+    }
+
+    /// Draws the block that another library draws, if it is one.
+    #[cfg(feature = "tui")]
+    fn draw_foreign_block(&self, area: Rect, buf: &mut Buffer) {
+        if let Some(block) = self.foreign.as_ref().and_then(|b| b.foreign.as_ref()) {
+            crate::tui::draw_block(&block.0, area, buf);
+        }
+    }
+
+    #[cfg(not(feature = "tui"))]
+    fn draw_foreign_block(&self, _: Rect, _: &mut Buffer) {}
+
+    /// Returns the cursor's cell at the last drawing, for the terminal's own cursor; `None` if the
+    /// cursor was outside the viewport, and before the first drawing.
+    pub fn rendered_cursor_position(&self) -> Option<Position> {
+        let (mut x, mut y) = (0, 0);
+        let is_shown = self
+            .core
+            .is(|h| unsafe { sys::ta_rendered_cursor_position(h, &mut x, &mut y) });
+        is_shown.then_some(Position { x, y })
+    }
+}
+
+fn text_of(bytes: &[u8]) -> &str {
+    std::str::from_utf8(bytes).expect("texts of the core are UTF-8")
+}
+
+impl Widget for &TextArea<'_> {
+    fn render(self, area: Rect, buf: &mut Buffer) {
+        must(self.try_render(area, buf));
+    }
+}
