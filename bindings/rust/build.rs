@@ -91,7 +91,7 @@ fn folder_of(variable: &str) -> Option<PathBuf> {
 fn link(archive: &Path) {
     let folder = archive.parent().unwrap_or(Path::new("."));
     let name = archive.file_stem().unwrap_or_default().to_string_lossy();
-    let name = name.trim_start_matches("lib");
+    let name = name.strip_prefix("lib").unwrap_or(&name);
     println!("cargo:rerun-if-changed={}", archive.display());
     println!("cargo:rustc-link-search=native={}", folder.display());
     println!("cargo:rustc-link-lib=static={name}");

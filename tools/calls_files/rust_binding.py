@@ -2,6 +2,7 @@
 import textwrap
 
 from calls_files.layout import COLUMNS
+from calls_files.rust_examples import example
 from calls_files.table import NOTE
 
 
@@ -21,7 +22,9 @@ def rust_wrappers(table):
         "impl TextArea<'_> {",
     ]
     for call in calls:
-        out += [f"    /// {line}" for line in textwrap.wrap(call.doc, COLUMNS - 8)]
+        shown = example(call.name)
+        doc = textwrap.wrap(call.doc, COLUMNS - 8) + (["", *shown] if shown else [])
+        out += [f"    /// {line}".rstrip() for line in doc]
         out += [f"    {line}".rstrip() for line in rust_wrapper(call)] + [""]
     return out[:-1] + ["}"]
 

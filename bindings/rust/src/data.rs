@@ -13,34 +13,166 @@ use std::ops::Deref;
 #[cfg_attr(feature = "serde", derive(Serialize, Deserialize))]
 pub enum CursorMove {
     /// To the next position; from the end of a line, to the start of the next one.
+    ///
+    /// ```
+    /// use tui_textarea::{CursorMove, TextArea};
+    ///
+    /// let mut area = TextArea::from(["a", "b"]);
+    /// area.go_to((0, 1));
+    /// area.move_cursor(CursorMove::Forward);
+    /// assert_eq!(area.cursor(), (1, 0));
+    /// ```
     Forward,
     /// To the previous position; from the start of a line, to the end of the line above.
+    ///
+    /// ```
+    /// use tui_textarea::{CursorMove, TextArea};
+    ///
+    /// let mut area = TextArea::from(["a", "b"]);
+    /// area.go_to((1, 0));
+    /// area.move_cursor(CursorMove::Back);
+    /// assert_eq!(area.cursor(), (0, 1));
+    /// ```
     Back,
     /// To the visual row above.
+    ///
+    /// ```
+    /// use tui_textarea::{CursorMove, TextArea};
+    ///
+    /// let mut area = TextArea::from(["one", "two"]);
+    /// area.go_to((1, 2));
+    /// area.move_cursor(CursorMove::Up);
+    /// assert_eq!(area.cursor(), (0, 2));
+    /// ```
     Up,
     /// To the visual row below.
+    ///
+    /// ```
+    /// use tui_textarea::{CursorMove, TextArea};
+    ///
+    /// let mut area = TextArea::from(["one", "two"]);
+    /// area.go_to((0, 2));
+    /// area.move_cursor(CursorMove::Down);
+    /// assert_eq!(area.cursor(), (1, 2));
+    /// ```
     Down,
     /// To the start of the cursor's line.
+    ///
+    /// ```
+    /// use tui_textarea::{CursorMove, TextArea};
+    ///
+    /// let mut area = TextArea::from(["one"]);
+    /// area.go_to((0, 2));
+    /// area.move_cursor(CursorMove::Head);
+    /// assert_eq!(area.cursor(), (0, 0));
+    /// ```
     Head,
     /// To the end of the cursor's line.
+    ///
+    /// ```
+    /// use tui_textarea::{CursorMove, TextArea};
+    ///
+    /// let mut area = TextArea::from(["one"]);
+    /// area.move_cursor(CursorMove::End);
+    /// assert_eq!(area.cursor(), (0, 3));
+    /// ```
     End,
     /// To the first line.
+    ///
+    /// ```
+    /// use tui_textarea::{CursorMove, TextArea};
+    ///
+    /// let mut area = TextArea::from(["one", "two"]);
+    /// area.go_to((1, 0));
+    /// area.move_cursor(CursorMove::Top);
+    /// assert_eq!(area.cursor(), (0, 0));
+    /// ```
     Top,
     /// To the last line.
+    ///
+    /// ```
+    /// use tui_textarea::{CursorMove, TextArea};
+    ///
+    /// let mut area = TextArea::from(["one", "two"]);
+    /// area.move_cursor(CursorMove::Bottom);
+    /// assert_eq!(area.cursor(), (1, 0));
+    /// ```
     Bottom,
     /// To the start of the next word.
+    ///
+    /// ```
+    /// use tui_textarea::{CursorMove, TextArea};
+    ///
+    /// let mut area = TextArea::from(["one two"]);
+    /// area.move_cursor(CursorMove::WordForward);
+    /// assert_eq!(area.cursor(), (0, 4));
+    /// ```
     WordForward,
     /// To the last character of a word.
+    ///
+    /// ```
+    /// use tui_textarea::{CursorMove, TextArea};
+    ///
+    /// let mut area = TextArea::from(["one two"]);
+    /// area.move_cursor(CursorMove::WordEnd);
+    /// assert_eq!(area.cursor(), (0, 2));
+    /// ```
     WordEnd,
     /// To the start of the previous word.
+    ///
+    /// ```
+    /// use tui_textarea::{CursorMove, TextArea};
+    ///
+    /// let mut area = TextArea::from(["one two"]);
+    /// area.go_to((0, 6));
+    /// area.move_cursor(CursorMove::WordBack);
+    /// assert_eq!(area.cursor(), (0, 4));
+    /// ```
     WordBack,
     /// To the start of the next paragraph.
+    ///
+    /// ```
+    /// use tui_textarea::{CursorMove, TextArea};
+    ///
+    /// let mut area = TextArea::from(["one", "", "two"]);
+    /// area.move_cursor(CursorMove::ParagraphForward);
+    /// assert_eq!(area.cursor(), (2, 0));
+    /// ```
     ParagraphForward,
     /// To the start of the previous paragraph.
+    ///
+    /// ```
+    /// use tui_textarea::{CursorMove, TextArea};
+    ///
+    /// let mut area = TextArea::from(["one", "", "two"]);
+    /// area.go_to((2, 0));
+    /// area.move_cursor(CursorMove::ParagraphBack);
+    /// assert_eq!(area.cursor(), (0, 0));
+    /// ```
     ParagraphBack,
     /// To this row and column, both counted from 0.
+    ///
+    /// ```
+    /// use tui_textarea::{CursorMove, TextArea};
+    ///
+    /// let mut area = TextArea::from(["one", "two"]);
+    /// area.move_cursor(CursorMove::Jump(1, 2));
+    /// assert_eq!(area.cursor(), (1, 2));
+    /// ```
     Jump(u16, u16),
     /// Into the area that was last drawn, if the cursor is outside of it.
+    ///
+    /// ```
+    /// use tui_textarea::ratatui::{buffer::Buffer, layout::Rect, widgets::Widget};
+    /// use tui_textarea::{CursorMove, TextArea};
+    ///
+    /// let mut area: TextArea = (0..20).map(|row| row.to_string()).collect();
+    /// let place = Rect::new(0, 0, 10, 4);
+    /// (&area).render(place, &mut Buffer::empty(place));
+    /// area.go_to((9, 0));
+    /// area.move_cursor(CursorMove::InViewport);
+    /// assert_eq!(area.cursor(), (3, 0));
+    /// ```
     InViewport,
 }
 
@@ -50,14 +182,79 @@ pub enum CursorMove {
 #[cfg_attr(feature = "serde", derive(Serialize, Deserialize))]
 pub enum Scrolling {
     /// By visual rows, down if positive, and by columns, to the right if positive.
-    Delta { rows: i16, cols: i16 },
+    ///
+    /// ```
+    /// use tui_textarea::ratatui::{buffer::Buffer, layout::Rect, widgets::Widget};
+    /// use tui_textarea::{Scrolling, TextArea};
+    ///
+    /// let mut area: TextArea = (0..40).map(|row| row.to_string()).collect();
+    /// area.go_to((0, 0));
+    /// let place = Rect::new(0, 0, 10, 8);
+    /// (&area).render(place, &mut Buffer::empty(place));
+    /// area.scroll(Scrolling::Delta { rows: 3, cols: 0 });
+    /// assert_eq!(area.cursor(), (3, 0));
+    /// ```
+    Delta {
+        /// The rows, negative to scroll up.
+        rows: i16,
+        /// The columns, negative to scroll to the left.
+        cols: i16,
+    },
     /// Down by the height of the viewport.
+    ///
+    /// ```
+    /// use tui_textarea::ratatui::{buffer::Buffer, layout::Rect, widgets::Widget};
+    /// use tui_textarea::{Scrolling, TextArea};
+    ///
+    /// let mut area: TextArea = (0..40).map(|row| row.to_string()).collect();
+    /// area.go_to((0, 0));
+    /// let place = Rect::new(0, 0, 10, 8);
+    /// (&area).render(place, &mut Buffer::empty(place));
+    /// area.scroll(Scrolling::PageDown);
+    /// assert_eq!(area.cursor(), (8, 0));
+    /// ```
     PageDown,
     /// Up by the height of the viewport.
+    ///
+    /// ```
+    /// use tui_textarea::ratatui::{buffer::Buffer, layout::Rect, widgets::Widget};
+    /// use tui_textarea::{Scrolling, TextArea};
+    ///
+    /// let mut area: TextArea = (0..40).map(|row| row.to_string()).collect();
+    /// area.go_to((20, 0));
+    /// let place = Rect::new(0, 0, 10, 8);
+    /// (&area).render(place, &mut Buffer::empty(place));
+    /// area.scroll(Scrolling::PageUp);
+    /// assert_eq!(area.cursor(), (12, 0));
+    /// ```
     PageUp,
     /// Down by half the height of the viewport.
+    ///
+    /// ```
+    /// use tui_textarea::ratatui::{buffer::Buffer, layout::Rect, widgets::Widget};
+    /// use tui_textarea::{Scrolling, TextArea};
+    ///
+    /// let mut area: TextArea = (0..40).map(|row| row.to_string()).collect();
+    /// area.go_to((0, 0));
+    /// let place = Rect::new(0, 0, 10, 8);
+    /// (&area).render(place, &mut Buffer::empty(place));
+    /// area.scroll(Scrolling::HalfPageDown);
+    /// assert_eq!(area.cursor(), (4, 0));
+    /// ```
     HalfPageDown,
     /// Up by half the height of the viewport.
+    ///
+    /// ```
+    /// use tui_textarea::ratatui::{buffer::Buffer, layout::Rect, widgets::Widget};
+    /// use tui_textarea::{Scrolling, TextArea};
+    ///
+    /// let mut area: TextArea = (0..40).map(|row| row.to_string()).collect();
+    /// area.go_to((20, 0));
+    /// let place = Rect::new(0, 0, 10, 8);
+    /// (&area).render(place, &mut Buffer::empty(place));
+    /// area.scroll(Scrolling::HalfPageUp);
+    /// assert_eq!(area.cursor(), (16, 0));
+    /// ```
     HalfPageUp,
 }
 
@@ -98,8 +295,11 @@ pub enum CursorRenderMode {
 #[derive(Clone, Copy, Debug, PartialEq, Eq)]
 #[cfg_attr(feature = "serde", derive(Serialize, Deserialize))]
 pub struct AtomicRange {
+    /// The line's row.
     pub row: usize,
+    /// The column of the first character.
     pub start_col: usize,
+    /// The column after the last character.
     pub end_col: usize,
 }
 
@@ -152,7 +352,9 @@ impl fmt::Display for AtomicRangeRejectReason {
 #[derive(Clone, Copy, Debug, PartialEq, Eq)]
 #[cfg_attr(feature = "serde", derive(Serialize, Deserialize))]
 pub struct RejectedAtomicRange {
+    /// The range as it was passed in.
     pub range: AtomicRange,
+    /// Why it is rejected.
     pub reason: AtomicRangeRejectReason,
 }
 
@@ -160,6 +362,7 @@ pub struct RejectedAtomicRange {
 #[derive(Clone, Debug, PartialEq, Eq)]
 #[cfg_attr(feature = "serde", derive(Serialize, Deserialize))]
 pub struct AtomicRangeError {
+    /// The rejected ranges, at least one.
     pub rejected: Vec<RejectedAtomicRange>,
 }
 
@@ -207,6 +410,7 @@ impl Error for OutOfMemory {}
 pub struct Pattern(pub(crate) String);
 
 impl Pattern {
+    /// Returns the text of the pattern.
     pub fn as_str(&self) -> &str {
         &self.0
     }

@@ -18,18 +18,31 @@ pub enum Key {
     Char(char),
     /// A function key by its number: F1, F2 and so on.
     F(u8),
+    /// The key that removes what is before the cursor.
     Backspace,
+    /// Enter, or Return.
     Enter,
+    /// The arrow to the left.
     Left,
+    /// The arrow to the right.
     Right,
+    /// The arrow up.
     Up,
+    /// The arrow down.
     Down,
+    /// The key for a tab.
     Tab,
+    /// The key that removes what is after the cursor.
     Delete,
+    /// The key to a line's start.
     Home,
+    /// The key to a line's end.
     End,
+    /// The key to the page above.
     PageUp,
+    /// The key to the page below.
     PageDown,
+    /// Escape.
     Esc,
     /// Copy, which few terminals report.
     Copy,
@@ -47,12 +60,38 @@ pub enum Key {
 }
 
 /// A key with the modifiers that are pressed. The default is [`Key::Null`] without any.
+///
+/// ```
+/// use tui_textarea::{Input, Key};
+///
+/// let undo = Input { key: Key::Char('u'), ctrl: true, alt: false, shift: false };
+/// assert_eq!(undo, Input::from('u').ctrl());
+/// ```
+///
+/// With the features `crossterm` and `termion`, an input is made of the events of these libraries:
+///
+/// ```
+/// # #[cfg(feature = "crossterm")]
+/// # {
+/// use crossterm::event::{Event, KeyCode};
+/// use tui_textarea::{Input, Key, TextArea};
+///
+/// let event = Event::Key(KeyCode::Enter.into());
+/// assert_eq!(Input::from(event.clone()), Input::from(Key::Enter));
+/// let mut area = TextArea::default();
+/// assert!(area.input(event));
+/// # }
+/// ```
 #[derive(Clone, Debug, Default, PartialEq, Eq, Hash)]
 #[cfg_attr(feature = "serde", derive(Serialize, Deserialize))]
 pub struct Input {
+    /// The key.
     pub key: Key,
+    /// Whether Ctrl is pressed.
     pub ctrl: bool,
+    /// Whether Alt is pressed.
     pub alt: bool,
+    /// Whether Shift is pressed.
     pub shift: bool,
 }
 

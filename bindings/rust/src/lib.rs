@@ -21,6 +21,8 @@
 //!
 //! A text area stays on its thread: it is neither `Send` nor `Sync`.
 
+#![warn(missing_docs)]
+
 mod data;
 mod handle;
 mod input;

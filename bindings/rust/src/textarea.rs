@@ -24,6 +24,15 @@ use std::time::{Duration, Instant};
 /// and viewport.
 ///
 /// Rows and columns count from 0, columns in characters.
+///
+/// A text area stays on its thread, as the core does: a compiled pattern is shared without counting
+/// atomically, and that a text area can be sent is not proved. So it is neither `Send` nor `Sync`:
+///
+/// ```compile_fail
+/// std::thread::spawn(|| drop(tui_textarea::TextArea::default())).join().unwrap();
+/// let area = tui_textarea::TextArea::default();
+/// std::thread::spawn(move || drop(area)).join().unwrap();
+/// ```
 pub struct TextArea<'a> {
     core: Handle,
     /// What is returned by reference is copied from the core when it is first asked for.
@@ -53,6 +62,14 @@ enum Clock {
 impl<'a> TextArea<'a> {
     /// Returns a text area with these lines and the cursor at the start. An empty list becomes one
     /// empty line. A line feed inside a line stays a character of that line.
+    ///
+    /// ```
+    /// use tui_textarea::TextArea;
+    ///
+    /// let area = TextArea::new(vec!["one".to_string(), "two".to_string()]);
+    /// assert_eq!(area.lines(), ["one", "two"]);
+    /// assert_eq!(TextArea::new(vec![]).lines(), [""]);
+    /// ```
     pub fn new(lines: Vec<String>) -> TextArea<'a> {
         must(TextArea::try_new(lines))
     }
@@ -69,6 +86,13 @@ impl<'a> TextArea<'a> {
     /// Returns a text area with the text of a file and the cursor at the start. Each line feed ends a
     /// line, and one at the text's end begins no line; a carriage return directly before a line feed
     /// is dropped.
+    ///
+    /// ```
+    /// use tui_textarea::TextArea;
+    ///
+    /// let area = TextArea::from_text("one\r\ntwo\n");
+    /// assert_eq!(area.lines(), ["one", "two"]);
+    /// ```
     pub fn from_text(text: &str) -> TextArea<'a> {
         must(TextArea::try_from_text(text))
     }
@@ -107,6 +131,20 @@ impl<'a> TextArea<'a> {
 
     /// Sets the time of the edits that follow, from any fixed time, instead of a clock's. The pause
     /// between two typed edits decides whether they are undone together.
+    ///
+    /// ```
+    /// use std::time::Duration;
+    /// use tui_textarea::TextArea;
+    ///
+    /// let mut area = TextArea::default();
+    /// area.set_undo_coalescing(true);
+    /// area.set_now(Duration::from_secs(1));
+    /// area.insert_char('a');
+    /// area.set_now(Duration::from_secs(9));
+    /// area.insert_char('b');
+    /// area.undo();
+    /// assert_eq!(area.lines(), ["a"]);
+    /// ```
     pub fn set_now(&mut self, now: Duration) {
         self.clock = Clock::Set;
         self.tell(now);
@@ -132,6 +170,13 @@ impl<'a> TextArea<'a> {
 }
 
 impl Default for TextArea<'_> {
+    /// Returns a text area with one empty line.
+    ///
+    /// ```
+    /// use tui_textarea::TextArea;
+    ///
+    /// assert_eq!(TextArea::default().lines(), [""]);
+    /// ```
     fn default() -> Self {
         TextArea::new(Vec::new())
     }
@@ -142,12 +187,28 @@ where
     I: IntoIterator,
     I::Item: Into<String>,
 {
+    /// Returns a text area with these lines.
+    ///
+    /// ```
+    /// use tui_textarea::TextArea;
+    ///
+    /// assert_eq!(TextArea::from(["one", "two"]).lines(), ["one", "two"]);
+    /// assert_eq!(TextArea::from("one\ntwo".lines()).lines(), ["one", "two"]);
+    /// ```
     fn from(lines: I) -> Self {
         TextArea::new(lines.into_iter().map(Into::into).collect())
     }
 }
 
 impl<S: Into<String>> FromIterator<S> for TextArea<'_> {
+    /// Returns a text area with these lines.
+    ///
+    /// ```
+    /// use tui_textarea::TextArea;
+    ///
+    /// let area: TextArea = (1..4).map(|number| number.to_string()).collect();
+    /// assert_eq!(area.lines(), ["1", "2", "3"]);
+    /// ```
     fn from_iter<I: IntoIterator<Item = S>>(lines: I) -> Self {
         lines.into()
     }

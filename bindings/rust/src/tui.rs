@@ -54,19 +54,20 @@ fn places(part: Rect) -> impl Iterator<Item = (u16, u16)> {
     (part.top()..part.bottom()).flat_map(move |y| (part.left()..part.right()).map(move |x| (x, y)))
 }
 
-/// Draws a block of the library into the part of an area that a buffer has.
+/// Draws a block of the library into an area, as far as a buffer has it.
 pub(crate) fn draw_block(block: &widgets::Block, area: Rect, buf: &mut Buffer) {
-    let part = area.intersection(buf.area);
-    let mut cells = buffer::Buffer::empty(part.into());
-    let content = places(part).map(|at| take(&mut buf[at]));
+    let area = layout::Rect::from(area);
+    let part = Rect::from(area).intersection(buf.area);
+    let mut cells = buffer::Buffer::empty(area);
+    let content = places(part).map(|at| take(&mut buf[at])).collect();
     put_back(
         Buffer {
-            content: content.collect(),
+            content,
             area: part,
         },
         &mut cells,
     );
-    widgets::Widget::render(block.clone(), part.into(), &mut cells);
+    widgets::Widget::render(block.clone(), area, &mut cells);
     for (at, cell) in places(part).zip(cells_of(&mut cells, part).content) {
         buf[at] = cell;
     }
@@ -148,13 +149,9 @@ impl From<layout::Rect> for Rect {
 }
 
 impl From<Rect> for layout::Rect {
+    /// Returns the rectangle, or a smaller one where it has more cells than the library allows.
     fn from(area: Rect) -> layout::Rect {
-        layout::Rect {
-            x: area.x,
-            y: area.y,
-            width: area.width,
-            height: area.height,
-        }
+        layout::Rect::new(area.x, area.y, area.width, area.height)
     }
 }
 

@@ -8,13 +8,20 @@ use std::ops::BitOr;
 pub struct Borders(u8);
 
 impl Borders {
+    /// No border.
     pub const NONE: Borders = Borders(0);
+    /// A border at the top.
     pub const TOP: Borders = Borders(1);
+    /// A border at the right.
     pub const RIGHT: Borders = Borders(2);
+    /// A border at the bottom.
     pub const BOTTOM: Borders = Borders(4);
+    /// A border at the left.
     pub const LEFT: Borders = Borders(8);
+    /// A border at each side.
     pub const ALL: Borders = Borders(15);
 
+    /// Returns the set as a number with a bit for each side.
     pub const fn bits(self) -> u8 {
         self.0
     }
@@ -23,10 +30,12 @@ impl Borders {
         Borders(bits)
     }
 
+    /// Returns whether it has all sides of the other.
     pub const fn contains(self, other: Borders) -> bool {
         self.0 & other.0 == other.0
     }
 
+    /// Returns the sides that one of them has.
     pub const fn union(self, other: Borders) -> Borders {
         Borders(self.0 | other.0)
     }
@@ -65,6 +74,7 @@ impl std::hash::Hash for Foreign<'_> {
 }
 
 impl<'a> Block<'a> {
+    /// Returns a block without borders, title and padding.
     pub const fn new() -> Block<'a> {
         Block {
             borders: Borders::NONE,
@@ -82,11 +92,13 @@ impl<'a> Block<'a> {
         Block::new().borders(Borders::ALL)
     }
 
+    /// Returns the block with borders at these sides.
     pub const fn borders(mut self, borders: Borders) -> Block<'a> {
         self.borders = borders;
         self
     }
 
+    /// Returns the block with this padding inside of its borders.
     pub const fn padding(mut self, padding: Padding) -> Block<'a> {
         self.padding = padding;
         self
@@ -98,11 +110,13 @@ impl<'a> Block<'a> {
         self
     }
 
+    /// Returns the block with this style of its whole area.
     pub fn style<S: Into<Style>>(mut self, style: S) -> Block<'a> {
         self.style = style.into();
         self
     }
 
+    /// Returns the block with this style of its borders.
     pub fn border_style<S: Into<Style>>(mut self, style: S) -> Block<'a> {
         self.border_style = style.into();
         self

@@ -9,8 +9,11 @@ use std::ops::{Index, IndexMut};
 #[derive(Clone, Debug, PartialEq, Eq, Hash)]
 pub struct Cell {
     pub(crate) symbol: String,
+    /// The colour of the text.
     pub fg: Color,
+    /// The colour behind the text.
     pub bg: Color,
+    /// The modifiers.
     pub modifier: Modifier,
 }
 
@@ -26,6 +29,7 @@ impl Default for Cell {
 }
 
 impl Cell {
+    /// Returns a cell with this text, without colours and modifiers.
     pub fn new(symbol: &str) -> Cell {
         Cell {
             symbol: symbol.to_string(),
@@ -33,24 +37,29 @@ impl Cell {
         }
     }
 
+    /// Returns the text.
     pub fn symbol(&self) -> &str {
         &self.symbol
     }
 
+    /// Sets the text.
     pub fn set_symbol(&mut self, symbol: &str) -> &mut Cell {
         symbol.clone_into(&mut self.symbol);
         self
     }
 
+    /// Sets the text to this character.
     pub fn set_char(&mut self, c: char) -> &mut Cell {
         self.set_symbol(c.encode_utf8(&mut [0; 4]))
     }
 
+    /// Sets the colour of the text.
     pub fn set_fg(&mut self, color: Color) -> &mut Cell {
         self.fg = color;
         self
     }
 
+    /// Sets the colour behind the text.
     pub fn set_bg(&mut self, color: Color) -> &mut Cell {
         self.bg = color;
         self
@@ -66,6 +75,7 @@ impl Cell {
         self
     }
 
+    /// Returns the colours and modifiers as a style.
     pub fn style(&self) -> Style {
         Style::new()
             .fg(self.fg)
@@ -73,6 +83,7 @@ impl Cell {
             .add_modifier(self.modifier)
     }
 
+    /// Makes the cell a blank one, without colours and modifiers.
     pub fn reset(&mut self) {
         *self = Cell::default();
     }
@@ -96,15 +107,19 @@ impl Cell {
 /// The cells of a rectangle, row after row.
 #[derive(Clone, Debug, Default, PartialEq, Eq, Hash)]
 pub struct Buffer {
+    /// The rectangle.
     pub area: Rect,
+    /// The cells, as many as the rectangle has.
     pub content: Vec<Cell>,
 }
 
 impl Buffer {
+    /// Returns the buffer of a rectangle with blank cells.
     pub fn empty(area: Rect) -> Buffer {
         Buffer::filled(area, Cell::default())
     }
 
+    /// Returns the buffer of a rectangle with copies of this cell.
     pub fn filled(area: Rect, cell: Cell) -> Buffer {
         Buffer {
             area,
@@ -132,10 +147,12 @@ impl Buffer {
         Buffer { area, content }
     }
 
+    /// Returns the rectangle.
     pub fn area(&self) -> &Rect {
         &self.area
     }
 
+    /// Returns the cells, row after row.
     pub fn content(&self) -> &[Cell] {
         &self.content
     }
@@ -147,15 +164,18 @@ impl Buffer {
         })
     }
 
+    /// Returns the index of a cell in `content`. Panics if the buffer hasn't the cell.
     pub fn index_of(&self, x: u16, y: u16) -> usize {
         self.place(Position { x, y })
             .expect("the cell is in the buffer")
     }
 
+    /// Returns the cell, or `None` if the buffer hasn't it.
     pub fn cell<P: Into<Position>>(&self, position: P) -> Option<&Cell> {
         self.place(position.into()).map(|at| &self.content[at])
     }
 
+    /// Returns the cell, or `None` if the buffer hasn't it.
     pub fn cell_mut<P: Into<Position>>(&mut self, position: P) -> Option<&mut Cell> {
         self.place(position.into()).map(|at| &mut self.content[at])
     }
@@ -179,6 +199,7 @@ impl Buffer {
         }
     }
 
+    /// Makes each cell a blank one, without colours and modifiers.
     pub fn reset(&mut self) {
         self.content.fill(Cell::default());
     }

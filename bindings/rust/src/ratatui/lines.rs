@@ -6,15 +6,19 @@ use std::fmt;
 /// A text in one style.
 #[derive(Clone, Debug, Default, PartialEq, Eq, Hash)]
 pub struct Span<'a> {
+    /// The text.
     pub content: Cow<'a, str>,
+    /// The style.
     pub style: Style,
 }
 
 impl<'a> Span<'a> {
+    /// Returns a text without a style.
     pub fn raw<T: Into<Cow<'a, str>>>(content: T) -> Span<'a> {
         Span::styled(content, Style::new())
     }
 
+    /// Returns a text in this style.
     pub fn styled<T: Into<Cow<'a, str>>, S: Into<Style>>(content: T, style: S) -> Span<'a> {
         Span {
             content: content.into(),
@@ -22,6 +26,7 @@ impl<'a> Span<'a> {
         }
     }
 
+    /// Returns the text in this style.
     pub fn style<S: Into<Style>>(mut self, style: S) -> Span<'a> {
         self.style = style.into();
         self
@@ -43,7 +48,9 @@ impl<'a, T: Into<Cow<'a, str>>> From<T> for Span<'a> {
 /// Spans one after another. The style of the line is under theirs.
 #[derive(Clone, Debug, Default, PartialEq, Eq, Hash)]
 pub struct Line<'a> {
+    /// The style.
     pub style: Style,
+    /// The spans.
     pub spans: Vec<Span<'a>>,
 }
 
@@ -53,6 +60,7 @@ impl<'a> Line<'a> {
         Line::styled(content, Style::new())
     }
 
+    /// Returns a line of the text in this style.
     pub fn styled<T: Into<Cow<'a, str>>, S: Into<Style>>(content: T, style: S) -> Line<'a> {
         let spans = match content.into() {
             Cow::Borrowed(text) => text.lines().map(Span::raw).collect(),
@@ -67,6 +75,7 @@ impl<'a> Line<'a> {
         }
     }
 
+    /// Returns the line in this style.
     pub fn style<S: Into<Style>>(mut self, style: S) -> Line<'a> {
         self.style = style.into();
         self
@@ -123,7 +132,9 @@ impl fmt::Display for Line<'_> {
 /// Lines one below another. The style of the text is under theirs.
 #[derive(Clone, Debug, Default, PartialEq, Eq, Hash)]
 pub struct Text<'a> {
+    /// The style.
     pub style: Style,
+    /// The lines.
     pub lines: Vec<Line<'a>>,
 }
 
@@ -142,10 +153,12 @@ impl<'a> Text<'a> {
         Text::from(lines)
     }
 
+    /// Returns a text of the lines of `content` in this style.
     pub fn styled<T: Into<Cow<'a, str>>, S: Into<Style>>(content: T, style: S) -> Text<'a> {
         Text::raw(content).style(style)
     }
 
+    /// Returns the text in this style.
     pub fn style<S: Into<Style>>(mut self, style: S) -> Text<'a> {
         self.style = style.into();
         self

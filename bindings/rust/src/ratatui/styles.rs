@@ -7,23 +7,41 @@ pub enum Color {
     /// The terminal's own colour.
     #[default]
     Reset,
+    /// Black.
     Black,
+    /// Red.
     Red,
+    /// Green.
     Green,
+    /// Yellow.
     Yellow,
+    /// Blue.
     Blue,
+    /// Magenta.
     Magenta,
+    /// Cyan.
     Cyan,
+    /// Gray.
     Gray,
+    /// Dark gray.
     DarkGray,
+    /// Light red.
     LightRed,
+    /// Light green.
     LightGreen,
+    /// Light yellow.
     LightYellow,
+    /// Light blue.
     LightBlue,
+    /// Light magenta.
     LightMagenta,
+    /// Light cyan.
     LightCyan,
+    /// White.
     White,
+    /// A mix of red, green and blue.
     Rgb(u8, u8, u8),
+    /// One of the 256 colours of a terminal, by its number.
     Indexed(u8),
 }
 
@@ -82,24 +100,36 @@ pub(crate) fn from_core(color: sys::Color) -> Option<Color> {
 pub struct Modifier(u16);
 
 impl Modifier {
+    /// Bold.
     pub const BOLD: Modifier = Modifier(1);
+    /// Dim.
     pub const DIM: Modifier = Modifier(2);
+    /// Italic.
     pub const ITALIC: Modifier = Modifier(4);
+    /// Underlined.
     pub const UNDERLINED: Modifier = Modifier(8);
+    /// Blinking slowly.
     pub const SLOW_BLINK: Modifier = Modifier(16);
+    /// Blinking fast.
     pub const RAPID_BLINK: Modifier = Modifier(32);
+    /// With the two colours exchanged.
     pub const REVERSED: Modifier = Modifier(64);
+    /// Hidden.
     pub const HIDDEN: Modifier = Modifier(128);
+    /// Crossed out.
     pub const CROSSED_OUT: Modifier = Modifier(256);
 
+    /// Returns the set of none.
     pub const fn empty() -> Modifier {
         Modifier(0)
     }
 
+    /// Returns the set of all.
     pub const fn all() -> Modifier {
         Modifier(511)
     }
 
+    /// Returns the set as a number with a bit for each modifier.
     pub const fn bits(self) -> u16 {
         self.0
     }
@@ -108,30 +138,37 @@ impl Modifier {
         Modifier(bits)
     }
 
+    /// Returns whether it has none.
     pub const fn is_empty(self) -> bool {
         self.0 == 0
     }
 
+    /// Returns whether it has all of the other.
     pub const fn contains(self, other: Modifier) -> bool {
         self.0 & other.0 == other.0
     }
 
+    /// Returns whether it has one of the other.
     pub const fn intersects(self, other: Modifier) -> bool {
         self.0 & other.0 != 0
     }
 
+    /// Returns those that one of them has.
     pub const fn union(self, other: Modifier) -> Modifier {
         Modifier(self.0 | other.0)
     }
 
+    /// Returns its own that the other hasn't.
     pub const fn difference(self, other: Modifier) -> Modifier {
         Modifier(self.0 & !other.0)
     }
 
+    /// Adds those of the other.
     pub fn insert(&mut self, other: Modifier) {
         self.0 |= other.0;
     }
 
+    /// Removes those of the other.
     pub fn remove(&mut self, other: Modifier) {
         self.0 &= !other.0;
     }
@@ -179,13 +216,18 @@ impl Not for Modifier {
 /// modifiers of `add_modifier` are added, then those of `sub_modifier` removed.
 #[derive(Clone, Copy, Debug, Default, PartialEq, Eq, Hash)]
 pub struct Style {
+    /// The colour of the text; `None` leaves it.
     pub fg: Option<Color>,
+    /// The colour behind the text; `None` leaves it.
     pub bg: Option<Color>,
+    /// The modifiers that it adds.
     pub add_modifier: Modifier,
+    /// The modifiers that it removes.
     pub sub_modifier: Modifier,
 }
 
 impl Style {
+    /// Returns the style that changes nothing.
     pub const fn new() -> Style {
         Style {
             fg: None,
@@ -205,22 +247,26 @@ impl Style {
         }
     }
 
+    /// Returns the style with this colour of the text.
     pub const fn fg(mut self, color: Color) -> Style {
         self.fg = Some(color);
         self
     }
 
+    /// Returns the style with this colour behind the text.
     pub const fn bg(mut self, color: Color) -> Style {
         self.bg = Some(color);
         self
     }
 
+    /// Returns the style that also adds these modifiers.
     pub const fn add_modifier(mut self, modifier: Modifier) -> Style {
         self.sub_modifier = self.sub_modifier.difference(modifier);
         self.add_modifier = self.add_modifier.union(modifier);
         self
     }
 
+    /// Returns the style that also removes these modifiers.
     pub const fn remove_modifier(mut self, modifier: Modifier) -> Style {
         self.add_modifier = self.add_modifier.difference(modifier);
         self.sub_modifier = self.sub_modifier.union(modifier);

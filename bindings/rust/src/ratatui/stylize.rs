@@ -9,8 +9,10 @@ pub trait Styled {
     /// The same with another style.
     type Item;
 
+    /// Returns the style.
     fn style(&self) -> Style;
 
+    /// Returns the same with this style.
     fn set_style<S: Into<Style>>(self, style: S) -> Self::Item;
 }
 
@@ -19,25 +21,34 @@ macro_rules! names {
     ($($color:ident $on_color:ident $value:ident,)* ; $($modifier:ident $not_modifier:ident $bit:ident,)*) => {
         /// Styles by the names of colours and modifiers.
         pub trait Stylize<'a, T>: Sized {
+            /// With this colour behind the text.
             fn bg<C: Into<Color>>(self, color: C) -> T;
+            /// With this colour of the text.
             fn fg<C: Into<Color>>(self, color: C) -> T;
+            /// With the style that resets all.
             fn reset(self) -> T;
+            /// With these modifiers.
             fn add_modifier(self, modifier: Modifier) -> T;
+            /// Without these modifiers.
             fn remove_modifier(self, modifier: Modifier) -> T;
             $(
+                /// With the text in this colour.
                 fn $color(self) -> T {
                     self.fg(Color::$value)
                 }
 
+                /// With this colour behind the text.
                 fn $on_color(self) -> T {
                     self.bg(Color::$value)
                 }
             )*
             $(
+                /// With this modifier.
                 fn $modifier(self) -> T {
                     self.add_modifier(Modifier::$bit)
                 }
 
+                /// Without this modifier.
                 fn $not_modifier(self) -> T {
                     self.remove_modifier(Modifier::$bit)
                 }
@@ -46,19 +57,23 @@ macro_rules! names {
 
         impl Style {
             $(
+                /// Returns the style with the text in this colour.
                 pub const fn $color(self) -> Style {
                     self.fg(Color::$value)
                 }
 
+                /// Returns the style with this colour behind the text.
                 pub const fn $on_color(self) -> Style {
                     self.bg(Color::$value)
                 }
             )*
             $(
+                /// Returns the style that also adds this modifier.
                 pub const fn $modifier(self) -> Style {
                     self.add_modifier(Modifier::$bit)
                 }
 
+                /// Returns the style that also removes this modifier.
                 pub const fn $not_modifier(self) -> Style {
                     self.remove_modifier(Modifier::$bit)
                 }

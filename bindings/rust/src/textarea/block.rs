@@ -10,6 +10,15 @@ use crate::sys;
 
 impl<'a> TextArea<'a> {
     /// Draws this block around the text, and replaces the old one.
+    ///
+    /// ```
+    /// use tui_textarea::ratatui::widgets::Block;
+    /// use tui_textarea::TextArea;
+    ///
+    /// let mut area = TextArea::default();
+    /// area.set_block(Block::bordered().title("Message"));
+    /// assert!(area.block().is_some());
+    /// ```
     pub fn set_block(&mut self, block: impl Into<Block<'a>>) {
         must(self.try_set_block(block));
     }
@@ -53,6 +62,16 @@ impl<'a> TextArea<'a> {
     }
 
     /// Removes the block, if there is one.
+    ///
+    /// ```
+    /// use tui_textarea::ratatui::widgets::Block;
+    /// use tui_textarea::TextArea;
+    ///
+    /// let mut area = TextArea::default();
+    /// area.set_block(Block::bordered());
+    /// area.remove_block();
+    /// assert_eq!(area.block(), None);
+    /// ```
     pub fn remove_block(&mut self) {
         self.block.take();
         self.core.is(|h| unsafe { sys::ta_remove_block(h) });

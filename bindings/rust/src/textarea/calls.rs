@@ -10,6 +10,14 @@ use crate::sys;
 
 impl TextArea<'_> {
     /// Breaks the line at the cursor.
+    ///
+    /// ```
+    /// use tui_textarea::TextArea;
+    ///
+    /// let mut area = TextArea::from(["hi"]);
+    /// area.insert_newline();
+    /// assert_eq!(area.lines(), ["", "hi"]);
+    /// ```
     pub fn insert_newline(&mut self) {
         must(self.try_insert_newline());
     }
@@ -23,6 +31,16 @@ impl TextArea<'_> {
     /// Inserts a tab at the cursor: with hard tabs a tab character, otherwise spaces up to the next
     /// tab stop; at tab length 0 nothing. Returns whether it inserted something or removed a
     /// selection.
+    ///
+    /// ```
+    /// use tui_textarea::TextArea;
+    ///
+    /// let mut area = TextArea::from(["hi"]);
+    /// assert!(area.insert_tab());
+    /// assert_eq!(area.lines(), ["    hi"]);
+    /// area.set_tab_length(0);
+    /// assert!(!area.insert_tab());
+    /// ```
     pub fn insert_tab(&mut self) -> bool {
         must(self.try_insert_tab())
     }
@@ -33,6 +51,15 @@ impl TextArea<'_> {
     }
 
     /// Inserts the yanked text where `insert_str` inserts, and returns whether there was any.
+    ///
+    /// ```
+    /// use tui_textarea::TextArea;
+    ///
+    /// let mut area = TextArea::from(["one"]);
+    /// area.set_yank_text("two\nthree ");
+    /// assert!(area.paste());
+    /// assert_eq!(area.lines(), ["two", "three one"]);
+    /// ```
     pub fn paste(&mut self) -> bool {
         must(self.try_paste())
     }
@@ -57,6 +84,16 @@ impl TextArea<'_> {
 
     /// Removes the atomic range that ends at the cursor or strictly contains it, or else the
     /// character before the cursor, or at column 0 the line break. Returns whether it removed text.
+    ///
+    /// ```
+    /// use tui_textarea::{CursorMove, TextArea};
+    ///
+    /// let mut area = TextArea::from(["ab"]);
+    /// assert!(!area.delete_char()); // the cursor is at the text's start
+    /// area.move_cursor(CursorMove::Forward);
+    /// assert!(area.delete_char());
+    /// assert_eq!(area.lines(), ["b"]);
+    /// ```
     pub fn delete_char(&mut self) -> bool {
         must(self.try_delete_char())
     }
@@ -69,6 +106,14 @@ impl TextArea<'_> {
     /// Removes the atomic range that starts at the cursor or strictly contains it, or else the
     /// character after the cursor, or at a line's end the line break. Returns whether it removed
     /// text.
+    ///
+    /// ```
+    /// use tui_textarea::TextArea;
+    ///
+    /// let mut area = TextArea::from(["ab"]);
+    /// assert!(area.delete_next_char());
+    /// assert_eq!(area.lines(), ["b"]);
+    /// ```
     pub fn delete_next_char(&mut self) -> bool {
         must(self.try_delete_next_char())
     }
@@ -79,6 +124,15 @@ impl TextArea<'_> {
     }
 
     /// Removes the line break before the cursor's line. Returns whether it removed text.
+    ///
+    /// ```
+    /// use tui_textarea::{CursorMove, TextArea};
+    ///
+    /// let mut area = TextArea::from(["one", "two"]);
+    /// area.move_cursor(CursorMove::Down);
+    /// assert!(area.delete_newline());
+    /// assert_eq!(area.lines(), ["onetwo"]);
+    /// ```
     pub fn delete_newline(&mut self) -> bool {
         must(self.try_delete_newline())
     }
@@ -90,6 +144,15 @@ impl TextArea<'_> {
 
     /// Removes and yanks the next characters after the cursor, at most this number; each line break
     /// counts as one. Returns whether it removed text.
+    ///
+    /// ```
+    /// use tui_textarea::TextArea;
+    ///
+    /// let mut area = TextArea::from(["one", "two"]);
+    /// assert!(area.delete_str(4)); // three letters and a line break
+    /// assert_eq!(area.lines(), ["two"]);
+    /// assert_eq!(area.yank_text(), "one\n");
+    /// ```
     pub fn delete_str(&mut self, count: usize) -> bool {
         must(self.try_delete_str(count))
     }
@@ -101,6 +164,15 @@ impl TextArea<'_> {
 
     /// Removes and yanks the text from the cursor to its line's end; at the line's end it does what
     /// `delete_next_char` does. Returns whether it removed text.
+    ///
+    /// ```
+    /// use tui_textarea::{CursorMove, TextArea};
+    ///
+    /// let mut area = TextArea::from(["one two"]);
+    /// area.move_cursor(CursorMove::WordForward);
+    /// assert!(area.delete_line_by_end());
+    /// assert_eq!(area.lines(), ["one "]);
+    /// ```
     pub fn delete_line_by_end(&mut self) -> bool {
         must(self.try_delete_line_by_end())
     }
@@ -112,6 +184,15 @@ impl TextArea<'_> {
 
     /// Removes and yanks the text from the line's start to the cursor; at the line's start it does
     /// what `delete_newline` does. Returns whether it removed text.
+    ///
+    /// ```
+    /// use tui_textarea::{CursorMove, TextArea};
+    ///
+    /// let mut area = TextArea::from(["one two"]);
+    /// area.move_cursor(CursorMove::WordForward);
+    /// assert!(area.delete_line_by_head());
+    /// assert_eq!(area.lines(), ["two"]);
+    /// ```
     pub fn delete_line_by_head(&mut self) -> bool {
         must(self.try_delete_line_by_head())
     }
@@ -125,6 +206,15 @@ impl TextArea<'_> {
     /// and yanks the text from the start of the word before the cursor, or from the line's start,
     /// to the cursor; at column 0 it does what `delete_newline` does. Returns whether it removed
     /// text.
+    ///
+    /// ```
+    /// use tui_textarea::{CursorMove, TextArea};
+    ///
+    /// let mut area = TextArea::from(["one two"]);
+    /// area.move_cursor(CursorMove::End);
+    /// assert!(area.delete_word());
+    /// assert_eq!(area.lines(), ["one "]);
+    /// ```
     pub fn delete_word(&mut self) -> bool {
         must(self.try_delete_word())
     }
@@ -137,6 +227,14 @@ impl TextArea<'_> {
     /// Removes the atomic range that starts at the cursor or strictly contains it. Otherwise
     /// removes and yanks the text from the cursor to the word's end, or to the line's end; at the
     /// line's end it does what `delete_next_char` does. Returns whether it removed text.
+    ///
+    /// ```
+    /// use tui_textarea::TextArea;
+    ///
+    /// let mut area = TextArea::from(["one two"]);
+    /// assert!(area.delete_next_word());
+    /// assert_eq!(area.lines(), [" two"]);
+    /// ```
     pub fn delete_next_word(&mut self) -> bool {
         must(self.try_delete_next_word())
     }
@@ -147,6 +245,15 @@ impl TextArea<'_> {
     }
 
     /// Removes and yanks the whole text, as one edit, and returns whether there was any.
+    ///
+    /// ```
+    /// use tui_textarea::TextArea;
+    ///
+    /// let mut area = TextArea::from(["one", "two"]);
+    /// assert!(area.clear() && area.is_empty());
+    /// assert_eq!(area.yank_text(), "one\ntwo");
+    /// assert!(!area.clear());
+    /// ```
     pub fn clear(&mut self) -> bool {
         must(self.try_clear())
     }
@@ -157,6 +264,16 @@ impl TextArea<'_> {
     }
 
     /// Yanks and removes the selected text, returns whether there was any, and drops the selection.
+    ///
+    /// ```
+    /// use tui_textarea::{CursorMove, TextArea};
+    ///
+    /// let mut area = TextArea::from(["one two"]);
+    /// area.start_selection();
+    /// area.move_cursor(CursorMove::WordForward);
+    /// assert!(area.cut());
+    /// assert_eq!((area.lines(), area.yank_text()), (&["two".to_string()][..], "one ".to_string()));
+    /// ```
     pub fn cut(&mut self) -> bool {
         must(self.try_cut())
     }
@@ -168,6 +285,16 @@ impl TextArea<'_> {
 
     /// Undoes the newest edit, and returns whether there was one. The cursor is then after the
     /// restored text, or where the removed text began, and nothing is selected.
+    ///
+    /// ```
+    /// use tui_textarea::TextArea;
+    ///
+    /// let mut area = TextArea::from(["one"]);
+    /// area.delete_next_word();
+    /// assert!(area.undo());
+    /// assert_eq!(area.lines(), ["one"]);
+    /// assert!(!area.undo());
+    /// ```
     pub fn undo(&mut self) -> bool {
         must(self.try_undo())
     }
@@ -179,6 +306,16 @@ impl TextArea<'_> {
 
     /// Redoes the edit that was undone last, and returns whether there was one. The cursor is then
     /// where that edit left it, and nothing is selected.
+    ///
+    /// ```
+    /// use tui_textarea::TextArea;
+    ///
+    /// let mut area = TextArea::from(["one"]);
+    /// area.delete_next_word();
+    /// area.undo();
+    /// assert!(area.redo() && area.is_empty());
+    /// assert!(!area.redo());
+    /// ```
     pub fn redo(&mut self) -> bool {
         must(self.try_redo())
     }
@@ -189,27 +326,73 @@ impl TextArea<'_> {
     }
 
     /// Forgets all edits, and remembers at most this number from now on, done and undone together.
+    ///
+    /// ```
+    /// use tui_textarea::TextArea;
+    ///
+    /// let mut area = TextArea::from(["one"]);
+    /// area.set_max_histories(1);
+    /// area.insert_str("two ");
+    /// area.insert_str("three ");
+    /// assert!(area.undo() && !area.undo());
+    /// assert_eq!(area.lines(), ["two one"]);
+    /// ```
     pub fn set_max_histories(&mut self, maximum: usize) {
         self.core
             .is(|h| unsafe { sys::ta_set_max_histories(h, maximum) });
     }
 
     /// Begins an empty selection at the cursor.
+    ///
+    /// ```
+    /// use tui_textarea::{CursorMove, TextArea};
+    ///
+    /// let mut area = TextArea::from(["one two"]);
+    /// area.start_selection();
+    /// area.move_cursor(CursorMove::WordForward);
+    /// assert_eq!(area.selection_range(), Some(((0, 0), (0, 4))));
+    /// ```
     pub fn start_selection(&mut self) {
         self.core.is(|h| unsafe { sys::ta_start_selection(h) });
     }
 
     /// Drops the selection, if there is one; the text stays.
+    ///
+    /// ```
+    /// use tui_textarea::TextArea;
+    ///
+    /// let mut area = TextArea::from(["one"]);
+    /// area.start_selection();
+    /// area.cancel_selection();
+    /// assert!(!area.is_selecting());
+    /// ```
     pub fn cancel_selection(&mut self) {
         self.core.is(|h| unsafe { sys::ta_cancel_selection(h) });
     }
 
     /// Selects the whole text, and moves the cursor to its end.
+    ///
+    /// ```
+    /// use tui_textarea::TextArea;
+    ///
+    /// let mut area = TextArea::from(["one", "two"]);
+    /// area.select_all();
+    /// assert_eq!(area.selection_range(), Some(((0, 0), (1, 3))));
+    /// ```
     pub fn select_all(&mut self) {
         self.core.is(|h| unsafe { sys::ta_select_all(h) });
     }
 
     /// Yanks the selected text, if there is any, and drops the selection.
+    ///
+    /// ```
+    /// use tui_textarea::TextArea;
+    ///
+    /// let mut area = TextArea::from(["one", "two"]);
+    /// area.select_all();
+    /// area.copy();
+    /// assert_eq!(area.yank_text(), "one\ntwo");
+    /// ```
     pub fn copy(&mut self) {
         must(self.try_copy());
     }
@@ -222,6 +405,18 @@ impl TextArea<'_> {
 
     /// Moves the cursor to the next start of a match, and returns whether there was one: the first
     /// after the cursor or, with `match_cursor`, at it, and past the text's end the first of all.
+    ///
+    /// ```
+    /// use tui_textarea::TextArea;
+    ///
+    /// let mut area = TextArea::from(["one two one"]);
+    /// area.set_search_pattern("o.e")?;
+    /// assert!(area.search_forward(false));
+    /// assert_eq!(area.cursor(), (0, 8));
+    /// assert!(area.search_forward(false)); // past the end it begins at the start
+    /// assert_eq!(area.cursor(), (0, 0));
+    /// # Ok::<(), tui_textarea::SearchError>(())
+    /// ```
     pub fn search_forward(&mut self, match_cursor: bool) -> bool {
         must(self.try_search_forward(match_cursor))
     }
@@ -234,6 +429,16 @@ impl TextArea<'_> {
 
     /// Moves the cursor to the last start of a match before it or, with `match_cursor`, at it, and
     /// past the text's start to the last of all; returns whether there was one.
+    ///
+    /// ```
+    /// use tui_textarea::TextArea;
+    ///
+    /// let mut area = TextArea::from(["one two one"]);
+    /// area.set_search_pattern("o.e")?;
+    /// assert!(area.search_back(false)); // past the start it begins at the end
+    /// assert_eq!(area.cursor(), (0, 8));
+    /// # Ok::<(), tui_textarea::SearchError>(())
+    /// ```
     pub fn search_back(&mut self, match_cursor: bool) -> bool {
         must(self.try_search_back(match_cursor))
     }
@@ -245,6 +450,15 @@ impl TextArea<'_> {
     }
 
     /// Sets the distance of tab stops, in columns; at 0 a tab inserts nothing.
+    ///
+    /// ```
+    /// use tui_textarea::TextArea;
+    ///
+    /// let mut area = TextArea::from([""]);
+    /// area.set_tab_length(2);
+    /// area.insert_tab();
+    /// assert_eq!(area.lines(), ["  "]);
+    /// ```
     pub fn set_tab_length(&mut self, columns: u8) {
         must(self.try_set_tab_length(columns));
     }
@@ -257,12 +471,31 @@ impl TextArea<'_> {
     }
 
     /// Sets whether a tab is inserted as a tab character, and not as spaces.
+    ///
+    /// ```
+    /// use tui_textarea::TextArea;
+    ///
+    /// let mut area = TextArea::from([""]);
+    /// area.set_hard_tab_indent(true);
+    /// area.insert_tab();
+    /// assert_eq!(area.lines(), ["\t"]);
+    /// ```
     pub fn set_hard_tab_indent(&mut self, hard: bool) {
         self.core
             .is(|h| unsafe { sys::ta_set_hard_tab_indent(h, hard) });
     }
 
     /// Hides the line numbers.
+    ///
+    /// ```
+    /// use tui_textarea::ratatui::style::Style;
+    /// use tui_textarea::TextArea;
+    ///
+    /// let mut area = TextArea::from(["one"]);
+    /// area.set_line_number_style(Style::new().dark_gray());
+    /// area.remove_line_number();
+    /// assert_eq!(area.line_number_style(), None);
+    /// ```
     pub fn remove_line_number(&mut self) {
         must(self.try_remove_line_number());
     }
@@ -275,23 +508,57 @@ impl TextArea<'_> {
 
     /// Sets the least height of the whole area, in screen rows; 0 counts as 1. The greatest height
     /// is raised to it if it is less.
+    ///
+    /// ```
+    /// use tui_textarea::TextArea;
+    ///
+    /// let mut area = TextArea::from(["one"]);
+    /// area.set_min_rows(3);
+    /// assert_eq!(area.measure(20).preferred_rows, 3);
+    /// ```
     pub fn set_min_rows(&mut self, rows: u16) {
         self.core.is(|h| unsafe { sys::ta_set_min_rows(h, rows) });
     }
 
     /// Sets the greatest height of the whole area, in screen rows; 0 counts as 1, and less than the
     /// least height as that height.
+    ///
+    /// ```
+    /// use tui_textarea::TextArea;
+    ///
+    /// let mut area = TextArea::from(["one", "two", "three"]);
+    /// area.set_max_rows(2);
+    /// assert_eq!(area.measure(20).preferred_rows, 2);
+    /// ```
     pub fn set_max_rows(&mut self, rows: u16) {
         self.core.is(|h| unsafe { sys::ta_set_max_rows(h, rows) });
     }
 
     /// Sets the style of each cell of the inner area, under all others; a placeholder has its own.
+    ///
+    /// ```
+    /// use tui_textarea::ratatui::style::{Color, Style};
+    /// use tui_textarea::TextArea;
+    ///
+    /// let mut area = TextArea::from(["one"]);
+    /// area.set_style(Style::new().fg(Color::Yellow));
+    /// assert_eq!(area.style().fg, Some(Color::Yellow));
+    /// ```
     pub fn set_style(&mut self, style: impl Into<Style>) {
         let style = sys::Style::from(style.into());
         self.core.is(|h| unsafe { sys::ta_set_style(h, &style) });
     }
 
     /// Sets the style of the cell at the cursor.
+    ///
+    /// ```
+    /// use tui_textarea::ratatui::style::{Color, Style};
+    /// use tui_textarea::TextArea;
+    ///
+    /// let mut area = TextArea::from(["one"]);
+    /// area.set_cursor_style(Style::new().bg(Color::Cyan));
+    /// assert_eq!(area.cursor_style().bg, Some(Color::Cyan));
+    /// ```
     pub fn set_cursor_style(&mut self, style: impl Into<Style>) {
         let style = sys::Style::from(style.into());
         self.core
@@ -299,6 +566,15 @@ impl TextArea<'_> {
     }
 
     /// Sets the style of the cursor's line, in all its visual rows, where no highlight is.
+    ///
+    /// ```
+    /// use tui_textarea::ratatui::style::Style;
+    /// use tui_textarea::TextArea;
+    ///
+    /// let mut area = TextArea::from(["one"]);
+    /// area.set_cursor_line_style(Style::new()); // the cursor's line looks as any other
+    /// assert_eq!(area.cursor_line_style(), Style::new());
+    /// ```
     pub fn set_cursor_line_style(&mut self, style: impl Into<Style>) {
         let style = sys::Style::from(style.into());
         self.core
@@ -306,6 +582,15 @@ impl TextArea<'_> {
     }
 
     /// Sets the style of selected text.
+    ///
+    /// ```
+    /// use tui_textarea::ratatui::style::{Color, Style};
+    /// use tui_textarea::TextArea;
+    ///
+    /// let mut area = TextArea::from(["one"]);
+    /// area.set_selection_style(Style::new().bg(Color::LightBlue));
+    /// assert_eq!(area.selection_style().bg, Some(Color::LightBlue));
+    /// ```
     pub fn set_selection_style(&mut self, style: impl Into<Style>) {
         let style = sys::Style::from(style.into());
         self.core
@@ -313,6 +598,15 @@ impl TextArea<'_> {
     }
 
     /// Sets the style of the search pattern's matches.
+    ///
+    /// ```
+    /// use tui_textarea::ratatui::style::{Color, Style};
+    /// use tui_textarea::TextArea;
+    ///
+    /// let mut area = TextArea::from(["one"]);
+    /// area.set_search_style(Style::new().bg(Color::Yellow));
+    /// assert_eq!(area.search_style().bg, Some(Color::Yellow));
+    /// ```
     pub fn set_search_style(&mut self, style: impl Into<Style>) {
         let style = sys::Style::from(style.into());
         self.core
@@ -320,22 +614,56 @@ impl TextArea<'_> {
     }
 
     /// Shows the text itself again.
+    ///
+    /// ```
+    /// use tui_textarea::TextArea;
+    ///
+    /// let mut area = TextArea::from(["one"]);
+    /// area.set_mask_char('•');
+    /// area.clear_mask_char();
+    /// assert_eq!(area.mask_char(), None);
+    /// ```
     pub fn clear_mask_char(&mut self) {
         self.core.is(|h| unsafe { sys::ta_clear_mask_char(h) });
     }
 
     /// Removes all custom highlights.
+    ///
+    /// ```
+    /// use tui_textarea::ratatui::style::Style;
+    /// use tui_textarea::TextArea;
+    ///
+    /// let mut area = TextArea::from(["one two"]);
+    /// area.custom_highlight(((0, 0), (0, 3)), Style::new().bold(), 15);
+    /// area.clear_custom_highlight();
+    /// ```
     pub fn clear_custom_highlight(&mut self) {
         self.core
             .is(|h| unsafe { sys::ta_clear_custom_highlight(h) });
     }
 
     /// Returns whether a selection is open, even an empty one.
+    ///
+    /// ```
+    /// use tui_textarea::TextArea;
+    ///
+    /// let mut area = TextArea::from(["one"]);
+    /// assert!(!area.is_selecting());
+    /// area.start_selection();
+    /// assert!(area.is_selecting());
+    /// ```
     pub fn is_selecting(&self) -> bool {
         self.core.is(|h| unsafe { sys::ta_is_selecting(h) })
     }
 
     /// Returns the greatest number of edits that are remembered, done and undone together.
+    ///
+    /// ```
+    /// use tui_textarea::TextArea;
+    ///
+    /// let area = TextArea::from(["one"]);
+    /// assert_eq!(area.max_histories(), 50);
+    /// ```
     pub fn max_histories(&self) -> usize {
         let mut max_histories = 0;
         self.core
@@ -344,11 +672,25 @@ impl TextArea<'_> {
     }
 
     /// Returns whether typed edits join into one.
+    ///
+    /// ```
+    /// use tui_textarea::TextArea;
+    ///
+    /// let area = TextArea::from(["one"]);
+    /// assert!(!area.undo_coalescing());
+    /// ```
     pub fn undo_coalescing(&self) -> bool {
         self.core.is(|h| unsafe { sys::ta_undo_coalescing(h) })
     }
 
     /// Returns the distance of tab stops, in columns.
+    ///
+    /// ```
+    /// use tui_textarea::TextArea;
+    ///
+    /// let area = TextArea::from(["one"]);
+    /// assert_eq!(area.tab_length(), 4);
+    /// ```
     pub fn tab_length(&self) -> u8 {
         let mut tab_length = 0;
         self.core
@@ -357,11 +699,25 @@ impl TextArea<'_> {
     }
 
     /// Returns whether a tab is inserted as a tab character.
+    ///
+    /// ```
+    /// use tui_textarea::TextArea;
+    ///
+    /// let area = TextArea::from(["one"]);
+    /// assert!(!area.hard_tab_indent());
+    /// ```
     pub fn hard_tab_indent(&self) -> bool {
         self.core.is(|h| unsafe { sys::ta_hard_tab_indent(h) })
     }
 
     /// Returns the least height of the whole area, in screen rows, from 1 to the greatest height.
+    ///
+    /// ```
+    /// use tui_textarea::TextArea;
+    ///
+    /// let area = TextArea::from(["one"]);
+    /// assert_eq!(area.min_rows(), 1);
+    /// ```
     pub fn min_rows(&self) -> u16 {
         let mut min_rows = 0;
         self.core
@@ -370,6 +726,13 @@ impl TextArea<'_> {
     }
 
     /// Returns the greatest height of the whole area, in screen rows: at least the least height.
+    ///
+    /// ```
+    /// use tui_textarea::TextArea;
+    ///
+    /// let area = TextArea::from(["one"]);
+    /// assert_eq!(area.max_rows(), u16::MAX);
+    /// ```
     pub fn max_rows(&self) -> u16 {
         let mut max_rows = 0;
         self.core
@@ -378,6 +741,14 @@ impl TextArea<'_> {
     }
 
     /// Returns the style of each cell of the inner area, under all others.
+    ///
+    /// ```
+    /// use tui_textarea::ratatui::style::Style;
+    /// use tui_textarea::TextArea;
+    ///
+    /// let area = TextArea::from(["one"]);
+    /// assert_eq!(area.style(), Style::new());
+    /// ```
     pub fn style(&self) -> Style {
         let mut style = BLANK;
         self.core.is(|h| unsafe { sys::ta_style(h, &mut style) });
@@ -385,6 +756,14 @@ impl TextArea<'_> {
     }
 
     /// Returns the style of the cell at the cursor.
+    ///
+    /// ```
+    /// use tui_textarea::ratatui::style::Style;
+    /// use tui_textarea::TextArea;
+    ///
+    /// let area = TextArea::from(["one"]);
+    /// assert_eq!(area.cursor_style(), Style::new().reversed());
+    /// ```
     pub fn cursor_style(&self) -> Style {
         let mut style = BLANK;
         self.core
@@ -393,6 +772,14 @@ impl TextArea<'_> {
     }
 
     /// Returns the style of the cursor's line, where no highlight is.
+    ///
+    /// ```
+    /// use tui_textarea::ratatui::style::Style;
+    /// use tui_textarea::TextArea;
+    ///
+    /// let area = TextArea::from(["one"]);
+    /// assert_eq!(area.cursor_line_style(), Style::new().underlined());
+    /// ```
     pub fn cursor_line_style(&self) -> Style {
         let mut style = BLANK;
         self.core
@@ -401,6 +788,14 @@ impl TextArea<'_> {
     }
 
     /// Returns the style of selected text.
+    ///
+    /// ```
+    /// use tui_textarea::ratatui::style::{Color, Style};
+    /// use tui_textarea::TextArea;
+    ///
+    /// let area = TextArea::from(["one"]);
+    /// assert_eq!(area.selection_style(), Style::new().bg(Color::LightBlue));
+    /// ```
     pub fn selection_style(&self) -> Style {
         let mut style = BLANK;
         self.core
@@ -409,6 +804,14 @@ impl TextArea<'_> {
     }
 
     /// Returns the style of the search pattern's matches.
+    ///
+    /// ```
+    /// use tui_textarea::ratatui::style::{Color, Style};
+    /// use tui_textarea::TextArea;
+    ///
+    /// let area = TextArea::from(["one"]);
+    /// assert_eq!(area.search_style(), Style::new().bg(Color::Blue));
+    /// ```
     pub fn search_style(&self) -> Style {
         let mut style = BLANK;
         self.core

@@ -181,6 +181,17 @@ impl TextArea<'_> {
 
     /// Returns the cursor's cell at the last drawing, for the terminal's own cursor; `None` if the
     /// cursor was outside the viewport, and before the first drawing.
+    ///
+    /// ```
+    /// use tui_textarea::ratatui::{buffer::Buffer, layout::Rect, widgets::Widget};
+    /// use tui_textarea::{CursorRenderMode, TextArea};
+    ///
+    /// let mut area = TextArea::from(["one"]);
+    /// area.set_cursor_render_mode(CursorRenderMode::Hidden); // for the terminal's own cursor
+    /// let place = Rect::new(4, 2, 10, 1);
+    /// (&area).render(place, &mut Buffer::empty(place));
+    /// assert_eq!(area.rendered_cursor_position(), Some((4, 2).into()));
+    /// ```
     pub fn rendered_cursor_position(&self) -> Option<Position> {
         let (mut x, mut y) = (0, 0);
         let is_shown = self

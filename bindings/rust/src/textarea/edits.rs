@@ -10,6 +10,17 @@ impl TextArea<'_> {
     /// Makes the call that the key table with shortcuts has for the input, and returns whether the
     /// text changed. With Shift, a move or scroll extends the selection, or begins one; without
     /// Shift it drops the selection.
+    ///
+    /// ```
+    /// use tui_textarea::{Input, Key, TextArea};
+    ///
+    /// let mut area = TextArea::default();
+    /// assert!(area.input(Input::from('a')));
+    /// assert!(area.input(Key::Enter));
+    /// assert!(!area.input(Key::Null));
+    /// assert_eq!(area.lines(), ["a", ""]);
+    /// assert!(area.input(Input::from('u').ctrl())); // undo
+    /// ```
     pub fn input(&mut self, input: impl Into<Input>) -> bool {
         must(self.try_input(input))
     }
@@ -22,6 +33,15 @@ impl TextArea<'_> {
 
     /// As `input`, but by the table without shortcuts, for a caller that has its own: only
     /// characters, Tab, Backspace, Delete, Enter and the mouse wheel.
+    ///
+    /// ```
+    /// use tui_textarea::{Input, TextArea};
+    ///
+    /// let mut area = TextArea::from(["one"]);
+    /// assert!(!area.input_without_shortcuts(Input::from('k').ctrl()));
+    /// assert!(area.input_without_shortcuts('k'));
+    /// assert_eq!(area.lines(), ["kone"]);
+    /// ```
     pub fn input_without_shortcuts(&mut self, input: impl Into<Input>) -> bool {
         must(self.try_input_without_shortcuts(input))
     }
@@ -36,6 +56,15 @@ impl TextArea<'_> {
     }
 
     /// Inserts the character at the cursor; `\n` and `\r` break the line.
+    ///
+    /// ```
+    /// use tui_textarea::TextArea;
+    ///
+    /// let mut area = TextArea::default();
+    /// area.insert_char('a');
+    /// area.insert_char('\n');
+    /// assert_eq!(area.lines(), ["a", ""]);
+    /// ```
     #[inline]
     pub fn insert_char(&mut self, c: char) {
         must(self.try_insert_char(c));
@@ -50,6 +79,15 @@ impl TextArea<'_> {
 
     /// Inserts the text at the cursor, and returns whether it inserted something or removed a
     /// selection. Each line feed breaks the line; a carriage return directly before it is dropped.
+    ///
+    /// ```
+    /// use tui_textarea::TextArea;
+    ///
+    /// let mut area = TextArea::default();
+    /// assert!(area.insert_str("one\r\ntwo"));
+    /// assert!(!area.insert_str(""));
+    /// assert_eq!(area.lines(), ["one", "two"]);
+    /// ```
     pub fn insert_str<S: AsRef<str>>(&mut self, s: S) -> bool {
         must(self.try_insert_str(s))
     }
@@ -63,6 +101,14 @@ impl TextArea<'_> {
     /// Inserts a text that was pasted from outside, and returns whether it inserted something or
     /// removed a selection. Each line end breaks the line: a line feed, a carriage return, or a
     /// carriage return and a line feed.
+    ///
+    /// ```
+    /// use tui_textarea::TextArea;
+    ///
+    /// let mut area = TextArea::default();
+    /// area.insert_pasted("one\rtwo");
+    /// assert_eq!(area.lines(), ["one", "two"]);
+    /// ```
     pub fn insert_pasted<S: AsRef<str>>(&mut self, s: S) -> bool {
         must(self.try_insert_pasted(s))
     }
@@ -76,11 +122,27 @@ impl TextArea<'_> {
     /// Moves the cursor to the position (row, column), or to the nearest one in the text. An open
     /// selection follows it, and a run of typing ends. Unlike `CursorMove::Jump` it reaches every
     /// row.
+    ///
+    /// ```
+    /// use tui_textarea::TextArea;
+    ///
+    /// let mut area = TextArea::from(["one", "two"]);
+    /// area.go_to((1, 99));
+    /// assert_eq!(area.cursor(), (1, 3));
+    /// ```
     pub fn go_to(&mut self, (row, column): (usize, usize)) {
         self.core.is(|h| unsafe { sys::ta_go_to(h, row, column) });
     }
 
     /// Moves the cursor. An open selection follows it, and a run of typing ends.
+    ///
+    /// ```
+    /// use tui_textarea::{CursorMove, TextArea};
+    ///
+    /// let mut area = TextArea::from(["one two"]);
+    /// area.move_cursor(CursorMove::WordForward);
+    /// assert_eq!(area.cursor(), (0, 4));
+    /// ```
     pub fn move_cursor(&mut self, m: CursorMove) {
         let number = match m {
             CursorMove::Forward => sys::MOVE_FORWARD,
@@ -106,6 +168,17 @@ impl TextArea<'_> {
     }
 
     /// Scrolls the viewport, and moves the cursor into it, to the nearest visible row and column.
+    ///
+    /// ```
+    /// use tui_textarea::ratatui::{buffer::Buffer, layout::Rect, widgets::Widget};
+    /// use tui_textarea::TextArea;
+    ///
+    /// let mut area: TextArea = (0..20).map(|row| row.to_string()).collect();
+    /// let place = Rect::new(0, 0, 10, 4);
+    /// (&area).render(place, &mut Buffer::empty(place));
+    /// area.scroll((7, 0));
+    /// assert_eq!(area.cursor(), (7, 0)); // into the rows that are visible now
+    /// ```
     pub fn scroll(&mut self, scrolling: impl Into<Scrolling>) {
         let page = match scrolling.into() {
             Scrolling::Delta { rows, cols } => {
@@ -121,6 +194,14 @@ impl TextArea<'_> {
     }
 
     /// Returns the cursor's (row, column), which is always a position of the text.
+    ///
+    /// ```
+    /// use tui_textarea::TextArea;
+    ///
+    /// let mut area = TextArea::default();
+    /// area.insert_str("one\ntwo");
+    /// assert_eq!(area.cursor(), (1, 3));
+    /// ```
     #[inline]
     pub fn cursor(&self) -> (usize, usize) {
         let (mut row, mut column) = (0, 0);
@@ -130,6 +211,17 @@ impl TextArea<'_> {
     }
 
     /// Returns the two ends of the selection, the first one first, even if it is empty.
+    ///
+    /// ```
+    /// use tui_textarea::{CursorMove, TextArea};
+    ///
+    /// let mut area = TextArea::from(["one", "two"]);
+    /// assert_eq!(area.selection_range(), None);
+    /// area.move_cursor(CursorMove::Bottom);
+    /// area.start_selection();
+    /// area.move_cursor(CursorMove::Top);
+    /// assert_eq!(area.selection_range(), Some(((0, 0), (1, 0))));
+    /// ```
     pub fn selection_range(&self) -> Option<((usize, usize), (usize, usize))> {
         let mut n = [0; 4];
         let [a, b, c, d] = &mut n;
@@ -140,6 +232,17 @@ impl TextArea<'_> {
     }
 
     /// Sets whether typed edits join into one edit, which is undone at once. A run of typing ends.
+    ///
+    /// ```
+    /// use tui_textarea::TextArea;
+    ///
+    /// let mut area = TextArea::default();
+    /// area.set_undo_coalescing(true);
+    /// area.insert_char('a');
+    /// area.insert_char('b');
+    /// area.undo();
+    /// assert!(area.is_empty());
+    /// ```
     pub fn set_undo_coalescing(&mut self, coalesce: bool) {
         self.coalesces = coalesce;
         self.core

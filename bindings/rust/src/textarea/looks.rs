@@ -8,12 +8,29 @@ use crate::sys;
 
 impl TextArea<'_> {
     /// Shows this character instead of each character of the text.
+    ///
+    /// ```
+    /// use tui_textarea::TextArea;
+    ///
+    /// let mut area = TextArea::from(["secret"]);
+    /// area.set_mask_char('•'); // all that is visible is ••••••
+    /// assert_eq!(area.lines(), ["secret"]);
+    /// ```
     pub fn set_mask_char(&mut self, mask: char) {
         self.core
             .is(|h| unsafe { sys::ta_set_mask_char(h, mask as u32) });
     }
 
     /// Returns the character that is shown instead of each character of the text, if one is set.
+    ///
+    /// ```
+    /// use tui_textarea::TextArea;
+    ///
+    /// let mut area = TextArea::default();
+    /// assert_eq!(area.mask_char(), None);
+    /// area.set_mask_char('•');
+    /// assert_eq!(area.mask_char(), Some('•'));
+    /// ```
     pub fn mask_char(&self) -> Option<char> {
         let mut mask = 0;
         let is_set = self.core.is(|h| unsafe { sys::ta_mask_char(h, &mut mask) });
@@ -45,6 +62,14 @@ impl TextArea<'_> {
     /// Highlights the text between two positions, each a row and a byte offset in it. Where several
     /// highlights begin at one position, the one of the highest priority is visible. The cursor has
     /// priority 30, a match 20, a selection 10.
+    ///
+    /// ```
+    /// use tui_textarea::ratatui::style::{Color, Style};
+    /// use tui_textarea::TextArea;
+    ///
+    /// let mut area = TextArea::from(["one two"]);
+    /// area.custom_highlight(((0, 0), (0, 3)), Style::new().fg(Color::Green), 15);
+    /// ```
     pub fn custom_highlight(
         &mut self,
         range: ((usize, usize), (usize, usize)),

@@ -10,6 +10,15 @@ use crate::sys;
 
 impl TextArea<'_> {
     /// Returns a tab at a line's start: a tab character, or a space for each column of its length.
+    ///
+    /// ```
+    /// use tui_textarea::TextArea;
+    ///
+    /// let mut area = TextArea::default();
+    /// assert_eq!(area.indent(), "    ");
+    /// area.set_hard_tab_indent(true);
+    /// assert_eq!(area.indent(), "\t");
+    /// ```
     pub fn indent(&self) -> &'static str {
         const SPACES: &str = match std::str::from_utf8(&[b' '; 255]) {
             Ok(spaces) => spaces,
@@ -23,6 +32,14 @@ impl TextArea<'_> {
     }
 
     /// Sets how lines are wrapped.
+    ///
+    /// ```
+    /// use tui_textarea::{TextArea, WrapMode};
+    ///
+    /// let mut area = TextArea::from(["one two three"]);
+    /// area.set_wrap_mode(WrapMode::Word);
+    /// assert_eq!(area.measure(6).content_rows, 3);
+    /// ```
     pub fn set_wrap_mode(&mut self, mode: WrapMode) {
         must(self.try_set_wrap_mode(mode));
     }
@@ -54,6 +71,15 @@ impl TextArea<'_> {
     }
 
     /// Shows line numbers, counted from 1, in this style.
+    ///
+    /// ```
+    /// use tui_textarea::ratatui::style::{Color, Style};
+    /// use tui_textarea::TextArea;
+    ///
+    /// let mut area = TextArea::default();
+    /// area.set_line_number_style(Style::new().fg(Color::DarkGray));
+    /// assert!(area.line_number_style().is_some());
+    /// ```
     pub fn set_line_number_style(&mut self, style: impl Into<Style>) {
         must(self.try_set_line_number_style(style));
     }
@@ -80,6 +106,15 @@ impl TextArea<'_> {
 
     /// Sets the alignment of visual rows. In the middle and at the right it also hides the line
     /// numbers.
+    ///
+    /// ```
+    /// use tui_textarea::ratatui::layout::Alignment;
+    /// use tui_textarea::TextArea;
+    ///
+    /// let mut area = TextArea::default();
+    /// area.set_alignment(Alignment::Center);
+    /// assert_eq!(area.alignment(), Alignment::Center);
+    /// ```
     pub fn set_alignment(&mut self, alignment: impl Into<Alignment>) {
         must(self.try_set_alignment(alignment));
     }
@@ -100,6 +135,13 @@ impl TextArea<'_> {
     }
 
     /// Returns the alignment of visual rows.
+    ///
+    /// ```
+    /// use tui_textarea::ratatui::layout::Alignment;
+    /// use tui_textarea::TextArea;
+    ///
+    /// assert_eq!(TextArea::default().alignment(), Alignment::Left);
+    /// ```
     pub fn alignment(&self) -> Alignment {
         let mut number = 0;
         self.core
@@ -113,6 +155,15 @@ impl TextArea<'_> {
 
     /// Returns the height that an area of this width, in columns, needs for the block and all visual
     /// rows of the text, or for the placeholder if that is shown.
+    ///
+    /// ```
+    /// use tui_textarea::ratatui::widgets::Block;
+    /// use tui_textarea::TextArea;
+    ///
+    /// let mut area = TextArea::from(["one", "two"]);
+    /// area.set_block(Block::bordered());
+    /// assert_eq!(area.measure(20).preferred_rows, 4);
+    /// ```
     pub fn measure(&mut self, width_cols: u16) -> TextAreaMeasure {
         must(self.try_measure(width_cols))
     }

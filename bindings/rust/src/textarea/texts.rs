@@ -16,6 +16,14 @@ impl<'a> TextArea<'a> {
     /// Replaces all lines, and moves the cursor to the position in them that is nearest to `cursor`.
     /// Forgets all edits, the selection, the atomic ranges and the custom highlights.
     ///
+    /// ```
+    /// use tui_textarea::TextArea;
+    ///
+    /// let mut area = TextArea::default();
+    /// area.set_lines(vec!["one".into(), "two".into()], (1, 2));
+    /// assert_eq!((area.lines().len(), area.cursor()), (2, (1, 2)));
+    /// ```
+    ///
     /// # Panics
     ///
     /// If there is no line.
@@ -54,6 +62,12 @@ impl<'a> TextArea<'a> {
     }
 
     /// Returns the text: the lines, with a line feed between two.
+    ///
+    /// ```
+    /// use tui_textarea::TextArea;
+    ///
+    /// assert_eq!(TextArea::from(["one", "two"]).text(), "one\ntwo");
+    /// ```
     pub fn text(&self) -> String {
         must(self.try_text())
     }
@@ -67,6 +81,14 @@ impl<'a> TextArea<'a> {
     }
 
     /// Returns the lines, at least one.
+    ///
+    /// ```
+    /// use tui_textarea::TextArea;
+    ///
+    /// let mut area = TextArea::from(["one"]);
+    /// area.insert_newline();
+    /// assert_eq!(area.lines(), ["", "one"]);
+    /// ```
     pub fn lines(&self) -> &[String] {
         self.lines.get_or_init(|| {
             let (mut needed, mut count) = (0, 0);
@@ -101,18 +123,40 @@ impl<'a> TextArea<'a> {
     }
 
     /// Drops everything but the lines, and returns these.
+    ///
+    /// ```
+    /// use tui_textarea::TextArea;
+    ///
+    /// let lines: Vec<String> = TextArea::from(["one", "two"]).into_lines();
+    /// assert_eq!(lines, ["one", "two"]);
+    /// ```
     pub fn into_lines(mut self) -> Vec<String> {
         self.lines();
         self.lines.take().unwrap_or_default()
     }
 
     /// Returns whether the text is one empty line.
+    ///
+    /// ```
+    /// use tui_textarea::TextArea;
+    ///
+    /// assert!(TextArea::default().is_empty());
+    /// assert!(!TextArea::from(["", ""]).is_empty());
+    /// ```
     #[inline]
     pub fn is_empty(&self) -> bool {
         self.core.is(|h| unsafe { sys::ta_is_empty(h) })
     }
 
     /// Returns the text that was yanked last, with a line feed for each line break; empty at first.
+    ///
+    /// ```
+    /// use tui_textarea::TextArea;
+    ///
+    /// let mut area = TextArea::from(["one two"]);
+    /// area.delete_next_word();
+    /// assert_eq!(area.yank_text(), "one");
+    /// ```
     pub fn yank_text(&self) -> String {
         must(self.try_yank_text())
     }
@@ -127,6 +171,15 @@ impl<'a> TextArea<'a> {
 
     /// Sets the text that `paste` inserts. Each line feed becomes a line break; a carriage return
     /// directly before it is dropped.
+    ///
+    /// ```
+    /// use tui_textarea::TextArea;
+    ///
+    /// let mut area = TextArea::default();
+    /// area.set_yank_text("one\ntwo");
+    /// area.paste();
+    /// assert_eq!(area.lines(), ["one", "two"]);
+    /// ```
     pub fn set_yank_text(&mut self, text: impl Into<String>) {
         must(self.try_set_yank_text(text));
     }
@@ -140,6 +193,16 @@ impl<'a> TextArea<'a> {
     }
 
     /// Sets the search pattern, in the syntax of `regex`; an empty one removes the pattern.
+    ///
+    /// ```
+    /// use tui_textarea::{SearchError, TextArea};
+    ///
+    /// let mut area = TextArea::from(["one two"]);
+    /// area.set_search_pattern("t.o")?;
+    /// assert!(area.search_forward(false));
+    /// assert!(matches!(area.set_search_pattern("("), Err(SearchError::Pattern(_))));
+    /// # Ok::<(), SearchError>(())
+    /// ```
     pub fn set_search_pattern(&mut self, query: impl AsRef<str>) -> Result<(), SearchError> {
         let query = query.as_ref();
         let status = self
@@ -161,6 +224,16 @@ impl<'a> TextArea<'a> {
     }
 
     /// Returns the search pattern, if one is set.
+    ///
+    /// ```
+    /// use tui_textarea::TextArea;
+    ///
+    /// let mut area = TextArea::default();
+    /// assert_eq!(area.search_pattern(), None);
+    /// area.set_search_pattern("t.o")?;
+    /// assert_eq!(area.search_pattern().unwrap().as_str(), "t.o");
+    /// # Ok::<(), tui_textarea::SearchError>(())
+    /// ```
     pub fn search_pattern(&self) -> Option<&Pattern> {
         let pattern = self.pattern.get_or_init(|| {
             let text = self.core.text(|h, out, room, needed| unsafe {
@@ -172,6 +245,17 @@ impl<'a> TextArea<'a> {
     }
 
     /// Replaces the atomic ranges; they are sorted by row and start.
+    ///
+    /// ```
+    /// use tui_textarea::{AtomicRange, CursorMove, TextArea};
+    ///
+    /// let mut area = TextArea::from(["@Ada, hello"]);
+    /// area.set_atomic_ranges([AtomicRange { row: 0, start_col: 0, end_col: 4 }]);
+    /// area.move_cursor(CursorMove::Forward);
+    /// assert_eq!(area.cursor(), (0, 4));
+    /// assert!(area.delete_char()); // the whole range
+    /// assert_eq!(area.lines(), [", hello"]);
+    /// ```
     ///
     /// # Panics
     ///
@@ -271,6 +355,14 @@ impl<'a> TextArea<'a> {
 
     /// Sets the placeholder, which is shown while the text is empty, to this text; the empty text
     /// removes it. The placeholder's style stays.
+    ///
+    /// ```
+    /// use tui_textarea::TextArea;
+    ///
+    /// let mut area = TextArea::default();
+    /// area.set_placeholder_text("Your name");
+    /// assert_eq!(area.placeholder_text(), "Your name");
+    /// ```
     pub fn set_placeholder_text(&mut self, placeholder: impl Into<String>) {
         must(self.try_set_placeholder_text(placeholder));
     }
@@ -289,6 +381,16 @@ impl<'a> TextArea<'a> {
 
     /// Sets the placeholder, which is shown while the text is empty, to these lines and their style;
     /// without lines there is none.
+    ///
+    /// ```
+    /// use tui_textarea::ratatui::style::Stylize;
+    /// use tui_textarea::ratatui::text::Line;
+    /// use tui_textarea::TextArea;
+    ///
+    /// let mut area = TextArea::default();
+    /// area.set_styled_placeholder(Line::from(vec!["Press ".into(), "Enter".bold()]));
+    /// assert_eq!(area.placeholder().lines[0].spans.len(), 2);
+    /// ```
     pub fn set_styled_placeholder(&mut self, placeholder: impl Into<Text<'a>>) {
         must(self.try_set_styled_placeholder(placeholder));
     }
@@ -318,6 +420,16 @@ impl<'a> TextArea<'a> {
     }
 
     /// Sets the style under those of the placeholder's lines, even while it has none.
+    ///
+    /// ```
+    /// use tui_textarea::ratatui::style::{Color, Style};
+    /// use tui_textarea::TextArea;
+    ///
+    /// let mut area = TextArea::default();
+    /// area.set_placeholder_style(Style::new().fg(Color::DarkGray));
+    /// area.set_placeholder_text("Your name");
+    /// assert_eq!(area.placeholder_style().unwrap().fg, Some(Color::DarkGray));
+    /// ```
     pub fn set_placeholder_style(&mut self, style: impl Into<Style>) {
         let style = sys::Style::from(style.into());
         self.placeholder.take();
@@ -369,6 +481,12 @@ impl<'a> TextArea<'a> {
     }
 
     /// Returns the text of the first span of the placeholder's first line; empty if there is none.
+    ///
+    /// ```
+    /// use tui_textarea::TextArea;
+    ///
+    /// assert_eq!(TextArea::default().placeholder_text(), "");
+    /// ```
     pub fn placeholder_text(&self) -> &str {
         let first = self.placeholder().lines.first();
         first
@@ -377,6 +495,15 @@ impl<'a> TextArea<'a> {
     }
 
     /// Returns the style of the placeholder, or `None` if it has no line.
+    ///
+    /// ```
+    /// use tui_textarea::TextArea;
+    ///
+    /// let mut area = TextArea::default();
+    /// assert_eq!(area.placeholder_style(), None);
+    /// area.set_placeholder_text("Your name");
+    /// assert!(area.placeholder_style().is_some());
+    /// ```
     pub fn placeholder_style(&self) -> Option<Style> {
         let mut style = BLANK;
         let is_there = self

@@ -49,7 +49,9 @@ impl Pair {
                 2 => self.each(|area| area.move_cursor(CursorMove::WordForward)),
                 _ => {
                     let line = random.line();
-                    self.each(|area| drop(area.insert_str(&line)));
+                    self.each(|area| {
+                        area.insert_str(&line);
+                    });
                 }
             }
         }

@@ -84,7 +84,7 @@ fn spans(random: &mut Random) -> (Vec<Span<'static>>, Vec<text::Span<'static>>) 
     let count = random.below(4);
     (0..count)
         .map(|_| {
-            let (content, style) = (random.line().replace('\t', " "), style(random));
+            let (content, style) = (random.line(), style(random));
             (
                 Span::styled(content.clone(), style.0),
                 text::Span::styled(content, style.1),
@@ -118,6 +118,10 @@ pub fn block(random: &mut Random) -> (Block<'static>, widgets::Block<'static>) {
     if random.one_of(2) {
         return (own, tui);
     }
-    let title = spans(random);
-    (own.title(title.0), tui.title(title.1))
+    // tui draws a wide symbol that has no room otherwise.
+    let (content, title) = (["", "who", "one two three"][random.below(3)], style(random));
+    (
+        own.title(Span::styled(content, title.0)),
+        tui.title(text::Span::styled(content, title.1)),
+    )
 }

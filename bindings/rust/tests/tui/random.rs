@@ -35,7 +35,7 @@ impl Random {
         (0..count).map(|_| PARTS[self.below(PARTS.len())]).collect()
     }
 
-    /// Returns an area of this screen, at times the whole one.
+    /// Returns an area of this screen, at times the whole one, or one that goes on below it.
     pub fn area(&mut self, screen: Rect) -> Rect {
         if self.one_of(4) {
             return screen;
@@ -48,7 +48,7 @@ impl Random {
             x,
             y,
             width: self.below(usize::from(screen.width - x) + 1) as u16,
-            height: self.below(usize::from(screen.height - y) + 1) as u16,
+            height: self.below(usize::from(screen.height - y) + 4) as u16,
         }
     }
 }
