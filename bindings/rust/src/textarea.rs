@@ -25,13 +25,12 @@ use std::time::{Duration, Instant};
 ///
 /// Rows and columns count from 0, columns in characters.
 ///
-/// A text area stays on its thread, as the core does: a compiled pattern is shared without counting
-/// atomically, and that a text area can be sent is not proved. So it is neither `Send` nor `Sync`:
+/// A text area stays on the thread that made it: it is neither `Send` nor `Sync`. The core shares a
+/// compiled pattern by an `Rc`, and that threads may share a pattern is not proved.
 ///
 /// ```compile_fail
-/// std::thread::spawn(|| drop(tui_textarea::TextArea::default())).join().unwrap();
 /// let area = tui_textarea::TextArea::default();
-/// std::thread::spawn(move || drop(area)).join().unwrap();
+/// std::thread::spawn(move || drop(area));
 /// ```
 pub struct TextArea<'a> {
     core: Handle,
