@@ -29,7 +29,7 @@ fn found() -> Result<Vec<PathBuf>, String> {
             let folder = folder.display();
             format!(
                 "There is no lib{WHOLE}.a and no lib{CORE}.a in {folder}, which TEXTAREA_LIB_DIR names: \
-                 set it to a folder with one of them, or unset it."
+                 set it to the whole path of a folder with one of them, or unset it."
             )
         });
     }

@@ -15,9 +15,38 @@
 //! assert_eq!(area.lines(), ["one two", "three"]);
 //! ```
 //!
+//! # Features
+//!
+//! None is on by itself.
+//!
+//! - `crossterm` (0.25) and `termion` (1.5): an [`Input`] is made of their events, so that
+//!   [`TextArea::input`] takes an event as it is.
+//! - `tui` (0.19): `&area` is a widget of that library, and the setters take its `Style`, `Block`,
+//!   `Text` and `Alignment`. A block of it is drawn by the library itself.
+//! - `serde`: the plain data can be written and read, in the same forms as those of the core.
+//! - `search` and `ratatui`, which the crate `tui-textarea-2` has, change nothing: what they name is
+//!   always there.
+//!
+//! Any other library draws the text area by [`TextArea::render_with`]; there is how for ratatui.
+//! Programs for a terminal are in the folder `examples`:
+//!
+//! ```sh
+//! cargo run --features crossterm,tui --example editor
+//! ```
+//!
+//! # The core
+//!
+//! The core is a static library for Linux on x86-64. The build takes that of the release, which is in
+//! the repository's folder `release`, or the one in the folder that the variable `TEXTAREA_LIB_DIR`
+//! names.
+//!
+//! # Out of memory
+//!
 //! Out of memory ends the program in the calls with the names of that crate, as in collections of
 //! `std`. Each of them has a form `try_..` that returns [`OutOfMemory`] instead, and then the text
 //! area is unchanged, but for the selected text, which an insertion may have removed.
+//!
+//! # Threads
 //!
 //! A text area stays on its thread: it is neither `Send` nor `Sync`.
 

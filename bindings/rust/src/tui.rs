@@ -132,7 +132,7 @@ impl From<Style> for style::Style {
 
 impl From<style::Modifier> for Modifier {
     fn from(modifier: style::Modifier) -> Modifier {
-        Modifier::from_core(modifier.bits())
+        Modifier::from_bits_truncate(modifier.bits())
     }
 }
 

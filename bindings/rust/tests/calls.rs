@@ -404,6 +404,35 @@ fn buffers_of_lines() {
     );
 }
 
+#[test]
+fn colors_by_name() {
+    for color in [
+        "Reset",
+        "black",
+        "LIGHTCYAN",
+        "White",
+        "0",
+        "255",
+        "#00ff10",
+    ] {
+        let written = color.parse::<Color>().unwrap().to_string();
+        assert!(written.eq_ignore_ascii_case(color), "{written}");
+    }
+    for text in [
+        "",
+        "lightreds",
+        "256",
+        "-1",
+        "#00ff1",
+        "#+0ff10",
+        "#00ff100",
+        "00ff10",
+    ] {
+        assert!(text.parse::<Color>().is_err(), "{text}");
+    }
+    assert_eq!(Modifier::from_bits_truncate(0xffff), Modifier::all());
+}
+
 // The paths of a program that is written for ratatui.
 mod with_ratatuis_paths {
     use ratatui::buffer::Buffer;

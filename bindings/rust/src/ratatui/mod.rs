@@ -22,7 +22,7 @@ pub mod layout {
 
 /// Colours, modifiers and styles.
 pub mod style {
-    pub use super::styles::{Color, Modifier, Style};
+    pub use super::styles::{Color, Modifier, ParseColorError, Style};
     pub use super::stylize::{Styled, Stylize};
 }
 

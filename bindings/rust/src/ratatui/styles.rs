@@ -1,5 +1,8 @@
 use crate::sys;
+use std::error::Error;
+use std::fmt;
 use std::ops::{BitAnd, BitOr, BitOrAssign, Not, Sub};
+use std::str::FromStr;
 
 /// A colour of a terminal.
 #[derive(Clone, Copy, Debug, Default, PartialEq, Eq, Hash)]
@@ -64,6 +67,64 @@ const NAMED: [Color; 17] = [
     Color::LightCyan,
     Color::White,
 ];
+
+impl fmt::Display for Color {
+    /// Writes a name such as `LightRed`, a mix as `#ff8000`, or a number, as ratatui does.
+    fn fmt(&self, f: &mut fmt::Formatter) -> fmt::Result {
+        match self {
+            Color::Rgb(red, green, blue) => write!(f, "#{red:02x}{green:02x}{blue:02x}"),
+            Color::Indexed(number) => number.fmt(f),
+            named => write!(f, "{named:?}"),
+        }
+    }
+}
+
+/// A text that names no colour.
+#[derive(Clone, Copy, Debug, PartialEq, Eq)]
+pub struct ParseColorError;
+
+impl fmt::Display for ParseColorError {
+    fn fmt(&self, f: &mut fmt::Formatter) -> fmt::Result {
+        f.write_str("no colour has this name")
+    }
+}
+
+impl Error for ParseColorError {}
+
+impl FromStr for Color {
+    type Err = ParseColorError;
+
+    /// Reads what [`Color`] is written as. In names, case doesn't count.
+    ///
+    /// ```
+    /// use tui_textarea::ratatui::style::Color;
+    ///
+    /// assert_eq!("lightred".parse(), Ok(Color::LightRed));
+    /// assert_eq!("#ff8000".parse(), Ok(Color::Rgb(255, 128, 0)));
+    /// assert_eq!(Color::Indexed(77).to_string().parse(), Ok(Color::Indexed(77)));
+    /// ```
+    fn from_str(text: &str) -> Result<Color, ParseColorError> {
+        let is_named = |color: &&Color| text.eq_ignore_ascii_case(&color.to_string());
+        if let Some(color) = NAMED.iter().find(is_named) {
+            return Ok(*color);
+        }
+        match text.strip_prefix('#') {
+            Some(mix) => mixed(mix).ok_or(ParseColorError),
+            None => text
+                .parse()
+                .map(Color::Indexed)
+                .map_err(|_| ParseColorError),
+        }
+    }
+}
+
+/// Returns the mix that six hexadecimal digits write.
+fn mixed(digits: &str) -> Option<Color> {
+    let is_mix = digits.len() == 6 && digits.bytes().all(|digit| digit.is_ascii_hexdigit());
+    let number = u32::from_str_radix(digits, 16).ok().filter(|_| is_mix)?;
+    let [_, red, green, blue] = number.to_be_bytes();
+    Some(Color::Rgb(red, green, blue))
+}
 
 fn to_core(color: Option<Color>) -> sys::Color {
     let (kind, red, green, blue) = match color {
@@ -132,6 +193,11 @@ impl Modifier {
     /// Returns the set as a number with a bit for each modifier.
     pub const fn bits(self) -> u16 {
         self.0
+    }
+
+    /// Returns the set of the modifiers whose bits are set; other bits are left out.
+    pub const fn from_bits_truncate(bits: u16) -> Modifier {
+        Modifier(bits & Modifier::all().bits())
     }
 
     pub(crate) const fn from_core(bits: u16) -> Modifier {

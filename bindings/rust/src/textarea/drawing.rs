@@ -34,26 +34,35 @@ impl TextArea<'_> {
     /// is blank. The style has the cell's colours and modifiers; a colour is `None` where it is the
     /// terminal's own.
     ///
-    /// A widget of another library, such as a ratatui of another version, is made by it:
+    /// So a widget of ratatui is made, of each version from 0.28 on:
     ///
     /// ```
-    /// use ratatui::{buffer::Buffer, layout::Rect, style::Style, widgets::Widget};
-    /// use tui_textarea::TextArea;
+    /// use ratatui::style::{Modifier, Style};
+    /// use ratatui::{buffer::Buffer, layout::Rect, widgets::Widget};
+    /// use tui_textarea::{TextArea, ratatui::style::Color};
     ///
     /// struct Shown<'a>(&'a TextArea<'a>);
     ///
     /// impl Widget for Shown<'_> {
     ///     fn render(self, area: Rect, buf: &mut Buffer) {
+    ///         let color = |c: Option<Color>| c.and_then(|c| c.to_string().parse().ok());
     ///         let place = (area.x, area.y, area.width, area.height);
     ///         self.0.render_with(place, |x, y, symbol, style| {
-    ///             buf[(x, y)].set_symbol(symbol).set_style(style);
+    ///             let modifier = Modifier::from_bits_truncate(style.add_modifier.bits());
+    ///             let mut shown = Style::new().add_modifier(modifier);
+    ///             (shown.fg, shown.bg) = (color(style.fg), color(style.bg));
+    ///             buf[(x, y)].set_symbol(symbol).set_style(shown);
     ///         });
     ///     }
     /// }
-    /// # let area = TextArea::from(["one"]);
+    /// # let mut area = TextArea::from(["one"]);
+    /// # area.set_cursor_style(tui_textarea::ratatui::style::Style::new().fg(Color::Rgb(1, 2, 3)));
     /// # let mut buf = Buffer::empty(Rect::new(0, 0, 5, 1));
     /// # Shown(&area).render(buf.area, &mut buf);
-    /// # assert_eq!(buf[(2, 0)].symbol(), "e");
+    /// # let mut own = Buffer::empty(buf.area);
+    /// # Widget::render(&area, own.area, &mut own);
+    /// # assert_eq!(buf, own);
+    /// # assert_eq!(buf[(0, 0)].fg, Color::Rgb(1, 2, 3));
     /// ```
     pub fn render_with(&self, area: impl Into<Rect>, call: impl FnMut(u16, u16, &str, Style)) {
         must(self.try_render_with(area, call));
