@@ -65,12 +65,13 @@ impl Finder {
 impl Program for Finder {
     fn take(&mut self, event: Event) -> bool {
         let input = Input::from(event);
-        let is_pattern = match input.key {
+        let mut is_pattern = true;
+        match input.key {
             Key::Esc => return false,
-            Key::Enter | Key::Down => self.text.search_forward(false) || true,
-            Key::Up => self.text.search_back(false) || true,
-            _ => self.edit(input),
-        };
+            Key::Enter | Key::Down => drop(self.text.search_forward(false)),
+            Key::Up => drop(self.text.search_back(false)),
+            _ => is_pattern = self.edit(input),
+        }
         self.message = match is_pattern {
             true => self.count(),
             false => ": this is no pattern".to_string(),
