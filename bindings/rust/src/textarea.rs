@@ -25,6 +25,20 @@ use std::time::{Duration, Instant};
 ///
 /// Rows and columns count from 0, columns in characters.
 ///
+/// ```
+/// use tui_textarea::ratatui::{buffer::Buffer, layout::Rect, widgets::Widget};
+/// use tui_textarea::{Input, Key, TextArea};
+///
+/// let mut area = TextArea::default();
+/// area.input(Key::Char('h'));
+/// area.insert_str("ello");
+/// let mut buffer = Buffer::empty(Rect::new(0, 0, 10, 1));
+/// (&area).render(buffer.area, &mut buffer);
+/// assert_eq!(buffer[(1, 0)].symbol(), "e");
+/// area.input(Input::from('u').ctrl()); // undo
+/// assert_eq!(area.into_lines(), ["h"]);
+/// ```
+///
 /// A text area stays on the thread that made it: it is neither `Send` nor `Sync`. The core shares a
 /// compiled pattern by an `Rc`, and that threads may share a pattern is not proved.
 ///

@@ -12,6 +12,17 @@ use crate::sys;
 
 impl TextArea<'_> {
     /// Returns what draws the text area; `&area` is the same.
+    ///
+    /// ```
+    /// # #![allow(deprecated)]
+    /// use tui_textarea::TextArea;
+    /// use tui_textarea::ratatui::{buffer::Buffer, layout::Rect, widgets::Widget};
+    ///
+    /// let area = TextArea::from(["one"]);
+    /// let mut buffer = Buffer::empty(Rect::new(0, 0, 10, 1));
+    /// area.widget().render(buffer.area, &mut buffer);
+    /// assert_eq!(buffer[(1, 0)].symbol(), "n");
+    /// ```
     #[deprecated(note = "a reference to a text area is a widget itself")]
     pub fn widget(&self) -> impl Widget + '_ {
         self
