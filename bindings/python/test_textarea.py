@@ -1,13 +1,17 @@
 """Tests of each group of calls: python3 -m unittest test_textarea"""
 
+import curses
 import doctest
+import os
+import subprocess
+import sys
 import unittest
 
 import textarea
 from textarea import (
     Alignment, Area, Block, Borders, Color, CursorRenderMode, Input, Key, Line, Modifier, Move,
     Padding, Page, PatternRejected, Range, RangesRejected, Reason, Side, Span, Style, TextArea,
-    WrapMode,
+    WrapMode, in_curses,
 )
 
 RED = Style(Color.RED, add=Modifier.BOLD)
@@ -206,6 +210,67 @@ class Calls(unittest.TestCase):
 
     def test_documentation(self):
         self.assertEqual(doctest.testmod(textarea).failed, 0)
+
+
+class FakeWindow:
+    """A window of curses that gives these characters."""
+
+    def __init__(self, text):
+        self.characters = list(text)
+
+    def timeout(self, milliseconds):
+        pass
+
+    def get_wch(self):
+        if not self.characters:
+            raise curses.error("no input")
+        return self.characters.pop(0)
+
+
+class InCurses(unittest.TestCase):
+    def test_events(self):
+        for text, wanted in {
+            "a": Input.char("a"), "犬": Input.char("犬"), "\r": Input(Key.ENTER), "\n": Input(Key.ENTER),
+            "\t": Input(Key.TAB), "\x7f": Input(Key.BACKSPACE), "\x1b": Input(Key.ESC),
+            "\x01": Input.char("a", ctrl=True), "\x1c": Input.char("\\", ctrl=True), "\0": Input.char(" ", ctrl=True),
+            "\x1bx": Input.char("x", alt=True), "\x1b\r": Input(Key.ENTER, alt=True), "\x1b[": Input.char("[", alt=True),
+            "\x1bO": Input.char("O", alt=True), "\x1b[A": Input(Key.UP), "\x1bOA": Input(Key.UP), "\x1bOS": Input(Key.F, 4),
+            "\x1b[1;5C": Input(Key.RIGHT, ctrl=True), "\x1b[1;4F": Input(Key.END, alt=True, shift=True),
+            "\x1b[3~": Input(Key.DELETE), "\x1b[6;3~": Input(Key.PAGE_DOWN, alt=True), "\x1b[24~": Input(Key.F, 12),
+            "\x1b[15;2~": Input(Key.F, 5, shift=True), "\x1b[Z": Input(Key.TAB, shift=True), "\x1b[99~": None, "\x1b[q": None,
+            "\x1b[200~one\rtwo\x1b[201~": in_curses.Paste("one\rtwo"), "\x1b[200~cut off": in_curses.Paste("cut off"),
+            "\x1b[<0;3;2M": in_curses.Mouse(2, 1, False), "\x1b[<32;1;1M": in_curses.Mouse(0, 0, True),
+            "\x1b[<0;3;2m": None, "\x1b[<64;1;1M": Input(Key.MOUSE_SCROLL_UP), "\x1b[<;M": None, "": None,
+        }.items():
+            window = FakeWindow(text)
+            self.assertEqual(in_curses.read(window), wanted, repr(text))
+            self.assertEqual(window.characters, [], repr(text))
+
+    def test_effects(self):
+        area = TextArea("one two")
+        area.reset_screen(Area(0, 0, 20, 2))
+        area.render(Area(0, 0, 20, 2))
+        self.assertFalse(in_curses.take(area, None) or in_curses.take(area, in_curses.Mouse(4, 0, False)))
+        self.assertFalse(in_curses.take(area, in_curses.Mouse(7, 0, True)))
+        self.assertEqual(area.selection_range, ((0, 4), (0, 7)))
+        self.assertTrue(in_curses.take(area, in_curses.Paste("a\rb")) and in_curses.take(area, Input.char("!")))
+        self.assertEqual(area.lines, ["one a", "b!"])
+
+
+class Package(unittest.TestCase):
+    def test_names(self):
+        self.assertEqual({kind.__module__ for kind in (TextArea, Key, Style, Input, PatternRejected)}, {"textarea"})
+        self.assertEqual(Color.WHITE, Color(17))
+        self.assertIn("WORD_FORWARD", dir(Move))
+        self.assertEqual(Borders.ALL, Borders.TOP | Borders.RIGHT | Borders.BOTTOM | Borders.LEFT)
+
+    def test_library(self):
+        place = os.path.dirname(os.path.dirname(textarea.__file__))
+        for library, wanted in (("/nowhere.so", "there is no library /nowhere.so"), (textarea.__file__, "can't be loaded")):
+            own = {**os.environ, "TEXTAREA_LIBRARY": library, "PYTHONPATH": place}
+            ran = subprocess.run([sys.executable, "-c", "import textarea"], capture_output=True, text=True, env=own)
+            self.assertIn("ImportError: textarea: ", ran.stderr)
+            self.assertIn(wanted, ran.stderr)
 
 
 if __name__ == "__main__":

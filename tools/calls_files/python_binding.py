@@ -17,10 +17,12 @@ def python_wrappers(table):
         "",
         "import ctypes",
         "",
-        "from textarea_library import lib as _lib",
+        "from ._core import Core",
+        "from ._data import Style",
+        "from ._library import lib",
         "",
         "",
-        "class Calls:",
+        "class Calls(Core):",
         '    """The calls of a text area that only pass their arguments and return their result."""',
     ]
     for name, call in calls.items():
@@ -35,7 +37,7 @@ def python_wrappers(table):
 
 def python_method(call):
     given = "".join(f", {n}: {PYTHON[t]}{' = False' if t == 'bool' else ''}" for n, t in call.arguments)
-    words = ", ".join([f"_lib.ta_{call.name}", *call.names()])
+    words = ", ".join([f"lib.ta_{call.name}", *call.names()])
     made = f"self._{'edit' if call.edits else 'call'}({words})"
     return [
         f"    def {call.name}(self{given}) -> {PYTHON[call.result] if call.result else 'None'}:",
@@ -45,7 +47,7 @@ def python_method(call):
 
 
 def python_property(call, setter):
-    read = f"_lib.ta_{call.name}"
+    read = f"lib.ta_{call.name}"
     bits = {"u8": "ctypes.c_uint8", "u16": "ctypes.c_uint16", "usize": "ctypes.c_size_t"}.get(call.result)
     made = f"self._numbers({bits}, 1, {read})[0]" if bits else f"self._call({read})"
     out = [
@@ -62,7 +64,7 @@ def python_property(call, setter):
         "",
         f"    @{call.name}.setter",
         f"    def {call.name}(self, {name}: {PYTHON[type]}) -> None:",
-        f"        self._call(_lib.ta_{setter.name}, {value})",
+        f"        self._call(lib.ta_{setter.name}, {value})",
     ]
 
 
@@ -82,4 +84,4 @@ def docstring(doc):
 
 
 def files(table):
-    return {"bindings/python/textarea_calls.py": python_wrappers(table)}
+    return {"bindings/python/textarea/_calls.py": python_wrappers(table)}
