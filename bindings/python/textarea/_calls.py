@@ -30,7 +30,7 @@ class Calls(Core):
         """Inserts the cursor's line once more below it, or the lines of the selection below the
         last of them, as one edit. The selection's lines are those of which it holds a character or
         the break. Cursor and selection move down into the copy, and keep their columns."""
-        self._edit(_lib.ta_duplicate_line)
+        self._edit(lib.ta_duplicate_line)
 
     def delete_char(self) -> bool:
         """Removes the atomic range that ends at the cursor or strictly contains it, or else the
