@@ -3,7 +3,7 @@ use Rattle.std.proofs.Common.{◌≡◌, ℕ, ◌+◌, ◌*◌, ◌<◌, ◌≤�
 use Rattle.std.proofs.lemmas.Bool.{cond-true, cond-false, lt-ltb}
 use Rattle.std.proofs.lemmas.Bool.Decides.{nat_tests}
 use Rattle.textarea_terminal.specs.PaintColors.{distance_between, least_below, level_of, gray_of, cube_parts, gray_parts, nearest_indexed}
-use Rattle.textarea_terminal.specs.declared.output.colors.Parts.{Parts}
+use Rattle.textarea_terminal.specs.declared.output.colors.ColorParts.{ColorParts}
 
 same-both : (b : Bool) (n : ℕ) → cond b n n ≡ n
 same-both true n = refl
@@ -34,7 +34,7 @@ least-same distance count nearest least new is least_is new_is most =
 
 -- ---- of the colours with numbers
 
-module _ (parts g k : Parts) (gray red green blue to_gray to_cube : ℕ) (gray_is : gray ≡ gray_of parts) (red_is : red ≡ level_of parts.red)
+module _ (parts g k : ColorParts) (gray red green blue to_gray to_cube : ℕ) (gray_is : gray ≡ gray_of parts) (red_is : red ≡ level_of parts.red)
     (green_is : green ≡ level_of parts.green) (blue_is : blue ≡ level_of parts.blue) (g_is : g ≡ gray_parts gray) (k_is : k ≡ cube_parts red green blue)
     (to_gray_is : to_gray ≡ distance_between parts g) (to_cube_is : to_cube ≡ distance_between parts k) where
   to_nearest_gray : ℕ

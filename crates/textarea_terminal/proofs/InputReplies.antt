@@ -7,10 +7,11 @@ use Rattle.std.proofs.lemmas.Bool.Decides.{nat_tests}
 use Rattle.std.specs.Str.Lossy.{utf8_lossy}
 use Rattle.textarea_data.specs.declared.input.Input.{Input}
 use Rattle.textarea_data.specs.declared.input.Key.TheVariants as key
-use Rattle.textarea_terminal.specs.InputKey.{unmodified, byte_input}
+use Rattle.textarea_data.specs.Input.{input_of_key}
+use Rattle.textarea_terminal.specs.InputKey.{byte_input}
 use Rattle.textarea_terminal.specs.declared.input.event.Event.{Event}
 use Rattle.textarea_terminal.specs.declared.input.reply.Expected.{Expected}
-use Rattle.textarea_terminal.specs.declared.input.reply.Parts.{Parts}
+use Rattle.textarea_terminal.specs.declared.input.reply.PasteParts.{PasteParts}
 use Rattle.textarea_terminal.specs.InputCharacter.{utf8_character}
 use Rattle.textarea_terminal.specs.InputEvent.{EventValue, EventAndRest, value_of, input, paste, mouse, size, cursor, focus_gained, focus_lost, unknown, resized, released}
 use Rattle.textarea_terminal.specs.InputReply.{Reply, reply_if, as_reply, reply_at, answered, Stripped, with_byte, with_reply, with_stripped, stripped_value, stripped_within, stripped, refined}
@@ -22,7 +23,7 @@ use Rattle.textarea_terminal.proofs.InputUnits.{keeps_key_or_sequence, nothing_r
 
 character_no_reply : (e : Expected) (c : ℕ) (bytes : List ℕ) → as_reply e (Some (character_event c, bytes)) ≡ None
 unfolding as_reply
-character_no_reply e c bytes = tested (nat_lt c 160) (unmodified (key.Char c))
+character_no_reply e c bytes = tested (nat_lt c 160) (input_of_key (key.Char c))
   where
     tested : (t : Bool) (i : Input) → as_reply e (Some (cond t unknown (input i), bytes)) ≡ None
     tested true i = refl
@@ -129,7 +130,7 @@ stripped-reply e b bytes x is =
 -- ---- the text so far
 
 -- a byte is added to it
-pub with_stripped-byte : (old new : Parts) (b : ℕ) (bytes : List ℕ) → new.text.items ≡ old.text.items ++ b ∷ [] → new.replies.items ≡ old.replies.items → new.expected ≡ old.expected → reply_at old.expected (b ∷ bytes) ≡ None
+pub with_stripped-byte : (old new : PasteParts) (b : ℕ) (bytes : List ℕ) → new.text.items ≡ old.text.items ++ b ∷ [] → new.replies.items ≡ old.replies.items → new.expected ≡ old.expected → reply_at old.expected (b ∷ bytes) ≡ None
     → with_stripped new (stripped new.expected bytes) ≡ with_stripped old (stripped old.expected (b ∷ bytes))
 with_stripped-byte old new b bytes text replies expected is =
     let s = stripped old.expected bytes in
@@ -141,7 +142,7 @@ with_stripped-byte old new b bytes text replies expected is =
     first ∙ second ∙ third ∙ ap (with_stripped old) (sym (stripped-byte old.expected b bytes is))
 
 -- a reply is
-pub with_stripped-reply : (old new : Parts) (b : ℕ) (bytes rest : List ℕ) (event : Event) → new.text.items ≡ old.text.items → new.replies.items ≡ old.replies.items ++ event ∷ [] →
+pub with_stripped-reply : (old new : PasteParts) (b : ℕ) (bytes rest : List ℕ) (event : Event) → new.text.items ≡ old.text.items → new.replies.items ≡ old.replies.items ++ event ∷ [] →
     reply_at old.expected (b ∷ bytes) ≡ Some (value_of event, (new.expected, rest))
     → with_stripped new (stripped new.expected rest) ≡ with_stripped old (stripped old.expected (b ∷ bytes))
 with_stripped-reply old new b bytes rest event text replies is =
@@ -153,7 +154,7 @@ with_stripped-reply old new b bytes rest event text replies is =
     first ∙ ap (λ (xs : List EventValue). record { text = old.text.items ++ s.text; replies = xs; expected = s.expected }) values
     ∙ ap (with_stripped old) (sym (stripped-reply old.expected b bytes (value_of event, (new.expected, rest)) is))
 
-pub with_stripped-end : (s : Parts) → with_stripped s (stripped s.expected []) ≡ stripped_value s
+pub with_stripped-end : (s : PasteParts) → with_stripped s (stripped s.expected []) ≡ stripped_value s
 with_stripped-end s =
     ap (with_stripped s) (stripped-nil s.expected)
     ∙ ap (λ (xs : List ℕ). record { text = xs; replies = map value_of s.replies.items ++ []; expected = s.expected }) (append-nil s.text.items)

@@ -19,7 +19,8 @@ use Rattle.std.proofs.lemmas.Bool.Decides.{nat_tests}
 use Rattle.std.proofs.lemmas.Bool.{lt-ltb, le-ltb, ne_eqb, cases_lt, cases_Bool, cond-true, cond-false, eqb-true}
 use Rattle.textarea_terminal.specs.InputCharacter.{utf8_character, is_second, code_of_two, code_of_three, code_of_four}
 use Rattle.std.specs.Prelude.{◌⊎◌}
-use Rattle.textarea_terminal.specs.InputKey.{with_alt, unmodified, byte_input, entry, letter_keys, coded_event}
+use Rattle.textarea_data.specs.Input.{input_of_key}
+use Rattle.textarea_terminal.specs.InputKey.{with_alt, byte_input, entry, letter_keys, coded_event}
 use Rattle.textarea_data.specs.declared.input.Key.{Key}
 use Rattle.textarea_terminal.specs.InputUnit.{unit_at, paste_start, paste_end, mark_index, paste_at, paste_before, after_mark, key_or_sequence, escape_at, second_escape_at, single_at, key_at, alt_event, begins_string}
 use Rattle.textarea_terminal.specs.InputSequence.{bracket_at, shift_key_at, shift_key_after_one, shift_key_after_two, control_at, count_front, after_inner, final_at, console_at, sequence_event}
@@ -71,7 +72,7 @@ alt_key_row-read row h = same_at read_alt_row alt_row_value key_rows row key_row
 
 -- ---- characters
 
-byte_input-character : (c : ℕ) → 32 ≤ c → c ≢ 127 → byte_input c ≡ unmodified (key.Char c)
+byte_input-character : (c : ℕ) → 32 ≤ c → c ≢ 127 → byte_input c ≡ input_of_key (key.Char c)
 byte_input-character c h k = grind (arith, nat_tests)
 
 after_escape : (a : ℕ) (bytes : List ℕ) → 27 < a → a ≢ 91 → a ≢ 79 → begins_string a ≡ false → unit_at (27 ∷ a ∷ bytes) ≡ option_map (λ x. (alt_event x.0, x.1)) (key_at a bytes)
@@ -82,14 +83,14 @@ after_escape a bytes h k l m =
     let no_o : eqb a 79 ≡ false = ne_eqb a 79 l in
     rw (no, no_bracket, no_o, m) refl
 
-key_at-byte : (c : ℕ) (bytes : List ℕ) → 32 ≤ c → c < 128 → c ≢ 127 → key_at c bytes ≡ Some (input (unmodified (key.Char c)), bytes)
+key_at-byte : (c : ℕ) (bytes : List ℕ) → 32 ≤ c → c < 128 → c ≢ 127 → key_at c bytes ≡ Some (input (input_of_key (key.Char c)), bytes)
 unfolding key_at
 key_at-byte c bytes h k l =
     let small : ltb c 128 ≡ true = lt-ltb c 128 k in
     rw (small, byte_input-character c h l) refl
 
 -- a letter, or another character from a space to ~
-pub unit_at-letter : (bytes rest : List ℕ) (c : ℕ) → bytes ≡ c ∷ rest → 32 ≤ c → c ≤ 126 → unit_at bytes ≡ Some (input (unmodified (key.Char c)), rest)
+pub unit_at-letter : (bytes rest : List ℕ) (c : ℕ) → bytes ≡ c ∷ rest → 32 ≤ c → c ≤ 126 → unit_at bytes ≡ Some (input (input_of_key (key.Char c)), rest)
 unit_at-letter bytes rest c e h k =
     ap unit_at e ∙ unit_at-key c rest (λ e. omega arith) ∙ key_at-byte c rest h (omega arith) (λ e. omega arith)
 
@@ -107,19 +108,19 @@ entry-each P (row ∷ rows) all n x e =
     (cases_Bool (n == row.0))
 
 -- a key whose sequence is a letter after ESC [
-pub unit_at-letter_key : (bytes rest : List ℕ) (letter : ℕ) (k : Key) → bytes ≡ 27 ∷ 91 ∷ letter ∷ rest → entry letter_keys letter ≡ Some k → unit_at bytes ≡ Some (input (unmodified k), rest)
+pub unit_at-letter_key : (bytes rest : List ℕ) (letter : ℕ) (k : Key) → bytes ≡ 27 ∷ 91 ∷ letter ∷ rest → entry letter_keys letter ≡ Some k → unit_at bytes ≡ Some (input (input_of_key k), rest)
 unfolding units_computed
 unit_at-letter_key bytes rest letter k e found =
     ap unit_at e
-    ∙ entry-each (λ n x. unit_at (27 ∷ 91 ∷ n ∷ rest) ≡ Some (input (unmodified x), rest)) letter_keys
+    ∙ entry-each (λ n x. unit_at (27 ∷ 91 ∷ n ∷ rest) ≡ Some (input (input_of_key x), rest)) letter_keys
     (refl, (refl, (refl, (refl, (refl, (refl, (refl, (refl, (refl, (refl, tt)))))))))) letter k found
 
-key_at-character : (a c : ℕ) (bytes rest : List ℕ) → 160 ≤ a → 160 ≤ c → utf8_character a bytes ≡ Some (c, rest) → key_at a bytes ≡ Some (input (unmodified (key.Char c)), rest)
+key_at-character : (a c : ℕ) (bytes rest : List ℕ) → 160 ≤ a → 160 ≤ c → utf8_character a bytes ≡ Some (c, rest) → key_at a bytes ≡ Some (input (input_of_key (key.Char c)), rest)
 unfolding key_at
 key_at-character a c bytes rest h k e =
     let great : ltb a 128 ≡ false = le-ltb a 128 (omega arith) in
     let greater : ltb a 160 ≡ false = le-ltb a 160 h in
-    rw (great, greater, e) (ap (λ (t : Bool). Some (cond t unknown (input (unmodified (key.Char c))), rest)) (le-ltb c 160 k))
+    rw (great, greater, e) (ap (λ (t : Bool). Some (cond t unknown (input (input_of_key (key.Char c))), rest)) (le-ltb c 160 k))
 
 two-read : (a b : ℕ) (rest : List ℕ) → 0xC2 ≤ a → a < 0xE0 → 0x80 ≤ b → b ≤ 0xBF → utf8_character a (b ∷ rest) ≡ Some (code_of_two a b, rest)
 two-read a b rest h k l m = grind (arith, nat_tests)
@@ -131,10 +132,10 @@ four-read : (a b c d : ℕ) (rest : List ℕ) → 0xF0 ≤ a → a ≤ 0xF4 → 
 four-read a b c d rest h k l m n o p = grind (arith, nat_tests)
 
 -- a first byte from 160 on
-character_first : (a c : ℕ) (bytes : List ℕ) → 160 ≤ a → 160 ≤ c → utf8_character a bytes ≡ Some (c, []) → unit_at (a ∷ bytes) ≡ Some (input (unmodified (key.Char c)), [])
+character_first : (a c : ℕ) (bytes : List ℕ) → 160 ≤ a → 160 ≤ c → utf8_character a bytes ≡ Some (c, []) → unit_at (a ∷ bytes) ≡ Some (input (input_of_key (key.Char c)), [])
 character_first a c bytes h k e = unit_at-key a bytes (λ e. omega arith) ∙ key_at-character a c bytes [] h k e
 
-character_after_escape : (a c : ℕ) (bytes : List ℕ) → 160 ≤ a → 160 ≤ c → utf8_character a bytes ≡ Some (c, []) → unit_at (27 ∷ a ∷ bytes) ≡ Some (input (with_alt (unmodified (key.Char c))), [])
+character_after_escape : (a c : ℕ) (bytes : List ℕ) → 160 ≤ a → 160 ≤ c → utf8_character a bytes ≡ Some (c, []) → unit_at (27 ∷ a ∷ bytes) ≡ Some (input (with_alt (input_of_key (key.Char c))), [])
 character_after_escape a c bytes h k e =
     let no_string : begins_string a ≡ false = grind (arith, nat_tests) in
     after_escape a bytes (omega arith) (λ k. omega arith) (λ k. omega arith) no_string ∙ ap (option_map (λ x. (alt_event x.0, x.1))) (key_at-character a c bytes [] h k e)
@@ -206,13 +207,13 @@ encoded_long c h s = ⊎_elim
     (cases_lt c 65536))
     (cases_lt c 2048)
 
-pub character-read : (c : ℕ) → IsScalar c → 32 ≤ c → (c < 127) ⊎ (160 ≤ c) → unit_at (encode_utf8 c) ≡ Some (input (unmodified (key.Char c)), [])
+pub character-read : (c : ℕ) → IsScalar c → 32 ≤ c → (c < 127) ⊎ (160 ≤ c) → unit_at (encode_utf8 c) ≡ Some (input (input_of_key (key.Char c)), [])
 character-read c s h k = ⊎_elim
     (λ (short : c < 127). ap unit_at (encoded_short c (omega arith)) ∙ unit_at-key c [] (λ e. omega arith) ∙ key_at-byte c [] h (omega arith) (λ e. omega arith))
     (λ (long : 160 ≤ c). let e = encoded_long c (omega arith) s in ap unit_at e.whole ∙ character_first e.first c e.others e.high long e.read)
     k
 
-pub alt_character-read : (c : ℕ) → IsScalar c → 32 ≤ c → (c < 127) ⊎ (160 ≤ c) → c ≢ 91 → c ≢ 79 → begins_string c ≡ false → unit_at (27 ∷ encode_utf8 c) ≡ Some (input (with_alt (unmodified (key.Char c))), [])
+pub alt_character-read : (c : ℕ) → IsScalar c → 32 ≤ c → (c < 127) ⊎ (160 ≤ c) → c ≢ 91 → c ≢ 79 → begins_string c ≡ false → unit_at (27 ∷ encode_utf8 c) ≡ Some (input (with_alt (input_of_key (key.Char c))), [])
 alt_character-read c s h k l m n = ⊎_elim
     (λ (short : c < 127). ap (λ xs. unit_at (27 ∷ xs)) (encoded_short c (omega arith)) ∙ after_escape c [] (omega arith) l m n ∙ ap (option_map (λ x. (alt_event x.0, x.1))) (key_at-byte c [] h (omega arith) (λ e. omega arith)))
     (λ (long : 160 ≤ c). let e = encoded_long c (omega arith) s in ap (λ xs. unit_at (27 ∷ xs)) e.whole ∙ character_after_escape e.first c e.others e.high long e.read)

@@ -6,7 +6,8 @@ use Rattle.std.proofs.lemmas.Bool.Decides.{nat_tests}
 use Rattle.textarea_data.specs.declared.input.Input.{Input}
 use Rattle.textarea_data.specs.declared.input.Key.{Key}
 use Rattle.textarea_terminal.specs.InputEvent.{EventValue, input}
-use Rattle.textarea_terminal.specs.InputKey.{entry, unmodified, input_with, letter_keys, numbered_keys}
+use Rattle.textarea_data.specs.Input.{input_of_key}
+use Rattle.textarea_terminal.specs.InputKey.{entry, input_with, letter_keys, numbered_keys}
 use Rattle.textarea_terminal.specs.InputParameter.{is_digit, number_limit, number_from, number_after, count_of, parameters_of}
 use Rattle.textarea_terminal.specs.InputRow.{IsGeneral}
 use Rattle.textarea_terminal.specs.InputSequence.{event_of, event_of_one, event_of_two, is_final, sequence_event}
@@ -60,14 +61,14 @@ digits-two a b h k =
 
 -- ---- a number before ~
 
-one-tilde : (n : ℕ) (k : Key) → entry numbered_keys n ≡ Some k → event_of_one n 126 ≡ input (unmodified k)
+one-tilde : (n : ℕ) (k : Key) → entry numbered_keys n ≡ Some k → event_of_one n 126 ≡ input (input_of_key k)
 unfolding event_of_one
 one-tilde n k found = rw found refl
 
 no_paste_one : (digits : List ℕ) → length digits ≤ 2 → digits ≢ 50 ∷ 48 ∷ 48 ∷ []
 no_paste_one digits few e = omega (arith, few, ap length e)
 
-pub tilde-read : (digits rest : List ℕ) (n : ℕ) (k : Key) → AreDigits digits n → entry numbered_keys n ≡ Some k → unit_at (27 ∷ 91 ∷ (digits ++ 126 ∷ rest)) ≡ Some (input (unmodified k), rest)
+pub tilde-read : (digits rest : List ℕ) (n : ℕ) (k : Key) → AreDigits digits n → entry numbered_keys n ≡ Some k → unit_at (27 ∷ 91 ∷ (digits ++ 126 ∷ rest)) ≡ Some (input (input_of_key k), rest)
 tilde-read digits rest n k are found =
     let general : IsGeneral digits 126 = record {
       inner_bytes = are.inner;
@@ -130,8 +131,8 @@ modified-read digits rest n d last i are is final other event =
 
 -- ---- a letter after ESC O
 
-pub single-read : (letter : ℕ) (rest : List ℕ) (k : Key) → entry letter_keys letter ≡ Some k → unit_at (27 ∷ 79 ∷ letter ∷ rest) ≡ Some (input (unmodified k), rest)
+pub single-read : (letter : ℕ) (rest : List ℕ) (k : Key) → entry letter_keys letter ≡ Some k → unit_at (27 ∷ 79 ∷ letter ∷ rest) ≡ Some (input (input_of_key k), rest)
 unfolding unit_at after_mark key_or_sequence escape_at single_at
 single-read letter rest k found =
-    entry-each (λ n x. unit_at (27 ∷ 79 ∷ n ∷ rest) ≡ Some (input (unmodified x), rest)) letter_keys
+    entry-each (λ n x. unit_at (27 ∷ 79 ∷ n ∷ rest) ≡ Some (input (input_of_key x), rest)) letter_keys
     (refl, (refl, (refl, (refl, (refl, (refl, (refl, (refl, (refl, (refl, tt)))))))))) letter k found

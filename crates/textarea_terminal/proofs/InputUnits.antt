@@ -7,7 +7,8 @@ use Rattle.textarea_data.specs.declared.input.Key.{Key}
 use Rattle.textarea_data.specs.declared.input.Key.TheVariants as key
 use Rattle.std.specs.Prelude.{option_map, ◌⊎◌}
 use Rattle.textarea_terminal.specs.InputEvent.{EventValue, EventAndRest, input, paste, unknown}
-use Rattle.textarea_terminal.specs.InputKey.{unmodified, byte_input, entry, numbered_keys}
+use Rattle.textarea_data.specs.Input.{input_of_key}
+use Rattle.textarea_terminal.specs.InputKey.{byte_input, entry, numbered_keys}
 use Rattle.textarea_terminal.specs.InputCharacter.{utf8_character, second_byte, third_byte, fourth_byte, is_second, is_continuation}
 use Rattle.textarea_terminal.specs.InputSequence.{is_inner, count_front, inner_limit, console_at, final_at, after_inner, control_at, shift_key, shift_key_after_two, shift_key_after_one, shift_key_at}
 use Rattle.textarea_terminal.specs.InputSequence.{or_else, bracket_at, value_of_two, value_at, third_value, second_value, old_mouse_at, is_text, text_limit, after_text_escape, after_text, string_at}
@@ -717,7 +718,7 @@ waits_twice second [] = waits_nil 4095 _
 waits_twice second (b ∷ bytes) =
     waits_if (b == 91) 4095 (b ∷ bytes) _ _ (waits_byte 4094 b bytes _ (waits_map (with_escape second) 4094 bytes (bracket_at bytes) (waits_bracket bytes)))
     (waits_if (b == 79) 4095 (b ∷ bytes) _ _ (waits_byte 4094 b bytes _ (waits_map (with_escape second) 4094 bytes (single_at bytes) (waits_single bytes)))
-    (waits_some 4095 (b ∷ bytes) (input (unmodified key.Esc), second)))
+    (waits_some 4095 (b ∷ bytes) (input (input_of_key key.Esc), second)))
 
 waits_escaped : (b : ℕ) (bytes : List ℕ) → begins_string b ≡ false → Waits 4096 (b ∷ bytes) (escape_at (b ∷ bytes))
 unfolding escape_at

@@ -9,7 +9,7 @@ use Rattle.textarea_screen.specs.Cell.{CellView, cell_view}
 use Rattle.textarea_screen.specs.declared.screen.cell.Cell.{Cell}
 use Rattle.textarea_terminal.specs.Control.{Control}
 use Rattle.textarea_terminal.specs.Disputed.{is_disputed}
-use Rattle.textarea_terminal.specs.Paint.{prints_of, moves_of, pens_of, AreChanges, HasRuns, HasLooks, Knows, Shows, Repaints, KeepsCell, ChangesCell, IsStep, with_cell, texts_of, inner_moves}
+use Rattle.textarea_terminal.specs.Paint.{prints_of, moves_of, pens_of, AreChanges, HasRuns, HasLooks, Knows, Shows, Repaints, KeepsCell, ChangesCell, IsCellStep, with_cell, printed_texts, inner_moves}
 use Rattle.textarea_terminal.specs.PaintCells.{cluster_columns, half, is_half, is_plain_half, can_begin, are_whole}
 use Rattle.textarea_terminal.specs.Pen.{in_look, look_of}
 use Rattle.textarea_terminal.specs.Screen.{Terminal, IsOfFamily, run, begins_half, mended, printed, rest_of, cursor_after, cluster_cells, first_of, settled_cells, settled_cells}
@@ -420,7 +420,7 @@ Reaches-changed start before after columns index old new o n os ns xs ys old_at 
       });
   prints = λ later more.
       rw (prints_of-append xs ys, changes.prints.0, append_assoc)
-      (reaches.prints (texts_of n ++ later) (rw (old_at.here, new_at.here) (inr (changes.whole, changes.changed, (later, refl, rw (old_at.next, new_at.next) at more)))));
+      (reaches.prints (printed_texts n ++ later) (rw (old_at.here, new_at.here) (inr (changes.whole, changes.changed, (later, refl, rw (old_at.next, new_at.next) at more)))));
   follows = not (is_disputed n.symbol);
   tracks = λ yes.
       let agreed : is_disputed n.symbol ≡ false = false-from_not (is_disputed n.symbol) yes in
@@ -450,7 +450,7 @@ Reaches-changed start before after columns index old new o n os ns xs ys old_at 
 pub Reaches-step : (start before after : Brush) (columns index : ℕ) (olds : List CellView) (old : CellView) (os : List CellView) (news : List Cell) (new : Cell) (xs ys : List Control) →
     Split index olds old os → new ≡ get_or news index new → length olds ≡ length news → index < length news →
     are_whole columns 0 0 olds ≡ true → are_whole columns 0 0 (map cell_view news) ≡ true →
-    IsStep before after columns index old (cell_view new) ys →
+    IsCellStep before after columns index old (cell_view new) ys →
     Reaches start before columns index olds (map cell_view news) xs →
     Reaches start after columns (index + 1) olds (map cell_view news) (xs ++ ys)
 Reaches-step start before after columns index olds old os news new xs ys old_at new_is long within old_whole new_whole step reaches =

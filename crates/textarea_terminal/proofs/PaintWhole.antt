@@ -6,7 +6,7 @@ use Rattle.textarea_screen.specs.declared.screen.cell.Cell.{Cell}
 use Rattle.textarea_screen.specs.Cell.{CellView, fresh_cell, cell_view}
 use Rattle.textarea_terminal.specs.Control.{Control}
 use Rattle.textarea_terminal.specs.Control.Control.{Print, MoveTo, SetPen, ChangePen, EraseAll, SelectAscii, ResetOrigin, ResetColumnMargins, ResetRowMargins, ResetInsertion, SetWrapping, ShowCursor, HideCursor, BeginUpdate, EndUpdate}
-use Rattle.textarea_terminal.specs.Paint.{Wrote, prints_of, HasRuns, HasLooks, AreChanges, Repaints, PaintedFrame, IsCaret, ShowsFrame, HasSize, Paints, MovesTo, Clears, SetsCursor, EndsUpdate, PutsCaret, Ends, PaintsFrame}
+use Rattle.textarea_terminal.specs.Paint.{Wrote, prints_of, HasRuns, HasLooks, AreChanges, Repaints, PaintedFrame, IsCaret, ShowsFrame, HasSize, Paints, MovesTo, Clears, SetsCursor, EndsUpdate, PutsCaret, EndsFrame, PaintsFrame}
 use Rattle.textarea_terminal.specs.PaintCells.{are_whole, cluster_columns}
 use Rattle.textarea_terminal.specs.Pen.{plain_look}
 use Rattle.textarea_terminal.specs.Screen.{Terminal, CountsAlike, first_modes, is_plain, apply_control, run, unknown, printed, print_at, rest_of, cursor_after, cluster_cells, settled_cells}
@@ -182,12 +182,12 @@ paints-unknown columns size old new xs ys erased whole clears finish =
 -- ---- as bytes
 
 pub Wrote-end : (brush : Brush) (known : Option Bool) (columns : ℕ) (caret : Option ℕ) {a b c : List ℕ} → Wrote a b (PutsCaret brush.at known columns caret) →
-    Wrote b c (EndsUpdate brush.is_updating) → Wrote a c (Ends brush known columns caret)
+    Wrote b c (EndsUpdate brush.is_updating) → Wrote a c (EndsFrame brush known columns caret)
 Wrote-end brush known columns caret first second =
-    Wrote-then (Ends brush known columns caret) first second (λ xs ys puts ends. record { first = xs; last = ys; whole = refl; puts = puts; ends = ends })
+    Wrote-then (EndsFrame brush known columns caret) first second (λ xs ys puts ends. record { first = xs; last = ys; whole = refl; puts = puts; ends = ends })
 
 pub Wrote-frame : (start brush : Brush) (known : Option Bool) (columns : ℕ) (old new : List CellView) (caret : Option ℕ) {a b c : List ℕ} →
-    IfSome caret (λ index. index < length new) → Wrote a b (Repaints columns old new start brush) → Wrote b c (Ends brush known columns caret) →
+    IfSome caret (λ index. index < length new) → Wrote a b (Repaints columns old new start brush) → Wrote b c (EndsFrame brush known columns caret) →
     Wrote a c (PaintsFrame start known columns old (record { cells = new; caret = caret }))
 Wrote-frame start brush known columns old new caret within first second =
     let R : List Control → Type 0 = PaintsFrame start known columns old (record { cells = new; caret = caret }) in

@@ -5,7 +5,7 @@ use Rattle.textarea_data.specs.declared.input.Input.{Input}
 use Rattle.textarea_data.specs.declared.input.Key.{Key}
 use Rattle.textarea_data.specs.declared.input.Key.TheVariants as key
 use Rattle.textarea_terminal.specs.declared.input.reply.Expected.{Expected}
-use Rattle.textarea_terminal.specs.declared.input.reply.Parts.{Parts}
+use Rattle.textarea_terminal.specs.declared.input.reply.PasteParts.{PasteParts}
 use Rattle.textarea_terminal.specs.declared.input.event.Event.{Event}
 use Rattle.textarea_terminal.specs.InputEvent.{EventValue, EventAndRest, value_of, input, paste, mouse, size, cursor, focus_gained, focus_lost, unknown, resized, released}
 use Rattle.textarea_terminal.specs.InputKey.{input_with}
@@ -55,14 +55,14 @@ abbrev pub with_reply : EventValue → Stripped → Stripped
 with_reply value s = record { text = s.text; replies = value ∷ s.replies; expected = s.expected }
 
 -- what is made of a text so far, and of the rest of it
-abbrev pub with_stripped : Parts → Stripped → Stripped
+abbrev pub with_stripped : PasteParts → Stripped → Stripped
 with_stripped so_far s = record {
   text = so_far.text.items ++ s.text;
   replies = map value_of so_far.replies.items ++ s.replies;
   expected = s.expected;
 }
 
-abbrev pub stripped_value : Parts → Stripped
+abbrev pub stripped_value : PasteParts → Stripped
 stripped_value s = record { text = s.text.items; replies = map value_of s.replies.items; expected = s.expected }
 
 -- a text without the replies in it, by at most a number of steps

@@ -10,7 +10,8 @@ use Rattle.textarea_terminal.specs.declared.input.event.MouseKind.TheVariants as
 use Rattle.textarea_terminal.specs.declared.input.event.MouseButton.{MouseButton}
 use Rattle.textarea_terminal.specs.declared.input.event.MouseButton.TheVariants as button
 use Rattle.textarea_terminal.specs.InputEvent.{EventValue, input, paste, mouse, size, cursor, focus_gained, focus_lost}
-use Rattle.textarea_terminal.specs.InputKey.{unmodified, ctrl_input, with_alt, input_with, letter_keys, numbered_keys, small_letter_keys, console_keys, keypad_keys, coded_keys}
+use Rattle.textarea_data.specs.Input.{input_of_key}
+use Rattle.textarea_terminal.specs.InputKey.{ctrl_input, with_alt, input_with, letter_keys, numbered_keys, small_letter_keys, console_keys, keypad_keys, coded_keys}
 use Rattle.textarea_terminal.specs.InputUnit.{paste_start, paste_end, mark_index, begins_string}
 use Rattle.textarea_terminal.specs.InputSequence.{is_inner, is_final, inner_limit, is_text}
 
@@ -46,20 +47,20 @@ unfoldable pub byte_rows : List KeyRow
 byte_rows =
     map (λ c. ((c - 96) ∷ [], ctrl_input c)) (codes "abcdefgjklnopqrstuvwxyz")
     ++ map (λ c. ((c - 64) ∷ [], ctrl_input c)) (codes "\\]^_")
-    ++ ((0 ∷ [], ctrl_input 32) ∷ (8 ∷ [], unmodified key.Backspace) ∷ (127 ∷ [], unmodified key.Backspace)
-    ∷ (9 ∷ [], unmodified key.Tab) ∷ (13 ∷ [], unmodified key.Enter) ∷ [])
+    ++ ((0 ∷ [], ctrl_input 32) ∷ (8 ∷ [], input_of_key key.Backspace) ∷ (127 ∷ [], input_of_key key.Backspace)
+    ∷ (9 ∷ [], input_of_key key.Tab) ∷ (13 ∷ [], input_of_key key.Enter) ∷ [])
 
 -- arrows, Home, End and F1 to F4: ESC [, ESC O, and ESC [ 1 ; modifiers
 unfoldable pub letter_rows : List KeyRow
 letter_rows = flat_map (λ r.
-    (bracket (r.0 ∷ []), unmodified r.1) ∷ (27 ∷ 79 ∷ r.0 ∷ [], unmodified r.1)
+    (bracket (r.0 ∷ []), input_of_key r.1) ∷ (27 ∷ 79 ∷ r.0 ∷ [], input_of_key r.1)
     ∷ map (λ m. (bracket (49 ∷ 59 ∷ digit m ∷ r.0 ∷ []), input_with r.1 m)) modifier_parameters) letter_keys
 
 -- numbered keys: ESC [ number ~, ESC [ number ; modifiers ~, and rxvt's: $ with Shift, ^ with Ctrl,
 -- @ with both
 unfoldable pub numbered_rows : List KeyRow
 numbered_rows = flat_map (λ r.
-    (bracket (decimal r.0 ++ 126 ∷ []), unmodified r.1) ∷ (bracket (decimal r.0 ++ 36 ∷ []), input_with r.1 2)
+    (bracket (decimal r.0 ++ 126 ∷ []), input_of_key r.1) ∷ (bracket (decimal r.0 ++ 36 ∷ []), input_with r.1 2)
     ∷ (bracket (decimal r.0 ++ 94 ∷ []), input_with r.1 5) ∷ (bracket (decimal r.0 ++ 64 ∷ []), input_with r.1 6)
     ∷ map (λ m. (bracket (decimal r.0 ++ 59 ∷ digit m ∷ 126 ∷ []), input_with r.1 m)) modifier_parameters) numbered_keys
 
@@ -69,8 +70,8 @@ unfoldable pub other_rows : List KeyRow
 other_rows =
     map (λ r. (bracket (r.0 ∷ []), input_with r.1 2)) small_letter_keys
     ++ map (λ r. (27 ∷ 79 ∷ r.0 ∷ [], input_with r.1 5)) small_letter_keys
-    ++ map (λ r. (bracket (91 ∷ r.0 ∷ []), unmodified r.1)) console_keys
-    ++ ((bracket (90 ∷ []), input_with key.Tab 2) ∷ (27 ∷ 79 ∷ 77 ∷ [], unmodified key.Enter) ∷ [])
+    ++ map (λ r. (bracket (91 ∷ r.0 ∷ []), input_of_key r.1)) console_keys
+    ++ ((bracket (90 ∷ []), input_with key.Tab 2) ∷ (27 ∷ 79 ∷ 77 ∷ [], input_of_key key.Enter) ∷ [])
 
 -- Arrows, Home, End and F1 to F4 in older forms: ESC [ 1 ; modifiers with Meta, which counts as Alt; ESC [ modifiers; and
 -- ESC O with modifiers, or 1 ; modifiers. Tab with Shift as ESC [ 1 ; 2 Z.
@@ -84,20 +85,20 @@ older_rows = flat_map (λ r.
 -- the keypad in its application mode, also with Ctrl
 unfoldable pub keypad_rows : List KeyRow
 keypad_rows =
-    map (λ r. (27 ∷ 79 ∷ r.0 ∷ [], unmodified r.1)) keypad_keys
+    map (λ r. (27 ∷ 79 ∷ r.0 ∷ [], input_of_key r.1)) keypad_keys
     ++ map (λ c. (bracket (49 ∷ 59 ∷ 53 ∷ (c + 64) ∷ []), ctrl_input c)) (codes "0123456789")
-    ++ ((27 ∷ 79 ∷ 69 ∷ [], unmodified (key.Char 53)) ∷ [])
+    ++ ((27 ∷ 79 ∷ 69 ∷ [], input_of_key (key.Char 53)) ∷ [])
 
 -- Keys by their codes: ESC [ code u and ESC [ code ; modifiers u (kitty), and ESC [ 27 ; modifiers ; code ~ (xterm). So are
 -- letters and digits with Ctrl and Alt.
 unfoldable pub coded_rows : List KeyRow
 coded_rows = flat_map (λ r.
-    (bracket (decimal r.0 ++ 117 ∷ []), unmodified r.1) ∷ (bracket (decimal r.0 ++ 59 ∷ 50 ∷ 117 ∷ []), input_with r.1 2)
+    (bracket (decimal r.0 ++ 117 ∷ []), input_of_key r.1) ∷ (bracket (decimal r.0 ++ 59 ∷ 50 ∷ 117 ∷ []), input_with r.1 2)
     ∷ (bracket (decimal r.0 ++ 59 ∷ 53 ∷ 58 ∷ 49 ∷ 117 ∷ []), input_with r.1 5)
     ∷ (bracket (50 ∷ 55 ∷ 59 ∷ 54 ∷ 59 ∷ (decimal r.0 ++ 126 ∷ [])), input_with r.1 6) ∷ []) coded_keys
     ++ flat_map (λ c.
     (bracket (decimal c ++ 59 ∷ 53 ∷ 117 ∷ []), ctrl_input c) ∷ (bracket (50 ∷ 55 ∷ 59 ∷ 53 ∷ 59 ∷ (decimal c ++ 126 ∷ [])), ctrl_input c)
-    ∷ (bracket (decimal c ++ 59 ∷ 51 ∷ 117 ∷ []), with_alt (unmodified (key.Char c))) ∷ []) (codes "abcdefghijklmnopqrstuvwxyz0123456789")
+    ∷ (bracket (decimal c ++ 59 ∷ 51 ∷ 117 ∷ []), with_alt (input_of_key (key.Char c))) ∷ []) (codes "abcdefghijklmnopqrstuvwxyz0123456789")
 
 abbrev pub key_rows : List KeyRow
 key_rows = byte_rows ++ letter_rows ++ numbered_rows ++ other_rows ++ older_rows ++ keypad_rows ++ coded_rows
@@ -164,8 +165,8 @@ cursor_report column row = bracket (63 ∷ (decimal (row + 1) ++ 59 ∷ (decimal
 pub data IsSentFor : List ℕ → EventValue → Type 0 where
   key_row : (row : KeyRow) → Contains key_rows row → IsSentFor row.0 (input row.1)
   alt_key_row : (row : KeyRow) → Contains key_rows row → IsSentFor (27 ∷ row.0) (input (with_alt row.1))
-  character_row : (c : ℕ) → IsScalar c → 32 ≤ c → (c < 127) ⊎ (160 ≤ c) → IsSentFor (encode_utf8 c) (input (unmodified (key.Char c)))
-  alt_character_row : (c : ℕ) → IsScalar c → 32 ≤ c → (c < 127) ⊎ (160 ≤ c) → c ≢ 91 → c ≢ 79 → begins_string c ≡ false → IsSentFor (27 ∷ encode_utf8 c) (input (with_alt (unmodified (key.Char c))))
+  character_row : (c : ℕ) → IsScalar c → 32 ≤ c → (c < 127) ⊎ (160 ≤ c) → IsSentFor (encode_utf8 c) (input (input_of_key (key.Char c)))
+  alt_character_row : (c : ℕ) → IsScalar c → 32 ≤ c → (c < 127) ⊎ (160 ≤ c) → c ≢ 91 → c ≢ 79 → begins_string c ≡ false → IsSentFor (27 ∷ encode_utf8 c) (input (with_alt (input_of_key (key.Char c))))
   paste_row : (text : List ℕ) → mark_index paste_end text ≡ None → IsSentFor (paste_start ++ text ++ paste_end) (paste text)
   mouse_row : (m : Mouse) → IsReported m.kind → m.column + 1 < 65536 → m.row + 1 < 65536
       → IsSentFor (mouse_report (with_modifiers (code_of_kind m.kind) m.ctrl m.alt m.shift) m.column m.row (last_of_kind m.kind)) (mouse m)

@@ -7,7 +7,8 @@ use Rattle.textarea_data.specs.declared.input.Key.{Key}
 use Rattle.textarea_data.specs.declared.input.Key.TheVariants as key
 use Rattle.textarea_terminal.specs.declared.input.parameter.Parameters.{Parameters}
 use Rattle.textarea_terminal.specs.InputEvent.{EventValue, EventAndRest, input, size, resized, cursor, focus_gained, focus_lost, released, unknown}
-use Rattle.textarea_terminal.specs.InputKey.{unmodified, with_alt, input_with, key_event, entry, or_key, letter_keys, numbered_keys, small_letter_keys, console_keys, keypad_keys, coded_event}
+use Rattle.textarea_data.specs.Input.{input_of_key}
+use Rattle.textarea_terminal.specs.InputKey.{with_alt, input_with, key_event, entry, or_key, letter_keys, numbered_keys, small_letter_keys, console_keys, keypad_keys, coded_event}
 use Rattle.textarea_terminal.specs.InputReading.{bound}
 use Rattle.textarea_terminal.specs.InputCharacter.{is_continuation, code_of_two}
 use Rattle.textarea_terminal.specs.InputParameter.{is_digit, clamped_to_u16, parameters_of}
@@ -115,7 +116,7 @@ inner_limit = 4094
 
 -- ESC [ that begins no sequence is Alt with [; an interrupted sequence is unknown.
 abbrev pub broken_event : List ℕ → EventValue
-broken_event [] = input (with_alt (unmodified (key.Char 91)))
+broken_event [] = input (with_alt (input_of_key (key.Char 91)))
 broken_event (b ∷ bytes) = unknown
 
 -- the byte after ESC [ [ is a function key of the Linux console

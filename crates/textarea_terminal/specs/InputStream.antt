@@ -4,7 +4,8 @@ use Rattle.textarea_data.specs.declared.input.Input.{Input}
 use Rattle.textarea_data.specs.declared.input.Key.TheVariants as key
 use Rattle.textarea_terminal.specs.declared.input.event.Event.{Event}
 use Rattle.textarea_terminal.specs.InputEvent.{EventValue, input, paste, value_of, unit_value}
-use Rattle.textarea_terminal.specs.InputKey.{unmodified, with_alt}
+use Rattle.textarea_data.specs.Input.{input_of_key}
+use Rattle.textarea_terminal.specs.InputKey.{with_alt}
 use Rattle.textarea_terminal.specs.declared.input.unit.Found.{Found}
 use Rattle.textarea_terminal.specs.declared.input.unit.Found.TheVariants as found
 use Rattle.textarea_terminal.specs.InputUnit.{unit_at, begins_string}
@@ -65,13 +66,13 @@ pub record AddsUpTo (old new : List Event) (to_come all : List EventValue) : Typ
 
 -- the key that an incomplete sequence is, by the bytes after its ESC
 unfoldable pub leading_key : List ℕ → Option Input
-leading_key [] = Some (unmodified key.Esc)
-leading_key (b ∷ []) = if b == 91 || b == 79 || begins_string b then Some (with_alt (unmodified (key.Char b))) else None
+leading_key [] = Some (input_of_key key.Esc)
+leading_key (b ∷ []) = if b == 91 || b == 79 || begins_string b then Some (with_alt (input_of_key (key.Char b))) else None
 leading_key (b ∷ c ∷ bytes) = None
 
 -- the same after one more ESC, which is the key Esc
 unfoldable pub keys_after_escape : List ℕ → Option (Bool × Input)
-keys_after_escape [] = Some (false, unmodified key.Esc)
+keys_after_escape [] = Some (false, input_of_key key.Esc)
 keys_after_escape (b ∷ bytes) =
     if b == 27 then option_map (λ i. (true, i)) (leading_key bytes) else option_map (λ i. (false, i)) (leading_key (b ∷ bytes))
 
@@ -81,7 +82,7 @@ idle_keys [] = None
 idle_keys (b ∷ bytes) = if b == 27 then keys_after_escape bytes else None
 
 abbrev pub values_of_keys : Bool → Input → List EventValue
-values_of_keys true i = input (unmodified key.Esc) ∷ input i ∷ []
+values_of_keys true i = input (input_of_key key.Esc) ∷ input i ∷ []
 values_of_keys false i = input i ∷ []
 
 -- the events of pending bytes, and the bytes that stay pending

@@ -3,7 +3,8 @@ use Rattle.std.specs.Prelude.{ℕ, ◌+◌, ◌==◌, ◌||◌, Bool, nat_lt, Li
 use Rattle.std.specs.Int.{is_in_range}
 use Rattle.textarea_data.specs.declared.input.Key.TheVariants as key
 use Rattle.textarea_terminal.specs.InputEvent.{EventValue, EventAndRest, input, paste, unknown}
-use Rattle.textarea_terminal.specs.InputKey.{unmodified, with_alt, byte_input, single_event}
+use Rattle.textarea_data.specs.Input.{input_of_key}
+use Rattle.textarea_terminal.specs.InputKey.{with_alt, byte_input, single_event}
 use Rattle.textarea_terminal.specs.InputCharacter.{utf8_character}
 use Rattle.textarea_terminal.specs.InputSequence.{bracket_at, control_at, string_at}
 
@@ -11,7 +12,7 @@ use Rattle.textarea_terminal.specs.InputSequence.{bracket_at, control_at, string
 
 -- the event of a character from 128 on; the controls of C1 type nothing
 abbrev pub character_event : ℕ → EventValue
-character_event c = if nat_lt c 160 then unknown else input (unmodified (key.Char c))
+character_event c = if nat_lt c 160 then unknown else input (input_of_key (key.Char c))
 
 -- the event of a first byte that isn't ESC, and of those after it
 unfoldable pub key_at : ℕ → List ℕ → EventAndRest
@@ -26,13 +27,13 @@ unfoldable pub single_at : List ℕ → EventAndRest
 single_at [] = None
 single_at (b ∷ bytes) =
     if is_in_range 48 59 b then control_at (b ∷ bytes)
-    else (if is_in_range 32 126 b then Some (single_event b, bytes) else Some (input (with_alt (unmodified (key.Char 79))), b ∷ bytes))
+    else (if is_in_range 32 126 b then Some (single_event b, bytes) else Some (input (with_alt (input_of_key (key.Char 79))), b ∷ bytes))
 
 -- an ESC before a sequence: Alt with the sequence's key or step of the wheel; before another sequence, which begins at `sequence`,
 -- the key Esc
 abbrev pub with_escape : List ℕ → EventValue × List ℕ → EventValue × List ℕ
 with_escape sequence (input i, bytes) = (input (with_alt i), bytes)
-with_escape sequence (other, bytes) = (input (unmodified key.Esc), sequence)
+with_escape sequence (other, bytes) = (input (input_of_key key.Esc), sequence)
 
 -- the event of ESC ESC and these bytes; `second` begins at the second ESC
 unfoldable pub second_escape_at : List ℕ → List ℕ → EventAndRest
@@ -40,7 +41,7 @@ second_escape_at second [] = None
 second_escape_at second (b ∷ bytes) =
     if b == 91 then option_map (with_escape second) (bracket_at bytes)
     else (if b == 79 then option_map (with_escape second) (single_at bytes)
-    else Some (input (unmodified key.Esc), second))
+    else Some (input (input_of_key key.Esc), second))
 
 -- an ESC before a key: Alt with it
 abbrev pub alt_event : EventValue → EventValue

@@ -85,8 +85,8 @@ pub record Knows (brush : Brush) (terminal : Terminal) : Type 0 where
   pub family : IsOfFamily terminal.shown_as
 
 -- the texts that are printed for a cell: the blanks of a disputed cluster come before it
-abbrev pub texts_of : CellView → List (List ℕ)
-texts_of cell =
+abbrev pub printed_texts : CellView → List (List ℕ)
+printed_texts cell =
     if is_disputed cell.symbol then replicate (cluster_columns cell.symbol) (32 ∷ []) ++ cell.symbol ∷ [] else cell.symbol ∷ []
 
 -- the moves between them: a disputed cluster is addressed again
@@ -116,7 +116,7 @@ brush_after columns index cell = record {
 
 -- controls that print the cell's cluster where the cursor is, with the pen that it needs
 pub record PrintsLast (columns index : ℕ) (cell : CellView) (last : List Control) : Type 0 where
-  pub prints : prints_of last ≡ texts_of cell
+  pub prints : prints_of last ≡ printed_texts cell
   pub brings : (terminal : Terminal) → is_plain terminal.modes ≡ true → IsOfFamily terminal.shown_as → terminal.columns ≡ columns → index < length terminal.cells →
       begins_half (drop index terminal.cells) ≡ false →
       run last (record terminal { is_updating = true; cursor = Some index; pen = look_of cell }) ≡ with_cell columns index cell terminal
@@ -126,7 +126,7 @@ pub record PrintsLast (columns index : ℕ) (cell : CellView) (last : List Contr
 -- the controls print the cell's cluster at an index, where no cluster is covered in half
 abbrev pub PrintsCell : Brush → ℕ → ℕ → CellView → List Control → Type 0
 PrintsCell brush columns index cell controls =
-    (prints_of controls ≡ texts_of cell)
+    (prints_of controls ≡ printed_texts cell)
     × ((terminal : Terminal) → Knows brush terminal → terminal.columns ≡ columns → index < length terminal.cells → begins_half (drop index terminal.cells) ≡ false →
     run controls terminal ≡ with_cell columns index cell terminal)
     × (moves_of controls ≤ 1 + inner_moves cell) × (brush.at ≡ Some index → moves_of controls ≡ inner_moves cell)
@@ -145,8 +145,8 @@ pub record ChangesCell (before after : Brush) (columns index : ℕ) (old new : C
   pub brush : after ≡ brush_after columns index new
 
 -- the next cell is written only if it has changed
-abbrev pub IsStep : Brush → Brush → ℕ → ℕ → CellView → CellView → List Control → Type 0
-IsStep before after columns index old new controls =
+abbrev pub IsCellStep : Brush → Brush → ℕ → ℕ → CellView → CellView → List Control → Type 0
+IsCellStep before after columns index old new controls =
     (((is_half new ≡ true) ⊎ (old ≡ new)) × KeepsCell before after old new controls) ⊎ ChangesCell before after columns index old new controls
 
 -- ---- a frame
@@ -165,7 +165,7 @@ abbrev pub AreChanges : List CellView → List CellView → List (List ℕ) → 
 AreChanges [] [] texts = texts ≡ []
 AreChanges (old ∷ olds) (new ∷ news) texts =
     (((is_half new ≡ true) ⊎ (old ≡ new)) × AreChanges olds news texts)
-    ⊎ ((is_half new ≡ false) × (old ≢ new) × ((later : List (List ℕ)) × (texts ≡ texts_of new ++ later) × AreChanges olds news later))
+    ⊎ ((is_half new ≡ false) × (old ≢ new) × ((later : List (List ℕ)) × (texts ≡ printed_texts new ++ later) × AreChanges olds news later))
 AreChanges olds news texts = ⊥
 
 -- the number of runs of changed clusters, each in one row; `follows` if the cluster before these
@@ -300,7 +300,7 @@ pub record PutsCaret (at : Option ℕ) (known : Option Bool) (width : ℕ) (care
   pub still : known ≡ Some (is_some caret) → IfSome caret (λ index. at ≡ Some index) → controls ≡ []
 
 -- the cursor is moved to the caret or hidden, and then the update ends
-pub record Ends (brush : Brush) (known : Option Bool) (width : ℕ) (caret : Option ℕ) (controls : List Control) : Type 0 where
+pub record EndsFrame (brush : Brush) (known : Option Bool) (width : ℕ) (caret : Option ℕ) (controls : List Control) : Type 0 where
   pub first : List Control
   pub last : List Control
   pub whole : controls ≡ first ++ last

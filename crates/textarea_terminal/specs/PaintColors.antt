@@ -4,14 +4,14 @@ use Rattle.textarea_screen.specs.declared.screen.color.Color.{Color}
 use Rattle.textarea_screen.specs.declared.screen.color.Color.TheVariants.{Reset, Black, Red, Green, Yellow, Blue, Magenta, Cyan, Gray, DarkGray, LightRed, LightGreen, LightYellow, LightBlue, LightMagenta, LightCyan, White, Rgb, Indexed}
 use Rattle.textarea_terminal.specs.declared.output.colors.Colors.{Colors}
 use Rattle.textarea_terminal.specs.declared.output.colors.Colors.TheVariants as colors
-use Rattle.textarea_terminal.specs.declared.output.colors.Parts.{Parts}
+use Rattle.textarea_terminal.specs.declared.output.colors.ColorParts.{ColorParts}
 
 -- the square of how far two parts are apart
 abbrev pub squared_difference : ℕ → ℕ → ℕ
 squared_difference a b = if nat_lt b a then (a - b) * (a - b) else (b - a) * (b - a)
 
 -- how far two colours are apart: the sum over their parts
-abbrev pub distance_between : Parts → Parts → ℕ
+abbrev pub distance_between : ColorParts → ColorParts → ℕ
 distance_between a b = squared_difference a.red b.red + squared_difference a.green b.green + squared_difference a.blue b.blue
 
 -- ---- the sixteen colours with names
@@ -26,7 +26,7 @@ abbrev pub blues : List ℕ
 blues = 0 ∷ 0 ∷ 0 ∷ 0 ∷ 238 ∷ 205 ∷ 205 ∷ 229 ∷ 127 ∷ 0 ∷ 0 ∷ 0 ∷ 255 ∷ 255 ∷ 255 ∷ 255 ∷ []
 
 -- the parts of a named colour by its number, as xterm shows it
-unfoldable pub named_parts : ℕ → Parts
+unfoldable pub named_parts : ℕ → ColorParts
 named_parts number = record { red = slice_index reds number; green = slice_index greens number; blue = slice_index blues number }
 
 -- the named colour of a number
@@ -55,7 +55,7 @@ least_below distance (suc count) =
     if nat_lt (distance count) (distance (least_below distance count)) then count else least_below distance count
 
 -- the number of the nearest named colour, of equally near ones the first
-unfoldable pub nearest_named : Parts → ℕ
+unfoldable pub nearest_named : ColorParts → ℕ
 nearest_named parts = least_below (λ number. distance_between parts (named_parts number)) 16
 
 -- ---- the 240 colours with a number from 16 on: a cube of six levels of each part, and 24 grays
@@ -71,23 +71,23 @@ abbrev pub gray_value : ℕ → ℕ
 gray_value gray = 8 + 10 * gray
 
 -- the gray nearest to the mean of the parts, of two the upper one
-abbrev pub gray_of : Parts → ℕ
+abbrev pub gray_of : ColorParts → ℕ
 gray_of parts = min 23 (((parts.red + parts.green + parts.blue) / 3 - 3) / 10)
 
-abbrev pub cube_parts : ℕ → ℕ → ℕ → Parts
+abbrev pub cube_parts : ℕ → ℕ → ℕ → ColorParts
 cube_parts red green blue = record { red = level_value red; green = level_value green; blue = level_value blue }
 
-abbrev pub gray_parts : ℕ → Parts
+abbrev pub gray_parts : ℕ → ColorParts
 gray_parts gray = record { red = gray_value gray; green = gray_value gray; blue = gray_value gray }
 
 -- the parts of a colour with a number from 16 on
-abbrev pub indexed_parts : ℕ → Parts
+abbrev pub indexed_parts : ℕ → ColorParts
 indexed_parts number =
     if nat_lt number 232 then cube_parts ((number - 16) / 36) ((number - 16) / 6 % 6) ((number - 16) % 6) else gray_parts (number - 232)
 
 -- the number of the nearer one of the nearest colour of the cube and the nearest gray; of equally
 -- near ones that of the cube
-unfoldable pub nearest_indexed : Parts → ℕ
+unfoldable pub nearest_indexed : ColorParts → ℕ
 nearest_indexed parts =
     if nat_lt (distance_between parts (gray_parts (gray_of parts))) (distance_between parts (cube_parts (level_of parts.red) (level_of parts.green) (level_of parts.blue)))
     then 232 + gray_of parts

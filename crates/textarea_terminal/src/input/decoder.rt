@@ -91,6 +91,7 @@ fn remove_front(bytes: &mut Vec<u8>, count: usize)
 
 // Adds the events of bytes when none are pending, stores the bytes of what is incomplete, and
 // returns what is expected then. After an `Err` some events may have been added.
+#[tactic(auto, using(crate::proofs::InputUnits::nothing_begun))]
 fn read_fresh(
     pending: &mut Vec<u8>,
     bytes: &[u8],
@@ -141,7 +142,7 @@ fn read_begun(
 
 // The same, of what is after the rest of a paste that gave way, and returns whether that rest goes
 // on. After an `Err` some bytes and events may have been added.
-#[tactic(auto, unfolding(crate::specs::InputState::reading, crate::specs::InputReply::refining))]
+#[tactic(auto, using(crate::proofs::InputUnits::nothing_begun), unfolding(crate::specs::InputState::reading, crate::specs::InputReply::refining))]
 fn read_dropped(
     pending: &mut Vec<u8>,
     bytes: &[u8],
@@ -297,7 +298,7 @@ fn push_keys(is_escape_first: bool, key: Input, events: &mut Vec<Event>) -> Resu
 }
 
 // Adds the keys that an incomplete sequence is when no more bytes come. An `Err` changes nothing.
-#[tactic(auto, unfolding(crate::specs::InputStream::idle_decoding))]
+#[tactic(auto, using(crate::proofs::InputUnits::nothing_begun), unfolding(crate::specs::InputStream::idle_decoding))]
 fn idle_pending(pending: &mut Vec<u8>, events: &mut Vec<Event>) -> Result<(), AllocError>
     requires { unit_at pending.old.items ≡ None }
     ensures pending { OnOk result (pending.new.items ≡ (idle_decoding pending.old.items).1) }
@@ -472,6 +473,7 @@ impl Model for Decoder {
 impl Decoder {
     /// Returns a decoder with no pending bytes, of a terminal that is not the Linux console, reports
     /// no sizes by itself, and was asked nothing.
+    #[tactic(auto, using(crate::proofs::InputUnits::nothing_begun))]
     pub fn new(alloc: Global) -> Decoder
         ensures { result ≡ new_decoder }
     {

@@ -2,7 +2,8 @@
 
 ghost use Rattle.std.specs.Prelude.{◌≡◌, ◌<◌};
 ghost use Rattle.textarea_terminal.specs.InputEvent.{unit_value};
-ghost use Rattle.textarea_terminal.specs.InputKey.{unmodified, ctrl_input, with_alt, has_modifier_bits, input_with, key_event, entry, letter_keys, numbered_keys, small_letter_keys, console_keys, keypad_keys, coded_keys, or_key, byte_input, single_event, is_typed_code, character_of_code, typed_event, coded_event};
+ghost use Rattle.textarea_data.specs.Input.{input_of_key};
+ghost use Rattle.textarea_terminal.specs.InputKey.{ctrl_input, with_alt, has_modifier_bits, input_with, key_event, entry, letter_keys, numbered_keys, small_letter_keys, console_keys, keypad_keys, coded_keys, or_key, byte_input, single_event, is_typed_code, character_of_code, typed_event, coded_event};
 
 use crate::input::event::Unit;
 use textarea_data::input::{Input, Key};
@@ -10,7 +11,7 @@ use textarea_data::input::{Input, Key};
 /// The input of a key with no modifier.
 #[inline]
 pub fn plain_input(key: Key) -> Input
-    ensures { result ≡ unmodified key }
+    ensures { result ≡ input_of_key key }
 {
     Input {
         key,

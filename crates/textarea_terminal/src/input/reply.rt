@@ -88,7 +88,7 @@ fn reply_at(expected: Expected, bytes: &[u8]) -> Option<(Event, Expected, &[u8])
 
 // A pasted text without the replies in it, their events, and what is expected after them.
 #[derive(Drop)]
-struct Parts {
+struct PasteParts {
     text: Vec<u8>,
     replies: Vec<Event>,
     expected: Expected,
@@ -96,7 +96,7 @@ struct Parts {
 
 // Removes a reply at the front of bytes, or keeps their first one, and returns the rest.
 fn strip_first<'a>(
-    parts: &mut Parts,
+    parts: &mut PasteParts,
     first: u8,
     after: &'a [u8],
     bytes: &'a [u8],
@@ -121,10 +121,10 @@ fn strip_first<'a>(
 }
 
 // Removes the replies in a pasted text.
-fn strip(alloc: Global, expected: Expected, bytes: &[u8]) -> Result<Parts, AllocError>
+fn strip(alloc: Global, expected: Expected, bytes: &[u8]) -> Result<PasteParts, AllocError>
     ensures { IfOk result (λ parts. stripped_value parts ≡ stripped expected bytes.now) }
 {
-    let mut parts = Parts {
+    let mut parts = PasteParts {
         text: Vec::new(alloc),
         replies: Vec::new(alloc),
         expected,
@@ -137,7 +137,11 @@ fn strip(alloc: Global, expected: Expected, bytes: &[u8]) -> Result<Parts, Alloc
 }
 
 // Adds the events of a pasted text with replies.
-fn push_parts(alloc: Global, parts: Parts, events: &mut Vec<Event>) -> Result<Expected, AllocError>
+fn push_parts(
+    alloc: Global,
+    parts: PasteParts,
+    events: &mut Vec<Event>,
+) -> Result<Expected, AllocError>
     ensures events { OnOk result (Adds events.old.items events.new.items
         (paste_events (stripped_value parts)).0) }
     ensures expected { IfOk result (λ e. e ≡ parts.expected) }

@@ -8,7 +8,7 @@ ghost use Rattle.textarea_terminal.specs.Pen.{look_of};
 ghost use Rattle.textarea_terminal.specs.PaintSpot.{IsSpot};
 ghost use Rattle.textarea_terminal.specs.PaintCells.{can_begin, is_half, are_whole, cluster_columns};
 ghost use Rattle.textarea_terminal.specs.Screen.{cursor_after};
-ghost use Rattle.textarea_terminal.specs.Paint.{Wrote, BeginsUpdate, MovesTo, TakesLook, PrintsLast, PrintsCell, IsStep, Repaints, at_after, brush_after};
+ghost use Rattle.textarea_terminal.specs.Paint.{Wrote, BeginsUpdate, MovesTo, TakesLook, PrintsLast, PrintsCell, IsCellStep, Repaints, at_after, brush_after};
 
 use super::controls::{write_move, write_pen};
 use super::look::{PLAIN, Pen, has_look, is_same_look, look_of};
@@ -265,7 +265,7 @@ fn write_change(
         → IsTrue (can_begin columns spot.index (cell_view cell.now)) }
     ensures { OnOk result ((old : CellView) → IsTrue is_printed ↔ (old ≡ cell_view cell.now)
         → Wrote bytes.old.items bytes.new.items
-        (IsStep brush.old brush.new columns spot.index old (cell_view cell.now))) }
+        (IsCellStep brush.old brush.new columns spot.index old (cell_view cell.now))) }
 {
     if is_printed {
         return Ok(());

@@ -19,7 +19,7 @@ pub enum Colors {
 
 /// The parts of a colour, each from 0 to 255.
 #[derive(Clone, Copy)]
-struct Parts {
+struct ColorParts {
     red: u8,
     green: u8,
     blue: u8,
@@ -56,7 +56,11 @@ fn with_index(color: Color) -> Color
     ensures { result ≡ with_index color }
 {
     match color {
-        Color::Rgb(red, green, blue) => Color::Indexed(nearest_indexed(Parts { red, green, blue })),
+        Color::Rgb(red, green, blue) => Color::Indexed(nearest_indexed(ColorParts {
+            red,
+            green,
+            blue,
+        })),
         other => other,
     }
 }
@@ -67,7 +71,7 @@ fn with_name(color: Color) -> Color
     ensures { result ≡ with_name color }
 {
     match color {
-        Color::Rgb(red, green, blue) => named_color(nearest_named(Parts { red, green, blue })),
+        Color::Rgb(red, green, blue) => named_color(nearest_named(ColorParts { red, green, blue })),
         Color::Indexed(number) => named_color(named_number(number)),
         other => other,
     }
@@ -124,7 +128,7 @@ fn squared_difference(a: u8, b: u8) -> u32
 }
 
 /// How far two colours are apart.
-fn distance_between(a: Parts, b: Parts) -> u32
+fn distance_between(a: ColorParts, b: ColorParts) -> u32
     ensures { result ≡ distance_between a b }
 {
     squared_difference(a.red, b.red)
@@ -133,11 +137,12 @@ fn distance_between(a: Parts, b: Parts) -> u32
 }
 
 /// The parts of a named colour.
-fn named_parts(number: usize) -> Parts
+#[tactic(auto, unfolding(crate::specs::PaintColors::named_parts))]
+fn named_parts(number: usize) -> ColorParts
     requires { number < 16 }
     ensures { result ≡ named_parts number }
 {
-    Parts {
+    ColorParts {
         red: REDS[number],
         green: GREENS[number],
         blue: BLUES[number],
@@ -145,7 +150,7 @@ fn named_parts(number: usize) -> Parts
 }
 
 /// The number of the nearest named colour.
-fn nearest_named(parts: Parts) -> u8
+fn nearest_named(parts: ColorParts) -> u8
     ensures { result ≡ nearest_named parts }
 {
     let mut nearest = 0usize;
@@ -183,7 +188,7 @@ fn level_of(part: u8) -> u8
 }
 
 /// The gray that is nearest to the mean of the parts.
-fn gray_of(parts: Parts) -> u8
+fn gray_of(parts: ColorParts) -> u8
     ensures value { result ≡ gray_of parts }
     ensures bound { result < 24 }
 {
@@ -192,13 +197,13 @@ fn gray_of(parts: Parts) -> u8
 }
 
 /// The parts of a colour of the cube.
-fn cube_parts(red: u8, green: u8, blue: u8) -> Parts
+fn cube_parts(red: u8, green: u8, blue: u8) -> ColorParts
     requires red { red < 6 }
     requires green { green < 6 }
     requires blue { blue < 6 }
     ensures { result ≡ cube_parts red green blue }
 {
-    Parts {
+    ColorParts {
         red: level_value(red),
         green: level_value(green),
         blue: level_value(blue),
@@ -206,12 +211,12 @@ fn cube_parts(red: u8, green: u8, blue: u8) -> Parts
 }
 
 /// The parts of a gray.
-fn gray_parts(gray: u8) -> Parts
+fn gray_parts(gray: u8) -> ColorParts
     requires { gray < 24 }
     ensures { result ≡ gray_parts gray }
 {
     let value = 8 + 10 * gray;
-    Parts {
+    ColorParts {
         red: value,
         green: value,
         blue: value,
@@ -219,7 +224,7 @@ fn gray_parts(gray: u8) -> Parts
 }
 
 /// The parts of a colour with a number from 16 on.
-fn indexed_parts(number: u8) -> Parts
+fn indexed_parts(number: u8) -> ColorParts
     requires { 16 ≤ number }
     ensures { result ≡ indexed_parts number }
 {
@@ -231,7 +236,7 @@ fn indexed_parts(number: u8) -> Parts
 }
 
 /// The number from 16 on of the nearest colour.
-fn nearest_indexed(parts: Parts) -> u8
+fn nearest_indexed(parts: ColorParts) -> u8
     ensures { result ≡ nearest_indexed parts }
 {
     let gray = gray_of(parts);

@@ -62,7 +62,7 @@ pub(super) fn write_pen(bytes: &mut Vec<u8>, look: Pen) -> Result<(), AllocError
     Ok(())
 }
 
-/// Ends the control of a pen, and begins one that gives it a background.
+/// EndsFrame the control of a pen, and begins one that gives it a background.
 fn begin_background(bytes: &mut Vec<u8>, color: Color) -> Result<(), AllocError>
     ensures { OnOk result (bytes.new.items
         ≡ bytes.old.items ++ codes "m" ++ introducer ++ color_bytes 40 color) }

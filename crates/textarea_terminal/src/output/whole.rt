@@ -4,7 +4,7 @@ ghost use Rattle.textarea_screen.specs.Cell.{cell_view};
 ghost use Rattle.textarea_terminal.specs.Control.{control_bytes};
 ghost use Rattle.textarea_terminal.specs.Control.Control.{ShowCursor, HideCursor};
 ghost use Rattle.textarea_terminal.specs.PaintCells.{are_whole};
-ghost use Rattle.textarea_terminal.specs.Paint.{Wrote, Clears, SetsCursor, EndsUpdate, PutsCaret, Ends, Paints};
+ghost use Rattle.textarea_terminal.specs.Paint.{Wrote, Clears, SetsCursor, EndsUpdate, PutsCaret, EndsFrame, Paints};
 
 use super::brush::{Brush, move_to, write_all_cells, write_cells};
 use super::look::PLAIN;
@@ -45,7 +45,7 @@ fn cursor_control(is_visible: bool) -> &'static [u8]
     }
 }
 
-/// Ends an update, if one has begun.
+/// EndsFrame an update, if one has begun.
 fn end_update(bytes: &mut Vec<u8>, is_updating: bool) -> Result<(), AllocError>
     ensures { OnOk result (Wrote bytes.old.items bytes.new.items (EndsUpdate is_updating)) }
 {
@@ -87,7 +87,7 @@ fn write_end(
 ) -> Result<(), AllocError>
     requires { (columns < 2 ^ 16) × IfSome caret (λ index. (index < 2 ^ 32) × (0 < columns)) }
     ensures { OnOk result (Wrote bytes.old.items bytes.new.items
-        (Ends brush known columns caret)) }
+        (EndsFrame brush known columns caret)) }
 {
     write_caret(bytes, brush.at, known, columns, caret)?;
     end_update(bytes, brush.is_updating)?;

@@ -27,6 +27,7 @@ pub(super) fn cluster_columns(text: &str) -> usize
 
 /// The same, for texts other than one printable character of ASCII.
 #[inline(never)]
+#[tactic(auto, unfolding(crate::specs::PaintCells::cluster_columns))]
 fn any_columns(text: &str) -> usize
     ensures value { result ≡ cluster_columns text.now }
 {

@@ -3,7 +3,6 @@ use Rattle.std.proofs.lemmas.List.{length-drop}
 use Rattle.textarea_terminal.specs.InputState.{reading}
 use Rattle.textarea_terminal.specs.InputStream.{begun_bytes}
 use Rattle.textarea_terminal.specs.InputUnit.{mark_index, paste_end}
-use Rattle.textarea_terminal.proofs.InputUnits.{unit_at-nil}
 use Rattle.textarea_terminal.proofs.InputStates.{reading-found}
 use Rattle.textarea_terminal.proofs.InputStreams.{rest_of-le, rest_of-dropped, sliced}
 use Rattle.textarea_terminal.proofs.input.decoder.read_dropped.Goals as goal
@@ -11,9 +10,6 @@ use Rattle.textarea_terminal.proofs.input.decoder.read_dropped.Goals as goal
 pub find_end-requires-clause-begun : goal.find_end-requires-clause-begun
 unfolding mark_index
 find_end-requires-clause-begun c = refl
-
-pub read_units-requires-clause-begun : goal.read_units-requires-clause-begun
-read_units-requires-clause-begun c = unit_at-nil
 
 pub overflow_sub-count : goal.overflow_sub-count
 overflow_sub-count c =

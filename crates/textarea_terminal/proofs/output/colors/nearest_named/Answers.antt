@@ -1,6 +1,6 @@
 use Rattle.std.proofs.Common.{ℕ, sym, ap, ◌∙◌, arith}
 use Rattle.textarea_terminal.specs.PaintColors.{distance_between, named_parts, least_below, nearest_named}
-use Rattle.textarea_terminal.specs.declared.output.colors.Parts.{Parts}
+use Rattle.textarea_terminal.specs.declared.output.colors.ColorParts.{ColorParts}
 use Rattle.textarea_terminal.proofs.ColorLemmas.{least-first, least-nearer, least-same}
 use Rattle.textarea_terminal.proofs.output.colors.nearest_named.Goals as goal
 use Rattle.textarea_terminal.proofs.output.colors.nearest_named.Goals.{then-distance-least, else-distance-least}
@@ -8,14 +8,14 @@ use Rattle.textarea_terminal.proofs.output.colors.nearest_named.Goals.{then-dist
 pub loop-number-init : goal.loop-number-init
 loop-number-init c = (
   sym (least-first (λ (number : ℕ). distance_between c.args.parts (named_parts number))),
-  c.distance_between-least.ensures ∙ ap (λ (p : Parts). distance_between c.args.parts p) c.named_parts.ensures,
+  c.distance_between-least.ensures ∙ ap (λ (p : ColorParts). distance_between c.args.parts p) c.named_parts.ensures,
   omega arith,
 )
 
 pub loop-number-preserved : goal.loop-number-preserved
 loop-number-preserved c =
     let distance = λ (number : ℕ). distance_between c.args.parts (named_parts number) in
-    let new_is = c.distance_between-distance.ensures ∙ ap (λ (p : Parts). distance_between c.args.parts p) c.named_parts-in-loop-number.ensures in
+    let new_is = c.distance_between-distance.ensures ∙ ap (λ (p : ColorParts). distance_between c.args.parts p) c.named_parts-in-loop-number.ensures in
     let was = c.loop-number.invariant in
     elim c.if-distance-least.branch [
       | then-distance-least w ↦ (
