@@ -11,7 +11,7 @@ use Rattle.textarea_screen.specs.declared.screen.buffer.Buffer.{Buffer}
 use Rattle.textarea_paint.specs.Cells.{Placed, placed_at, place_from, is_in_cells, row_change, IsPenAt}
 use Rattle.textarea_paint.specs.Clusters.{Cluster}
 use Rattle.textarea_paint.specs.Columns.{columns_of}
-use Rattle.textarea_paint.specs.Row.{front_within, is_narrow, fitting, clusters_width}
+use Rattle.textarea_paint.specs.Row.{front_within, is_no_wider, fitting, clusters_width}
 use Rattle.textarea_paint.specs.declared.paint.cells.Pen.{Pen}
 use Rattle.textarea_paint.specs.declared.paint.cells.RowCells.{RowCells}
 use Rattle.textarea_paint.proofs.FrontLemmas.{front-fits, front-full}
@@ -96,7 +96,7 @@ drawing_past {cells} {left} {row} {old} {now} {pen} {ahead} d past =
 
 -- the clusters still to be drawn, if there is room for `room` columns
 abbrev pub fitting_ahead : ℕ → ℕ → List Cluster → List Cluster
-fitting_ahead width room clusters = front_within room (filter (is_narrow width) clusters)
+fitting_ahead width room clusters = front_within room (filter (is_no_wider width) clusters)
 
 pub fitting_ahead-wide : (width room : ℕ) (cluster : Cluster) (clusters : List Cluster) → width < columns_of cluster.text →
     fitting_ahead width room (cluster ∷ clusters) ≡ fitting_ahead width room clusters
@@ -104,7 +104,7 @@ fitting_ahead-wide width room cluster clusters wide = grind (arith, nat_tests)
 
 -- a cluster that is no wider than the area is not left out
 narrow_stays : (width : ℕ) (cluster : Cluster) (clusters : List Cluster) → columns_of cluster.text ≤ width →
-    filter (is_narrow width) (cluster ∷ clusters) ≡ cluster ∷ filter (is_narrow width) clusters
+    filter (is_no_wider width) (cluster ∷ clusters) ≡ cluster ∷ filter (is_no_wider width) clusters
 narrow_stays width cluster clusters narrow = grind (arith, nat_tests)
 
 pub fitting_ahead-full : (width room : ℕ) (cluster : Cluster) (clusters : List Cluster) → columns_of cluster.text ≤ width → room < columns_of cluster.text →

@@ -12,8 +12,8 @@ use Rattle.textarea_paint.specs.Clusters.{Cluster, row_clusters, span_clusters}
 use Rattle.textarea_paint.specs.declared.paint.cells.RowCells.{RowCells}
 
 -- the cells of row y from column x up to the right edge of the area, at most this number
-abbrev pub cells_from : Rect → ℕ → ℕ → ℕ → RowCells
-cells_from area x y most = record { x = x; y = y; width = min most (area.x + area.width - x) }
+abbrev pub cells_to_edge : Rect → ℕ → ℕ → ℕ → RowCells
+cells_to_edge area x y most = record { x = x; y = y; width = min most (area.x + area.width - x) }
 
 -- the grapheme clusters of spans, in their styles patched over the given one
 abbrev pub spans_clusters : Style → List SpanView → List Cluster

@@ -23,7 +23,7 @@ run_clusters run = if run.is_plain then plain_clusters run.style run.text.now el
 
 -- what is known of a run: it has a cluster and at most `most`, all printable ASCII or one cluster of
 -- the run's columns
-pub record IsRun (most : ℕ) (run : ClusterRun) : Type 0 where
+pub record IsClusterRun (most : ℕ) (run : ClusterRun) : Type 0 where
   pub columns : run.is_plain ≡ false → run.columns ≡ columns_of run.text.now
   pub plain : IsTrue run.is_plain → All IsPrintable run.text.now
   pub some : 0 < length (run_clusters run)

@@ -15,5 +15,5 @@ pub use Rattle.textarea_paint.specs.Clusters.{AreInline, Cluster, in_style, plai
 pub use Rattle.textarea_paint.specs.Columns.{columns_of}
 pub use Rattle.textarea_paint.specs.LineClusters.{run_clusters, styled_cluster}
 pub use Rattle.textarea_paint.specs.Plain.{IsPrintable, begins_plain, is_printable, plain_count, singles}
-pub use Rattle.textarea_paint.specs.Row.{IsLongestFront, clusters_width, fitting, is_narrow, line_offset, row_cell}
+pub use Rattle.textarea_paint.specs.Row.{IsLongestFront, clusters_width, fitting, is_no_wider, line_offset, row_cell}
 pub use Rattle.textarea_paint.specs.Simple.{begins_apart, early_ranges, is_flag_half, is_simple, late_ranges}

@@ -35,12 +35,12 @@ pub record IsLongestFront (room : ℕ) (clusters front : List Cluster) : Type 0 
   pub longest : (count : ℕ) → count ≤ length clusters → clusters_width (take count clusters) ≤ room → count ≤ length front
 
 -- whether the cluster is no wider than the area
-abbrev pub is_narrow : ℕ → Cluster → Bool
-is_narrow width cluster = nat_le (columns_of cluster.text) width
+abbrev pub is_no_wider : ℕ → Cluster → Bool
+is_no_wider width cluster = nat_le (columns_of cluster.text) width
 
 -- of the clusters no wider than the area, the longest prefix whose widths sum to at most the area's
 abbrev pub fitting : ℕ → List Cluster → List Cluster
-fitting width clusters = front_within width (filter (is_narrow width) clusters)
+fitting width clusters = front_within width (filter (is_no_wider width) clusters)
 
 -- ---- their columns
 

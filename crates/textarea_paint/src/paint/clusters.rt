@@ -1,7 +1,7 @@
 //! The grapheme clusters of a line.
 ghost use Rattle.std.specs.Prelude.{◌≡◌, ℕ, ◌<◌, ◌≤◌, ◌++◌, [], length, true, All, IfSome, MatchOption, map, get_or, nat_le, ◌||◌};
 ghost use Rattle.textarea_paint.specs.Prelude.{graphemes, in_style, line_view, row_clusters, IsPrintable, is_printable, plain_count, singles};
-ghost use Rattle.textarea_paint.specs.LineClusters.{IsRun, rest_clusters, run_clusters};
+ghost use Rattle.textarea_paint.specs.LineClusters.{IsClusterRun, rest_clusters, run_clusters};
 ghost use Rattle.std.specs.Iterator.{YieldsFirstBy, item_count};
 ghost use Rattle.unicode_segmentation.specs.Iter.{graphemes_left};
 
@@ -45,7 +45,7 @@ impl<'a> SpanRest<'a> {
             ((rest_clusters self.old ≡ []) × (rest_clusters self.new ≡ []))
             (λ run. map (in_style style) (rest_clusters self.old)
             ≡ run_clusters run ++ map (in_style style) (rest_clusters self.new)) }
-        ensures run { IfSome result (IsRun most) }
+        ensures run { IfSome result (IsClusterRun most) }
     {
         match self {
             SpanRest::Text(text) => {
@@ -106,7 +106,7 @@ impl<'a, 'b> LineClusters<'a, 'b> {
         ensures steps { MatchOption result
             ((clusters_left self.old ≡ []) × (clusters_left self.new ≡ []))
             (λ run. clusters_left self.old ≡ run_clusters run ++ clusters_left self.new) }
-        ensures run { IfSome result (IsRun most) }
+        ensures run { IfSome result (IsClusterRun most) }
     {
         loop {
             let style = self.style;
@@ -144,7 +144,7 @@ fn next_split<'a>(texts: &mut Graphemes<'a>, style: Style) -> Option<ClusterRun<
         ((graphemes_left texts.old ≡ []) × (graphemes_left texts.new ≡ []))
         (λ run. map (in_style style) (graphemes_left texts.old)
         ≡ run_clusters run ++ map (in_style style) (graphemes_left texts.new)) }
-    ensures run { (most : ℕ) → 0 < most → IfSome result (IsRun most) }
+    ensures run { (most : ℕ) → 0 < most → IfSome result (IsClusterRun most) }
 {
     let text = texts.next()?;
     Some(ClusterRun {
@@ -161,7 +161,7 @@ fn split_run<'a>(text: &'a str, most: usize, style: Style) -> Option<(ClusterRun
     requires { 0 < most }
     ensures steps { IfSome result (λ parts. map (in_style style) (graphemes true text.now)
         ≡ run_clusters parts.0 ++ map (in_style style) (graphemes true parts.1.now)) }
-    ensures run { IfSome result (λ parts. IsRun most parts.0) }
+    ensures run { IfSome result (λ parts. IsClusterRun most parts.0) }
 {
     if let Some((text, after)) = split_plain(text, most) {
         let run = ClusterRun {

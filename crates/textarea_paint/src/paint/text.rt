@@ -1,7 +1,7 @@
 //! Texts and lines that are drawn from a cell of a buffer on.
 ghost use Rattle.std.specs.Prelude.{◌≡◌, ◌+◌, ◌≤◌, map, OnOk, OnErr};
 ghost use Rattle.textarea_paint.specs.Prelude.{area_of, Changes, KeepsOutside, line_view, is_in_cells};
-ghost use Rattle.textarea_paint.specs.DrawnText.{cells_from, line_change, text_change};
+ghost use Rattle.textarea_paint.specs.DrawnText.{cells_to_edge, line_change, text_change};
 
 use super::cells::RowCells;
 use super::clusters::LineClusters;
@@ -31,11 +31,11 @@ pub trait DrawText {
 impl DrawText for Buffer {
     fn set_string(&mut self, x: u16, y: u16, text: &str, style: Style) -> Result<(), AllocError>
         ensures ok { OnOk result (Changes self.old self.new
-            (text_change (cells_from (area_of self.old) x y 65535) style text.now)) }
+            (text_change (cells_to_edge (area_of self.old) x y 65535) style text.now)) }
         ensures err { OnErr result (KeepsOutside
-            (is_in_cells (cells_from (area_of self.old) x y 65535)) self.old self.new) }
+            (is_in_cells (cells_to_edge (area_of self.old) x y 65535)) self.old self.new) }
     {
-        let cells = cells_from(self, x, y, u16::MAX);
+        let cells = cells_to_edge(self, x, y, u16::MAX);
         let spans = [Span::raw(text)];
         let clusters = LineClusters::of_spans(&spans, style);
         draw_clusters(self, cells, 0, clusters)
@@ -49,19 +49,19 @@ impl DrawText for Buffer {
         max_width: u16,
     ) -> Result<(), AllocError>
         ensures ok { OnOk result (Changes self.old self.new
-            (line_change (cells_from (area_of self.old) x y max_width) (line_view line.now))) }
+            (line_change (cells_to_edge (area_of self.old) x y max_width) (line_view line.now))) }
         ensures err { OnErr result (KeepsOutside
-            (is_in_cells (cells_from (area_of self.old) x y max_width)) self.old self.new) }
+            (is_in_cells (cells_to_edge (area_of self.old) x y max_width)) self.old self.new) }
     {
-        let cells = cells_from(self, x, y, max_width);
+        let cells = cells_to_edge(self, x, y, max_width);
         let clusters = LineClusters::new(line, Style::new());
         draw_clusters(self, cells, 0, clusters)
     }
 }
 
 // The cells of a row from a column up to the buffer's right edge, at most this number.
-fn cells_from(buffer: &Buffer, x: u16, y: u16, most: u16) -> RowCells
-    ensures cells { result ≡ cells_from (area_of buffer.now) x y most }
+fn cells_to_edge(buffer: &Buffer, x: u16, y: u16, most: u16) -> RowCells
+    ensures cells { result ≡ cells_to_edge (area_of buffer.now) x y most }
     ensures edge { result.x + result.width ≤ 65535 }
 {
     RowCells {
