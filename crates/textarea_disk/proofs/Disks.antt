@@ -82,7 +82,8 @@ pub synced_left : (disk : Disk) (n : ℕ) (content : Content) → disk.files n �
 synced_left disk n content h None l = absurd l
 synced_left disk n content h (Some c) l = ap Some (l (ap (λ (f : File). f.is_synced) h) ∙ ap (λ (f : File). f.content) h)
 
-pub left_or_later : (P : Option Content → Type 0) (old new : Disk) (name : List ℕ) (entry : Option ℕ) → new.names name ≡ record { now = entry; before = entries_of (old.names name) } → Agree old new (entries_of (old.names name)) → ((left : Option Content) → IsLeftByEntry new entry left → P left) → Leaves old name P → Leaves new name P
+pub left_or_later : (P : Option Content → Type 0) (old new : Disk) (name : List ℕ) (entry : Option ℕ) → new.names name ≡ record { now = entry; before = entries_of (old.names name) } →
+    Agree old new (entries_of (old.names name)) → ((left : Option Content) → IsLeftByEntry new entry left → P left) → Leaves old name P → Leaves new name P
 left_or_later P old new name entry same agree first leaves =
     record { each = λ left l. cases left (subst (λ (e : Entries). IsLeftByOne new (entries_of e) left) same l) }
   where
@@ -91,7 +92,8 @@ left_or_later P old new name entry same agree first leaves =
     cases left (inr l) = leaves.each left (left_agree old new (entries_of (old.names name)) agree left l)
 
 -- a name with one entry, a synced file
-pub leaves_one : (P : Option Content → Type 0) (disk : Disk) (name : List ℕ) (n : ℕ) (content : Content) → disk.names name ≡ record { now = Some n; before = [] } → disk.files n ≡ record { content = content; is_synced = true } → P (Some content) → Leaves disk name P
+pub leaves_one : (P : Option Content → Type 0) (disk : Disk) (name : List ℕ) (n : ℕ) (content : Content) → disk.names name ≡ record { now = Some n; before = [] } →
+    disk.files n ≡ record { content = content; is_synced = true } → P (Some content) → Leaves disk name P
 leaves_one P disk name n content same file p =
     record { each = λ left l. cases left (subst (λ (e : Entries). IsLeftByOne disk (entries_of e) left) same l) }
   where

@@ -8,6 +8,11 @@ use Rattle.textarea_disk.specs.declared.step.Place.TheVariants as place
 use Rattle.textarea_disk.specs.declared.step.SavePlan.TheVariants.{Beside, InPlace}
 use Rattle.textarea_disk.proofs.Disks.{Apart, agree_all, apart_agree, at_file, at_name, beside_file, beside_name, entries_of, leaves_agree, leaves_one, left_or_later, made_apart, seen_agree, seen_file, seen_left, synced_left}
 
+-- a fact at one point, and those at the others
+infixr 20 ◌&◌
+◌&◌ : {A B : Type 0} → A → B → A × B
+one & others = (one, others)
+
 -- ---- while the copy is written
 
 -- The copy is the file of this number, with this content. A crash leaves what was under the file's name.
@@ -139,53 +144,43 @@ begun_beside save disk old b =
     let b3 = begun_changed save old disk.count (written save.text (new_copy save)) _ (with_mode save.mode) b2 in
     begun_changed save old disk.count (with_mode save.mode (written save.text (new_copy save))) _ synced b3
 
-pub beside_lasting : (save : Save) (disk : Disk) (old : Option Content) → CanBegin save disk old → LeavesOnly (after save (steps_of Beside) disk) save.file (Some (saved save))
-beside_lasting save disk old b = settled_leaves save old disk.count _ (begun_beside save disk old b)
-
-pub beside_points : (save : Save) (disk : Disk) (old : Option Content) → CanBegin save disk old → AtEachPoint (LeavesOldOrNew save old) save (steps_of Beside) disk
-beside_points save disk old b =
-    let b1 = begun_created save disk old b in
-    let b2 = begun_changed save old disk.count (new_copy save) _ (written save.text) b1 in
-    let b3 = begun_changed save old disk.count (written save.text (new_copy save)) _ (with_mode save.mode) b2 in
-    let b4 = begun_changed save old disk.count (with_mode save.mode (written save.text (new_copy save))) _ synced b3 in (
-      record { each = λ left l. inl (b.stored.each left l) },
-      (
-        begun_leaves save old disk.count _ _ b1,
-        (
-          begun_leaves save old disk.count _ _ b2,
-          (
-            begun_leaves save old disk.count _ _ b3,
-            (
-              begun_leaves save old disk.count _ _ b4,
-              (renamed_leaves save old disk.count _ b4, record { each = λ left l. inr ((settled_leaves save old disk.count _ b4).each left l) }),
-            ),
-          ),
-        ),
-      ),
-    )
-
-pub beside_failures : (save : Save) (disk : Disk) (old : Option Content) (bytes : List ℕ) → CanBegin save disk old → AtEachFailure (IsWhole save old) save bytes (steps_of Beside) disk
-beside_failures save disk old bytes b =
+-- what is under the file's name after all steps, at each point, and after a failure at each step
+beside : (save : Save) (disk : Disk) (old : Option Content) (bytes : List ℕ) → CanBegin save disk old →
+    LeavesOnly (after save (steps_of Beside) disk) save.file (Some (saved save))
+    × AtEachPoint (LeavesOldOrNew save old) save (steps_of Beside) disk
+    × AtEachFailure (IsWhole save old) save bytes (steps_of Beside) disk
+beside save disk old bytes b =
     let b1 = begun_created save disk old b in
     let failed = begun_changed save old disk.count (new_copy save) _ (written bytes) b1 in
     let b2 = begun_changed save old disk.count (new_copy save) _ (written save.text) b1 in
     let b3 = begun_changed save old disk.count (written save.text (new_copy save)) _ (with_mode save.mode) b2 in
-    let b4 = begun_changed save old disk.count (with_mode save.mode (written save.text (new_copy save))) _ synced b3 in (
-      record { file = inl (stored_seen save old disk b.stored); no_copy = b.no_copy },
-      (
-        begun_removed save old disk.count _ _ failed,
-        (
-          begun_removed save old disk.count _ _ b2,
-          (
-            begun_removed save old disk.count _ _ b3,
-            (
-              begun_removed save old disk.count _ _ b4,
-              (renamed_whole save old disk.count _ b4, settled_whole save old disk.count _ b4),
-            ),
-          ),
-        ),
-      ),
+    let b4 = begun_changed save old disk.count (with_mode save.mode (written save.text (new_copy save))) _ synced b3 in
+    let last = settled_leaves save old disk.count _ b4 in (
+      last,
+      record { each = λ left l. inl (b.stored.each left l) }
+          & begun_leaves save old disk.count _ _ b1
+          & begun_leaves save old disk.count _ _ b2
+          & begun_leaves save old disk.count _ _ b3
+          & begun_leaves save old disk.count _ _ b4
+          & renamed_leaves save old disk.count _ b4
+          & record { each = λ left l. inr (last.each left l) },
+      record { file = inl (stored_seen save old disk b.stored); no_copy = b.no_copy }
+          & begun_removed save old disk.count _ _ failed
+          & begun_removed save old disk.count _ _ b2
+          & begun_removed save old disk.count _ _ b3
+          & begun_removed save old disk.count _ _ b4
+          & renamed_whole save old disk.count _ b4
+          & settled_whole save old disk.count _ b4,
     )
+
+pub beside_lasting : (save : Save) (disk : Disk) (old : Option Content) → CanBegin save disk old → LeavesOnly (after save (steps_of Beside) disk) save.file (Some (saved save))
+beside_lasting save disk old b = (beside save disk old [] b).0
+
+pub beside_points : (save : Save) (disk : Disk) (old : Option Content) → CanBegin save disk old → AtEachPoint (LeavesOldOrNew save old) save (steps_of Beside) disk
+beside_points save disk old b = (beside save disk old [] b).1
+
+pub beside_failures : (save : Save) (disk : Disk) (old : Option Content) (bytes : List ℕ) → CanBegin save disk old → AtEachFailure (IsWhole save old) save bytes (steps_of Beside) disk
+beside_failures save disk old bytes b = (beside save disk old bytes b).2
 
 -- ---- while the file is written over
 
@@ -290,62 +285,6 @@ removed_whole save old m n disk b =
 
 -- ---- a save in place
 
-pub in_place_lasting : (save : Save) (disk : Disk) (old : Content) → CanBegin save disk (Some old) → LeavesOnly (after save (steps_of InPlace) disk) save.file (Some (saved save))
-in_place_lasting save disk old b =
-    let b1 = begun_created save disk (Some old) b in
-    let b2 = begun_changed save (Some old) disk.count (new_copy save) _ (written save.text) b1 in
-    let b3 = begun_changed save (Some old) disk.count (written save.text (new_copy save)) _ synced b2 in
-    let n = file_of save _ old b3.stored in
-    let c4 = copied_first save (Some old) disk.count n.0 _ n.1 b3 in
-    let c5 = copied_changed save disk.count n.0 _ _ (grown save.text) c4 in
-    let c6 = copied_changed save disk.count n.0 _ _ (written save.text) c5 in
-    let c7 = copied_changed save disk.count n.0 _ _ (with_mode save.mode) c6 in
-    let c8 = copied_changed save disk.count n.0 _ _ synced c7 in
-    removed_leaves save disk.count n.0 _ c8
-
-pub in_place_points : (save : Save) (disk : Disk) (old : Content) → CanBegin save disk (Some old) → AtEachPoint (LeavesWholeText save (Some old)) save (steps_of InPlace) disk
-in_place_points save disk old b =
-    let b1 = begun_created save disk (Some old) b in
-    let b2 = begun_changed save (Some old) disk.count (new_copy save) _ (written save.text) b1 in
-    let b3 = begun_changed save (Some old) disk.count (written save.text (new_copy save)) _ synced b2 in
-    let n = file_of save _ old b3.stored in
-    let c4 = copied_first save (Some old) disk.count n.0 _ n.1 b3 in
-    let c5 = copied_changed save disk.count n.0 _ _ (grown save.text) c4 in
-    let c6 = copied_changed save disk.count n.0 _ _ (written save.text) c5 in
-    let c7 = copied_changed save disk.count n.0 _ _ (with_mode save.mode) c6 in
-    let c8 = copied_changed save disk.count n.0 _ _ synced c7 in
-    let c9 = copied_settled save disk.count n.0 _ _ c8 in (
-      inl b.stored,
-      (
-        inl b1.stored,
-        (
-          inl b2.stored,
-          (
-            inl b3.stored,
-            (
-              copied_leaves save (Some old) disk.count n.0 _ _ c4,
-              (
-                copied_leaves save (Some old) disk.count n.0 _ _ c5,
-                (
-                  copied_leaves save (Some old) disk.count n.0 _ _ c6,
-                  (
-                    copied_leaves save (Some old) disk.count n.0 _ _ c7,
-                    (
-                      copied_leaves save (Some old) disk.count n.0 _ _ c8,
-                      (
-                        copied_leaves save (Some old) disk.count n.0 _ _ c9,
-                        inr (inl (removed_leaves save disk.count n.0 _ c8)),
-                      ),
-                    ),
-                  ),
-                ),
-              ),
-            ),
-          ),
-        ),
-      ),
-    )
-
 some_same : (a b : Content) → Some a ≡ Some b → a ≡ b
 some_same a b h = cc
 
@@ -353,8 +292,12 @@ old_content : (save : Save) (disk : Disk) (old : Content) (n : ℕ) → (disk.na
 old_content save disk old n named stored =
     some_same (disk.files n).content old (sym (seen_file disk save.file n (disk.files n) named refl) ∙ stored_seen save (Some old) disk stored)
 
-pub in_place_failures : (save : Save) (disk : Disk) (old : Content) (bytes : List ℕ) → CanBegin save disk (Some old) → AtEachFailure (λ d. IsWhole save (Some old) d ⊎ HasBytes save.text (seen d save.copy)) save bytes (steps_of InPlace) disk
-in_place_failures save disk old bytes b =
+-- the same of a save in place; after a failure the whole text may be in the copy
+in_place : (save : Save) (disk : Disk) (old : Content) (bytes : List ℕ) → CanBegin save disk (Some old) →
+    LeavesOnly (after save (steps_of InPlace) disk) save.file (Some (saved save))
+    × AtEachPoint (LeavesWholeText save (Some old)) save (steps_of InPlace) disk
+    × AtEachFailure (λ d. IsWhole save (Some old) d ⊎ HasBytes save.text (seen d save.copy)) save bytes (steps_of InPlace) disk
+in_place save disk old bytes b =
     let b1 = begun_created save disk (Some old) b in
     let failed = begun_changed save (Some old) disk.count (new_copy save) _ (written bytes) b1 in
     let b2 = begun_changed save (Some old) disk.count (new_copy save) _ (written save.text) b1 in
@@ -368,28 +311,39 @@ in_place_failures save disk old bytes b =
     let c7 = copied_changed save disk.count n.0 _ _ (with_mode save.mode) c6 in
     let c8 = copied_changed save disk.count n.0 _ _ synced c7 in
     let c9 = copied_settled save disk.count n.0 _ _ c8 in
+    let last = removed_leaves save disk.count n.0 _ c8 in
     let old_seen = old_content save _ old n.0 n.1 b3.stored in (
-      inl (record { file = inl (stored_seen save (Some old) disk b.stored); no_copy = b.no_copy }),
-      (
-        inl (begun_removed save (Some old) disk.count _ _ failed),
-        (
-          inl (begun_removed save (Some old) disk.count _ _ b2),
-          (
-            inl (begun_removed save (Some old) disk.count _ _ b3),
-            (
-              inl (copied_removed save old disk.count n.0 _ _ cut old_seen),
-              (
-                inr (copied_seen save disk.count n.0 _ _ torn),
-                (
-                  inr (copied_seen save disk.count n.0 _ _ c6),
-                  (
-                    inr (copied_seen save disk.count n.0 _ _ c7),
-                    (inr (copied_seen save disk.count n.0 _ _ c8), (inr (copied_seen save disk.count n.0 _ _ c9), inl (removed_whole save (Some old) disk.count n.0 _ c8))),
-                  ),
-                ),
-              ),
-            ),
-          ),
-        ),
-      ),
+      last,
+      inl b.stored
+          & inl b1.stored
+          & inl b2.stored
+          & inl b3.stored
+          & copied_leaves save (Some old) disk.count n.0 _ _ c4
+          & copied_leaves save (Some old) disk.count n.0 _ _ c5
+          & copied_leaves save (Some old) disk.count n.0 _ _ c6
+          & copied_leaves save (Some old) disk.count n.0 _ _ c7
+          & copied_leaves save (Some old) disk.count n.0 _ _ c8
+          & copied_leaves save (Some old) disk.count n.0 _ _ c9
+          & inr (inl last),
+      inl (record { file = inl (stored_seen save (Some old) disk b.stored); no_copy = b.no_copy })
+          & inl (begun_removed save (Some old) disk.count _ _ failed)
+          & inl (begun_removed save (Some old) disk.count _ _ b2)
+          & inl (begun_removed save (Some old) disk.count _ _ b3)
+          & inl (copied_removed save old disk.count n.0 _ _ cut old_seen)
+          & inr (copied_seen save disk.count n.0 _ _ torn)
+          & inr (copied_seen save disk.count n.0 _ _ c6)
+          & inr (copied_seen save disk.count n.0 _ _ c7)
+          & inr (copied_seen save disk.count n.0 _ _ c8)
+          & inr (copied_seen save disk.count n.0 _ _ c9)
+          & inl (removed_whole save (Some old) disk.count n.0 _ c8),
     )
+
+pub in_place_lasting : (save : Save) (disk : Disk) (old : Content) → CanBegin save disk (Some old) → LeavesOnly (after save (steps_of InPlace) disk) save.file (Some (saved save))
+in_place_lasting save disk old b = (in_place save disk old [] b).0
+
+pub in_place_points : (save : Save) (disk : Disk) (old : Content) → CanBegin save disk (Some old) → AtEachPoint (LeavesWholeText save (Some old)) save (steps_of InPlace) disk
+in_place_points save disk old b = (in_place save disk old [] b).1
+
+pub in_place_failures : (save : Save) (disk : Disk) (old : Content) (bytes : List ℕ) → CanBegin save disk (Some old) →
+    AtEachFailure (λ d. IsWhole save (Some old) d ⊎ HasBytes save.text (seen d save.copy)) save bytes (steps_of InPlace) disk
+in_place_failures save disk old bytes b = (in_place save disk old bytes b).2
