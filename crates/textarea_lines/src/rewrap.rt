@@ -4,9 +4,9 @@ ghost use Rattle.textarea_lines.specs.Prelude.{lines_of, AreRowsOf, ticks_after,
 
 use crate::settings::{LayoutSettings, is_same, wrapping_for};
 use std::alloc::{AllocError, Global};
-use textarea_screen_map::blocks::{RowBlocks, push_lines};
 use textarea_screen_map::layout::Wrapping;
 use textarea_screen_map::screen_map::{NewRows, PreparedRows, ScreenMap};
+use textarea_screen_map::wrapped_blocks::{RowBlocks, push_lines};
 use textarea_text::rows::Replacement;
 use textarea_wrap::wrap::{Rows, WrapCount, WrapMode, line_ranges};
 

@@ -69,7 +69,9 @@ pub record HoldsOffset (ranges : List (ℕ × ℕ)) (row offset : ℕ) : Type 0 
   pub before_next : row + 1 < length ranges → offset < (range_at ranges row).1
 
 -- an offset belongs to the last row that begins at or before it
-pub holds_offset : (mode : WrapMode) (tab_len width : ℕ) (line : List ℕ) (ranges : List (ℕ × ℕ)) (row offset : ℕ) → IsWrapped mode tab_len width line ranges → offset ≤ length line → row < length ranges → (range_at ranges row).0 ≤ offset → (row + 1 < length ranges → offset < (range_at ranges (row + 1)).0) → HoldsOffset ranges row offset
+pub holds_offset :
+    (mode : WrapMode) (tab_len width : ℕ) (line : List ℕ) (ranges : List (ℕ × ℕ)) (row offset : ℕ) → IsWrapped mode tab_len width line ranges
+    → offset ≤ length line → row < length ranges → (range_at ranges row).0 ≤ offset → (row + 1 < length ranges → offset < (range_at ranges (row + 1)).0) → HoldsOffset ranges row offset
 holds_offset mode tab_len width line ranges row offset h inside within from next =
     let before : row + 1 < length ranges → offset < (range_at ranges row).1 =
     λ more. omega (arith, next more, ap (λ (t : List (ℕ × ℕ)). (range_at t (row + 1)).0) h.ranges_are, ap (λ (t : List (ℕ × ℕ)). (range_at t row).1) h.ranges_are, next_range 0 h.texts row (omega (arith, more, ap length h.ranges_are))) in
@@ -102,7 +104,9 @@ bytes_of_line items i line text within read same =
 
 -- ---- a row and an offset as in the code
 
-pub wrapped_of : (w : Wrapping) (lines : List (List ℕ)) (rows : List RowsView) (i : ℕ) (ranges : List (ℕ × ℕ)) → ranges ≡ ranges_at rows i → AreRowsOf w lines rows → i < length lines → IsWrapped w.mode w.tab_len (max w.width 1) (encode_utf8_all (get_or lines i [])) ranges
+pub wrapped_of :
+    (w : Wrapping) (lines : List (List ℕ)) (rows : List RowsView) (i : ℕ) (ranges : List (ℕ × ℕ)) → ranges ≡ ranges_at rows i → AreRowsOf w lines rows
+    → i < length lines → IsWrapped w.mode w.tab_len (max w.width 1) (encode_utf8_all (get_or lines i [])) ranges
 wrapped_of w lines rows i ranges e h within =
     subst (λ (t : List (ℕ × ℕ)). IsWrapped w.mode w.tab_len (max w.width 1) (encode_utf8_all (get_or lines i [])) t) (sym e) (wrapped_at w lines rows i h within)
 

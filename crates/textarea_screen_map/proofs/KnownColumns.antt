@@ -48,7 +48,10 @@ marks_right w lines rows i h within =
     (subst (AreColumnsAtBytes line) (sym here.marked) (marks_known line (get_or rows i none).ranges here.characters here.wrapped.placed))
 
 -- the text before a row, with the marks of its line
-pub front_marked : (w : Wrapping) (lines : List (List ℕ)) (rows : List RowsView) (i : ℕ) (front : List ℕ) (marks : List (ℕ × ℕ)) → AreRowsOf w lines rows → i < length rows → marks ≡ marks_at rows i → front ≡ take (length front) (encode_utf8_all (get_or lines i [])) → (line : List ℕ) × (all_scalars line ≡ true) × AreColumnsAtBytes line marks × (front ≡ take (length front) (encode_utf8_all line))
+pub front_marked :
+    (w : Wrapping) (lines : List (List ℕ)) (rows : List RowsView) (i : ℕ) (front : List ℕ) (marks : List (ℕ × ℕ)) → AreRowsOf w lines rows
+    → i < length rows → marks ≡ marks_at rows i → front ≡ take (length front) (encode_utf8_all (get_or lines i []))
+    → (line : List ℕ) × (all_scalars line ≡ true) × AreColumnsAtBytes line marks × (front ≡ take (length front) (encode_utf8_all line))
 front_marked w lines rows i front marks h within marks_are is =
     let there : i < length lines = omega (arith, within, length-AreRowsOf w lines rows h) in (
       get_or lines i [],
@@ -64,7 +67,9 @@ pub record IsBorrowedLine {Z : Type 0} (items : List (String Z)) (rows : List Ro
   pub short : length text < size_limit
   pub marked : AreColumnsAtBytes (chars text) (marks_at rows i)
 
-pub borrowed_line : {Z : Type 0} (w : Wrapping) (items : List (String Z)) (rows : List RowsView) (i : ℕ) (item : String Z) (text : List ℕ) → AreRowsOf w (lines_of items) rows → i < length (lines_of items) → item ≡ get_or items i item → text ≡ string_bytes item → IsBorrowedLine items rows i text
+pub borrowed_line :
+    {Z : Type 0} (w : Wrapping) (items : List (String Z)) (rows : List RowsView) (i : ℕ) (item : String Z) (text : List ℕ)
+    → AreRowsOf w (lines_of items) rows → i < length (lines_of items) → item ≡ get_or items i item → text ≡ string_bytes item → IsBorrowedLine items rows i text
 borrowed_line w items rows i item text h there read same =
     let within : i < length items = omega (arith, there, length-map items characters_of) in
     let bytes = bytes_of_line items i item text within read same in

@@ -44,13 +44,19 @@ length-AreRowsOf w (line ∷ lines) [] h = absurd h
 length-AreRowsOf w (line ∷ lines) (r ∷ rows) h = ap suc (length-AreRowsOf w lines rows h.1)
 
 -- some lines and their rows are replaced
-pub AreRowsOf-replaced : (w : Wrapping) (lines new : List (List ℕ)) (rows others : List RowsView) (start count : ℕ) → AreRowsOf w lines rows → AreRowsOf w new others → AreRowsOf w (replaced lines start count new) (replaced rows start count others)
+pub AreRowsOf-replaced :
+    (w : Wrapping) (lines new : List (List ℕ)) (rows others : List RowsView) (start count : ℕ) → AreRowsOf w lines rows → AreRowsOf w new others
+    → AreRowsOf w (replaced lines start count new) (replaced rows start count others)
 AreRowsOf-replaced w lines new rows others start count h k =
     AreRowsOf-append w (take start lines) (new ++ drop (start + count) lines) (take start rows) (others ++ drop (start + count) rows) (AreRowsOf-take w start lines rows h)
     (AreRowsOf-append w new (drop (start + count) lines) others (drop (start + count) rows) k (AreRowsOf-drop w (start + count) lines rows h))
 
 -- one line more
-pub AreRowsOf-more : {Z : Type 0} (w : Wrapping) (before : List (List ℕ)) (items : List (String Z)) (i : ℕ) (line : String Z) (text : List ℕ) (rows : List RowsView) (wrapped : RowsView) → i < length items → line ≡ get_or items i line → text ≡ string_bytes line → AreRowsOf w (before ++ take i (lines_of items)) rows → IsWrapped w.mode w.tab_len (max w.width 1) text wrapped.ranges → wrapped.marks ≡ marks_of text wrapped.ranges → length text < size_limit → AreRowsOf w (before ++ take (i + 1) (lines_of items)) (rows ++ wrapped ∷ [])
+pub AreRowsOf-more :
+    {Z : Type 0} (w : Wrapping) (before : List (List ℕ)) (items : List (String Z)) (i : ℕ) (line : String Z) (text : List ℕ) (rows : List RowsView) (wrapped : RowsView)
+    → i < length items → line ≡ get_or items i line → text ≡ string_bytes line → AreRowsOf w (before ++ take i (lines_of items)) rows
+    → IsWrapped w.mode w.tab_len (max w.width 1) text wrapped.ranges → wrapped.marks ≡ marks_of text wrapped.ranges → length text < size_limit
+    → AreRowsOf w (before ++ take (i + 1) (lines_of items)) (rows ++ wrapped ∷ [])
 AreRowsOf-more w before items i line text rows wrapped within read same h k marked short =
     let bytes = bytes_of_line items i line text within read same in
     let here : AreRowsOfLine w (get_or (lines_of items) i []) wrapped =
@@ -76,12 +82,17 @@ ticks_append count size more =
     let start : count + size + 1 ≡ count + 1 + size = omega arith in rw (start, range_append (count + 1) size more)
 
 -- one line more
-pub ticks_more : (before after : List RowsView) (wrapped : RowsView) (ticks : List ℕ) (count i : ℕ) → after ≡ before ++ wrapped ∷ [] → ticks_of before ≡ ticks ++ ticks_after count i → wrapped.tick ≡ count + i + 1 → ticks_of after ≡ ticks ++ ticks_after count (i + 1)
+pub ticks_more :
+    (before after : List RowsView) (wrapped : RowsView) (ticks : List ℕ) (count i : ℕ) → after ≡ before ++ wrapped ∷ []
+    → ticks_of before ≡ ticks ++ ticks_after count i → wrapped.tick ≡ count + i + 1 → ticks_of after ≡ ticks ++ ticks_after count (i + 1)
 ticks_more before after wrapped ticks count i is e tick =
     rw (is, map-append (λ (r : RowsView). r.tick) before (wrapped ∷ []), e, append_assoc, tick, ticks_append count i 1)
 
 -- two maps of the same lines, when a line has one right list of rows
-pub ranges_same : (w : Wrapping) (lines : List (List ℕ)) (rows others : List RowsView) → ((line : List ℕ) (ranges more : List (ℕ × ℕ)) → IsWrapped w.mode w.tab_len (max w.width 1) line ranges → IsWrapped w.mode w.tab_len (max w.width 1) line more → ranges ≡ more) → AreRowsOf w lines rows → AreRowsOf w lines others → map (λ (r : RowsView). r.ranges) rows ≡ map (λ (r : RowsView). r.ranges) others
+pub ranges_same :
+    (w : Wrapping) (lines : List (List ℕ)) (rows others : List RowsView)
+    → ((line : List ℕ) (ranges more : List (ℕ × ℕ)) → IsWrapped w.mode w.tab_len (max w.width 1) line ranges → IsWrapped w.mode w.tab_len (max w.width 1) line more → ranges ≡ more)
+    → AreRowsOf w lines rows → AreRowsOf w lines others → map (λ (r : RowsView). r.ranges) rows ≡ map (λ (r : RowsView). r.ranges) others
 ranges_same w [] [] [] one h k = refl
 ranges_same w [] (r ∷ rows) others one h k = absurd h
 ranges_same w [] [] (s ∷ others) one h k = absurd k

@@ -30,7 +30,9 @@ mark_stays tab_len old new column mark same up_to h =
     }
 
 -- the marks up to a column, when the line changes from there on
-cut_marks : (tab_len : ℕ) (old new : List ℕ) (column count : ℕ) (marks : List Mark) → take column new ≡ take column old → count ≤ length marks → (0 < count → (get_or marks (count - 1) line_start).column ≤ column) → AreMarks tab_len old marks → AreMarks tab_len new (take count marks)
+cut_marks :
+    (tab_len : ℕ) (old new : List ℕ) (column count : ℕ) (marks : List Mark) → take column new ≡ take column old → count ≤ length marks
+    → (0 < count → (get_or marks (count - 1) line_start).column ≤ column) → AreMarks tab_len old marks → AreMarks tab_len new (take count marks)
 cut_marks tab_len old new column count marks same within up_to h =
     let size : length (take count marks) ≡ count = length-take-le count marks within in
     let at : (i : ℕ) → i < count → get_or (take count marks) i line_start ≡ get_or marks i line_start = λ i below. get_or-take count marks i line_start below in
@@ -44,7 +46,10 @@ cut_marks tab_len old new column count marks same within up_to h =
           omega (arith, h.ordered i j up (omega (arith, less, within)), ap (λ (m : Mark). m.column) (at i (omega (arith, up, less))), ap (λ (m : Mark). m.column) (at j less));
     }
 
-pub cut_in : (old new : List (List ℕ)) (row column count : ℕ) (was is : MarkedLine) → IsSameBefore old new row column → was.row ≡ row → count ≤ length was.marks → (0 < count → (get_or was.marks (count - 1) line_start).column ≤ column) → is.row ≡ was.row → is.tab_len ≡ was.tab_len → is.marks ≡ take count was.marks → AreMarksOf old was → AreMarksOf new is
+pub cut_in :
+    (old new : List (List ℕ)) (row column count : ℕ) (was is : MarkedLine) → IsSameBefore old new row column → was.row ≡ row
+    → count ≤ length was.marks → (0 < count → (get_or was.marks (count - 1) line_start).column ≤ column) → is.row ≡ was.row → is.tab_len ≡ was.tab_len
+    → is.marks ≡ take count was.marks → AreMarksOf old was → AreMarksOf new is
 cut_in old new row column count was is same here within up_to row_is tab_is marks_are h =
     rw (marks_are, tab_is, row_is) (cut_marks was.tab_len (get_or old was.row []) (get_or new was.row []) column count was.marks (rw here same.front) within up_to h)
 
@@ -58,7 +63,9 @@ pub record IsWalked (tab_len : ℕ) (line rest : List ℕ) (column display : ℕ
   pub display_is : display ≡ column_at tab_len (chars line) column
   pub fits : display + 255 * length rest ≤ 255 * length line
 
-pub walk_from : (tab_len : ℕ) (line rest : List ℕ) (mark : Mark) → IsUtf8 line → IsMark tab_len (chars line) mark → rest ≡ drop mark.offset line → IsWalked tab_len line rest mark.column mark.display × (mark.offset + length rest ≡ length line)
+pub walk_from :
+    (tab_len : ℕ) (line rest : List ℕ) (mark : Mark) → IsUtf8 line → IsMark tab_len (chars line) mark → rest ≡ drop mark.offset line
+    → IsWalked tab_len line rest mark.column mark.display × (mark.offset + length rest ≡ length line)
 walk_from tab_len line rest mark valid h is =
     let there : rest ≡ drop (offset_in (chars line) mark.column) line = is ∙ ap (λ n. drop n line) h.offset_is in
     let spelled : rest ≡ encode_utf8_all (drop mark.column (chars line)) = there ∙ drop_offset line mark.column valid in
@@ -69,7 +76,9 @@ walk_from tab_len line rest mark valid h is =
     )
 
 -- the column after the next character, which is there
-pub walk_more : (tab_len : ℕ) (line rest more : List ℕ) (c column display next : ℕ) → IsWalked tab_len line rest column display → rest ≡ encode_utf8 c ++ more → next ≡ column_after (max tab_len 1) display c → next ≤ display + 255 → (column < length (chars line)) × IsWalked tab_len line more (column + 1) next
+pub walk_more :
+    (tab_len : ℕ) (line rest more : List ℕ) (c column display next : ℕ) → IsWalked tab_len line rest column display → rest ≡ encode_utf8 c ++ more
+    → next ≡ column_after (max tab_len 1) display c → next ≤ display + 255 → (column < length (chars line)) × IsWalked tab_len line more (column + 1) next
 walk_more tab_len line rest more c column display next was split next_is near =
     let read = chars_past_char rest more c was.text split in
     let step = passed (chars line) (chars more) column c was.within (was.left ∙ read) in (
@@ -84,7 +93,9 @@ walk_more tab_len line rest more c column display next was split next_is near =
     )
 
 -- a position whose display column is past that of the position before it
-pub walk_mark : (tab_len : ℕ) (line rest : List ℕ) (at : Mark) (column : ℕ) → IsUtf8 line → IsWalked tab_len line rest at.column at.display → at.offset + length rest ≡ length line → at.column ≡ column + 1 → column_at tab_len (chars line) column < at.display → IsMark tab_len (chars line) at
+pub walk_mark :
+    (tab_len : ℕ) (line rest : List ℕ) (at : Mark) (column : ℕ) → IsUtf8 line → IsWalked tab_len line rest at.column at.display
+    → at.offset + length rest ≡ length line → at.column ≡ column + 1 → column_at tab_len (chars line) column < at.display → IsMark tab_len (chars line) at
 walk_mark tab_len line rest at column valid h bytes is less =
     let spelled : encode_utf8_all (drop at.column (chars line)) ≡ rest = ap encode_utf8_all h.left ∙ encodes-chars rest h.text in
     record {
@@ -109,7 +120,10 @@ whole_slice line slice n start is same =
     ]
 
 -- the column after a text that begins a line, from a known position on
-pub column_from_mark : (tab_len : ℕ) (line slice : List ℕ) (mark : Mark) (end : ℕ) → IsUtf8 line → IsMark tab_len (chars line) mark → mark.offset ≤ end → slice ≡ take (end - mark.offset) (drop mark.offset line) → IsCharBoundary line mark.offset → display_end_column tab_len mark.display (chars slice) ≡ display_end_column tab_len 0 (chars (take end line))
+pub column_from_mark :
+    (tab_len : ℕ) (line slice : List ℕ) (mark : Mark) (end : ℕ) → IsUtf8 line → IsMark tab_len (chars line) mark → mark.offset ≤ end
+    → slice ≡ take (end - mark.offset) (drop mark.offset line) → IsCharBoundary line mark.offset
+    → display_end_column tab_len mark.display (chars slice) ≡ display_end_column tab_len 0 (chars (take end line))
 column_from_mark tab_len line slice mark end valid h up_to is seam =
     let front = take mark.offset line in
     let front_valid : IsUtf8 front = IsUtf8-take line mark.offset valid seam in

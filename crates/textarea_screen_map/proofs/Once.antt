@@ -28,7 +28,9 @@ ranges_apart at (t ∷ texts) zero (suc j) less h = begins_later (at + length t)
 ranges_apart at (t ∷ texts) (suc k) (suc j) less h = ranges_apart (at + length t) texts k j (omega arith) (omega arith)
 
 -- of two rows of a line, the later one begins at or after the end of the other
-apart : (w : Wrapping) (lines : List (List ℕ)) (rows : List RowsView) (a b : ℕ) (p : IsRowSlice lines rows a) (q : IsRowSlice lines rows b) → AreRowsOf w lines rows → q.line ≡ p.line → p.number < q.number → ((row_at lines rows a).first + length (row_at lines rows a).text ≤ (row_at lines rows b).first) × ((row_at lines rows a).is_last ≡ false)
+apart :
+    (w : Wrapping) (lines : List (List ℕ)) (rows : List RowsView) (a b : ℕ) (p : IsRowSlice lines rows a) (q : IsRowSlice lines rows b) → AreRowsOf w lines rows → q.line ≡ p.line → p.number < q.number
+    → ((row_at lines rows a).first + length (row_at lines rows a).text ≤ (row_at lines rows b).first) × ((row_at lines rows a).is_last ≡ false)
 apart w lines rows a b p q h same less =
     let line = get_or lines p.line [] in
     let ranges = ranges_at rows p.line in
@@ -38,7 +40,12 @@ apart w lines rows a b p q h same less =
     let begins : offset_in line (length q.sliced.front) ≡ (range_at ranges q.number).0 =
     ap (λ (n : ℕ). offset_in (get_or lines n []) (length q.sliced.front)) (sym same) ∙ q.sliced.begins ∙ ap (λ (n : ℕ). (range_at (ranges_at rows n) q.number).0) same in
     let ordered : (range_at ranges p.number).1 ≤ (range_at ranges q.number).0 =
-    omega (arith, ap (λ (t : List (ℕ × ℕ)). (range_at t p.number).1) wrapped.ranges_are, ap (λ (t : List (ℕ × ℕ)). (range_at t q.number).0) wrapped.ranges_are, ranges_apart 0 wrapped.texts p.number q.number less (omega (arith, there, ap length wrapped.ranges_are))) in (
+    omega (
+      arith,
+      ap (λ (t : List (ℕ × ℕ)). (range_at t p.number).1) wrapped.ranges_are,
+      ap (λ (t : List (ℕ × ℕ)). (range_at t q.number).0) wrapped.ranges_are,
+      ranges_apart 0 wrapped.texts p.number q.number less (omega (arith, there, ap length wrapped.ranges_are)),
+    ) in (
       elim (cases_lt (length q.sliced.front) (length p.sliced.front + length p.sliced.text)) [
         | inl over ↦ absurd (omega (arith, ends, begins, ordered, offset_less line (length q.sliced.front) (length p.sliced.front + length p.sliced.text) over (row_within line (range_at ranges p.number) p.sliced)))
         | inr fine ↦ omega (arith, fine, p.first_is, p.size_is, q.first_is)
@@ -46,13 +53,17 @@ apart w lines rows a b p q h same less =
       p.more (omega (arith, less, there)),
     )
 
-not_before : (w : Wrapping) (lines : List (List ℕ)) (rows : List RowsView) (t : ℕ) (place : Place) (a b : VisualPosition) (p : IsRowSlice lines rows a.row) (q : IsRowSlice lines rows b.row) → AreRowsOf w lines rows → IsVisualPosition t lines rows place a → IsVisualPosition t lines rows place b → p.number < q.number → ⊥
+not_before :
+    (w : Wrapping) (lines : List (List ℕ)) (rows : List RowsView) (t : ℕ) (place : Place) (a b : VisualPosition) (p : IsRowSlice lines rows a.row) (q : IsRowSlice lines rows b.row)
+    → AreRowsOf w lines rows → IsVisualPosition t lines rows place a → IsVisualPosition t lines rows place b → p.number < q.number → ⊥
 not_before w lines rows t place a b p q h s u less =
     let same : q.line ≡ p.line = sym q.line_is ∙ sym u.holds.line ∙ s.holds.line ∙ p.line_is in
     let parted = apart w lines rows a.row b.row p q h same less in
     omega (arith, parted.0, s.holds.before_next parted.1, u.holds.from)
 
-pub one_visual_position : (w : Wrapping) (lines : List (List ℕ)) (rows : List RowsView) (place : Place) (a b : VisualPosition) → AreRowsOf w lines rows → IsVisualPosition w.tab_len lines rows place a → IsVisualPosition w.tab_len lines rows place b → a ≡ b
+pub one_visual_position :
+    (w : Wrapping) (lines : List (List ℕ)) (rows : List RowsView) (place : Place) (a b : VisualPosition) → AreRowsOf w lines rows
+    → IsVisualPosition w.tab_len lines rows place a → IsVisualPosition w.tab_len lines rows place b → a ≡ b
 one_visual_position w lines rows place a b h s u =
     let p = row_slice w lines rows a.row h s.row in
     let q = row_slice w lines rows b.row h u.row in

@@ -1,6 +1,7 @@
 -- The display columns of the positions in a row.
 use Rattle.std.proofs.lemmas.Grind.{common_steps}
-use Rattle.std.proofs.Common.{◌≡◌, ℕ, ◌+◌, ◌-◌, ◌<◌, ◌≤◌, ◌⊎◌, inl, inr, max, min, Bool, cond, nat_eq, true, false, List, [], ◌∷◌, ◌++◌, Option, Some, None, MatchOption, length, take, drop, get_or, sym, ap, ap₂, subst, ◌∙◌, arith, encode_utf8, encode_utf8_all, if◌then◌else◌}
+use Rattle.std.proofs.Common.{◌≡◌, ℕ, ◌+◌, ◌-◌, ◌<◌, ◌≤◌, ◌⊎◌, inl, inr, max, min, Bool, cond, nat_eq, true, false, List, []}
+use Rattle.std.proofs.Common.{◌∷◌, ◌++◌, Option, Some, None, MatchOption, length, take, drop, get_or, sym, ap, ap₂, subst, ◌∙◌, arith, encode_utf8, encode_utf8_all, if◌then◌else◌}
 use Rattle.std.proofs.Math.Seq.{take-add, take-length}
 use Rattle.std.proofs.lemmas.Bool.Decides.{nat_tests}
 use Rattle.std.proofs.lemmas.List.{append-nil, drop_more, length-append, length-drop, length-take-le, nil_from_length, take_at, take_more, take-take}
@@ -35,7 +36,12 @@ column_after-more t x c some (inr wide) =
 -- if each character has a column, they increase
 pub column_at-less : (tab_len : ℕ) (text : List ℕ) (i j : ℕ) → HasNoZeroWidth text → i < j → j ≤ length text → column_at tab_len text i < column_at tab_len text j
 column_at-less tab_len text i j all h within =
-    omega (arith, column_at-le tab_len text (i + 1) j (omega arith), column_at-more tab_len text i 0 (omega arith), column_after-more (max tab_len 1) (column_at tab_len text i) (get_or text i 0) (omega arith) (all_at (λ c. (c ≡ 9) ⊎ (0 < plain_width c)) text i 0 all (omega arith)))
+    omega (
+      arith,
+      column_at-le tab_len text (i + 1) j (omega arith),
+      column_at-more tab_len text i 0 (omega arith),
+      column_after-more (max tab_len 1) (column_at tab_len text i) (get_or text i 0) (omega arith) (all_at (λ c. (c ≡ 9) ⊎ (0 < plain_width c)) text i 0 all (omega arith)),
+    )
 
 -- ---- the walk over a row's characters
 
@@ -65,7 +71,9 @@ leads_to_least t text column index i within below leads =
     rw least leads
 
 -- the column is at or past the end, whose column is first that of another position
-pub leads_to_width : (t : ℕ) (text : List ℕ) (column index at first : ℕ) → index ≡ length text → at ≡ column_at t text index → at ≤ column → first ≤ index → column_at t text first ≡ at → ((k : ℕ) → k < first → column_at t text k < at) → LeadsTo t text (min column (display_end_column t 0 text)) first
+pub leads_to_width :
+    (t : ℕ) (text : List ℕ) (column index at first : ℕ) → index ≡ length text → at ≡ column_at t text index → at ≤ column → first ≤ index
+    → column_at t text first ≡ at → ((k : ℕ) → k < first → column_at t text k < at) → LeadsTo t text (min column (display_end_column t 0 text)) first
 leads_to_width t text column index at first end is reached within first_at before =
     let width : display_end_column t 0 text ≡ at = sym (width_is t text) ∙ ap (column_at t text) (sym end) ∙ sym is in
     let least : min column (display_end_column t 0 text) ≡ at = omega (arith, width, reached) in
@@ -83,7 +91,9 @@ leads_before t n column index text within reached leads =
       | inr (inr h) ↦ absurd (omega (arith, h.1, reached, same index (omega (arith, h.0, size)), ap (column_at t text) (h.0 ∙ size)))
     ]
 
-pub leads_in_row : (t column index : ℕ) (text reachable : List ℕ) (is_last : Bool) → reachable ≡ reachable_text text is_last → LeadsTo t reachable (min column (display_end_column t 0 reachable)) index → LeadsTo t text (min column (if is_last then display_end_column t 0 text else column_at t text (length text - 1))) index
+pub leads_in_row :
+    (t column index : ℕ) (text reachable : List ℕ) (is_last : Bool) → reachable ≡ reachable_text text is_last → LeadsTo t reachable (min column (display_end_column t 0 reachable)) index
+    → LeadsTo t text (min column (if is_last then display_end_column t 0 text else column_at t text (length text - 1))) index
 leads_in_row t column index text reachable true is leads = subst (λ (r : List ℕ). LeadsTo t r (min column (display_end_column t 0 r)) index) is leads
 leads_in_row t column index text reachable false is leads =
     leads_before t (length text - 1) (min column (column_at t text (length text - 1))) index text (omega arith) (omega arith)
@@ -91,7 +101,9 @@ leads_in_row t column index text reachable false is leads =
 
 -- ---- the characters before the last
 
-pub without_last : (Same : Type 0) (text rest : List ℕ) (found : Option ℕ) → (Same → rest ≡ text) → IsUtf8 text → IsUtf8 rest → MatchOption found ((length text ≡ 0) × Same) (λ c. text ≡ rest ++ encode_utf8 c) → chars rest ≡ take (length (chars text) - 1) (chars text)
+pub without_last :
+    (Same : Type 0) (text rest : List ℕ) (found : Option ℕ) → (Same → rest ≡ text) → IsUtf8 text → IsUtf8 rest
+    → MatchOption found ((length text ≡ 0) × Same) (λ c. text ≡ rest ++ encode_utf8 c) → chars rest ≡ take (length (chars text) - 1) (chars text)
 without_last Same text rest None same valid valid' h =
     let none : chars text ≡ [] = ap chars (nil_from_length text h.0) ∙ chars-nil in
     ap chars (same h.1) ∙ none ∙ sym (ap (λ (t : List ℕ). take (length t - 1) t) none)

@@ -38,7 +38,9 @@ size_of_line mode tab_len width line ranges h =
     ap line_bytes h.ranges_are ∙ last_range 0 h.texts (length (ranges_from 0 h.texts) - 1) (omega (arith, some, size)) ∙ omega arith in
     (last ∙ ap length h.joined, few line h.texts ranges h.ranges_are h.wrapped h.joined h.placed)
   where
-    few : (line : List ℕ) (texts : List (List ℕ)) (ranges : List (ℕ × ℕ)) → ranges ≡ ranges_from 0 texts → AreRowTexts mode tab_len width line texts → concat texts ≡ line → AllByRecursion (IsRowRange line) ranges → length ranges ≤ length line + 1
+    few :
+        (line : List ℕ) (texts : List (List ℕ)) (ranges : List (ℕ × ℕ)) → ranges ≡ ranges_from 0 texts → AreRowTexts mode tab_len width line texts
+        → concat texts ≡ line → AllByRecursion (IsRowRange line) ranges → length ranges ≤ length line + 1
     few [] texts ranges is wrapped joined placed = omega (arith, ap length is, length-ranges_from 0 texts, ap length wrapped)
     few (byte ∷ line) texts ranges is wrapped joined placed =
         omega (arith, ap length is, ap length joined, rows_within (byte ∷ line) 0 texts (λ e. absurd (omega (arith, ap length e))) (subst (AllByRecursion (IsRowRange (byte ∷ line))) is placed))

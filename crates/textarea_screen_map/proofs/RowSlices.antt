@@ -65,7 +65,14 @@ offset_less cs column later ordered within =
     let more = take (later - column) (drop column cs) in
     let size : column + (later - column) ≡ later = omega arith in
     let joined : take later cs ≡ front ++ more = ap (λ n. take n cs) (sym size) ∙ take-add column (later - column) cs in
-    omega (arith, ap (λ t. length (encode_utf8_all t)) joined, ap length (encodes-append front more), length-append (encode_utf8_all front) (encode_utf8_all more), length-le-encodes more, length-take-le (later - column) (drop column cs) (omega (arith, length-drop column cs)))
+    omega (
+      arith,
+      ap (λ t. length (encode_utf8_all t)) joined,
+      ap length (encodes-append front more),
+      length-append (encode_utf8_all front) (encode_utf8_all more),
+      length-le-encodes more,
+      length-take-le (later - column) (drop column cs) (omega (arith, length-drop column cs)),
+    )
 
 pub row_within : (line : List ℕ) (range : ℕ × ℕ) (p : RowSlice line range) → length p.front + length p.text ≤ length line
 row_within line range p =
@@ -94,7 +101,10 @@ column_before line range p column before =
     ]
 
 -- the text from the row's first byte to a column's offset is the row's characters before it
-pub characters_between : (line : List ℕ) (range : ℕ × ℕ) (p : RowSlice line range) (column : ℕ) (slice : List ℕ) → length p.front ≤ column → column ≤ length p.front + length p.text → IsUtf8 slice → slice ≡ take (offset_in line column - range.0) (drop range.0 (encode_utf8_all line)) → chars slice ≡ take (column - length p.front) p.text
+pub characters_between :
+    (line : List ℕ) (range : ℕ × ℕ) (p : RowSlice line range) (column : ℕ) (slice : List ℕ) → length p.front ≤ column
+    → column ≤ length p.front + length p.text → IsUtf8 slice → slice ≡ take (offset_in line column - range.0) (drop range.0 (encode_utf8_all line))
+    → chars slice ≡ take (column - length p.front) p.text
 characters_between line range p column slice from to valid is =
     let index = column - length p.front in
     let segment = take index p.text in
@@ -102,7 +112,13 @@ characters_between line range p column slice from to valid is =
     let bytes : encode_utf8_all line ≡ encode_utf8_all p.front ++ (encode_utf8_all p.text ++ encode_utf8_all p.rest) =
     cc (p.whole, encodes-append p.front (p.text ++ p.rest), encodes-append p.text p.rest) in
     let after : drop range.0 (encode_utf8_all line) ≡ encode_utf8_all segment ++ left =
-    cc (bytes, drop_at (encode_utf8_all p.front) (encode_utf8_all p.text ++ encode_utf8_all p.rest) range.0 p.begins_bytes, encodes_split p.text index, append_assoc (encode_utf8_all segment) (encode_utf8_all (drop index p.text)) (encode_utf8_all p.rest)) in
+    cc (
+      bytes,
+      drop_at (encode_utf8_all p.front) (encode_utf8_all p.text ++ encode_utf8_all p.rest) range.0 p.begins_bytes,
+      encodes_split p.text index,
+      append_assoc (encode_utf8_all segment) (encode_utf8_all (drop index p.text)) (encode_utf8_all p.rest),
+    )
+    in
     let before : take column line ≡ p.front ++ segment =
     let where_is : column ≡ length p.front + index = omega arith in
     cc (where_is, take-add (length p.front) index line, p.whole, take_at p.front (p.text ++ p.rest) (length p.front) refl, drop_at p.front (p.text ++ p.rest) (length p.front) refl, take-append-le index p.text p.rest (omega arith)) in

@@ -55,7 +55,9 @@ same_place : (a b : Place) (first : ℕ) → a.0 ≡ b.0 → first ≤ a.1 → f
 same_place a b first rows from from' e =
     ap₂ (λ (m n : ℕ). (m, n)) rows (omega arith)
 
-pub visual_round_trip : (t : ℕ) (lines : List (List ℕ)) (rows : List RowsView) (place : Place) (visual : VisualPosition) (found : Place) → IsVisualPosition t lines rows place visual → HasNoZeroWidth (row_at lines rows visual.row).text → IsPlaceAt t lines rows visual found → found ≡ place
+pub visual_round_trip :
+    (t : ℕ) (lines : List (List ℕ)) (rows : List RowsView) (place : Place) (visual : VisualPosition) (found : Place)
+    → IsVisualPosition t lines rows place visual → HasNoZeroWidth (row_at lines rows visual.row).text → IsPlaceAt t lines rows visual found → found ≡ place
 visual_round_trip t lines rows place visual found s all f =
     let row = row_at lines rows visual.row in
     let back : LeadsTo t row.text visual.column (place.1 - row.first) = rw s.column (leads_back t row.text (place.1 - row.first) all (omega (arith, s.holds.to))) in
@@ -78,7 +80,10 @@ inside_row t row column index h small some e =
       | inr more ↦ absurd (omega (arith, small, greatest, some e, before_it t row.text column index (length row.text - 1) h (omega (arith, some e, more))))
     ]
 
-pub visual_there : (w : Wrapping) (lines : List (List ℕ)) (rows : List RowsView) (visual : VisualPosition) (place : Place) → AreRowsOf w lines rows → IsPlaceAt w.tab_len lines rows visual place → visual.column ≤ greatest_column w.tab_len (row_at lines rows visual.row) → (column : ℕ) × (column ≤ visual.column) × IsVisualPosition w.tab_len lines rows place (record visual { column = column })
+pub visual_there :
+    (w : Wrapping) (lines : List (List ℕ)) (rows : List RowsView) (visual : VisualPosition) (place : Place) → AreRowsOf w lines rows
+    → IsPlaceAt w.tab_len lines rows visual place → visual.column ≤ greatest_column w.tab_len (row_at lines rows visual.row)
+    → (column : ℕ) × (column ≤ visual.column) × IsVisualPosition w.tab_len lines rows place (record visual { column = column })
 visual_there w lines rows visual place h p small =
     let known = row_of w lines rows visual.row h p.row in
     let row = row_at lines rows visual.row in
@@ -97,14 +102,19 @@ visual_there w lines rows visual place h p small =
       },
     )
 
-pub visual_near : (w : Wrapping) (lines : List (List ℕ)) (rows : List RowsView) (visual : VisualPosition) (place : Place) → AreRowsOf w lines rows → IsPlaceNear w.tab_len lines rows visual place → (column : ℕ) × (column ≤ visual.column) × IsVisualPosition w.tab_len lines rows place (record visual { column = column })
+pub visual_near :
+    (w : Wrapping) (lines : List (List ℕ)) (rows : List RowsView) (visual : VisualPosition) (place : Place) → AreRowsOf w lines rows → IsPlaceNear w.tab_len lines rows visual place
+    → (column : ℕ) × (column ≤ visual.column) × IsVisualPosition w.tab_len lines rows place (record visual { column = column })
 visual_near w lines rows visual place h p =
     let greatest = greatest_column w.tab_len (row_at lines rows visual.row) in
     let found = visual_there w lines rows (record visual { column = min visual.column greatest }) place h p (omega arith) in
     (found.0, omega (arith, found.1), found.2)
 
 -- the position that the code finds, from the visual row
-pub place_of_index : (w : Wrapping) (lines : List (List ℕ)) (rows : List RowsView) (visual : VisualPosition) (row : VisualRow) (index : ℕ) → AreRowsOf w lines rows → visual.row < row_total rows → row ≡ row_at lines rows visual.row → LeadsTo w.tab_len row.text visual.column index → (row.first + index < size_limit) × IsPlaceAt w.tab_len lines rows visual (row.line, row.first + index)
+pub place_of_index :
+    (w : Wrapping) (lines : List (List ℕ)) (rows : List RowsView) (visual : VisualPosition) (row : VisualRow) (index : ℕ) → AreRowsOf w lines rows
+    → visual.row < row_total rows → row ≡ row_at lines rows visual.row → LeadsTo w.tab_len row.text visual.column index
+    → (row.first + index < size_limit) × IsPlaceAt w.tab_len lines rows visual (row.line, row.first + index)
 place_of_index w lines rows visual row index h below is leads =
     let there : visual.row < length (visual_rows lines rows) = omega (arith, below, row_count w lines rows h) in
     let here = row_at lines rows visual.row in
@@ -140,7 +150,9 @@ visual_column_is t lines rows place visual s = grind (arith, common_steps, colum
 
 -- ---- up and down
 
-pub is_above : (t : ℕ) (lines : List (List ℕ)) (rows : List RowsView) (place target : Place) (row other column : ℕ) → IsVisualPosition t lines rows place (record { row = row; column = column }) → other + 1 ≡ row → IsPlaceNear t lines rows (record { row = other; column = column }) target → IsAbove t lines rows place target
+pub is_above :
+    (t : ℕ) (lines : List (List ℕ)) (rows : List RowsView) (place target : Place) (row other column : ℕ) → IsVisualPosition t lines rows place (record { row = row; column = column }) → other + 1 ≡ row
+    → IsPlaceNear t lines rows (record { row = other; column = column }) target → IsAbove t lines rows place target
 is_above t lines rows place target row other column at step near =
     let is : other ≡ row - 1 = omega (arith, step) in
     record {
@@ -150,7 +162,9 @@ is_above t lines rows place target row other column at step near =
       near = subst (λ (n : ℕ). IsPlaceNear t lines rows (record { row = n; column = column }) target) is near;
     }
 
-pub is_below : (t : ℕ) (lines : List (List ℕ)) (rows : List RowsView) (place target : Place) (row other column : ℕ) → IsVisualPosition t lines rows place (record { row = row; column = column }) → row + 1 ≡ other → IsPlaceNear t lines rows (record { row = other; column = column }) target → IsBelow t lines rows place target
+pub is_below :
+    (t : ℕ) (lines : List (List ℕ)) (rows : List RowsView) (place target : Place) (row other column : ℕ) → IsVisualPosition t lines rows place (record { row = row; column = column }) → row + 1 ≡ other
+    → IsPlaceNear t lines rows (record { row = other; column = column }) target → IsBelow t lines rows place target
 is_below t lines rows place target row other column at step near =
     record {
       visual = record { row = row; column = column };

@@ -63,7 +63,9 @@ pub row_count : (w : Wrapping) (lines : List (List ℕ)) (rows : List RowsView) 
 unfolding visual_rows
 row_count w lines rows h = length-rows_from w 0 lines rows h
 
-row_of_lines : (w : Wrapping) (m : ℕ) (lines : List (List ℕ)) (rows : List RowsView) (i k : ℕ) (d : VisualRow) → AreRowsOf w lines rows → i < length lines → k < length (ranges_at rows i) → IsNumbered (get_or (rows_from m lines rows) (row_total (take i rows) + k) d) (m + i) (get_or lines i []) (ranges_at rows i) k
+row_of_lines :
+    (w : Wrapping) (m : ℕ) (lines : List (List ℕ)) (rows : List RowsView) (i k : ℕ) (d : VisualRow) → AreRowsOf w lines rows → i < length lines → k < length (ranges_at rows i)
+    → IsNumbered (get_or (rows_from m lines rows) (row_total (take i rows) + k) d) (m + i) (get_or lines i []) (ranges_at rows i) k
 row_of_lines w m [] rows i k d h within there = absurd (omega arith)
 row_of_lines w m (line ∷ lines) [] i k d h within there = absurd h
 row_of_lines w m (line ∷ lines) (r ∷ rows) zero k d h within there =
@@ -78,7 +80,9 @@ row_of_lines w m (line ∷ lines) (r ∷ rows) (suc i) k d h within there =
     let number : m + suc i ≡ m + 1 + i = omega arith in
     rw (number, index, get_or-append-add here later (row_total (take i rows) + k) d) (row_of_lines w (m + 1) lines rows i k d h.1 (omega arith) there)
 
-pub row_numbered : (w : Wrapping) (lines : List (List ℕ)) (rows : List RowsView) (i k : ℕ) → AreRowsOf w lines rows → i < length lines → k < length (ranges_at rows i) → IsNumbered (row_at lines rows (row_total (take i rows) + k)) i (get_or lines i []) (ranges_at rows i) k
+pub row_numbered :
+    (w : Wrapping) (lines : List (List ℕ)) (rows : List RowsView) (i k : ℕ) → AreRowsOf w lines rows → i < length lines
+    → k < length (ranges_at rows i) → IsNumbered (row_at lines rows (row_total (take i rows) + k)) i (get_or lines i []) (ranges_at rows i) k
 unfolding row_at visual_rows
 row_numbered w lines rows i k h within there =
     let none : VisualRow = record { line = 0; start = 0; first = 0; text = []; is_last = true } in
@@ -180,7 +184,13 @@ rows_below (r ∷ rows) zero k within there = omega arith
 rows_below (r ∷ rows) (suc i) k within there = omega (arith, rows_below rows i k (omega arith) there)
 
 -- a position is in the last row of its line that begins at or before its offset
-pub visual_in : (w : Wrapping) (lines : List (List ℕ)) (rows : List RowsView) (place : Place) (k offset column : ℕ) (slice : List ℕ) → AreRowsOf w lines rows → IsPlaceOf lines place → k < length (ranges_at rows place.0) → (range_at (ranges_at rows place.0) k).0 ≤ offset → (k + 1 < length (ranges_at rows place.0) → offset < (range_at (ranges_at rows place.0) (k + 1)).0) → offset ≡ offset_in (get_or lines place.0 []) place.1 → offset ≤ length (encode_utf8_all (get_or lines place.0 [])) → IsUtf8 slice → slice ≡ take (offset - (range_at (ranges_at rows place.0) k).0) (drop (range_at (ranges_at rows place.0) k).0 (encode_utf8_all (get_or lines place.0 []))) → column ≡ display_end_column w.tab_len 0 (chars slice) → IsVisualPosition w.tab_len lines rows place (record { row = row_total (take place.0 rows) + k; column = column })
+pub visual_in :
+    (w : Wrapping) (lines : List (List ℕ)) (rows : List RowsView) (place : Place) (k offset column : ℕ) (slice : List ℕ) → AreRowsOf w lines rows
+    → IsPlaceOf lines place → k < length (ranges_at rows place.0) → (range_at (ranges_at rows place.0) k).0 ≤ offset
+    → (k + 1 < length (ranges_at rows place.0) → offset < (range_at (ranges_at rows place.0) (k + 1)).0)
+    → offset ≡ offset_in (get_or lines place.0 []) place.1 → offset ≤ length (encode_utf8_all (get_or lines place.0 [])) → IsUtf8 slice
+    → slice ≡ take (offset - (range_at (ranges_at rows place.0) k).0) (drop (range_at (ranges_at rows place.0) k).0 (encode_utf8_all (get_or lines place.0 [])))
+    → column ≡ display_end_column w.tab_len 0 (chars slice) → IsVisualPosition w.tab_len lines rows place (record { row = row_total (take place.0 rows) + k; column = column })
 visual_in w lines rows place k offset column slice h is_place there from next offset_is short valid slice_is column_is =
     let line = get_or lines place.0 [] in
     let ranges = ranges_at rows place.0 in
@@ -212,7 +222,9 @@ visual_in w lines rows place k offset column slice h is_place there from next of
 
 -- ---- a visual row as in the code
 
-pub row_displayed : (row : VisualRow) (line start first : ℕ) (text : List ℕ) (is_last : Bool) → line ≡ row.line → start ≡ row.start → first ≡ row.first → text ≡ row.text → is_last ≡ row.is_last → record { line = line; start = start; first = first; text = text; is_last = is_last } ≡ row
+pub row_displayed :
+    (row : VisualRow) (line start first : ℕ) (text : List ℕ) (is_last : Bool) → line ≡ row.line → start ≡ row.start → first ≡ row.first
+    → text ≡ row.text → is_last ≡ row.is_last → record { line = line; start = start; first = first; text = text; is_last = is_last } ≡ row
 row_displayed row line start first text is_last l s f t e = rw (l, s, f, t, e) refl
 
 pub record IsTextOfRow (row : VisualRow) (line number : ℕ) (ranges : List (ℕ × ℕ)) (text : List ℕ) : Type 0 where
@@ -231,7 +243,10 @@ last_row v number size there last more =
       | inr most ↦ let same : number + 1 ≡ size = omega (arith, there, most) in let e = last same in grind (arith, nat_tests)
     ]
 
-pub text_of_row : (w : Wrapping) (lines : List (List ℕ)) (rows : List RowsView) (line number : ℕ) (ranges : List (ℕ × ℕ)) (text : List ℕ) → AreRowsOf w lines rows → line < length lines → number < length (ranges_at rows line) → ranges ≡ ranges_at rows line → text ≡ encode_utf8_all (get_or lines line []) → IsTextOfRow (row_at lines rows (row_total (take line rows) + number)) line number ranges text
+pub text_of_row :
+    (w : Wrapping) (lines : List (List ℕ)) (rows : List RowsView) (line number : ℕ) (ranges : List (ℕ × ℕ)) (text : List ℕ) → AreRowsOf w lines rows
+    → line < length lines → number < length (ranges_at rows line) → ranges ≡ ranges_at rows line → text ≡ encode_utf8_all (get_or lines line [])
+    → IsTextOfRow (row_at lines rows (row_total (take line rows) + number)) line number ranges text
 text_of_row w lines rows line number ranges text h within there ranges_is text_is =
     let wrapped = wrapped_at w lines rows line h within in
     let numbered = row_numbered w lines rows line number h within there in
@@ -252,7 +267,10 @@ pub record IsFoundRow {Z : Type 0} (items : List (String Z)) (rows : List RowsVi
   pub text_is : IsTextOfRow (row_at (lines_of items) rows (row_total (take line rows) + number)) line number ranges text
   pub bytes : text ≡ encode_utf8_all (get_or (lines_of items) line [])
 
-pub found_row : {Z : Type 0} (w : Wrapping) (items : List (String Z)) (rows : List RowsView) (line number : ℕ) (ranges : List (ℕ × ℕ)) (item : String Z) (text : List ℕ) → AreRowsOf w (lines_of items) rows → line < length rows → number < length (ranges_at rows line) → ranges ≡ ranges_at rows line → item ≡ get_or items line item → text ≡ string_bytes item → IsFoundRow items rows line number ranges text
+pub found_row :
+    {Z : Type 0} (w : Wrapping) (items : List (String Z)) (rows : List RowsView) (line number : ℕ) (ranges : List (ℕ × ℕ)) (item : String Z) (text : List ℕ)
+    → AreRowsOf w (lines_of items) rows → line < length rows → number < length (ranges_at rows line) → ranges ≡ ranges_at rows line
+    → item ≡ get_or items line item → text ≡ string_bytes item → IsFoundRow items rows line number ranges text
 found_row w items rows line number ranges item text h line_within there ranges_is read same =
     let in_lines : line < length (lines_of items) = omega (arith, line_within, length-AreRowsOf w (lines_of items) rows h) in
     let within : line < length items = omega (arith, in_lines, length-map items characters_of) in

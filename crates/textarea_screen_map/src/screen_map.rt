@@ -3,8 +3,8 @@ ghost use Rattle.std.specs.Prelude.{◌≡◌, ◌+◌, ◌*◌, ◌<◌, ◌≤
 ghost use Rattle.textarea_screen_map.specs.Prelude.{size_limit, replaced, size_of, lines_of, AreRowsOf, ticks_after, ticks_of, with_tab_len, IsEdge, all_rows, IsWithinLimit, marks_at, ranges_at, row_total, size_total, HasRoom, CanPutRows, IsPreparedFor, rows_in, rows_with};
 ghost use Rattle.textarea_wrap.specs.declared.wrap.WrapMode.TheVariants as mode;
 
-use crate::blocks::{BLOCK, push_lines};
 use crate::layout::{Wrapping, rows_of};
+use crate::wrapped_blocks::{BLOCK, push_lines};
 pub use look_up::RowText;
 use std::alloc::{AllocError, Global};
 use std::marker::Model;
@@ -284,8 +284,12 @@ impl ScreenMap {
     {
         let (old, old_size) = self.blocks.sums_of(row, count);
         let (new, new_size) = sums_of(rows);
-        let size = within_limit((self.size - old_size).saturating_add(new_size))?;
-        let total = within_limit((self.total - old).saturating_add(new))?;
+        let size_left = self.size - old_size;
+        let rows_left = self.total - old;
+        let size_after = size_left.saturating_add(new_size);
+        let rows_after = rows_left.saturating_add(new);
+        let size = within_limit(size_after)?;
+        let total = within_limit(rows_after)?;
         Ok((total, size))
     }
 

@@ -8,7 +8,7 @@ ghost use Rattle.textarea_screen_map.specs.Prelude.{size_limit, AreMarksOf, IsMa
 use crate::columns::{character_at_column, character_near_column, reachable_text, width_between};
 use crate::layout::VisualPosition;
 use crate::line_marks::{LINE_START, LineMarks, Mark};
-use crate::marks::{columns_of_front, offset_of_column};
+use crate::offsets::{columns_of_front, offset_of_column};
 use crate::screen_map::{RowText, ScreenMap};
 use std::marker::Model;
 
@@ -261,8 +261,9 @@ impl<'a> TextLayoutView<'a> {
         if line == 0 {
             return None;
         }
-        let row = self.map.rows_at(line - 1).as_slice().len() - 1;
-        Some(self.near_in_line(line - 1, VisualPosition { row, column }))
+        let last = self.map.rows_at(line - 1).as_slice().len() - 1;
+        let target = self.near_in_line(line - 1, VisualPosition { row: last, column });
+        Some(target)
     }
 
     /// Returns where a cursor moves one visual row down; `None` in the last visual row.
@@ -283,7 +284,8 @@ impl<'a> TextLayoutView<'a> {
         if line + 1 == self.lines.len() {
             return None;
         }
-        Some(self.near_in_line(line + 1, VisualPosition { row: 0, column }))
+        let target = self.near_in_line(line + 1, VisualPosition { row: 0, column });
+        Some(target)
     }
 }
 

@@ -27,12 +27,12 @@ pub mod highlight {
 
 /// The visual rows of all lines, cached line by line, with look-ups both ways.
 pub mod screen_map {
-    pub use textarea_screen_map::blocks::RowBlocks;
     pub use textarea_screen_map::laws;
     pub use textarea_screen_map::layout::{VisualPosition, Wrapping};
     pub use textarea_screen_map::screen_map::{
         NewRows, PreparedRows, RowText, ScreenMap, new_rows,
     };
+    pub use textarea_screen_map::wrapped_blocks::RowBlocks;
     pub use textarea_wrap::wrap::{Rows, WrapCount, WrapMode};
 }
 

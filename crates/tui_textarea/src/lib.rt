@@ -49,12 +49,12 @@ pub mod layout {
 
 /// The visual rows of all lines, updated line by line, with look-ups both ways.
 pub mod screen_map {
-    pub use textarea_screen_map::blocks::RowBlocks;
     pub use textarea_screen_map::laws;
     pub use textarea_screen_map::layout::{VisualPosition, Wrapping};
     pub use textarea_screen_map::screen_map::{
         NewRows, PreparedRows, RowText, ScreenMap, new_rows,
     };
+    pub use textarea_screen_map::wrapped_blocks::RowBlocks;
     pub use textarea_wrap::wrap::{Rows, WrapCount, WrapMode};
 }
 

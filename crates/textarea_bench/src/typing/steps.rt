@@ -3,9 +3,9 @@
 ghost use Rattle.std.specs.Prelude.{◌≡◌, ◌+◌, ◌<◌, ◌≤◌, length, vec_len, IfOk, OnOk};
 
 use std::alloc::{AllocError, Global};
-use textarea_screen_map::blocks::BLOCK;
 use textarea_screen_map::layout::Wrapping;
 use textarea_screen_map::screen_map::ScreenMap;
+use textarea_screen_map::wrapped_blocks::BLOCK;
 use textarea_util::replace::replace_items;
 use textarea_wrap::wrap::{WrapCount, WrapMode};
 

@@ -102,11 +102,13 @@ impl ScreenMap {
         let ranges = self.rows_at(line).as_slice();
         let (start, end) = ranges[number];
         let text = lines[line].as_str();
+        let before = &text[..start];
+        let shown = &text[start..end];
         RowText {
             line,
             number,
-            before: &text[..start],
-            text: &text[start..end],
+            before,
+            text: shown,
             is_last: number + 1 == ranges.len(),
         }
     }

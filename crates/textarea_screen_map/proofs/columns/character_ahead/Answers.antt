@@ -32,7 +32,9 @@ overflow_add-index c =
 
 -- the position after the character
 next : (c : After-display_column_after-next) → (c.loop-c.index < length (chars c.args.text.now)) × IsWalked c.args.tab_len c.args.text.now (chars_rest c.next.new.self) (c.loop-c.index + 1) c.display_column_after-next.result
-next c = walk_more c.args.tab_len c.args.text.now _ (chars_rest c.next.new.self) c.in-Some.c c.loop-c.index c.loop-c.at c.display_column_after-next.result c.loop-c.invariant.walked c.in-Some.ensures.steps.0 c.display_column_after-next.ensures.value c.display_column_after-next.ensures.near
+next c =
+    walk_more c.args.tab_len c.args.text.now _ (chars_rest c.next.new.self) c.in-Some.c c.loop-c.index c.loop-c.at c.display_column_after-next.result
+    c.loop-c.invariant.walked c.in-Some.ensures.steps.0 c.display_column_after-next.ensures.value c.display_column_after-next.ensures.near
 
 -- the column is the character's, or one that the character covers
 either : (c : goal.Joined-then-column-at) → (c.args.column ≤ c.loop-c.at) ⊎ ((c.loop-c.at < c.args.column) × (c.args.column < c.display_column_after-next.result))
@@ -87,4 +89,6 @@ returns c =
     let cs = chars c.args.text.now in
     let none : drop c.loop-c.index cs ≡ [] =
     was.walked.left ∙ ap chars (nil_from_length (chars_rest c.loop-c.c-iterator) c.in-None.ensures.steps.0.0) ∙ chars-nil in
-    leads_to_width c.args.tab_len cs c.args.column c.loop-c.index c.loop-c.at c.loop-c.first (omega (arith, was.walked.within, length-drop c.loop-c.index cs, ap length none)) was.walked.display_is was.reached was.first was.first_at was.before_first
+    leads_to_width c.args.tab_len cs c.args.column c.loop-c.index c.loop-c.at c.loop-c.first
+    (omega (arith, was.walked.within, length-drop c.loop-c.index cs, ap length none)) was.walked.display_is was.reached was.first was.first_at
+    was.before_first

@@ -12,9 +12,12 @@ range_from-requires c = λ _.
     subst (IsCharBoundary c.args.text.now) (sym c.requires.known.offset_is) (IsCharBoundary-column c.args.text.now c.args.known.column c.utf8.text)
 
 -- the position after the visible characters
-further : (c : After-visible_count-count) → IsMark c.args.tab_len (chars c.args.text.now) (record { column = c.args.known.column + c.visible_count-count.result; offset = c.args.known.offset + c.visible_count-count.result; display = c.args.known.display + c.visible_count-count.result })
+further :
+    (c : After-visible_count-count) → IsMark c.args.tab_len (chars c.args.text.now)
+    (record { column = c.args.known.column + c.visible_count-count.result; offset = c.args.known.offset + c.visible_count-count.result; display = c.args.known.display + c.visible_count-count.result })
 further c =
-    mark_further c.args.tab_len c.args.text.now c.range_from.result.now c.args.known c.visible_count-count.result c.utf8.text c.range_from.ensures.value c.visible_count-count.ensures.within c.visible_count-count.ensures.visible c.requires.known
+    mark_further c.args.tab_len c.args.text.now c.range_from.result.now c.args.known c.visible_count-count.result c.utf8.text
+    c.range_from.ensures.value c.visible_count-count.ensures.within c.visible_count-count.ensures.visible c.requires.known
 
 pub character_ahead-requires-clause-known : goal.character_ahead-requires-clause-known
 character_ahead-requires-clause-known c = further (goal.at.character_ahead-requires-clause-known c).After-visible_count-count

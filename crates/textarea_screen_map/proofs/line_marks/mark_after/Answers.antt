@@ -23,7 +23,10 @@ loop-c-init c =
 
 -- the position after the character
 next : (c : After-display_column_after-display) → IsWalked c.args.tab_len c.args.line.now (chars_rest c.next.new.self) (c.loop-c.at.column + 1) c.display_column_after-display.result
-next c = (walk_more c.args.tab_len c.args.line.now _ (chars_rest c.next.new.self) c.in-Some.c c.loop-c.at.column c.loop-c.at.display c.display_column_after-display.result c.loop-c.invariant.walked c.in-Some.ensures.steps.0 c.display_column_after-display.ensures.value c.display_column_after-display.ensures.near).1
+next c =
+    (walk_more c.args.tab_len c.args.line.now _ (chars_rest c.next.new.self) c.in-Some.c c.loop-c.at.column c.loop-c.at.display
+    c.display_column_after-display.result c.loop-c.invariant.walked c.in-Some.ensures.steps.0 c.display_column_after-display.ensures.value
+    c.display_column_after-display.ensures.near).1
 
 bytes : (c : After-len_utf8) → c.loop-c.at.offset + c.len_utf8.result + length (chars_rest c.next.new.self) ≡ length c.args.line.now
 bytes c =

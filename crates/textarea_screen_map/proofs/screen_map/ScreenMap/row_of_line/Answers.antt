@@ -8,7 +8,6 @@ use Rattle.textarea_screen_map.proofs.Layouts.{length-AreRowsOf}
 use Rattle.textarea_screen_map.proofs.VisualRows.{IsFoundRow, found_row, row_displayed}
 use Rattle.textarea_screen_map.proofs.screen_map.ScreenMap.row_of_line.Goals as goal
 use Rattle.textarea_screen_map.proofs.screen_map.ScreenMap.row_of_line.Goals.{After-as_slice-ranges, After-as_str-text}
-use Rattle.std.proofs.Math.Nat.{sub-zero}
 
 within : (c : After-as_slice-ranges) → c.args.line < length c.args.lines.now
 within c =
@@ -23,12 +22,12 @@ offset_bounds-lines-line c = omega (arith, within (goal.at.offset_bounds-lines-l
 pub bounds-lines-line : goal.bounds-lines-line
 bounds-lines-line c = within (goal.at.bounds-lines-line c).After-as_slice-ranges
 
-pub range-requires-clause-end_boundary : goal.range-requires-clause-end_boundary
-range-requires-clause-end_boundary c = (row_is (goal.at.range-requires-clause-end_boundary c).After-as_str-text).text_is.placed.start
+pub range-before-requires-clause-end_boundary : goal.range-before-requires-clause-end_boundary
+range-before-requires-clause-end_boundary c = (row_is (goal.at.range-before-requires-clause-end_boundary c).After-as_str-text).text_is.placed.start
 
-pub range-requires-2 : goal.range-requires-2
-range-requires-2 c =
-    let placed = (row_is (goal.at.range-requires-2 c).After-as_str-text).text_is.placed in
+pub range-shown-requires : goal.range-shown-requires
+range-shown-requires c =
+    let placed = (row_is (goal.at.range-shown-requires c).After-as_str-text).text_is.placed in
     record { start_le_end = placed.ordered; start_boundary = λ _. placed.start; end_boundary = placed.end }
 
 front : (before text line : List ℕ) (start : ℕ) → before ≡ take (start - 0) text → length before + 0 ≡ start → text ≡ line → before ≡ take (length before) line
@@ -40,13 +39,13 @@ returns c =
     let is = known.text_is in
     let text = c.as_str-text.result.now in
     record {
-      displayed = row_displayed _ _ _ _ _ _ is.line_is (omega (arith, c.range.ensures.len, is.start_is))
-          (ap (λ t. length (chars t)) (c.range.ensures.value ∙ ap (λ n. take n text) (sub-zero _)) ∙ is.first_is)
-          (ap chars c.range-2.ensures.value ∙ is.text_is) is.last_is;
+      displayed = row_displayed _ _ _ _ _ _ is.line_is (omega (arith, c.range-before.ensures.len, is.start_is))
+          (grind (arith, common_steps))
+          (ap chars c.range-shown.ensures.value ∙ is.text_is) is.last_is;
       number = refl;
       line = c.requires.line;
-      front = front c.range.result.now text _ _ c.range.ensures.value c.range.ensures.len known.bytes;
-      whole = λ same. whole_slice text c.range-2.result.now _ _ c.range-2.ensures.value (same ∙ ap length (sym known.bytes)) ∙ known.bytes;
-      before = omega (arith, is.short, is.placed.start.0, c.range.ensures.len);
-      short = omega (arith, is.short, is.placed.end.0, c.range-2.ensures.len);
+      front = front c.range-before.result.now text _ _ c.range-before.ensures.value c.range-before.ensures.len known.bytes;
+      whole = λ same. whole_slice text c.range-shown.result.now _ _ c.range-shown.ensures.value (same ∙ ap length (sym known.bytes)) ∙ known.bytes;
+      before = omega (arith, is.short, is.placed.start.0, c.range-before.ensures.len);
+      short = omega (arith, is.short, is.placed.end.0, c.range-shown.ensures.len);
     }

@@ -48,32 +48,32 @@ sums c =
       come_size_is = c.sums_of-new.ensures.size;
     }
 
-pub overflow_sub-self-inside : goal.overflow_sub-self-inside
-overflow_sub-self-inside c = (sums (goal.at.overflow_sub-self-inside c).After-sums_of-new).gone_size_is
+pub overflow_sub-size_left : goal.overflow_sub-size_left
+overflow_sub-size_left c = (sums (goal.at.overflow_sub-size_left c).After-sums_of-new).gone_size_is
 
 pub returns-in_err-size-clause-limit : goal.returns-in_err-size-clause-limit
 returns-in_err-size-clause-limit c =
     let known = sums (goal.at.returns-in_err-size-clause-limit c).After-sums_of-new in (
       λ yes. absurd (not_both c.from_residual.result c.from_residual.ensures.0 yes),
-      λ within. absurd (cc (c.in_err-size.ensures.limit.1 (omega (arith, within.size, known.size_is, known.gone_size_is, known.come_size_is, known.small, c.saturating_add.ensures)))),
+      λ within. absurd (cc (c.in_err-size.ensures.limit.1 (omega (arith, within.size, known.size_is, known.gone_size_is, known.come_size_is, known.small, c.saturating_add-size_after.ensures)))),
     )
 
-pub overflow_sub-self-inside-2 : goal.overflow_sub-self-inside-2
-overflow_sub-self-inside-2 c = (sums (goal.at.overflow_sub-self-inside-2 c).After-sums_of-new).gone_is
+pub overflow_sub-rows_left : goal.overflow_sub-rows_left
+overflow_sub-rows_left c = (sums (goal.at.overflow_sub-rows_left c).After-sums_of-new).gone_is
 
 pub returns-in_err-total-clause-limit : goal.returns-in_err-total-clause-limit
 returns-in_err-total-clause-limit c =
     let known = sums (goal.at.returns-in_err-total-clause-limit c).After-sums_of-new in (
       λ yes. absurd (not_both c.from_residual-in_err-total.result c.from_residual-in_err-total.ensures.0 yes),
-      λ within. absurd (cc (c.in_err-total.ensures.limit.1 (omega (arith, within.few, known.total_is, known.gone_is, known.come_is, known.few, c.saturating_add-2.ensures)))),
+      λ within. absurd (cc (c.in_err-total.ensures.limit.1 (omega (arith, within.few, known.total_is, known.gone_is, known.come_is, known.few, c.saturating_add-rows_after.ensures)))),
     )
 
 pub returns-clause-limit : goal.returns-clause-limit
 returns-clause-limit c =
     let known = sums (goal.at.returns-clause-limit c).After-sums_of-new in (
       λ yes. record {
-        size = omega (arith, c.in_ok-size.ensures.limit.0 yes, known.size_is, known.gone_size_is, known.come_size_is, known.small, c.saturating_add.ensures);
-        few = omega (arith, c.in_ok-total.ensures.limit.0 yes, known.total_is, known.gone_is, known.come_is, known.few, c.saturating_add-2.ensures);
+        size = omega (arith, c.in_ok-size.ensures.limit.0 yes, known.size_is, known.gone_size_is, known.come_size_is, known.small, c.saturating_add-size_after.ensures);
+        few = omega (arith, c.in_ok-total.ensures.limit.0 yes, known.total_is, known.gone_is, known.come_is, known.few, c.saturating_add-rows_after.ensures);
       },
       λ within. refl,
     )
@@ -81,9 +81,9 @@ returns-clause-limit c =
 pub returns-clause-total : goal.returns-clause-total
 returns-clause-total c =
     let known = sums (goal.at.returns-clause-total c).After-sums_of-new in
-    omega (arith, c.in_ok-total.ensures.size, c.in_ok-total.ensures.limit.0 refl, known.total_is, known.gone_is, known.come_is, c.saturating_add-2.ensures)
+    omega (arith, c.in_ok-total.ensures.size, c.in_ok-total.ensures.limit.0 refl, known.total_is, known.gone_is, known.come_is, c.saturating_add-rows_after.ensures)
 
 pub returns-clause-size : goal.returns-clause-size
 returns-clause-size c =
     let known = sums (goal.at.returns-clause-size c).After-sums_of-new in
-    omega (arith, c.in_ok-size.ensures.size, c.in_ok-size.ensures.limit.0 refl, known.size_is, known.gone_size_is, known.come_size_is, c.saturating_add.ensures)
+    omega (arith, c.in_ok-size.ensures.size, c.in_ok-size.ensures.limit.0 refl, known.size_is, known.gone_size_is, known.come_size_is, c.saturating_add-size_after.ensures)

@@ -16,18 +16,18 @@ there c =
     let size = ap length (c.as_slice.ensures ∙ c.rows_at.ensures.ranges ∙ ap (λ (v : BorrowedRows). ranges_at v.rows line) c.self.view_is) in
     (omega (arith, size, some_of_line view.wrapping view.lines view.rows line right (omega (arith, c.requires.0))), size)
 
-pub overflow_sub-row-2 : goal.overflow_sub-row-2
-overflow_sub-row-2 c = omega (arith, there c)
+pub overflow_sub-last : goal.overflow_sub-last
+overflow_sub-last c = omega (arith, there c)
 
-pub near_in_line-requires-2-clause-number : goal.near_in_line-requires-2-clause-number
-near_in_line-requires-2-clause-number c = omega (arith, there c)
+pub near_in_line-target-requires-clause-number : goal.near_in_line-target-requires-clause-number
+near_in_line-target-requires-clause-number c = omega (arith, there c)
 
 pub returns : goal.returns
 returns c =
     let view = c.args.self.now in
     let next : c.args.place.0 - 1 + 1 ≡ c.args.place.0 = omega (arith, c.if-line-eq0.false) in (
-      c.near_in_line-2.ensures.place,
-      is_above view.wrapping.tab_len view.lines view.rows c.args.place c.near_in_line-2.result _ _ _ c.visual_in_line-row.ensures.visual
+      c.near_in_line-target.ensures.place,
+      is_above view.wrapping.tab_len view.lines view.rows c.args.place c.near_in_line-target.result _ _ _ c.visual_in_line-row.ensures.visual
           (omega (arith, there (goal.at.returns c).After-as_slice, c.if-row-gt0.false, rows_before_next view.rows (c.args.place.0 - 1), ap (λ n. row_total (take n view.rows)) next))
-          c.near_in_line-2.ensures.near,
+          c.near_in_line-target.ensures.near,
     )

@@ -18,7 +18,9 @@ size : (c : After-as_slice-count) → length c.as_slice-count.result.now ≡ len
 size c = ap length (c.as_slice-count.ensures ∙ c.rows_at.ensures.ranges ∙ ap (λ (v : BorrowedRows). ranges_at v.rows c.args.place.0) c.self.view_is)
 
 -- the next visual row is the first one of the next line
-next : (c : Else-row-count) → length c.as_slice-count.result.now ≡ length (ranges_at c.args.self.now.rows c.args.place.0) → row_total (take c.args.place.0 c.args.self.now.rows) + c.visual_in_line-row.result.row + 1 ≡ row_total (take (c.args.place.0 + 1) c.args.self.now.rows)
+next :
+    (c : Else-row-count) → length c.as_slice-count.result.now ≡ length (ranges_at c.args.self.now.rows c.args.place.0)
+    → row_total (take c.args.place.0 c.args.self.now.rows) + c.visual_in_line-row.result.row + 1 ≡ row_total (take (c.args.place.0 + 1) c.args.self.now.rows)
 next c size = omega (arith, size, c.if-row-count.false, c.visual_in_line-row.ensures.number, rows_before_next c.args.self.now.rows c.args.place.0)
 
 pub returns-then-line-self : goal.returns-then-line-self
@@ -33,9 +35,9 @@ returns-then-line-self c =
       omega (arith, next at.Else-row-count (size at.After-as_slice-count), ap row_total (take_all (c.args.place.0 + 1) view.rows count), row_count view.wrapping view.lines view.rows right),
     )
 
-pub near_in_line-requires-2-clause-number : goal.near_in_line-requires-2-clause-number
-near_in_line-requires-2-clause-number c =
-    let at = goal.at.near_in_line-requires-2-clause-number c in
+pub near_in_line-target-requires-clause-number : goal.near_in_line-target-requires-clause-number
+near_in_line-target-requires-clause-number c =
+    let at = goal.at.near_in_line-target-requires-clause-number c in
     let view = c.args.self.now in
     some_of_line view.wrapping view.lines view.rows (c.args.place.0 + 1) (right at.After-as_slice-count)
     (omega (arith, c.requires.0, c.if-line-self.false, length-map c.self.inside.lines.now characters_of, ap (λ (v : BorrowedRows). length v.lines) c.self.view_is))
@@ -44,8 +46,8 @@ pub returns : goal.returns
 returns c =
     let at = goal.at.returns c in
     let view = c.args.self.now in (
-      c.near_in_line-2.ensures.place,
-      is_below view.wrapping.tab_len view.lines view.rows c.args.place c.near_in_line-2.result _ _ _ c.visual_in_line-row.ensures.visual
+      c.near_in_line-target.ensures.place,
+      is_below view.wrapping.tab_len view.lines view.rows c.args.place c.near_in_line-target.result _ _ _ c.visual_in_line-row.ensures.visual
           (omega (arith, next at.Else-row-count (size at.After-as_slice-count)))
-          c.near_in_line-2.ensures.near,
+          c.near_in_line-target.ensures.near,
     )

@@ -22,7 +22,13 @@ shown c = subst (λ (v : BorrowedRows). IsRowText v.lines v.rows (row_total (tak
 right : (c : After-row_of_line-displayed) → AreRowsOf c.args.self.now.wrapping c.args.self.now.lines c.args.self.now.rows
 right c = subst (λ (v : BorrowedRows). AreRowsOf v.wrapping v.lines v.rows) c.self.view_is c.self.invariant.0.right
 
-place_is : (c : After-character_near_column-index) → IsRowText c.args.self.now.lines c.args.self.now.rows (row_total (take c.args.line c.args.self.now.rows) + c.args.visual.row) c.row_of_line-displayed.result → AreRowsOf c.args.self.now.wrapping c.args.self.now.lines c.args.self.now.rows → ((row_of_texts c.row_of_line-displayed.result).first + c.character_near_column-index.result < size_limit) × IsPlaceNear c.args.self.now.wrapping.tab_len c.args.self.now.lines c.args.self.now.rows (over_all_lines c.args.self.now.rows c.args.line c.args.visual) (c.row_of_line-displayed.result.line, (row_of_texts c.row_of_line-displayed.result).first + c.character_near_column-index.result)
+place_is :
+    (c : After-character_near_column-index)
+    → IsRowText c.args.self.now.lines c.args.self.now.rows (row_total (take c.args.line c.args.self.now.rows) + c.args.visual.row) c.row_of_line-displayed.result
+    → AreRowsOf c.args.self.now.wrapping c.args.self.now.lines c.args.self.now.rows
+    → ((row_of_texts c.row_of_line-displayed.result).first + c.character_near_column-index.result < size_limit) × IsPlaceNear
+    c.args.self.now.wrapping.tab_len c.args.self.now.lines c.args.self.now.rows (over_all_lines c.args.self.now.rows c.args.line c.args.visual)
+    (c.row_of_line-displayed.result.line, (row_of_texts c.row_of_line-displayed.result).first + c.character_near_column-index.result)
 place_is c shown right =
     let view = c.args.self.now in
     let tab_len = view.wrapping.tab_len in
@@ -56,5 +62,7 @@ returns c =
     let view = c.args.self.now in
     let at = goal.at.returns c in
     let right = right at.After-row_of_line-displayed in
-    let near = subst (λ (p : Place). IsPlaceNear view.wrapping.tab_len view.lines view.rows (over_all_lines view.rows c.args.line c.args.visual) p) (sym c.place_in.ensures) (place_is at.After-character_near_column-index (shown at.After-row_of_line-displayed) right).1 in
+    let near =
+    subst (λ (p : Place). IsPlaceNear view.wrapping.tab_len view.lines view.rows (over_all_lines view.rows c.args.line c.args.visual) p)
+    (sym c.place_in.ensures) (place_is at.After-character_near_column-index (shown at.After-row_of_line-displayed) right).1 in
     record { place = is_place view.wrapping _ _ _ _ right near; near = near }

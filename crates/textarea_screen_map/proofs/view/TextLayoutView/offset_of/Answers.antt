@@ -14,4 +14,6 @@ rows_at-requires c = grind (arith, common_steps, length-AreRowsOf, length-map)
 pub offset_of_column-requires-clause-marks : goal.offset_of_column-requires-clause-marks
 offset_of_column-requires-clause-marks c =
     let place : IsPlaceOf (lines_of c.self.inside.lines.now) c.args.place = subst (λ (v : BorrowedRows). IsPlaceOf v.lines c.args.place) (sym c.self.view_is) c.requires in
-    rw (c.marks-rows_marks.ensures, c.rows_at.ensures.marks) (borrowed_line c.self.inside.map.now.wrapping c.self.inside.lines.now c.self.inside.map.now.rows c.args.place.0 c.index-self-place.result c.as_str-line.result.now c.self.invariant.0.right place.0 c.index-self-place.is (cc (c.as_str-line.ensures.value, c.index-self-place.is))).marked
+    rw (c.marks-rows_marks.ensures, c.rows_at.ensures.marks)
+    (borrowed_line c.self.inside.map.now.wrapping c.self.inside.lines.now c.self.inside.map.now.rows c.args.place.0 c.index-self-place.result
+    c.as_str-line.result.now c.self.invariant.0.right place.0 c.index-self-place.is (cc (c.as_str-line.ensures.value, c.index-self-place.is))).marked

@@ -13,7 +13,9 @@ use Rattle.textarea_screen_map.proofs.ThereAndBack.{is_place, place_of_index}
 use Rattle.textarea_screen_map.proofs.view.TextLayoutView.place_at.Goals as goal
 use Rattle.textarea_screen_map.proofs.view.TextLayoutView.place_at.Goals.{After-character_at_column-index}
 
-place_is : (c : After-character_at_column-index) → ((row_of_texts c.row_at-displayed.result).first + c.character_at_column-index.result < size_limit) × IsPlaceAt c.args.self.now.wrapping.tab_len c.args.self.now.lines c.args.self.now.rows c.args.visual (c.row_at-displayed.result.line, (row_of_texts c.row_at-displayed.result).first + c.character_at_column-index.result)
+place_is :
+    (c : After-character_at_column-index) → ((row_of_texts c.row_at-displayed.result).first + c.character_at_column-index.result < size_limit)
+    × IsPlaceAt c.args.self.now.wrapping.tab_len c.args.self.now.lines c.args.self.now.rows c.args.visual (c.row_at-displayed.result.line, (row_of_texts c.row_at-displayed.result).first + c.character_at_column-index.result)
 place_is c =
     let view = c.args.self.now in
     let displayed = c.row_at-displayed.result in

@@ -21,7 +21,9 @@ use Rattle.textarea_screen_map.proofs.view.TextLayoutView.visual_in_line.Goals.{
 place : (c : After-as_slice-ranges) → IsPlaceOf (lines_of c.self.inside.lines.now) c.args.place
 place c = subst (λ (v : BorrowedRows). IsPlaceOf v.lines c.args.place) (sym c.self.view_is) c.requires
 
-wrapped : (c : After-as_slice-ranges) → IsWrapped c.self.inside.map.now.wrapping.mode c.self.inside.map.now.wrapping.tab_len (max c.self.inside.map.now.wrapping.width 1) (encode_utf8_all (get_or (lines_of c.self.inside.lines.now) c.args.place.0 [])) c.as_slice-ranges.result.now
+wrapped :
+    (c : After-as_slice-ranges) → IsWrapped c.self.inside.map.now.wrapping.mode c.self.inside.map.now.wrapping.tab_len (max c.self.inside.map.now.wrapping.width 1)
+    (encode_utf8_all (get_or (lines_of c.self.inside.lines.now) c.args.place.0 [])) c.as_slice-ranges.result.now
 wrapped c = wrapped_of _ _ _ _ _ (c.as_slice-ranges.ensures ∙ c.rows_at.ensures.ranges) c.self.invariant.0.right (place c).0
 
 offset_is : (c : After-as_slice-ranges) → c.offset_of-offset.result ≡ offset_in (get_or (lines_of c.self.inside.lines.now) c.args.place.0 []) c.args.place.1
@@ -29,7 +31,8 @@ offset_is c = subst (λ (v : BorrowedRows). c.offset_of-offset.result ≡ offset
 
 line : (c : After-as_str-line) → c.args.place.0 < length (lines_of c.self.inside.lines.now) → IsBorrowedLine c.self.inside.lines.now c.self.inside.map.now.rows c.args.place.0 c.as_str-line.result.now
 line c within =
-    borrowed_line c.self.inside.map.now.wrapping c.self.inside.lines.now c.self.inside.map.now.rows c.args.place.0 c.index-self-place.result c.as_str-line.result.now c.self.invariant.0.right within c.index-self-place.is (cc (c.as_str-line.ensures.value, c.index-self-place.is))
+    borrowed_line c.self.inside.map.now.wrapping c.self.inside.lines.now c.self.inside.map.now.rows c.args.place.0 c.index-self-place.result
+    c.as_str-line.result.now c.self.invariant.0.right within c.index-self-place.is (cc (c.as_str-line.ensures.value, c.index-self-place.is))
 
 pub rows_at-requires : goal.rows_at-requires
 rows_at-requires c = grind (arith, common_steps, length-AreRowsOf, length-map)
@@ -74,7 +77,11 @@ returns c =
     let found = visual_in map.wrapping (lines_of c.self.inside.lines.now) map.rows c.args.place row offset c.width_between-column.result slice c.self.invariant.0.right (place at.After-as_slice-ranges)
     (omega (arith, c.row_holding-row.ensures.within, ap length (c.as_slice-ranges.ensures ∙ c.rows_at.ensures.ranges)))
     (omega (arith, c.row_holding-row.ensures.from, start))
-    (λ more. omega (arith, c.row_holding-row.ensures.next (omega (arith, more, ap length (c.as_slice-ranges.ensures ∙ c.rows_at.ensures.ranges))), ap (λ (t : List (ℕ × ℕ)). (range_at t (row + 1)).0) (c.as_slice-ranges.ensures ∙ c.rows_at.ensures.ranges)))
+    (λ more. omega (
+      arith,
+      c.row_holding-row.ensures.next (omega (arith, more, ap length (c.as_slice-ranges.ensures ∙ c.rows_at.ensures.ranges))),
+      ap (λ (t : List (ℕ × ℕ)). (range_at t (row + 1)).0) (c.as_slice-ranges.ensures ∙ c.rows_at.ensures.ranges),
+    ))
     same short c.width_between-column.ensures.text
     (ap (λ (n : ℕ). take (offset - n) (drop n c.as_str-line.result.now)) start ∙ ap (λ (t : List ℕ). take (offset - first) (drop first t)) known.bytes)
     (c.width_between-column.ensures.value ∙ ap (λ t. display_end_column t 0 (chars slice)) (c.tab_len-tab_len.ensures ∙ ap (λ (v : BorrowedRows). v.wrapping.tab_len) (sym c.self.view_is))) in

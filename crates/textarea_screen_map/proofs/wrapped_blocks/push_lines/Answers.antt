@@ -8,9 +8,11 @@ use Rattle.textarea_blocks.specs.Blocks.{all_rows}
 use Rattle.textarea_screen_map.specs.LineRows.{AreRowsOf, ticks_after, ticks_of}
 use Rattle.textarea_blocks.proofs.InBlocks.{block_pushed}
 use Rattle.textarea_screen_map.proofs.Layouts.{AreRowsOf-append, ticks_append}
-use Rattle.textarea_screen_map.proofs.blocks.push_lines.Goals as goal
+use Rattle.textarea_screen_map.proofs.wrapped_blocks.push_lines.Goals as goal
 
-ticks_further : (ticks before more : List ℕ) (start count done size all : ℕ) → before ≡ ticks ++ ticks_after start done → count ≡ start + done → more ≡ ticks_after count size → done + size ≡ all → before ++ more ≡ ticks ++ ticks_after start all
+ticks_further :
+    (ticks before more : List ℕ) (start count done size all : ℕ) → before ≡ ticks ++ ticks_after start done → count ≡ start + done
+    → more ≡ ticks_after count size → done + size ≡ all → before ++ more ≡ ticks ++ ticks_after start all
 ticks_further ticks before more start count done size all first at next sum =
     grind (arith, common_steps, append_assoc ticks (ticks_after start done) more, ticks_append start done size)
 

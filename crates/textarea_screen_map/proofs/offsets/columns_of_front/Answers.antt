@@ -2,8 +2,8 @@ use Rattle.std.proofs.Common.{◌≡◌, ◌+◌, ◌≤◌, ap, arith, length}
 use Rattle.std.specs.Str.{chars}
 use Rattle.textarea_util.proofs.Characters.{length-chars}
 use Rattle.textarea_screen_map.proofs.KnownColumns.{IsSplitAt, split_at}
-use Rattle.textarea_screen_map.proofs.marks.columns_of_front.Goals as goal
-use Rattle.textarea_screen_map.proofs.marks.columns_of_front.Goals.{After-last_mark-column, After-column_count}
+use Rattle.textarea_screen_map.proofs.offsets.columns_of_front.Goals as goal
+use Rattle.textarea_screen_map.proofs.offsets.columns_of_front.Goals.{After-last_mark-column, After-column_count}
 
 split : (c : After-last_mark-column) → IsSplitAt c.args.front.now c.last_mark-column.result
 split c =

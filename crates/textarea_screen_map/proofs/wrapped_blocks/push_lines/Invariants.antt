@@ -2,7 +2,7 @@ use Rattle.std.proofs.Common.{◌≡◌, ◌+◌, ◌-◌, ◌≤◌, ◌++◌, 
 use Rattle.textarea_text.specs.Text.{lines_of}
 use Rattle.textarea_blocks.specs.Blocks.{all_rows}
 use Rattle.textarea_screen_map.specs.LineRows.{AreRowsOf, ticks_after, ticks_of}
-use Rattle.textarea_screen_map.proofs.blocks.push_lines.Given as goal
+use Rattle.textarea_screen_map.proofs.wrapped_blocks.push_lines.Given as goal
 
 -- the lines so far are wrapped
 abbrev pub invariant-wraps : goal.invariant-wraps

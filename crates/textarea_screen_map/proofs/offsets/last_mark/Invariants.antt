@@ -1,6 +1,6 @@
 use Rattle.std.proofs.Common.{ℕ, ◌-◌, ◌≤◌, List, length}
 use Rattle.textarea_screen_map.specs.KnownColumns.{AreColumnsAtBytes, IsColumnAtByte}
-use Rattle.textarea_screen_map.proofs.marks.last_mark.Given as goal
+use Rattle.textarea_screen_map.proofs.offsets.last_mark.Given as goal
 
 -- the last mark so far is one of the marks, or the line's start, and not after the column or offset
 abbrev pub invariant-halving : goal.invariant-halving
