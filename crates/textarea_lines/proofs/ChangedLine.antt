@@ -24,7 +24,9 @@ pub record ChangesLine (rows new : List (List ℕ)) (place : Place) : Type 0 whe
   pub new_is : new ≡ replaced rows place.0 1 (line ∷ [])
   pub front : take place.1 line ≡ take place.1 (get_or rows place.0 [])
 
-line_between : (rows new : List (List ℕ)) (start to : Place) (symbols : List Symbol) → 0 < length new → IsPlaceOf rows start → IsPlaceOf rows to → to.0 ≡ start.0 → breaks_of symbols ≡ 0 → joined new ≡ changed (joined rows) start to symbols → ChangesLine rows new start
+line_between :
+    (rows new : List (List ℕ)) (start to : Place) (symbols : List Symbol) → 0 < length new → IsPlaceOf rows start → IsPlaceOf rows to → to.0 ≡ start.0
+    → breaks_of symbols ≡ 0 → joined new ≡ changed (joined rows) start to symbols → ChangesLine rows new start
 line_between rows new start to symbols some h h' same none e =
     let cs = only_characters symbols none in
     let old = get_or rows start.0 [] in
@@ -45,7 +47,9 @@ line_between rows new start to symbols some h h' same none e =
       front = take_at head (cs.0 ++ tail) start.1 (length-take-le start.1 old h.1);
     }
 
-line_of_splice : (b : Bool) (rows new : List (List ℕ)) (place : Place) (symbols : List Symbol) → 0 < length new → IsPlaceOf rows place → 0 < length rows → Allows b (joined rows) place symbols → breaks_of symbols ≡ 0 → joined new ≡ cond b (inserted (joined rows) place symbols) (removed (joined rows) place symbols) → ChangesLine rows new place
+line_of_splice :
+    (b : Bool) (rows new : List (List ℕ)) (place : Place) (symbols : List Symbol) → 0 < length new → IsPlaceOf rows place → 0 < length rows
+    → Allows b (joined rows) place symbols → breaks_of symbols ≡ 0 → joined new ≡ cond b (inserted (joined rows) place symbols) (removed (joined rows) place symbols) → ChangesLine rows new place
 line_of_splice true rows new place symbols some h some' allowed none e =
     line_between rows new place place symbols some h h refl none e
 line_of_splice false rows new place symbols some h some' allowed none e =

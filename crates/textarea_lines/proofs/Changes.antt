@@ -44,7 +44,10 @@ pub some_now : {Z : Type 0} (old now new : List (String Z)) (row count : ℕ) �
 some_now old now new row count h =
     omega (arith, ap length h.now_is, length-replaced old row count new h.within, h.within, h.new_some)
 
-pub holds_replaced : {Z : Type 0} (settings : LayoutSettings) (old now new : List (String Z)) (row count size n : ℕ) (map : MapView) → Replacing old now new row count → n ≡ length new → map.wrapping ≡ wrapping_for settings (length old - count + n) → AreRowsOf map.wrapping (lines_of (replaced old row count new)) map.rows → size ≡ weight (joined (replaced (lines (text_of old)) row count (lines_of new))) + 1 → size ≤ size_limit → HoldsRows settings now size map
+pub holds_replaced :
+    {Z : Type 0} (settings : LayoutSettings) (old now new : List (String Z)) (row count size n : ℕ) (map : MapView) → Replacing old now new row count
+    → n ≡ length new → map.wrapping ≡ wrapping_for settings (length old - count + n) → AreRowsOf map.wrapping (lines_of (replaced old row count new)) map.rows
+    → size ≡ weight (joined (replaced (lines (text_of old)) row count (lines_of new))) + 1 → size ≤ size_limit → HoldsRows settings now size map
 holds_replaced settings old now new row count size n map h n_is wrapping right size_is limit =
     let long : length now ≡ length old - count + n = omega (arith, ap length h.now_is, length-replaced old row count new h.within, h.within, n_is) in
     let some = some_now old now new row count h in
@@ -54,29 +57,42 @@ holds_replaced settings old now new row count size n map h n_is wrapping right s
       text_layout = rw h.now_is right;
     }
 
-pub layout_replaced : {Z : Type 0} (settings : LayoutSettings) (old now new : List (String Z)) (row count n before after : ℕ) (first rows : List RowsView) → Replacing old now new row count → n ≡ length new → record { settings = settings; count = after; ticks = ticks_of rows } ≡ after_replacement (record { settings = settings; count = before; ticks = ticks_of first }) (length old) row count n → text_layout_of settings now after rows ≡ replaced_in (text_layout_of settings old before first) row count (lines_of new)
+pub layout_replaced :
+    {Z : Type 0} (settings : LayoutSettings) (old now new : List (String Z)) (row count n before after : ℕ) (first rows : List RowsView) → Replacing old now new row count → n ≡ length new
+    → record { settings = settings; count = after; ticks = ticks_of rows } ≡ after_replacement (record { settings = settings; count = before; ticks = ticks_of first }) (length old) row count n
+    → text_layout_of settings now after rows ≡ replaced_in (text_layout_of settings old before first) row count (lines_of new)
 layout_replaced settings old now new row count n before after first rows h n_is layout =
     cc (text_now old now new row count h, count_stored old h.some, length-map new characters_of)
 
 -- ---- a change
 
 -- a replacement that makes a splice of the lines makes it of the text
-pub made : (text_layout : TextAndLayout) (items borrowed_lines : List (String Global)) (replacement : Replacement) (splice : Splice) → 0 < length items → text_of items ≡ text_layout.text → borrowed_lines ≡ items → IsReplacementFor borrowed_lines splice replacement → replaced_in text_layout replacement.row replacement.count (lines_of replacement.lines.items) ≡ applied_to text_layout splice
+pub made :
+    (text_layout : TextAndLayout) (items borrowed_lines : List (String Global)) (replacement : Replacement) (splice : Splice) → 0 < length items
+    → text_of items ≡ text_layout.text → borrowed_lines ≡ items → IsReplacementFor borrowed_lines splice replacement
+    → replaced_in text_layout replacement.row replacement.count (lines_of replacement.lines.items) ≡ applied_to text_layout splice
 made text_layout items borrowed_lines replacement splice some is borrowed_is h = grind (arith, common_steps, text_replaced, length-map)
 
 -- the size after a change
-pub size_made : {Z : Type 0} (items : List (String Z)) (text : List Symbol) (size after : ℕ) (splice : Splice) → IsStored items size → text_of items ≡ text → Fits text splice → after ≡ cond splice.inserts (size + weight splice.symbols) (size - weight splice.symbols) → after ≡ weight (applied text splice) + 1
+pub size_made :
+    {Z : Type 0} (items : List (String Z)) (text : List Symbol) (size after : ℕ) (splice : Splice) → IsStored items size → text_of items ≡ text
+    → Fits text splice → after ≡ cond splice.inserts (size + weight splice.symbols) (size - weight splice.symbols) → after ≡ weight (applied text splice) + 1
 size_made items text size after splice stored is fits after_is =
     by splice.inserts (stored.size_is ∙ size_of_text items stored.some ∙ ap (λ t. weight t + 1) is) fits.allowed after_is
   where
-    by : (b : Bool) → size ≡ weight text + 1 → Allows b text splice.place splice.symbols → after ≡ cond b (size + weight splice.symbols) (size - weight splice.symbols) → after ≡ weight (cond b (inserted text splice.place splice.symbols) (removed text splice.place splice.symbols)) + 1
+    by :
+        (b : Bool) → size ≡ weight text + 1 → Allows b text splice.place splice.symbols → after ≡ cond b (size + weight splice.symbols) (size - weight splice.symbols)
+        → after ≡ weight (cond b (inserted text splice.place splice.symbols) (removed text splice.place splice.symbols)) + 1
     by true was allowed e = omega (arith, was, e, weight_inserted text splice.place splice.symbols)
     by false was allowed e = omega (arith, was, e, weight_removed text splice.place splice.symbols allowed)
 
 -- ---- all lines
 
 -- some lines, all of which are wrapped
-pub wrapped_new : {Z : Type 0} (settings : LayoutSettings) (items borrowed_lines : List (String Z)) (old count : ℕ) (rows : List RowsView) → 0 < length items → borrowed_lines ≡ items → count ≡ old + length borrowed_lines → ticks_of rows ≡ ticks_after old (length borrowed_lines) → text_layout_of settings items count rows ≡ layout_from_scratch settings old (text_of items)
+pub wrapped_new :
+    {Z : Type 0} (settings : LayoutSettings) (items borrowed_lines : List (String Z)) (old count : ℕ) (rows : List RowsView) → 0 < length items
+    → borrowed_lines ≡ items → count ≡ old + length borrowed_lines → ticks_of rows ≡ ticks_after old (length borrowed_lines)
+    → text_layout_of settings items count rows ≡ layout_from_scratch settings old (text_of items)
 wrapped_new settings items borrowed_lines old count rows some borrowed_is counted ticks =
     cc (count_stored items some)
 
@@ -87,15 +103,23 @@ pub record Reviewing {Z : Type 0} (old settings : LayoutSettings) (items : List 
   pub before_is : before ≡ wrapping_for old (length items)
   pub after_is : after ≡ wrapping_for settings (length items)
 
-pub test_is : {Z : Type 0} (old settings : LayoutSettings) (items : List (String Z)) (count : ℕ) (rows : List RowsView) (text_layout : TextAndLayout) (before after : Wrapping) → Reviewing old settings items count rows text_layout before after → is_same_wrapping (wrapping_for settings (length (lines text_layout.text))) (wrapping_of text_layout) ≡ is_same_wrapping after before
+pub test_is :
+    {Z : Type 0} (old settings : LayoutSettings) (items : List (String Z)) (count : ℕ) (rows : List RowsView) (text_layout : TextAndLayout) (before after : Wrapping)
+    → Reviewing old settings items count rows text_layout before after
+    → is_same_wrapping (wrapping_for settings (length (lines text_layout.text))) (wrapping_of text_layout) ≡ is_same_wrapping after before
 test_is old settings items count rows text_layout before after h =
     rw (← h.is, count_stored items h.some, h.after_is, h.before_is)
 
 -- if lines are wrapped as before, their rows remain right: those of whole lines at other tab stops
-pub holds_wrapped : {Z : Type 0} (old settings : LayoutSettings) (items : List (String Z)) (size : ℕ) (map : MapView) → is_wrapped settings ≡ true → is_same_wrapping (wrapping_for settings (length items)) map.wrapping ≡ true → HoldsRows old items size map → HoldsRows settings items size map
+pub holds_wrapped :
+    {Z : Type 0} (old settings : LayoutSettings) (items : List (String Z)) (size : ℕ) (map : MapView) → is_wrapped settings ≡ true
+    → is_same_wrapping (wrapping_for settings (length items)) map.wrapping ≡ true → HoldsRows old items size map → HoldsRows settings items size map
 holds_wrapped old settings items size map wrapped same k =
     record { stored = k.stored; wrapping_is = same_wrapped settings (length items) map.wrapping wrapped same; text_layout = k.text_layout }
 
-pub holds_whole : {Z : Type 0} (old settings : LayoutSettings) (items : List (String Z)) (size : ℕ) (map now : MapView) → is_wrapped settings ≡ false → is_same_wrapping (wrapping_for settings (length items)) map.wrapping ≡ true → HoldsRows old items size map → now.wrapping ≡ with_tab_len map.wrapping settings.tab_len → AreRowsOf now.wrapping (lines_of items) now.rows → HoldsRows settings items size now
+pub holds_whole :
+    {Z : Type 0} (old settings : LayoutSettings) (items : List (String Z)) (size : ℕ) (map now : MapView) → is_wrapped settings ≡ false
+    → is_same_wrapping (wrapping_for settings (length items)) map.wrapping ≡ true → HoldsRows old items size map
+    → now.wrapping ≡ with_tab_len map.wrapping settings.tab_len → AreRowsOf now.wrapping (lines_of items) now.rows → HoldsRows settings items size now
 holds_whole old settings items size map now whole same k wrapping_is right =
     record { stored = k.stored; wrapping_is = wrapping_is ∙ same_whole old settings (length items) map.wrapping k.wrapping_is whole same; text_layout = right }

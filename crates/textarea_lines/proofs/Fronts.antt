@@ -36,7 +36,9 @@ line_elsewhere rows new row line i within is other =
     ]
 
 -- what a change inside one line leaves
-pub same_before : {Z : Type 0} (settings : LayoutSettings) (old now borrowed_lines : List (String Z)) (size after : ℕ) (map : MapView) (splice : Splice) (row column : ℕ) → Inside settings old now borrowed_lines size after map splice row → column ≡ splice.place.1 → IsSameBefore (lines_of old) (lines_of now) row column
+pub same_before :
+    {Z : Type 0} (settings : LayoutSettings) (old now borrowed_lines : List (String Z)) (size after : ℕ) (map : MapView) (splice : Splice) (row column : ℕ)
+    → Inside settings old now borrowed_lines size after map splice row → column ≡ splice.place.1 → IsSameBefore (lines_of old) (lines_of now) row column
 same_before settings old now borrowed_lines size after map splice row column h column_is =
     let changed = inside_line settings old now borrowed_lines size after map splice row h in
     let front : IsSameBefore (lines_of old) (lines_of now) row splice.place.1 = record {

@@ -19,10 +19,15 @@ pub replaced_whole : {X : Type 0} (items new : List X) (n : ℕ) → length item
 replaced_whole items new n e = ap (λ t. new ++ t) (drop_all (0 + n) items (omega arith)) ∙ append-nil new
 
 -- rows that were wrapped in three steps: above, of the new lines, and below
-pub rows_together : {Z : Type 0} (w : Wrapping) (items new above borrowed_lines below : List (String Z)) (row count : ℕ) (rows : List RowsView) → above ≡ take row items → borrowed_lines ≡ new → below ≡ drop (row + count) items → AreRowsOf w ((lines_of above ++ lines_of borrowed_lines) ++ lines_of below) rows → AreRowsOf w (lines_of (replaced items row count new)) rows
+pub rows_together :
+    {Z : Type 0} (w : Wrapping) (items new above borrowed_lines below : List (String Z)) (row count : ℕ) (rows : List RowsView)
+    → above ≡ take row items → borrowed_lines ≡ new → below ≡ drop (row + count) items
+    → AreRowsOf w ((lines_of above ++ lines_of borrowed_lines) ++ lines_of below) rows → AreRowsOf w (lines_of (replaced items row count new)) rows
 rows_together w items new above borrowed_lines below row count rows a l b k =
     simp (map-append, ← a, ← l, ← b) (simp append_assoc at k)
 
-pub ticks_together : (t t' t'' t''' : List ℕ) (count first second a b d size : ℕ) → t ≡ [] → t' ≡ t ++ ticks_after count a → first ≡ count + a → t'' ≡ t' ++ ticks_after first b → second ≡ first + b → t''' ≡ t'' ++ ticks_after second d → a + b + d ≡ size → t''' ≡ ticks_after count size
+pub ticks_together :
+    (t t' t'' t''' : List ℕ) (count first second a b d size : ℕ) → t ≡ [] → t' ≡ t ++ ticks_after count a → first ≡ count + a
+    → t'' ≡ t' ++ ticks_after first b → second ≡ first + b → t''' ≡ t'' ++ ticks_after second d → a + b + d ≡ size → t''' ≡ ticks_after count size
 ticks_together t t' t'' t''' count first second a b d size none e1 c1 e2 c2 e3 sum =
     grind (arith, common_steps, ticks_append count a b, ticks_append count (a + b) d)

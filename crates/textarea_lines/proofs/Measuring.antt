@@ -23,25 +23,40 @@ pub record Measuring {Z : Type 0} (settings : LayoutSettings) (items borrowed_li
   pub now_is : now ≡ wrapping_for settings (length borrowed_lines)
 
 -- what is counted of the borrowed lines is true of the text
-pub counted_in_text : {Z : Type 0} (settings : LayoutSettings) (items borrowed_lines : List (String Z)) (size count inner_width : ℕ) (map : MapView) (text_layout : TextAndLayout) (wrapping now : Wrapping) (n : ℕ) → Measuring settings items borrowed_lines size count inner_width map text_layout wrapping now → IsRowCount wrapping (lines_of borrowed_lines) n → IsRowCount (wrapped_at_width text_layout.layout.settings inner_width (length (lines text_layout.text))) (lines text_layout.text) n
+pub counted_in_text :
+    {Z : Type 0} (settings : LayoutSettings) (items borrowed_lines : List (String Z)) (size count inner_width : ℕ) (map : MapView) (text_layout : TextAndLayout) (wrapping now : Wrapping) (n : ℕ)
+    → Measuring settings items borrowed_lines size count inner_width map text_layout wrapping now → IsRowCount wrapping (lines_of borrowed_lines) n
+    → IsRowCount (wrapped_at_width text_layout.layout.settings inner_width (length (lines text_layout.text))) (lines text_layout.text) n
 counted_in_text settings items borrowed_lines size count inner_width map text_layout wrapping now n m h =
     rw (← m.is, count_stored items m.contents.stored.some, lines_stored items m.contents.stored.some, ← m.borrowed_is, ← m.wrapping_is) h
 
 -- if the lines are already wrapped in that way, their rows are the stored ones
-pub counted_as_cached : {Z : Type 0} (settings : LayoutSettings) (items borrowed_lines : List (String Z)) (size count inner_width : ℕ) (map : MapView) (text_layout : TextAndLayout) (wrapping now : Wrapping) (n : ℕ) → Measuring settings items borrowed_lines size count inner_width map text_layout wrapping now → is_same_wrapping wrapping now ≡ true → n ≡ row_total map.rows → IsRowCount wrapping (lines_of borrowed_lines) n
+pub counted_as_cached :
+    {Z : Type 0} (settings : LayoutSettings) (items borrowed_lines : List (String Z)) (size count inner_width : ℕ) (map : MapView) (text_layout : TextAndLayout) (wrapping now : Wrapping) (n : ℕ)
+    → Measuring settings items borrowed_lines size count inner_width map text_layout wrapping now → is_same_wrapping wrapping now ≡ true
+    → n ≡ row_total map.rows → IsRowCount wrapping (lines_of borrowed_lines) n
 counted_as_cached settings items borrowed_lines size count inner_width map text_layout wrapping now n m same e =
     (map.rows, AreRowsOf-same wrapping now (lines_of borrowed_lines) map.rows same (rw (m.now_is, m.borrowed_is) (right_rows settings items size map m.contents)), e)
 
 -- whether they are already wrapped in that way, of the text and of the borrowed lines
-pub same_as_cached : {Z : Type 0} (settings : LayoutSettings) (items borrowed_lines : List (String Z)) (size count inner_width : ℕ) (map : MapView) (text_layout : TextAndLayout) (wrapping now : Wrapping) → Measuring settings items borrowed_lines size count inner_width map text_layout wrapping now → is_same_wrapping (wrapped_at_width text_layout.layout.settings inner_width (length (lines text_layout.text))) (wrapping_of text_layout) ≡ is_same_wrapping wrapping now
+pub same_as_cached :
+    {Z : Type 0} (settings : LayoutSettings) (items borrowed_lines : List (String Z)) (size count inner_width : ℕ) (map : MapView) (text_layout : TextAndLayout) (wrapping now : Wrapping)
+    → Measuring settings items borrowed_lines size count inner_width map text_layout wrapping now
+    → is_same_wrapping (wrapped_at_width text_layout.layout.settings inner_width (length (lines text_layout.text))) (wrapping_of text_layout) ≡ is_same_wrapping wrapping now
 same_as_cached settings items borrowed_lines size count inner_width map text_layout wrapping now m =
     rw (m.wrapping_is, m.now_is, m.borrowed_is, ← m.is, count_stored items m.contents.stored.some)
 
 -- if they were measured last in that way, the number is that of the last time
-pub counted_as_measured : {Z : Type 0} (items borrowed_lines : List (String Z)) (wrapping : Wrapping) (cached : Option Measured) (last : Measured) → borrowed_lines ≡ items → is_same_wrapping wrapping last.wrapping ≡ true → cached ≡ Some last → IfSome cached (λ was. IsRowCount was.wrapping (lines_of items) was.rows) → IsRowCount wrapping (lines_of borrowed_lines) last.rows
+pub counted_as_measured :
+    {Z : Type 0} (items borrowed_lines : List (String Z)) (wrapping : Wrapping) (cached : Option Measured) (last : Measured) → borrowed_lines ≡ items
+    → is_same_wrapping wrapping last.wrapping ≡ true → cached ≡ Some last → IfSome cached (λ was. IsRowCount was.wrapping (lines_of items) was.rows)
+    → IsRowCount wrapping (lines_of borrowed_lines) last.rows
 counted_as_measured items borrowed_lines wrapping cached last borrowed_is same is h = grind (arith, common_steps, AreRowsOf-same)
 
 -- the number of rows of the text's lines, wrapped in that way
-pub counted_from_scratch : {Z : Type 0} (settings : LayoutSettings) (items borrowed_lines : List (String Z)) (size count inner_width : ℕ) (map : MapView) (text_layout : TextAndLayout) (wrapping now : Wrapping) (n : ℕ) → Measuring settings items borrowed_lines size count inner_width map text_layout wrapping now → IsRowCount wrapping (lines text_layout.text) n → IsRowCount (wrapped_at_width text_layout.layout.settings inner_width (length (lines text_layout.text))) (lines text_layout.text) n
+pub counted_from_scratch :
+    {Z : Type 0} (settings : LayoutSettings) (items borrowed_lines : List (String Z)) (size count inner_width : ℕ) (map : MapView) (text_layout : TextAndLayout) (wrapping now : Wrapping) (n : ℕ)
+    → Measuring settings items borrowed_lines size count inner_width map text_layout wrapping now → IsRowCount wrapping (lines text_layout.text) n
+    → IsRowCount (wrapped_at_width text_layout.layout.settings inner_width (length (lines text_layout.text))) (lines text_layout.text) n
 counted_from_scratch settings items borrowed_lines size count inner_width map text_layout wrapping now n m h =
     grind (arith, common_steps, lines_stored items m.contents.stored.some, counted_in_text)

@@ -8,7 +8,9 @@ use Rattle.textarea_screen_map.specs.declared.layout.Wrapping.{Wrapping}
 row_same : (row other : RowsView) → row.ranges ≡ other.ranges → row.marks ≡ other.marks → row.tick ≡ other.tick → row ≡ other
 row_same row other ranges marks tick = rw (ranges, marks, tick) refl
 
-pub rows_same : (w : Wrapping) (lines : List (List ℕ)) (rows others : List RowsView) → AreRowsOf w lines rows → AreRowsOf w lines others → map (λ (r : RowsView). r.ranges) rows ≡ map (λ (r : RowsView). r.ranges) others → ticks_of rows ≡ ticks_of others → rows ≡ others
+pub rows_same :
+    (w : Wrapping) (lines : List (List ℕ)) (rows others : List RowsView) → AreRowsOf w lines rows → AreRowsOf w lines others
+    → map (λ (r : RowsView). r.ranges) rows ≡ map (λ (r : RowsView). r.ranges) others → ticks_of rows ≡ ticks_of others → rows ≡ others
 rows_same w [] [] [] h k ranges ticks = refl
 rows_same w [] (r ∷ rows) others h k ranges ticks = absurd h
 rows_same w [] [] (s ∷ others) h k ranges ticks = absurd k

@@ -12,7 +12,9 @@ abbrev pub pos : Place → ℕ → Pos
 pos place offset = record { row = place.0; col = place.1; offset = offset }
 
 -- a position whose offset is known
-pub located_at : {Z : Type 0} (items : List (String Z)) (found : Pos) (place start : Place) (offset : ℕ) → found ≡ pos place offset → place ≡ start → IsPlaceOf (lines_of items) start → offset ≡ offset_at (lines_of items) start → IsPlaceAtByte items found
+pub located_at :
+    {Z : Type 0} (items : List (String Z)) (found : Pos) (place start : Place) (offset : ℕ) → found ≡ pos place offset → place ≡ start
+    → IsPlaceOf (lines_of items) start → offset ≡ offset_at (lines_of items) start → IsPlaceAtByte items found
 located_at items found place start offset is same h e =
     subst (IsPlaceAtByte items) (sym is)
     (record {

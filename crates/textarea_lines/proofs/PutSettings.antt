@@ -10,7 +10,8 @@ use Rattle.textarea_lines.specs.declared.settings.LayoutSettings.{LayoutSettings
 -- ---- other settings
 
 abbrev put_if : Bool → TextAndLayout → LayoutSettings → TextAndLayout
-put_if b text_layout settings = cond b (record { text = text_layout.text; layout = record { settings = settings; count = text_layout.layout.count; ticks = text_layout.layout.ticks } }) (layout_from_scratch settings text_layout.layout.count text_layout.text)
+put_if b text_layout settings =
+    cond b (record { text = text_layout.text; layout = record { settings = settings; count = text_layout.layout.count; ticks = text_layout.layout.ticks } }) (layout_from_scratch settings text_layout.layout.count text_layout.text)
 
 put_if_text : (b : Bool) (text_layout : TextAndLayout) (settings : LayoutSettings) → (put_if b text_layout settings).text ≡ text_layout.text
 put_if_text true text_layout settings = refl

@@ -64,10 +64,14 @@ whole_before settings n before whole same = grind (arith, common_steps, whole_is
 whole_width : (settings : LayoutSettings) (n : ℕ) → (wrapping_for settings n).mode ≡ mode.None → (wrapping_for settings n).width ≡ 1
 whole_width settings n e = by (is_wrapped settings) refl e
   where
-    by : (b : Bool) → is_wrapped settings ≡ b → (cond b (wrapped_at_width settings settings.inner_width n) (whole_lines settings)).mode ≡ mode.None → (cond b (wrapped_at_width settings settings.inner_width n) (whole_lines settings)).width ≡ 1
+    by :
+        (b : Bool) → is_wrapped settings ≡ b → (cond b (wrapped_at_width settings settings.inner_width n) (whole_lines settings)).mode ≡ mode.None
+        → (cond b (wrapped_at_width settings settings.inner_width n) (whole_lines settings)).width ≡ 1
     by true wrapped e = absurd (cc ((and_parts (not (settings.inner_width == 0)) (wraps settings.mode) wrapped).1, e))
     by false whole e = refl
 
-pub same_whole : (old settings : LayoutSettings) (n : ℕ) (before : Wrapping) → before ≡ wrapping_for old n → is_wrapped settings ≡ false → is_same_wrapping (wrapping_for settings n) before ≡ true → with_tab_len before settings.tab_len ≡ wrapping_for settings n
+pub same_whole :
+    (old settings : LayoutSettings) (n : ℕ) (before : Wrapping) → before ≡ wrapping_for old n → is_wrapped settings ≡ false
+    → is_same_wrapping (wrapping_for settings n) before ≡ true → with_tab_len before settings.tab_len ≡ wrapping_for settings n
 same_whole old settings n before is whole same =
     grind (arith, common_steps, whole_before settings n before whole same, whole_width, wrapping_is, whole_is settings n whole)

@@ -34,7 +34,10 @@ length-ticks_after : (first size : ℕ) → length (range_with_len first size) �
 length-ticks_after first zero = refl
 length-ticks_after first (suc size) = ap suc (length-ticks_after (first + 1) size)
 
-pub keeps_others : (one : OneMap) (w : Wrapping) (text : List Symbol) (splice : Splice) (count : ℕ) (before after : List RowsView) → SplicesLines text splice → AreRowsOf w (lines text) before → AreRowsOf w (lines (applied text splice)) after → ticks_of after ≡ replaced (ticks_of before) splice.place.0 (replaced_line_count splice) (ticks_after count (new_line_count splice)) → KeepsOtherRows count splice before after
+pub keeps_others :
+    (one : OneMap) (w : Wrapping) (text : List Symbol) (splice : Splice) (count : ℕ) (before after : List RowsView) → SplicesLines text splice
+    → AreRowsOf w (lines text) before → AreRowsOf w (lines (applied text splice)) after
+    → ticks_of after ≡ replaced (ticks_of before) splice.place.0 (replaced_line_count splice) (ticks_after count (new_line_count splice)) → KeepsOtherRows count splice before after
 keeps_others one w text splice count before after s h k ticks =
     let row = splice.place.0 in
     let removed_lines = replaced_line_count splice in
@@ -54,7 +57,10 @@ keeps_others one w text splice count before after s h k ticks =
     record {
       above = rows_same w (take row old) (take row after) (take row before) above (AreRowsOf-take w row old before h) (one w (take row old) (take row after) (take row before) above (AreRowsOf-take w row old before h))
           (sym (take-map tick_of row after) ∙ ap (take row) ticks ∙ take-replaced (ticks_of before) (ticks_after count coming) row removed_lines first ∙ take-map tick_of row before);
-      below = rows_same w (drop (row + removed_lines) old) (drop (row + coming) after) (drop (row + removed_lines) before) below (AreRowsOf-drop w (row + removed_lines) old before h) (one w (drop (row + removed_lines) old) (drop (row + coming) after) (drop (row + removed_lines) before) below (AreRowsOf-drop w (row + removed_lines) old before h))
+      below =
+          rows_same w (drop (row + removed_lines) old) (drop (row + coming) after) (drop (row + removed_lines) before) below
+          (AreRowsOf-drop w (row + removed_lines) old before h)
+          (one w (drop (row + removed_lines) old) (drop (row + coming) after) (drop (row + removed_lines) before) below (AreRowsOf-drop w (row + removed_lines) old before h))
           (sym (drop-map tick_of (row + coming) after) ∙ ap (drop (row + coming)) ticks ∙ drop-replaced (ticks_of before) (ticks_after count coming) row removed_lines coming first numbers ∙ drop-map tick_of (row + removed_lines) before);
       touched = middle;
       newer = above_all count (count + 1) coming (touched_rows splice after) (omega arith) middle;

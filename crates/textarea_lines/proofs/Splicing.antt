@@ -52,14 +52,17 @@ length-lines (Character c ∷ text) = as_long c (lines text) (breaks_of text) (l
 length-lines (Break ∷ text) = omega (arith, length-lines text)
 
 -- between two positions of the text
-lines_between : (text : List Symbol) (start to : Place) (symbols : List Symbol) → IsPlaceOf (lines text) start → IsPlaceOf (lines text) to → (new : List (List ℕ)) × (length new ≡ breaks_of symbols + 1) × (lines (changed text start to symbols) ≡ take start.0 (lines text) ++ (new ++ drop (to.0 + 1) (lines text)))
+lines_between :
+    (text : List Symbol) (start to : Place) (symbols : List Symbol) → IsPlaceOf (lines text) start → IsPlaceOf (lines text) to
+    → (new : List (List ℕ)) × (length new ≡ breaks_of symbols + 1) × (lines (changed text start to symbols) ≡ take start.0 (lines text) ++ (new ++ drop (to.0 + 1) (lines text)))
 lines_between text start to symbols h h' =
     let rows = lines text in
     let head = characters (take start.1 (get_or rows start.0 [])) in
     let tail = characters (drop to.1 (get_or rows to.0 [])) in
     let middle = head ++ (symbols ++ tail) in
     let new = lines middle in
-    let long : length new ≡ breaks_of symbols + 1 = omega (arith, length-lines middle, breaks_of-append head (symbols ++ tail), breaks_of-append symbols tail, breaks_of-characters (take start.1 (get_or rows start.0 [])), breaks_of-characters (drop to.1 (get_or rows to.0 []))) in
+    let long : length new ≡ breaks_of symbols + 1 =
+    omega (arith, length-lines middle, breaks_of-append head (symbols ++ tail), breaks_of-append symbols tail, breaks_of-characters (take start.1 (get_or rows start.0 [])), breaks_of-characters (drop to.1 (get_or rows to.0 []))) in
     let some : 0 < length new = omega arith in
     let whole = rows_replaced rows new start to symbols h h' (some, joined-lines middle) in
     let there : 0 < length (take start.0 rows ++ (new ++ drop (to.0 + 1) rows)) =

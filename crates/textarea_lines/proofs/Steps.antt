@@ -23,11 +23,15 @@ Step = ℕ → List (List ℕ) → List RowsView → Place → Place → Type 0
 
 -- a position is in one visual row at one column
 abbrev pub HasOneVisualPosition : Type 0
-HasOneVisualPosition = (wrapping : Wrapping) (lines : List (List ℕ)) (rows : List RowsView) (place : Place) (visual other : VisualPosition) → AreRowsOf wrapping lines rows → IsVisualPosition wrapping.tab_len lines rows place visual → IsVisualPosition wrapping.tab_len lines rows place other → visual ≡ other
+HasOneVisualPosition =
+    (wrapping : Wrapping) (lines : List (List ℕ)) (rows : List RowsView) (place : Place) (visual other : VisualPosition)
+    → AreRowsOf wrapping lines rows → IsVisualPosition wrapping.tab_len lines rows place visual → IsVisualPosition wrapping.tab_len lines rows place other → visual ≡ other
 
 -- the step leads from a position to only one position
 abbrev pub LeadsToOne : Step → Type 0
-LeadsToOne Goes = (wrapping : Wrapping) (lines : List (List ℕ)) (rows : List RowsView) (place target other : Place) → AreRowsOf wrapping lines rows → Goes wrapping.tab_len lines rows place target → Goes wrapping.tab_len lines rows place other → target ≡ other
+LeadsToOne Goes =
+    (wrapping : Wrapping) (lines : List (List ℕ)) (rows : List RowsView) (place target other : Place) → AreRowsOf wrapping lines rows
+    → Goes wrapping.tab_len lines rows place target → Goes wrapping.tab_len lines rows place other → target ≡ other
 
 -- there is no step from such a position
 abbrev pub EndsAt : Edge → Step → Type 0
@@ -44,7 +48,9 @@ none_below once w lines rows place target cached final h =
 -- ---- what is found
 
 -- two positions are equal; a position and none contradict each other
-one_target : (Nothing : Type 0) (Goes : Place → Type 0) (found other : Option Place) → ((target : Place) → Nothing → Goes target → ⊥) → ((target more : Place) → Goes target → Goes more → target ≡ more) → MatchOption found Nothing Goes → MatchOption other Nothing Goes → found ≡ other
+one_target :
+    (Nothing : Type 0) (Goes : Place → Type 0) (found other : Option Place) → ((target : Place) → Nothing → Goes target → ⊥)
+    → ((target more : Place) → Goes target → Goes more → target ≡ more) → MatchOption found Nothing Goes → MatchOption other Nothing Goes → found ≡ other
 one_target Nothing Goes None None ends one h k = refl
 one_target Nothing Goes None (Some target) ends one h k = absurd (ends target h k)
 one_target Nothing Goes (Some target) None ends one h k = absurd (ends target k h)
@@ -52,7 +58,11 @@ one_target Nothing Goes (Some target) (Some more) ends one h k = ap Some (one ta
 
 -- the result of a look-up from a position, in the rows of a text with its layout
 abbrev pub Finds : Edge → Step → TextAndLayout → Place → Option Place → Type 0
-Finds Ends Goes text_layout place found = OfRows text_layout (λ (rows : List RowsView). MatchOption found (Ends text_layout.layout.settings.tab_len (lines text_layout.text) rows place) (Goes text_layout.layout.settings.tab_len (lines text_layout.text) rows place))
+Finds Ends Goes text_layout place found =
+    OfRows text_layout (λ (rows : List RowsView). MatchOption found (Ends text_layout.layout.settings.tab_len (lines text_layout.text) rows place) (Goes text_layout.layout.settings.tab_len (lines text_layout.text) rows place))
 
-pub finds_once : (Ends : Edge) (Goes : Step) (text_layout : TextAndLayout) (place : Place) (found other : Option Place) → ((rows others : List RowsView) → HasLayout text_layout rows → HasLayout text_layout others → rows ≡ others) → EndsAt Ends Goes → LeadsToOne Goes → Finds Ends Goes text_layout place found → Finds Ends Goes text_layout place other → found ≡ other
+pub finds_once :
+    (Ends : Edge) (Goes : Step) (text_layout : TextAndLayout) (place : Place) (found other : Option Place)
+    → ((rows others : List RowsView) → HasLayout text_layout rows → HasLayout text_layout others → rows ≡ others) → EndsAt Ends Goes → LeadsToOne Goes
+    → Finds Ends Goes text_layout place found → Finds Ends Goes text_layout place other → found ≡ other
 finds_once Ends Goes text_layout place found other one_list ends one h k = grind (arith, common_steps, tab_len_of, one_target)

@@ -49,7 +49,9 @@ pub right_rows : {Z : Type 0} (settings : LayoutSettings) (items : List (String 
 right_rows settings items size map h = subst (λ (w : Wrapping). AreRowsOf w (lines_of items) map.rows) h.wrapping_is h.text_layout
 
 -- they are those of the text
-pub layout_as : {Z : Type 0} (settings : LayoutSettings) (items : List (String Z)) (size count : ℕ) (map : MapView) (text_layout : TextAndLayout) → HoldsRows settings items size map → text_layout_of settings items count map.rows ≡ text_layout → HasLayout text_layout map.rows
+pub layout_as :
+    {Z : Type 0} (settings : LayoutSettings) (items : List (String Z)) (size count : ℕ) (map : MapView) (text_layout : TextAndLayout)
+    → HoldsRows settings items size map → text_layout_of settings items count map.rows ≡ text_layout → HasLayout text_layout map.rows
 layout_as settings items size count map text_layout h is =
     subst (λ (l : TextAndLayout). HasLayout l map.rows) is
     (record { text_layout = rw (lines_stored items h.stored.some, length-map items characters_of) (right_rows settings items size map h); ticks = refl })
@@ -63,7 +65,9 @@ pub tab_len_unchanged : {Z : Type 0} (settings : LayoutSettings) (items : List (
 tab_len_unchanged settings items size map h = ap (λ (w : Wrapping). w.tab_len) h.wrapping_is ∙ tab_len_of settings (length items)
 
 -- copies of the lines, with the same rows
-pub holds_copied : {Z : Type 0} (settings : LayoutSettings) (old copies : List (String Z)) (size : ℕ) (map again : MapView) → HoldsRows settings old size map → lines_of copies ≡ lines_of old → (again.rows ≡ map.rows) × (again.wrapping ≡ map.wrapping) → HoldsRows settings copies size again
+pub holds_copied :
+    {Z : Type 0} (settings : LayoutSettings) (old copies : List (String Z)) (size : ℕ) (map again : MapView) → HoldsRows settings old size map
+    → lines_of copies ≡ lines_of old → (again.rows ≡ map.rows) × (again.wrapping ≡ map.wrapping) → HoldsRows settings copies size again
 holds_copied settings old copies size map again h e same =
     let long : length copies ≡ length old = omega (arith, length-map copies characters_of, length-map old characters_of, ap length e) in
     let some : 0 < length copies = omega (arith, long, h.stored.some) in
@@ -77,5 +81,7 @@ holds_copied settings old copies size map again h e same =
       text_layout = rw (same.1, same.0, e) h.text_layout;
     }
 
-pub layout_copied : {Z : Type 0} (settings : LayoutSettings) (old copies : List (String Z)) (count again : ℕ) (rows others : List RowsView) → lines_of copies ≡ lines_of old → again ≡ count → others ≡ rows → text_layout_of settings copies again others ≡ text_layout_of settings old count rows
+pub layout_copied :
+    {Z : Type 0} (settings : LayoutSettings) (old copies : List (String Z)) (count again : ℕ) (rows others : List RowsView) → lines_of copies ≡ lines_of old → again ≡ count → others ≡ rows
+    → text_layout_of settings copies again others ≡ text_layout_of settings old count rows
 layout_copied settings old copies count again rows others e count_is rows_are = cc

@@ -54,7 +54,9 @@ one_range settings (line ∷ lines) (r ∷ rows) zero h within = whole_ranges se
 one_range settings (line ∷ lines) (r ∷ rows) (suc i) h within = one_range settings lines rows i h.1 (omega arith)
 
 -- one row is replaced by one row
-pub size_of_one : (rows new : List RowsView) (wrapped : RowsView) (row bytes : ℕ) → new ≡ wrapped ∷ [] → line_bytes wrapped.ranges ≡ bytes → size_total (replaced rows row 1 new) ≡ size_total (take row rows) + (bytes + 1) + size_total (drop (row + 1) rows)
+pub size_of_one :
+    (rows new : List RowsView) (wrapped : RowsView) (row bytes : ℕ) → new ≡ wrapped ∷ [] → line_bytes wrapped.ranges ≡ bytes
+    → size_total (replaced rows row 1 new) ≡ size_total (take row rows) + (bytes + 1) + size_total (drop (row + 1) rows)
 size_of_one rows new wrapped row bytes is e =
     grind (arith, common_steps, size_total-append (take row rows) (new ++ drop (row + 1) rows), size_total-append new (drop (row + 1) rows))
 
@@ -81,22 +83,30 @@ pub record Inside {Z : Type 0} (settings : LayoutSettings) (old now borrowed_lin
   pub after_is : after ≡ weight (applied (text_of old) splice) + 1
   pub limit : after ≤ size_limit
 
-pub inside_line : {Z : Type 0} (settings : LayoutSettings) (old now borrowed_lines : List (String Z)) (size after : ℕ) (map : MapView) (splice : Splice) (row : ℕ) → Inside settings old now borrowed_lines size after map splice row → ChangesLine (lines_of old) (lines_of now) (row, splice.place.1)
+pub inside_line :
+    {Z : Type 0} (settings : LayoutSettings) (old now borrowed_lines : List (String Z)) (size after : ℕ) (map : MapView) (splice : Splice) (row : ℕ)
+    → Inside settings old now borrowed_lines size after map splice row → ChangesLine (lines_of old) (lines_of now) (row, splice.place.1)
 inside_line settings old now borrowed_lines size after map splice row h =
     let some : 0 < length (lines_of old) = omega (arith, length-map old characters_of, h.holds.stored.some) in
     let some_now : 0 < length (lines_of now) = omega (arith, length-map now characters_of, h.now_some) in
     rw h.row_is (changes_line (lines_of old) (lines_of now) splice some some_now h.fits h.none h.now_is)
 
-inside_rows : {Z : Type 0} (settings : LayoutSettings) (old now borrowed_lines : List (String Z)) (size after : ℕ) (map : MapView) (splice : Splice) (row : ℕ) → Inside settings old now borrowed_lines size after map splice row → AreRowsOf (whole_lines settings) (lines_of old) map.rows
+inside_rows :
+    {Z : Type 0} (settings : LayoutSettings) (old now borrowed_lines : List (String Z)) (size after : ℕ) (map : MapView) (splice : Splice) (row : ℕ)
+    → Inside settings old now borrowed_lines size after map splice row → AreRowsOf (whole_lines settings) (lines_of old) map.rows
 inside_rows settings old now borrowed_lines size after map splice row h =
     rw (whole_is settings (length old) h.whole) at (right_rows settings old size map h.holds)
 
 -- the number of lines is unchanged
-as_many : {Z : Type 0} (settings : LayoutSettings) (old now borrowed_lines : List (String Z)) (size after : ℕ) (map : MapView) (splice : Splice) (row : ℕ) → Inside settings old now borrowed_lines size after map splice row → length now ≡ length old
+as_many :
+    {Z : Type 0} (settings : LayoutSettings) (old now borrowed_lines : List (String Z)) (size after : ℕ) (map : MapView) (splice : Splice) (row : ℕ)
+    → Inside settings old now borrowed_lines size after map splice row → length now ≡ length old
 as_many settings old now borrowed_lines size after map splice row h =
     grind (arith, common_steps, inside_line settings old now borrowed_lines size after map splice row h, length-map old characters_of, length-map now characters_of, length-replaced)
 
-inside_stored : {Z : Type 0} (settings : LayoutSettings) (old now borrowed_lines : List (String Z)) (size after : ℕ) (map : MapView) (splice : Splice) (row : ℕ) → Inside settings old now borrowed_lines size after map splice row → IsStored now after
+inside_stored :
+    {Z : Type 0} (settings : LayoutSettings) (old now borrowed_lines : List (String Z)) (size after : ℕ) (map : MapView) (splice : Splice) (row : ℕ)
+    → Inside settings old now borrowed_lines size after map splice row → IsStored now after
 inside_stored settings old now borrowed_lines size after map splice row h = record {
   some = h.now_some;
   size_is = omega (arith, h.after_is, size_of_text now h.now_some, ap weight h.now_is);
@@ -106,15 +116,26 @@ inside_stored settings old now borrowed_lines size after map splice row h = reco
 -- the bytes and the lines, when one line is replaced
 weight_replaced : (lines : List (List ℕ)) (row : ℕ) (line : List ℕ) → weight (following (replaced lines row 1 (line ∷ []))) ≡ weight (following (take row lines)) + line_size line + weight (following (drop (row + 1) lines))
 weight_replaced lines row line =
-    grind (arith, common_steps, following-append (take row lines) (line ∷ drop (row + 1) lines), weight-append (following (take row lines)) (following (line ∷ drop (row + 1) lines)), weight-append (characters line) (following (drop (row + 1) lines)), weight-characters line)
+    grind (
+      arith,
+      common_steps,
+      following-append (take row lines) (line ∷ drop (row + 1) lines),
+      weight-append (following (take row lines)) (following (line ∷ drop (row + 1) lines)),
+      weight-append (characters line) (following (drop (row + 1) lines)),
+      weight-characters line,
+    )
 
 -- the borrowed line is the new one
-line_borrowed : {Z : Type 0} (settings : LayoutSettings) (old now borrowed_lines : List (String Z)) (size after : ℕ) (map : MapView) (splice : Splice) (row : ℕ) (h : Inside settings old now borrowed_lines size after map splice row) → get_or (lines_of borrowed_lines) row [] ≡ (inside_line settings old now borrowed_lines size after map splice row h).line
+line_borrowed :
+    {Z : Type 0} (settings : LayoutSettings) (old now borrowed_lines : List (String Z)) (size after : ℕ) (map : MapView) (splice : Splice) (row : ℕ) (h : Inside settings old now borrowed_lines size after map splice row)
+    → get_or (lines_of borrowed_lines) row [] ≡ (inside_line settings old now borrowed_lines size after map splice row h).line
 line_borrowed settings old now borrowed_lines size after map splice row h =
     grind (arith, common_steps, inside_line settings old now borrowed_lines size after map splice row h, length-take-le, get_or-append_right)
 
 -- the line can be wrapped
-pub can_wrap : {Z : Type 0} (settings : LayoutSettings) (old now borrowed_lines : List (String Z)) (size after : ℕ) (map : MapView) (splice : Splice) (row : ℕ) → Inside settings old now borrowed_lines size after map splice row → CanStayWhole borrowed_lines map.rows row after
+pub can_wrap :
+    {Z : Type 0} (settings : LayoutSettings) (old now borrowed_lines : List (String Z)) (size after : ℕ) (map : MapView) (splice : Splice) (row : ℕ)
+    → Inside settings old now borrowed_lines size after map splice row → CanStayWhole borrowed_lines map.rows row after
 can_wrap settings old now borrowed_lines size after map splice row h =
     let line = inside_line settings old now borrowed_lines size after map splice row h in
     let right = inside_rows settings old now borrowed_lines size after map splice row h in
@@ -128,11 +149,24 @@ can_wrap settings old now borrowed_lines size after map splice row h =
       same = omega (arith, length-AreRowsOf whole (lines_of old) map.rows right, length-map old characters_of, many, ap length h.borrowed_is);
       one = one_range settings (lines_of old) map.rows row right line.within;
       few = omega (arith, total_whole settings (lines_of old) map.rows right, length-map old characters_of, length-le-size_of old, h.holds.stored.size_is, h.holds.stored.limit);
-      size_is = omega (arith, above.0, below.0, ap line_size (line_borrowed settings old now borrowed_lines size after map splice row h), weight_replaced (lines_of old) row line.line, ap (λ t. weight (following t)) line.new_is, weight_of_following now, stored.size_is);
+      size_is =
+          omega (
+            arith,
+            above.0,
+            below.0,
+            ap line_size (line_borrowed settings old now borrowed_lines size after map splice row h),
+            weight_replaced (lines_of old) row line.line,
+            ap (λ t. weight (following t)) line.new_is,
+            weight_of_following now,
+            stored.size_is,
+          );
       limit = h.limit;
     }
 
-pub holds_inside : {Z : Type 0} (settings : LayoutSettings) (old now borrowed_lines : List (String Z)) (size after : ℕ) (map new : MapView) (splice : Splice) (row tick : ℕ) → Inside settings old now borrowed_lines size after map splice row → HasWholeLine map.wrapping.tab_len (get_or (lines_of borrowed_lines) row []) row tick map.rows new.rows → new.wrapping ≡ map.wrapping → HoldsRows settings now after new
+pub holds_inside :
+    {Z : Type 0} (settings : LayoutSettings) (old now borrowed_lines : List (String Z)) (size after : ℕ) (map new : MapView) (splice : Splice) (row tick : ℕ)
+    → Inside settings old now borrowed_lines size after map splice row
+    → HasWholeLine map.wrapping.tab_len (get_or (lines_of borrowed_lines) row []) row tick map.rows new.rows → new.wrapping ≡ map.wrapping → HoldsRows settings now after new
 holds_inside settings old now borrowed_lines size after map new splice row tick h k same =
     let line = inside_line settings old now borrowed_lines size after map splice row h in
     let right = inside_rows settings old now borrowed_lines size after map splice row h in
@@ -155,7 +189,10 @@ replaced_one : (b : Bool) (breaks : ℕ) → breaks ≡ 0 → (cond b 1 (breaks 
 replaced_one true breaks e = (refl, omega arith)
 replaced_one false breaks e = (omega arith, refl)
 
-pub layout_inside : {Z : Type 0} (settings : LayoutSettings) (old now borrowed_lines : List (String Z)) (size after count counted : ℕ) (map : MapView) (new : List RowsView) (splice : Splice) (row : ℕ) → Inside settings old now borrowed_lines size after map splice row → HasWholeLine map.wrapping.tab_len (get_or (lines_of borrowed_lines) row []) row (count + 1) map.rows new → counted ≡ count + 1 → text_layout_of settings now counted new ≡ applied_to (text_layout_of settings old count map.rows) splice
+pub layout_inside :
+    {Z : Type 0} (settings : LayoutSettings) (old now borrowed_lines : List (String Z)) (size after count counted : ℕ) (map : MapView) (new : List RowsView) (splice : Splice) (row : ℕ)
+    → Inside settings old now borrowed_lines size after map splice row → HasWholeLine map.wrapping.tab_len (get_or (lines_of borrowed_lines) row []) row (count + 1) map.rows new → counted ≡ count + 1
+    → text_layout_of settings now counted new ≡ applied_to (text_layout_of settings old count map.rows) splice
 layout_inside settings old now borrowed_lines size after count counted map new splice row h k counted_is =
     let numbers = replaced_one splice.inserts (breaks_of splice.symbols) h.none in
     let layout : Layout = record { settings = settings; count = count; ticks = ticks_of map.rows } in

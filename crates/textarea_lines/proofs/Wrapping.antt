@@ -46,7 +46,9 @@ width_after text_layout splice fits = grind (arith, common_steps, settings_uncha
 wrapping_after : (text_layout : TextAndLayout) (splice : Splice) → Fits text_layout.text splice → wrapping_of (applied_to text_layout splice) ≡ wrapping_for text_layout.layout.settings (count_of text_layout splice)
 wrapping_after text_layout splice fits = grind (arith, common_steps, settings_unchanged text_layout splice, count_spliced text_layout.text splice fits)
 
-wraps_touched : (one : OneMap) (text_layout : TextAndLayout) (splice : Splice) → Fits text_layout.text splice → map_width (applied_to text_layout splice) ≡ map_width text_layout → WrapsTouchedLines text_layout splice (applied_to text_layout splice)
+wraps_touched :
+    (one : OneMap) (text_layout : TextAndLayout) (splice : Splice) → Fits text_layout.text splice
+    → map_width (applied_to text_layout splice) ≡ map_width text_layout → WrapsTouchedLines text_layout splice (applied_to text_layout splice)
 wraps_touched one text_layout splice fits same =
     let settings = text_layout.layout.settings in
     let width : width_for settings (count_of text_layout splice) ≡ width_for settings (length (lines text_layout.text)) = sym (width_after text_layout splice fits) ∙ same in
@@ -82,7 +84,8 @@ is_spliced one text_layout splice fits = record {
 -- ---- settings
 
 abbrev put_if : Bool → TextAndLayout → LayoutSettings → TextAndLayout
-put_if b text_layout settings = cond b (record { text = text_layout.text; layout = record { settings = settings; count = text_layout.layout.count; ticks = text_layout.layout.ticks } }) (layout_from_scratch settings text_layout.layout.count text_layout.text)
+put_if b text_layout settings =
+    cond b (record { text = text_layout.text; layout = record { settings = settings; count = text_layout.layout.count; ticks = text_layout.layout.ticks } }) (layout_from_scratch settings text_layout.layout.count text_layout.text)
 
 put_is : (text_layout : TextAndLayout) (settings : LayoutSettings) (b : Bool) → keeps_wrapping text_layout settings ≡ b → with_settings text_layout settings ≡ put_if b text_layout settings
 put_is text_layout settings b e = ap (λ (t : Bool). put_if t text_layout settings) e

@@ -103,4 +103,6 @@ at_width text_layout inner_width = record {
 -- the text with other settings; all lines are wrapped again if these wrap them in another way
 abbrev pub with_settings : TextAndLayout → LayoutSettings → TextAndLayout
 with_settings text_layout settings =
-    if keeps_wrapping text_layout settings then (record { text = text_layout.text; layout = record { settings = settings; count = text_layout.layout.count; ticks = text_layout.layout.ticks } }) else layout_from_scratch settings text_layout.layout.count text_layout.text
+    if keeps_wrapping text_layout settings then
+    (record { text = text_layout.text; layout = record { settings = settings; count = text_layout.layout.count; ticks = text_layout.layout.ticks } })
+    else layout_from_scratch settings text_layout.layout.count text_layout.text

@@ -61,16 +61,21 @@ impl Clone for TextLayout {
 
     /// Returns the same lines with the same rows, or an error if memory runs out. Wraps no line.
     fn clone(&self) -> Result<TextLayout, AllocError> {
+        let lines = self.lines.clone()?;
+        let map = self.map.clone()?;
+        let count = self.count.clone()?;
+        let found = Pos::new(self.found.row, self.found.col, self.found.offset);
+        let marks = LineMarks::new(*self.lines.allocator());
         Ok(TextLayout {
-            lines: self.lines.clone()?,
+            lines,
             size: self.size,
-            map: self.map.clone()?,
-            count: self.count.clone()?,
+            map,
+            count,
             settings: self.settings,
             measured: self.measured,
             cached: None,
-            found: Pos::new(self.found.row, self.found.col, self.found.offset),
-            marks: LineMarks::new(*self.lines.allocator()),
+            found,
+            marks,
         })
     }
 }
@@ -103,10 +108,13 @@ impl TextLayout {
             (λ text_layout. text_layout ≡ layout_from_scratch settings count
             (text_of lines.items)) }
     {
-        let size = size_within_limit(lines.as_slice())?;
-        let wrapping = wrapping_for(settings, lines.len());
+        let borrowed = lines.as_slice();
+        let size = size_within_limit(borrowed)?;
+        let wrapping = wrapping_for(settings, borrowed.len());
         let alloc = *lines.allocator();
-        let map = ScreenMap::new(alloc, lines.as_slice(), wrapping, &mut count)?;
+        let map = ScreenMap::new(alloc, borrowed, wrapping, &mut count)?;
+        let found = Pos::new(0, 0, 0);
+        let marks = LineMarks::new(alloc);
         Ok(TextLayout {
             lines,
             size,
@@ -115,8 +123,8 @@ impl TextLayout {
             settings,
             measured: None,
             cached: None,
-            found: Pos::new(0, 0, 0),
-            marks: LineMarks::new(alloc),
+            found,
+            marks,
         })
     }
 
@@ -240,13 +248,22 @@ impl TextLayout {
             return Ok(self.map.row_count());
         }
         if let Some(measured) = self.measured {
-            if is_same(wrapping, measured.wrapping) {
+            let is_measured = is_same(wrapping, measured.wrapping);
+            if is_measured {
                 return Ok(measured.rows);
             }
         }
         let rows = self.count_rows_at(wrapping)?;
-        self.measured = Some(Measured { wrapping, rows });
+        self.set_measured(Measured { wrapping, rows });
         Ok(rows)
+    }
+
+    // Caches a number of visual rows.
+    fn set_measured(&mut self, measured: Measured)
+        requires { IsRowCount measured.wrapping (lines self.old.text) measured.rows }
+        ensures { self.new ≡ self.old }
+    {
+        self.measured = Some(measured);
     }
 
     // Returns the number of visual rows at this wrapping. Wraps each line, and caches the rows if

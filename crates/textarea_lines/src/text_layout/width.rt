@@ -55,7 +55,8 @@ impl TextLayout {
         if let Some(cached) = self.take_measured(after) {
             return Ok(Some(cached));
         }
-        Ok(Some(self.wrap_all(after)?))
+        let wraps = self.wrap_all(after)?;
+        Ok(Some(wraps))
     }
 
     // Empties the cache, and returns its rows of all lines if they have this wrapping.

@@ -46,7 +46,9 @@ invariant_of-self-2 c = record {
   contents = holds_inside _ _ _ _ _ _ _ _ _ _ _ (steps (goal.at.invariant_of-self-2 c).After-as_slice-lines) c.put_whole_line.ensures.rows c.put_whole_line.ensures.wrapping;
   measured = tt;
   cached = rw c.drop_measured.ensures tt;
-  place = located_at c.apply_inside.new.lines.items c.new-self-inside.result c.start-row.result c.args.change.place c.offset_of-offset.result c.new-self-inside.ensures c.start-row.ensures c.in_ok-apply_inside.ensures.start c.in_ok-apply_inside.ensures.offset;
+  place =
+      located_at c.apply_inside.new.lines.items c.new-self-inside.result c.start-row.result c.args.change.place c.offset_of-offset.result
+      c.new-self-inside.ensures c.start-row.ensures c.in_ok-apply_inside.ensures.start c.in_ok-apply_inside.ensures.offset;
   marked = c.cut.ensures (lines_of c.self.inside.lines.items) (lines_of c.apply_inside.new.lines.items)
       (same_before _ _ _ _ _ _ _ _ _ c.start-row.result.1 (steps (goal.at.invariant_of-self-2 c).After-as_slice-lines) (ap (λ (p : Place). p.1) c.start-row.ensures)) c.self.invariant.marked;
 }

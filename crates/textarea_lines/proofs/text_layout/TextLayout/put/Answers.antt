@@ -21,13 +21,14 @@ record HoldsAll (inside : Inside) (settings : LayoutSettings) (text_layout : Tex
   pub place : IsPlaceAtByte inside.lines.items inside.found
   pub marked : AreMarksOf (lines_of inside.lines.items) inside.marks
 
-contents : (c : goal.After-settings-1) → HoldsAll c.match-wraps.self-inside c.args.settings c.args.self.now
-contents c =
+pub invariant_of-self : goal.invariant_of-self
+invariant_of-self c =
     let inside = c.self.inside in
     let items = inside.lines.items in
     let settings = c.args.settings in
     let text_layout = c.args.self.now in
     let before : Holds inside.settings items inside.size inside.count inside.map text_layout = record { rows = c.self.invariant.contents; is = c.self.view_is } in
+    let known : HoldsAll c.match-wraps.self-inside settings text_layout =
     elim c.match-wraps.branch [
       | in-Some w ↦
           let wraps = subst (λ (o : Option WrappedRows). IsRewrappedIfOther text_layout settings o) w.in-Some.is c.requires in
@@ -42,19 +43,26 @@ contents c =
       | in-None+else-not-is_wrapped w ↦
           let stays = subst (λ (o : Option WrappedRows). IsRewrappedIfOther text_layout settings o) w.in-None.is c.requires in
           subst (λ (v : Inside). HoldsAll v settings text_layout) (sym w.self-inside-is)
-          (record { rows = holds_same_wrapped inside.settings settings items inside.size inside.count inside.map text_layout before (sym w.is_wrapped.ensures ∙ w.if-not-is_wrapped.false) stays; measured = c.self.invariant.measured; cached = c.self.invariant.cached; place = c.self.invariant.place; marked = c.self.invariant.marked })
-      | in-None+then-not-is_wrapped w ↦
-          let stays = subst (λ (o : Option WrappedRows). IsRewrappedIfOther text_layout settings o) w.in-None.is c.requires in
-          let set = w.set_tab_len.ensures in
-          subst (λ (v : Inside). HoldsAll v settings text_layout) (sym w.self-inside-is)
           (record {
-            rows = holds_same_whole inside.settings settings items inside.size inside.count inside.map w.set_tab_len.new.map text_layout before (sym w.is_wrapped.ensures ∙ w.if-not-is_wrapped.true) stays set.same set.wrapping (set.right (lines_of items) c.self.invariant.contents.text_layout);
+            rows = holds_same_wrapped inside.settings settings items inside.size inside.count inside.map text_layout before (sym w.is_wrapped.ensures ∙ w.if-not-is_wrapped.false) stays;
             measured = c.self.invariant.measured;
             cached = c.self.invariant.cached;
             place = c.self.invariant.place;
             marked = c.self.invariant.marked;
           })
-    ]
-
-pub invariant_of-self : goal.invariant_of-self
-invariant_of-self c = record { contents = (contents c).rows.rows; measured = (contents c).measured; cached = (contents c).cached; place = (contents c).place; marked = (contents c).marked }
+      | in-None+then-not-is_wrapped w ↦
+          let stays = subst (λ (o : Option WrappedRows). IsRewrappedIfOther text_layout settings o) w.in-None.is c.requires in
+          let set = w.set_tab_len.ensures in
+          subst (λ (v : Inside). HoldsAll v settings text_layout) (sym w.self-inside-is)
+          (record {
+            rows =
+                holds_same_whole inside.settings settings items inside.size inside.count inside.map w.set_tab_len.new.map text_layout before
+                (sym w.is_wrapped.ensures ∙ w.if-not-is_wrapped.true) stays set.same set.wrapping
+                (set.right (lines_of items) c.self.invariant.contents.text_layout);
+            measured = c.self.invariant.measured;
+            cached = c.self.invariant.cached;
+            place = c.self.invariant.place;
+            marked = c.self.invariant.marked;
+          })
+    ] in
+    record { contents = known.rows.rows; measured = known.measured; cached = known.cached; place = known.place; marked = known.marked }

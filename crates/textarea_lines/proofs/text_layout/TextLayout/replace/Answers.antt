@@ -28,7 +28,10 @@ pub invariant_of-self-2 : goal.invariant_of-self-2
 invariant_of-self-2 c =
     let known = steps (goal.at.invariant_of-self-2 c).After-replace in
     record {
-      contents = holds_replaced _ _ _ _ _ _ _ _ _ known c.args.replacement.lines.ok.0 (c.replace.ensures.wrapping ∙ c.in_ok-prepared.ensures.ready.wrapping) (rw (c.replace.ensures.wrapping, c.replace.ensures.rows) c.in_ok-prepared.ensures.ready.rows) (rw (← c.self.view_is) at c.requires.size) c.requires.limit;
+      contents =
+          holds_replaced _ _ _ _ _ _ _ _ _ known c.args.replacement.lines.ok.0 (c.replace.ensures.wrapping ∙ c.in_ok-prepared.ensures.ready.wrapping)
+          (rw (c.replace.ensures.wrapping, c.replace.ensures.rows) c.in_ok-prepared.ensures.ready.rows) (rw (← c.self.view_is) at c.requires.size)
+          c.requires.limit;
       measured = tt;
       cached = rw c.drop_measured.ensures tt;
       place = located_first c.replace_in.new.lines.items c.new-self-inside.result c.new-self-inside.ensures (some_now _ _ _ _ _ known);

@@ -1,14 +1,12 @@
-use Rattle.std.proofs.Common.{◌≡◌, ◌∙◌, ℕ, List, ap, length, subst, sym}
-use Rattle.textarea_text.specs.Text.{lines, lines_of}
-use Rattle.textarea_screen_map.specs.Map.{IsRowCount}
-use Rattle.textarea_lines.specs.TextLayout.{TextAndLayout}
+use Rattle.std.proofs.Common.{◌∙◌, ap, length, sym}
 use Rattle.textarea_lines.specs.Wrappings.{wrapping_for}
 use Rattle.textarea_lines.proofs.Measuring.{Measuring, counted_from_scratch, counted_as_cached, counted_as_measured, counted_in_text, same_as_cached}
-use Rattle.textarea_lines.proofs.Stores.{lines_stored}
 use Rattle.textarea_lines.proofs.text_layout.TextLayout.rows_at_width.Goals as goal
 use Rattle.textarea_lines.proofs.text_layout.TextLayout.rows_at_width.Goals.{After-wrapping}
 
-steps : (c : After-wrapping) → Measuring c.self.inside.settings c.self.inside.lines.items c.as_slice-lines.result.now c.self.inside.size c.self.inside.count c.args.inner_width c.self.inside.map c.args.self.now c.wrapping_at-wrapping.result c.wrapping.result
+steps :
+    (c : After-wrapping)
+    → Measuring c.self.inside.settings c.self.inside.lines.items c.as_slice-lines.result.now c.self.inside.size c.self.inside.count c.args.inner_width c.self.inside.map c.args.self.now c.wrapping_at-wrapping.result c.wrapping.result
 steps c = record {
   contents = c.self.invariant.contents;
   is = c.self.view_is;
@@ -17,28 +15,15 @@ steps c = record {
   now_is = c.wrapping.ensures ∙ c.self.invariant.contents.wrapping_is ∙ ap (λ t. wrapping_for c.self.inside.settings (length t)) (sym c.as_slice-lines.ensures.value);
 }
 
-pub invariant_of-self : goal.invariant_of-self
-invariant_of-self c =
-    let items = c.self-2.inside.lines.items in
-    let same : lines c.args.self.now.text ≡ lines_of items =
-    ap (λ (l : TextAndLayout). lines l.text) (sym (c.self-2.view_is ∙ c.count_rows_at.ensures.same)) ∙ lines_stored items c.self-2.invariant.contents.stored.some in
-    record {
-      contents = c.self-2.invariant.contents;
-      measured = subst (λ (t : List (List ℕ)). IsRowCount c.wrapping_at-wrapping.result t c.in_ok-rows.rows) same c.in_ok-rows.ensures.rows;
-      cached = c.self-2.invariant.cached;
-      place = c.self-2.invariant.place;
-      marked = c.self-2.invariant.marked;
-    }
-
 pub returns-then-is_same-clause-rows : goal.returns-then-is_same-clause-rows
 returns-then-is_same-clause-rows c =
     let known = steps (goal.at.returns-then-is_same-clause-rows c).After-wrapping in
     counted_in_text _ _ _ _ _ _ _ _ _ _ _ known (counted_as_cached _ _ _ _ _ _ _ _ _ _ _ known (sym c.is_same.ensures ∙ c.if-is_same.true) c.row_count.ensures)
 
-pub returns-then-is_same-2-clause-rows : goal.returns-then-is_same-2-clause-rows
-returns-then-is_same-2-clause-rows c =
-    counted_in_text _ _ _ _ _ _ _ _ _ _ _ (steps (goal.at.returns-then-is_same-2-clause-rows c).After-wrapping)
-    (counted_as_measured _ _ _ _ c.in-Some.measured c.as_slice-lines.ensures.value (sym c.is_same-in-Some.ensures ∙ c.if-is_same-2.true) c.in-Some.is c.self.invariant.measured)
+pub returns-then-is_measured-clause-rows : goal.returns-then-is_measured-clause-rows
+returns-then-is_measured-clause-rows c =
+    counted_in_text _ _ _ _ _ _ _ _ _ _ _ (steps (goal.at.returns-then-is_measured-clause-rows c).After-wrapping)
+    (counted_as_measured _ _ _ _ c.in-Some.measured c.as_slice-lines.ensures.value (sym c.is_same-is_measured.ensures ∙ c.if-is_measured.true) c.in-Some.is c.self.invariant.measured)
 
 pub returns-in_err-rows-clause-no_memory : goal.returns-in_err-rows-clause-no_memory
 returns-in_err-rows-clause-no_memory c = λ yes.

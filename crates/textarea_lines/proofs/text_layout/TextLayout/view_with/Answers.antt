@@ -16,7 +16,10 @@ map_is c = elim c.match-prepared.branch [
 ]
 
 -- the lines are stored with its rows
-contents : (c : goal.After-as_slice) → Holds (at_width c.args.self.now c.prepared.inside.inner_width) c.self.inside.lines.items c.self.inside.size (count_at c.prepared.inside.wraps c.self.inside.count) c.match-prepared.map.now (with_settings c.args.self.now (at_width c.args.self.now c.prepared.inside.inner_width))
+contents :
+    (c : goal.After-as_slice) → Holds (at_width c.args.self.now c.prepared.inside.inner_width) c.self.inside.lines.items c.self.inside.size
+    (count_at c.prepared.inside.wraps c.self.inside.count) c.match-prepared.map.now
+    (with_settings c.args.self.now (at_width c.args.self.now c.prepared.inside.inner_width))
 contents c =
     let inside = c.self.inside in
     let text_layout = c.args.self.now in

@@ -19,9 +19,9 @@ pub returns-then-is_same-clause-wraps : goal.returns-then-is_same-clause-wraps
 returns-then-is_same-clause-wraps c =
     test_is _ _ _ _ _ _ _ _ (steps (goal.at.returns-then-is_same-clause-wraps c).After-is_same) ∙ sym c.is_same.ensures ∙ c.if-is_same.true
 
-pub returns-in_err-wrap_all-clause-no_memory : goal.returns-in_err-wrap_all-clause-no_memory
-returns-in_err-wrap_all-clause-no_memory c = λ yes.
-    let test = test_is _ _ _ _ _ _ _ _ (steps (goal.at.returns-in_err-wrap_all-clause-no_memory c).After-is_same) in
+pub returns-in_err-wraps-clause-no_memory : goal.returns-in_err-wraps-clause-no_memory
+returns-in_err-wraps-clause-no_memory c = λ yes.
+    let test = test_is _ _ _ _ _ _ _ _ (steps (goal.at.returns-in_err-wraps-clause-no_memory c).After-is_same) in
     absurd (cc (test, yes, c.is_same.ensures, c.if-is_same.false))
 
 pub returns-in-Some-clause-wraps : goal.returns-in-Some-clause-wraps
@@ -31,4 +31,4 @@ returns-in-Some-clause-wraps c =
 pub returns-clause-wraps : goal.returns-clause-wraps
 returns-clause-wraps c =
     wrap_for _ _ _ _ _ _ _ _ _ (steps (goal.at.returns-clause-wraps c).After-is_same) (sym c.is_same.ensures ∙ c.if-is_same.false)
-    (subst (λ (l : TextAndLayout). IsWholeWrap l c.wrapping_for-after.result c.in_ok-wrap_all.field-0) c.take_measured.ensures.same c.in_ok-wrap_all.ensures)
+    (subst (λ (l : TextAndLayout). IsWholeWrap l c.wrapping_for-after.result c.in_ok-wraps.wraps) c.take_measured.ensures.same c.in_ok-wraps.ensures)
