@@ -45,14 +45,14 @@ def call_enum(table):
 def arm(call):
     """The arm of `topic_of`."""
     topic = call.topic_enum()
-    front, inner = call.applied("Call"), call.applied(topic)
+    front, inner = call.applied("Call"), call.applied(f"{topic}Call")
     if len(call.arguments) < 2 or len(f"        {front} => Topic::{topic}({inner}),") <= COLUMNS:
         return broken("        ", front, f"Topic::{topic}", inner)
     fields = [f"            {name}," for name in call.names()]
     return [
         f"        Call::{call.variant} {{",
         *fields,
-        f"        }} => Topic::{topic}({topic}::{call.variant} {{",
+        f"        }} => Topic::{topic}({topic}Call::{call.variant} {{",
         *fields,
         "        }),",
     ]
@@ -106,11 +106,12 @@ def definitions_of_topics(table):
         "-- The call of each member of a topic, and which calls draw.",
         "use Rattle.std.specs.Prelude.{Bool, true, false}",
     ]
-    for module, name in [("call", "Call"), ("topic", "Topic")] + [("topic", topic.enum()) for topic in topics]:
+    declared = [("call", "Call", "call"), ("topic", "Topic", "topic")]
+    for module, name, variants in declared + [("topic", topic.calls_enum(), topic.name) for topic in topics]:
         out.append(f"use {DECLARED}.{module}.{name}.{{{name}}}")
-        out.append(f"use {DECLARED}.{module}.{name}.TheVariants as {name.lower()}")
+        out.append(f"use {DECLARED}.{module}.{name}.TheVariants as {variants}")
     for topic in topics:
-        out += ["", f"abbrev pub call_of_{topic.name} : {topic.enum()} → Call"]
+        out += ["", f"abbrev pub call_of_{topic.name} : {topic.calls_enum()} → Call"]
         for call in topic.calls:
             words = " ".join([call.variant, *call.names()])
             given = f"({topic.name}.{words})" if call.arguments else f"{topic.name}.{words}"

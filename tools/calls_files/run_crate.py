@@ -25,7 +25,7 @@ ANSWERS = {
 
 def making(topic, call):
     """The arm that makes a call."""
-    front = call.applied(topic.enum())
+    front = call.applied(topic.calls_enum())
     passed = [f"copied({name})" if type == "&Input" else name for name, type in call.arguments]
     made = f"special::{call.name}({', '.join(['area', *passed])})" if call.special else f"area.{call.name}({', '.join(passed)})"
     if not call.result and not call.memory:
@@ -110,7 +110,7 @@ def topics(table):
         "use crate::special;",
         "use std::alloc::AllocError;",
         "use textarea_calls::Answer;",
-        *used("textarea_calls::topic", sorted(topic.enum() for topic in topics)),
+        *used("textarea_calls::topic", sorted(topic.calls_enum() for topic in topics)),
         "use tui_textarea::TextArea;",
         *[line for topic in topics for line in function(topic)],
     ]

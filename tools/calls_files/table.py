@@ -42,8 +42,12 @@ class Topic:
     def enum(self):
         return camel(self.name)
 
+    def calls_enum(self):
+        """The enum of its calls."""
+        return f"{self.enum()}Call"
+
     def type(self, lifetime="'a"):
-        return self.enum() + (f"<{lifetime}>" if any(call.borrows() for call in self.calls) else "")
+        return self.calls_enum() + (f"<{lifetime}>" if any(call.borrows() for call in self.calls) else "")
 
 
 class Call:

@@ -5,30 +5,30 @@ use Rattle.textarea_calls.specs.declared.call.Call.{Call}
 use Rattle.textarea_calls.specs.declared.call.Call.TheVariants as call
 use Rattle.textarea_calls.specs.declared.topic.Topic.{Topic}
 use Rattle.textarea_calls.specs.declared.topic.Topic.TheVariants as topic
-use Rattle.textarea_calls.specs.declared.topic.Insert.{Insert}
-use Rattle.textarea_calls.specs.declared.topic.Insert.TheVariants as insert
-use Rattle.textarea_calls.specs.declared.topic.Remove.{Remove}
-use Rattle.textarea_calls.specs.declared.topic.Remove.TheVariants as remove
-use Rattle.textarea_calls.specs.declared.topic.History.{History}
-use Rattle.textarea_calls.specs.declared.topic.History.TheVariants as history
-use Rattle.textarea_calls.specs.declared.topic.Select.{Select}
-use Rattle.textarea_calls.specs.declared.topic.Select.TheVariants as select
-use Rattle.textarea_calls.specs.declared.topic.Move.{Move}
-use Rattle.textarea_calls.specs.declared.topic.Move.TheVariants as move
-use Rattle.textarea_calls.specs.declared.topic.Search.{Search}
-use Rattle.textarea_calls.specs.declared.topic.Search.TheVariants as search
-use Rattle.textarea_calls.specs.declared.topic.Ranges.{Ranges}
-use Rattle.textarea_calls.specs.declared.topic.Ranges.TheVariants as ranges
-use Rattle.textarea_calls.specs.declared.topic.Options.{Options}
-use Rattle.textarea_calls.specs.declared.topic.Options.TheVariants as options
-use Rattle.textarea_calls.specs.declared.topic.Appearance.{Appearance}
-use Rattle.textarea_calls.specs.declared.topic.Appearance.TheVariants as appearance
-use Rattle.textarea_calls.specs.declared.topic.Keys.{Keys}
-use Rattle.textarea_calls.specs.declared.topic.Keys.TheVariants as keys
-use Rattle.textarea_calls.specs.declared.topic.Read.{Read}
-use Rattle.textarea_calls.specs.declared.topic.Read.TheVariants as read
+use Rattle.textarea_calls.specs.declared.topic.InsertCall.{InsertCall}
+use Rattle.textarea_calls.specs.declared.topic.InsertCall.TheVariants as insert
+use Rattle.textarea_calls.specs.declared.topic.RemoveCall.{RemoveCall}
+use Rattle.textarea_calls.specs.declared.topic.RemoveCall.TheVariants as remove
+use Rattle.textarea_calls.specs.declared.topic.HistoryCall.{HistoryCall}
+use Rattle.textarea_calls.specs.declared.topic.HistoryCall.TheVariants as history
+use Rattle.textarea_calls.specs.declared.topic.SelectCall.{SelectCall}
+use Rattle.textarea_calls.specs.declared.topic.SelectCall.TheVariants as select
+use Rattle.textarea_calls.specs.declared.topic.MoveCall.{MoveCall}
+use Rattle.textarea_calls.specs.declared.topic.MoveCall.TheVariants as move
+use Rattle.textarea_calls.specs.declared.topic.SearchCall.{SearchCall}
+use Rattle.textarea_calls.specs.declared.topic.SearchCall.TheVariants as search
+use Rattle.textarea_calls.specs.declared.topic.RangesCall.{RangesCall}
+use Rattle.textarea_calls.specs.declared.topic.RangesCall.TheVariants as ranges
+use Rattle.textarea_calls.specs.declared.topic.OptionsCall.{OptionsCall}
+use Rattle.textarea_calls.specs.declared.topic.OptionsCall.TheVariants as options
+use Rattle.textarea_calls.specs.declared.topic.AppearanceCall.{AppearanceCall}
+use Rattle.textarea_calls.specs.declared.topic.AppearanceCall.TheVariants as appearance
+use Rattle.textarea_calls.specs.declared.topic.KeysCall.{KeysCall}
+use Rattle.textarea_calls.specs.declared.topic.KeysCall.TheVariants as keys
+use Rattle.textarea_calls.specs.declared.topic.ReadCall.{ReadCall}
+use Rattle.textarea_calls.specs.declared.topic.ReadCall.TheVariants as read
 
-abbrev pub call_of_insert : Insert → Call
+abbrev pub call_of_insert : InsertCall → Call
 call_of_insert (insert.InsertChar c) = call.InsertChar c
 call_of_insert insert.InsertNewline = call.InsertNewline
 call_of_insert (insert.InsertStr text) = call.InsertStr text
@@ -38,7 +38,7 @@ call_of_insert insert.Paste = call.Paste
 call_of_insert insert.DuplicateLine = call.DuplicateLine
 call_of_insert (insert.SetLines lines cursor) = call.SetLines lines cursor
 
-abbrev pub call_of_remove : Remove → Call
+abbrev pub call_of_remove : RemoveCall → Call
 call_of_remove remove.DeleteChar = call.DeleteChar
 call_of_remove remove.DeleteNextChar = call.DeleteNextChar
 call_of_remove remove.DeleteNewline = call.DeleteNewline
@@ -50,38 +50,38 @@ call_of_remove remove.DeleteNextWord = call.DeleteNextWord
 call_of_remove remove.Clear = call.Clear
 call_of_remove remove.Cut = call.Cut
 
-abbrev pub call_of_history : History → Call
+abbrev pub call_of_history : HistoryCall → Call
 call_of_history history.Undo = call.Undo
 call_of_history history.Redo = call.Redo
 call_of_history (history.SetMaxHistories maximum) = call.SetMaxHistories maximum
 call_of_history (history.SetUndoCoalescing joins) = call.SetUndoCoalescing joins
 call_of_history (history.SetNow time) = call.SetNow time
 
-abbrev pub call_of_select : Select → Call
+abbrev pub call_of_select : SelectCall → Call
 call_of_select select.StartSelection = call.StartSelection
 call_of_select select.CancelSelection = call.CancelSelection
 call_of_select select.SelectAll = call.SelectAll
 call_of_select select.Copy = call.Copy
 call_of_select (select.SetYankText text) = call.SetYankText text
 
-abbrev pub call_of_move : Move → Call
+abbrev pub call_of_move : MoveCall → Call
 call_of_move (move.Move cursor_move) = call.Move cursor_move
 call_of_move (move.GoTo place) = call.GoTo place
 call_of_move (move.Scroll scrolling) = call.Scroll scrolling
 
-abbrev pub call_of_search : Search → Call
+abbrev pub call_of_search : SearchCall → Call
 call_of_search (search.SetSearchPattern pattern) = call.SetSearchPattern pattern
 call_of_search (search.SearchForward match_cursor) = call.SearchForward match_cursor
 call_of_search (search.SearchBack match_cursor) = call.SearchBack match_cursor
 
-abbrev pub call_of_ranges : Ranges → Call
+abbrev pub call_of_ranges : RangesCall → Call
 call_of_ranges (ranges.TrySetAtomicRanges ranges) = call.TrySetAtomicRanges ranges
 call_of_ranges ranges.ClearAtomicRanges = call.ClearAtomicRanges
 call_of_ranges (ranges.NormalizeCursorAroundAtomicRanges bias) = call.NormalizeCursorAroundAtomicRanges bias
 call_of_ranges (ranges.AtomicRangeAtCursor direction) = call.AtomicRangeAtCursor direction
 call_of_ranges (ranges.DeleteAtomicRangeAtCursor direction) = call.DeleteAtomicRangeAtCursor direction
 
-abbrev pub call_of_options : Options → Call
+abbrev pub call_of_options : OptionsCall → Call
 call_of_options (options.SetTabLength columns) = call.SetTabLength columns
 call_of_options (options.SetHardTabIndent hard) = call.SetHardTabIndent hard
 call_of_options (options.SetWrapMode mode) = call.SetWrapMode mode
@@ -91,7 +91,7 @@ call_of_options (options.SetAlignment alignment) = call.SetAlignment alignment
 call_of_options (options.SetMinRows rows) = call.SetMinRows rows
 call_of_options (options.SetMaxRows rows) = call.SetMaxRows rows
 
-abbrev pub call_of_appearance : Appearance → Call
+abbrev pub call_of_appearance : AppearanceCall → Call
 call_of_appearance (appearance.SetBlock block) = call.SetBlock block
 call_of_appearance appearance.RemoveBlock = call.RemoveBlock
 call_of_appearance (appearance.SetPlaceholderText text) = call.SetPlaceholderText text
@@ -108,11 +108,11 @@ call_of_appearance (appearance.SetCursorRenderMode mode) = call.SetCursorRenderM
 call_of_appearance (appearance.CustomHighlight range style priority) = call.CustomHighlight range style priority
 call_of_appearance appearance.ClearCustomHighlight = call.ClearCustomHighlight
 
-abbrev pub call_of_keys : Keys → Call
+abbrev pub call_of_keys : KeysCall → Call
 call_of_keys (keys.Input input) = call.Input input
 call_of_keys (keys.InputWithoutShortcuts input) = call.InputWithoutShortcuts input
 
-abbrev pub call_of_read : Read → Call
+abbrev pub call_of_read : ReadCall → Call
 call_of_read read.Text = call.Text
 call_of_read read.Cursor = call.Cursor
 call_of_read read.IsEmpty = call.IsEmpty

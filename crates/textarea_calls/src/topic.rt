@@ -15,22 +15,22 @@ use textarea_wrap::wrap::WrapMode;
 /// A call that doesn't draw, by its topic, with its arguments.
 #[derive(Clone, Copy)]
 pub enum Topic<'a> {
-    Insert(Insert<'a>),
-    Remove(Remove),
-    History(History),
-    Select(Select<'a>),
-    Move(Move),
-    Search(Search<'a>),
-    Ranges(Ranges<'a>),
-    Options(Options),
-    Appearance(Appearance<'a>),
-    Keys(Keys<'a>),
-    Read(Read),
+    Insert(InsertCall<'a>),
+    Remove(RemoveCall),
+    History(HistoryCall),
+    Select(SelectCall<'a>),
+    Move(MoveCall),
+    Search(SearchCall<'a>),
+    Ranges(RangesCall<'a>),
+    Options(OptionsCall),
+    Appearance(AppearanceCall<'a>),
+    Keys(KeysCall<'a>),
+    Read(ReadCall),
 }
 
 /// Insertions at the cursor, and new lines.
 #[derive(Clone, Copy)]
-pub enum Insert<'a> {
+pub enum InsertCall<'a> {
     InsertChar(char),
     InsertNewline,
     InsertStr(&'a str),
@@ -46,7 +46,7 @@ pub enum Insert<'a> {
 
 /// Removals.
 #[derive(Clone, Copy)]
-pub enum Remove {
+pub enum RemoveCall {
     DeleteChar,
     DeleteNextChar,
     DeleteNewline,
@@ -61,7 +61,7 @@ pub enum Remove {
 
 /// Undo and redo, and settings of the history.
 #[derive(Clone, Copy)]
-pub enum History {
+pub enum HistoryCall {
     Undo,
     Redo,
     SetMaxHistories(usize),
@@ -71,7 +71,7 @@ pub enum History {
 
 /// The selection, and what is yanked.
 #[derive(Clone, Copy)]
-pub enum Select<'a> {
+pub enum SelectCall<'a> {
     StartSelection,
     CancelSelection,
     SelectAll,
@@ -81,7 +81,7 @@ pub enum Select<'a> {
 
 /// Moves of the cursor, and scrolls.
 #[derive(Clone, Copy)]
-pub enum Move {
+pub enum MoveCall {
     Move(CursorMove),
     GoTo((usize, usize)),
     Scroll(Scrolling),
@@ -89,7 +89,7 @@ pub enum Move {
 
 /// Searches.
 #[derive(Clone, Copy)]
-pub enum Search<'a> {
+pub enum SearchCall<'a> {
     SetSearchPattern(&'a str),
     SearchForward(bool),
     SearchBack(bool),
@@ -97,7 +97,7 @@ pub enum Search<'a> {
 
 /// Atomic ranges.
 #[derive(Clone, Copy)]
-pub enum Ranges<'a> {
+pub enum RangesCall<'a> {
     TrySetAtomicRanges(&'a [AtomicRange]),
     ClearAtomicRanges,
     NormalizeCursorAroundAtomicRanges(AtomicCursorBias),
@@ -107,7 +107,7 @@ pub enum Ranges<'a> {
 
 /// Settings of tabs, wrapping, line numbers and heights.
 #[derive(Clone, Copy)]
-pub enum Options {
+pub enum OptionsCall {
     SetTabLength(u8),
     SetHardTabIndent(bool),
     SetWrapMode(WrapMode),
@@ -120,7 +120,7 @@ pub enum Options {
 
 /// Settings of how the text and its surroundings look.
 #[derive(Clone, Copy)]
-pub enum Appearance<'a> {
+pub enum AppearanceCall<'a> {
     SetBlock(&'a Block<'static>),
     RemoveBlock,
     SetPlaceholderText(&'a str),
@@ -144,14 +144,14 @@ pub enum Appearance<'a> {
 
 /// Inputs, by one of the two key tables.
 #[derive(Clone, Copy)]
-pub enum Keys<'a> {
+pub enum KeysCall<'a> {
     Input(&'a Input),
     InputWithoutShortcuts(&'a Input),
 }
 
 /// Calls that only return something.
 #[derive(Clone, Copy)]
-pub enum Read {
+pub enum ReadCall {
     Text,
     Cursor,
     IsEmpty,
@@ -186,114 +186,122 @@ pub fn topic_of(call: Call<'_>) -> Topic<'_>
     ensures { call_of result ≡ call.entry }
 {
     match call {
-        Call::InsertChar(c) => Topic::Insert(Insert::InsertChar(c)),
-        Call::InsertNewline => Topic::Insert(Insert::InsertNewline),
-        Call::InsertStr(text) => Topic::Insert(Insert::InsertStr(text)),
-        Call::InsertPasted(text) => Topic::Insert(Insert::InsertPasted(text)),
-        Call::InsertTab => Topic::Insert(Insert::InsertTab),
-        Call::Paste => Topic::Insert(Insert::Paste),
-        Call::DuplicateLine => Topic::Insert(Insert::DuplicateLine),
-        Call::SetLines { lines, cursor } => Topic::Insert(Insert::SetLines { lines, cursor }),
-        Call::DeleteChar => Topic::Remove(Remove::DeleteChar),
-        Call::DeleteNextChar => Topic::Remove(Remove::DeleteNextChar),
-        Call::DeleteNewline => Topic::Remove(Remove::DeleteNewline),
-        Call::DeleteStr(count) => Topic::Remove(Remove::DeleteStr(count)),
-        Call::DeleteLineByEnd => Topic::Remove(Remove::DeleteLineByEnd),
-        Call::DeleteLineByHead => Topic::Remove(Remove::DeleteLineByHead),
-        Call::DeleteWord => Topic::Remove(Remove::DeleteWord),
-        Call::DeleteNextWord => Topic::Remove(Remove::DeleteNextWord),
-        Call::Clear => Topic::Remove(Remove::Clear),
-        Call::Cut => Topic::Remove(Remove::Cut),
-        Call::Undo => Topic::History(History::Undo),
-        Call::Redo => Topic::History(History::Redo),
-        Call::SetMaxHistories(maximum) => Topic::History(History::SetMaxHistories(maximum)),
-        Call::SetUndoCoalescing(joins) => Topic::History(History::SetUndoCoalescing(joins)),
-        Call::SetNow(time) => Topic::History(History::SetNow(time)),
-        Call::StartSelection => Topic::Select(Select::StartSelection),
-        Call::CancelSelection => Topic::Select(Select::CancelSelection),
-        Call::SelectAll => Topic::Select(Select::SelectAll),
-        Call::Copy => Topic::Select(Select::Copy),
-        Call::SetYankText(text) => Topic::Select(Select::SetYankText(text)),
-        Call::Move(cursor_move) => Topic::Move(Move::Move(cursor_move)),
-        Call::GoTo(place) => Topic::Move(Move::GoTo(place)),
-        Call::Scroll(scrolling) => Topic::Move(Move::Scroll(scrolling)),
-        Call::SetSearchPattern(pattern) => Topic::Search(Search::SetSearchPattern(pattern)),
-        Call::SearchForward(match_cursor) => Topic::Search(Search::SearchForward(match_cursor)),
-        Call::SearchBack(match_cursor) => Topic::Search(Search::SearchBack(match_cursor)),
-        Call::TrySetAtomicRanges(ranges) => Topic::Ranges(Ranges::TrySetAtomicRanges(ranges)),
-        Call::ClearAtomicRanges => Topic::Ranges(Ranges::ClearAtomicRanges),
+        Call::InsertChar(c) => Topic::Insert(InsertCall::InsertChar(c)),
+        Call::InsertNewline => Topic::Insert(InsertCall::InsertNewline),
+        Call::InsertStr(text) => Topic::Insert(InsertCall::InsertStr(text)),
+        Call::InsertPasted(text) => Topic::Insert(InsertCall::InsertPasted(text)),
+        Call::InsertTab => Topic::Insert(InsertCall::InsertTab),
+        Call::Paste => Topic::Insert(InsertCall::Paste),
+        Call::DuplicateLine => Topic::Insert(InsertCall::DuplicateLine),
+        Call::SetLines { lines, cursor } => Topic::Insert(InsertCall::SetLines { lines, cursor }),
+        Call::DeleteChar => Topic::Remove(RemoveCall::DeleteChar),
+        Call::DeleteNextChar => Topic::Remove(RemoveCall::DeleteNextChar),
+        Call::DeleteNewline => Topic::Remove(RemoveCall::DeleteNewline),
+        Call::DeleteStr(count) => Topic::Remove(RemoveCall::DeleteStr(count)),
+        Call::DeleteLineByEnd => Topic::Remove(RemoveCall::DeleteLineByEnd),
+        Call::DeleteLineByHead => Topic::Remove(RemoveCall::DeleteLineByHead),
+        Call::DeleteWord => Topic::Remove(RemoveCall::DeleteWord),
+        Call::DeleteNextWord => Topic::Remove(RemoveCall::DeleteNextWord),
+        Call::Clear => Topic::Remove(RemoveCall::Clear),
+        Call::Cut => Topic::Remove(RemoveCall::Cut),
+        Call::Undo => Topic::History(HistoryCall::Undo),
+        Call::Redo => Topic::History(HistoryCall::Redo),
+        Call::SetMaxHistories(maximum) => Topic::History(HistoryCall::SetMaxHistories(maximum)),
+        Call::SetUndoCoalescing(joins) => Topic::History(HistoryCall::SetUndoCoalescing(joins)),
+        Call::SetNow(time) => Topic::History(HistoryCall::SetNow(time)),
+        Call::StartSelection => Topic::Select(SelectCall::StartSelection),
+        Call::CancelSelection => Topic::Select(SelectCall::CancelSelection),
+        Call::SelectAll => Topic::Select(SelectCall::SelectAll),
+        Call::Copy => Topic::Select(SelectCall::Copy),
+        Call::SetYankText(text) => Topic::Select(SelectCall::SetYankText(text)),
+        Call::Move(cursor_move) => Topic::Move(MoveCall::Move(cursor_move)),
+        Call::GoTo(place) => Topic::Move(MoveCall::GoTo(place)),
+        Call::Scroll(scrolling) => Topic::Move(MoveCall::Scroll(scrolling)),
+        Call::SetSearchPattern(pattern) => Topic::Search(SearchCall::SetSearchPattern(pattern)),
+        Call::SearchForward(match_cursor) => Topic::Search(SearchCall::SearchForward(match_cursor)),
+        Call::SearchBack(match_cursor) => Topic::Search(SearchCall::SearchBack(match_cursor)),
+        Call::TrySetAtomicRanges(ranges) => Topic::Ranges(RangesCall::TrySetAtomicRanges(ranges)),
+        Call::ClearAtomicRanges => Topic::Ranges(RangesCall::ClearAtomicRanges),
         Call::NormalizeCursorAroundAtomicRanges(bias) => Topic::Ranges(
-            Ranges::NormalizeCursorAroundAtomicRanges(bias),
+            RangesCall::NormalizeCursorAroundAtomicRanges(bias),
         ),
-        Call::AtomicRangeAtCursor(direction) => Topic::Ranges(Ranges::AtomicRangeAtCursor(
+        Call::AtomicRangeAtCursor(direction) => Topic::Ranges(RangesCall::AtomicRangeAtCursor(
             direction,
         )),
         Call::DeleteAtomicRangeAtCursor(direction) => Topic::Ranges(
-            Ranges::DeleteAtomicRangeAtCursor(direction),
+            RangesCall::DeleteAtomicRangeAtCursor(direction),
         ),
-        Call::SetTabLength(columns) => Topic::Options(Options::SetTabLength(columns)),
-        Call::SetHardTabIndent(hard) => Topic::Options(Options::SetHardTabIndent(hard)),
-        Call::SetWrapMode(mode) => Topic::Options(Options::SetWrapMode(mode)),
-        Call::SetLineNumberStyle(style) => Topic::Options(Options::SetLineNumberStyle(style)),
-        Call::RemoveLineNumber => Topic::Options(Options::RemoveLineNumber),
-        Call::SetAlignment(alignment) => Topic::Options(Options::SetAlignment(alignment)),
-        Call::SetMinRows(rows) => Topic::Options(Options::SetMinRows(rows)),
-        Call::SetMaxRows(rows) => Topic::Options(Options::SetMaxRows(rows)),
-        Call::SetBlock(block) => Topic::Appearance(Appearance::SetBlock(block)),
-        Call::RemoveBlock => Topic::Appearance(Appearance::RemoveBlock),
-        Call::SetPlaceholderText(text) => Topic::Appearance(Appearance::SetPlaceholderText(text)),
-        Call::SetStyledPlaceholder(text) => Topic::Appearance(Appearance::SetStyledPlaceholder(
+        Call::SetTabLength(columns) => Topic::Options(OptionsCall::SetTabLength(columns)),
+        Call::SetHardTabIndent(hard) => Topic::Options(OptionsCall::SetHardTabIndent(hard)),
+        Call::SetWrapMode(mode) => Topic::Options(OptionsCall::SetWrapMode(mode)),
+        Call::SetLineNumberStyle(style) => Topic::Options(OptionsCall::SetLineNumberStyle(style)),
+        Call::RemoveLineNumber => Topic::Options(OptionsCall::RemoveLineNumber),
+        Call::SetAlignment(alignment) => Topic::Options(OptionsCall::SetAlignment(alignment)),
+        Call::SetMinRows(rows) => Topic::Options(OptionsCall::SetMinRows(rows)),
+        Call::SetMaxRows(rows) => Topic::Options(OptionsCall::SetMaxRows(rows)),
+        Call::SetBlock(block) => Topic::Appearance(AppearanceCall::SetBlock(block)),
+        Call::RemoveBlock => Topic::Appearance(AppearanceCall::RemoveBlock),
+        Call::SetPlaceholderText(text) => Topic::Appearance(AppearanceCall::SetPlaceholderText(
             text,
         )),
-        Call::SetPlaceholderStyle(style) => Topic::Appearance(Appearance::SetPlaceholderStyle(
+        Call::SetStyledPlaceholder(text) => Topic::Appearance(AppearanceCall::SetStyledPlaceholder(
+            text,
+        )),
+        Call::SetPlaceholderStyle(style) => Topic::Appearance(AppearanceCall::SetPlaceholderStyle(
             style,
         )),
-        Call::SetStyle(style) => Topic::Appearance(Appearance::SetStyle(style)),
-        Call::SetCursorStyle(style) => Topic::Appearance(Appearance::SetCursorStyle(style)),
-        Call::SetCursorLineStyle(style) => Topic::Appearance(Appearance::SetCursorLineStyle(style)),
-        Call::SetSelectionStyle(style) => Topic::Appearance(Appearance::SetSelectionStyle(style)),
-        Call::SetSearchStyle(style) => Topic::Appearance(Appearance::SetSearchStyle(style)),
-        Call::SetMaskChar(mask) => Topic::Appearance(Appearance::SetMaskChar(mask)),
-        Call::ClearMaskChar => Topic::Appearance(Appearance::ClearMaskChar),
-        Call::SetCursorRenderMode(mode) => Topic::Appearance(Appearance::SetCursorRenderMode(mode)),
+        Call::SetStyle(style) => Topic::Appearance(AppearanceCall::SetStyle(style)),
+        Call::SetCursorStyle(style) => Topic::Appearance(AppearanceCall::SetCursorStyle(style)),
+        Call::SetCursorLineStyle(style) => Topic::Appearance(AppearanceCall::SetCursorLineStyle(
+            style,
+        )),
+        Call::SetSelectionStyle(style) => Topic::Appearance(AppearanceCall::SetSelectionStyle(
+            style,
+        )),
+        Call::SetSearchStyle(style) => Topic::Appearance(AppearanceCall::SetSearchStyle(style)),
+        Call::SetMaskChar(mask) => Topic::Appearance(AppearanceCall::SetMaskChar(mask)),
+        Call::ClearMaskChar => Topic::Appearance(AppearanceCall::ClearMaskChar),
+        Call::SetCursorRenderMode(mode) => Topic::Appearance(AppearanceCall::SetCursorRenderMode(
+            mode,
+        )),
         Call::CustomHighlight {
             range,
             style,
             priority,
-        } => Topic::Appearance(Appearance::CustomHighlight {
+        } => Topic::Appearance(AppearanceCall::CustomHighlight {
             range,
             style,
             priority,
         }),
-        Call::ClearCustomHighlight => Topic::Appearance(Appearance::ClearCustomHighlight),
-        Call::Input(input) => Topic::Keys(Keys::Input(input)),
-        Call::InputWithoutShortcuts(input) => Topic::Keys(Keys::InputWithoutShortcuts(input)),
-        Call::Text => Topic::Read(Read::Text),
-        Call::Cursor => Topic::Read(Read::Cursor),
-        Call::IsEmpty => Topic::Read(Read::IsEmpty),
-        Call::IsSelecting => Topic::Read(Read::IsSelecting),
-        Call::SelectionRange => Topic::Read(Read::SelectionRange),
-        Call::YankText => Topic::Read(Read::YankText),
-        Call::MaxHistories => Topic::Read(Read::MaxHistories),
-        Call::UndoCoalescing => Topic::Read(Read::UndoCoalescing),
-        Call::TabLength => Topic::Read(Read::TabLength),
-        Call::HardTabIndent => Topic::Read(Read::HardTabIndent),
-        Call::WrapMode => Topic::Read(Read::WrapMode),
-        Call::LineNumberStyle => Topic::Read(Read::LineNumberStyle),
-        Call::Alignment => Topic::Read(Read::Alignment),
-        Call::MinRows => Topic::Read(Read::MinRows),
-        Call::MaxRows => Topic::Read(Read::MaxRows),
-        Call::Measure(width) => Topic::Read(Read::Measure(width)),
-        Call::PlaceholderStyle => Topic::Read(Read::PlaceholderStyle),
-        Call::Style => Topic::Read(Read::Style),
-        Call::CursorStyle => Topic::Read(Read::CursorStyle),
-        Call::CursorLineStyle => Topic::Read(Read::CursorLineStyle),
-        Call::SelectionStyle => Topic::Read(Read::SelectionStyle),
-        Call::SearchStyle => Topic::Read(Read::SearchStyle),
-        Call::MaskChar => Topic::Read(Read::MaskChar),
-        Call::CursorRenderMode => Topic::Read(Read::CursorRenderMode),
-        Call::RenderedCursorPosition => Topic::Read(Read::RenderedCursorPosition),
-        Call::CursorAtPosition(position) => Topic::Read(Read::CursorAtPosition(position)),
+        Call::ClearCustomHighlight => Topic::Appearance(AppearanceCall::ClearCustomHighlight),
+        Call::Input(input) => Topic::Keys(KeysCall::Input(input)),
+        Call::InputWithoutShortcuts(input) => Topic::Keys(KeysCall::InputWithoutShortcuts(input)),
+        Call::Text => Topic::Read(ReadCall::Text),
+        Call::Cursor => Topic::Read(ReadCall::Cursor),
+        Call::IsEmpty => Topic::Read(ReadCall::IsEmpty),
+        Call::IsSelecting => Topic::Read(ReadCall::IsSelecting),
+        Call::SelectionRange => Topic::Read(ReadCall::SelectionRange),
+        Call::YankText => Topic::Read(ReadCall::YankText),
+        Call::MaxHistories => Topic::Read(ReadCall::MaxHistories),
+        Call::UndoCoalescing => Topic::Read(ReadCall::UndoCoalescing),
+        Call::TabLength => Topic::Read(ReadCall::TabLength),
+        Call::HardTabIndent => Topic::Read(ReadCall::HardTabIndent),
+        Call::WrapMode => Topic::Read(ReadCall::WrapMode),
+        Call::LineNumberStyle => Topic::Read(ReadCall::LineNumberStyle),
+        Call::Alignment => Topic::Read(ReadCall::Alignment),
+        Call::MinRows => Topic::Read(ReadCall::MinRows),
+        Call::MaxRows => Topic::Read(ReadCall::MaxRows),
+        Call::Measure(width) => Topic::Read(ReadCall::Measure(width)),
+        Call::PlaceholderStyle => Topic::Read(ReadCall::PlaceholderStyle),
+        Call::Style => Topic::Read(ReadCall::Style),
+        Call::CursorStyle => Topic::Read(ReadCall::CursorStyle),
+        Call::CursorLineStyle => Topic::Read(ReadCall::CursorLineStyle),
+        Call::SelectionStyle => Topic::Read(ReadCall::SelectionStyle),
+        Call::SearchStyle => Topic::Read(ReadCall::SearchStyle),
+        Call::MaskChar => Topic::Read(ReadCall::MaskChar),
+        Call::CursorRenderMode => Topic::Read(ReadCall::CursorRenderMode),
+        Call::RenderedCursorPosition => Topic::Read(ReadCall::RenderedCursorPosition),
+        Call::CursorAtPosition(position) => Topic::Read(ReadCall::CursorAtPosition(position)),
         Call::Render(_) => unreachable!(),
     }
 }

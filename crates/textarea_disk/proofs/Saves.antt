@@ -1,10 +1,10 @@
 -- Lemmas on saves.
 use Rattle.std.proofs.Common.{◌≡◌, ◌≢◌, ◌⊎◌, ◌∙◌, ℕ, true, false, List, [], ◌∷◌, Option, None, Some, inl, inr, refl, sym, ap, subst}
-use Rattle.textarea_disk.specs.Disk.{Content, File, Entries, Disk, content_of, seen, with_entries, with_entry, with_file, with_new_file, changed_at, changed}
+use Rattle.textarea_disk.specs.Disk.{Content, File, Entries, Disk, content_of, seen, with_entries, with_entry, with_file, with_new_file, changed_at, changed_file}
 use Rattle.textarea_disk.specs.Plan.{steps_of}
-use Rattle.textarea_disk.specs.Save.{Save, saved, created_at, grown, written, with_mode, synced, unsynced, after_step, after, AtEachPoint, AtEachFailure, LeavesOnly, LeavesOldOrNew, LeavesWholeText, HasBytes, CanBegin, IsWhole}
+use Rattle.textarea_disk.specs.Save.{Save, saved, created_at, grown_file, written, with_mode, synced, unsynced, after_step, after, AtEachPoint, AtEachFailure, LeavesOnly, LeavesOldOrNew, LeavesWholeText, HasBytes, CanBegin, IsWhole}
 use Rattle.textarea_disk.specs.declared.step.DiskStep.TheVariants.{Create, Write, SetMode, Sync, SyncFolder, Rename, Remove}
-use Rattle.textarea_disk.specs.declared.step.Place.TheVariants as place
+use Rattle.textarea_disk.specs.declared.step.SaveFile.TheVariants as place
 use Rattle.textarea_disk.specs.declared.step.SavePlan.TheVariants.{Beside, InPlace}
 use Rattle.textarea_disk.proofs.Disks.{Apart, agree_all, apart_agree, at_file, at_name, beside_file, beside_name, entries_of, leaves_agree, leaves_one, left_or_later, made_apart, seen_agree, seen_file, seen_left, synced_left}
 
@@ -60,7 +60,7 @@ begun_written save old m copy disk change b =
     }
 
 -- a step that changes the copy
-pub begun_changed : (save : Save) (old : Option Content) (m : ℕ) (copy : File) (disk : Disk) (change : File → File) → Begun save old m copy disk → Begun save old m (change copy) (changed disk save.copy change)
+pub begun_changed : (save : Save) (old : Option Content) (m : ℕ) (copy : File) (disk : Disk) (change : File → File) → Begun save old m copy disk → Begun save old m (change copy) (changed_file disk save.copy change)
 begun_changed save old m copy disk change b =
     subst (λ (entry : Option ℕ). Begun save old m (change copy) (changed_at entry disk change)) (sym b.named) (begun_written save old m copy disk change b)
 
@@ -231,7 +231,7 @@ copied_written save m n file disk change b =
     }
 
 -- a step that changes the file
-pub copied_changed : (save : Save) (m n : ℕ) (file : File) (disk : Disk) (change : File → File) → Copied save m n file disk → Copied save m n (change file) (changed disk save.file change)
+pub copied_changed : (save : Save) (m n : ℕ) (file : File) (disk : Disk) (change : File → File) → Copied save m n file disk → Copied save m n (change file) (changed_file disk save.file change)
 copied_changed save m n file disk change b =
     subst (λ (entry : Option ℕ). Copied save m n (change file) (changed_at entry disk change)) (sym b.named) (copied_written save m n file disk change b)
 
@@ -305,7 +305,7 @@ in_place save disk old bytes b =
     let n = file_of save _ old b3.stored in
     let c4 = copied_first save (Some old) disk.count n.0 _ n.1 b3 in
     let cut = copied_changed save disk.count n.0 _ _ unsynced c4 in
-    let c5 = copied_changed save disk.count n.0 _ _ (grown save.text) c4 in
+    let c5 = copied_changed save disk.count n.0 _ _ (grown_file save.text) c4 in
     let torn = copied_changed save disk.count n.0 _ _ (written bytes) c5 in
     let c6 = copied_changed save disk.count n.0 _ _ (written save.text) c5 in
     let c7 = copied_changed save disk.count n.0 _ _ (with_mode save.mode) c6 in

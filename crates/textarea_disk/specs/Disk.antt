@@ -80,8 +80,8 @@ changed_at None disk change = disk
 changed_at (Some n) disk change = with_file disk n (change (disk.files n))
 
 -- the file of a name
-abbrev pub changed : Disk → List ℕ → (File → File) → Disk
-changed disk name change = changed_at (disk.names name).now disk change
+abbrev pub changed_file : Disk → List ℕ → (File → File) → Disk
+changed_file disk name change = changed_at (disk.names name).now disk change
 
 -- ---- which disks there are
 

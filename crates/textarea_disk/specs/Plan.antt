@@ -3,8 +3,8 @@ use Rattle.std.specs.Prelude.{◌&&◌, ◌==◌, nat_le, if◌then◌else◌, B
 use Rattle.textarea_disk.specs.declared.step.DiskStep.{DiskStep}
 use Rattle.textarea_disk.specs.declared.step.DiskStep.TheVariants.{Create, Grow, Write, SetMode, Sync, SyncFolder, Rename, Remove}
 use Rattle.textarea_disk.specs.declared.step.Ownership.{Ownership}
-use Rattle.textarea_disk.specs.declared.step.Place.{Place}
-use Rattle.textarea_disk.specs.declared.step.Place.TheVariants as place
+use Rattle.textarea_disk.specs.declared.step.SaveFile.{SaveFile}
+use Rattle.textarea_disk.specs.declared.step.SaveFile.TheVariants as place
 use Rattle.textarea_disk.specs.declared.step.SavePlan.{SavePlan}
 use Rattle.textarea_disk.specs.declared.step.SavePlan.TheVariants.{Beside, InPlace}
 
@@ -14,7 +14,7 @@ steps_of Beside = Create ∷ Write place.Copy ∷ SetMode place.Copy ∷ Sync pl
 steps_of InPlace =
     Create ∷ Write place.Copy ∷ Sync place.Copy ∷ SyncFolder place.Copy ∷ Grow ∷ Write place.File ∷ SetMode place.File ∷ Sync place.File ∷ SyncFolder place.File ∷ Remove ∷ []
 
-abbrev pub is_copy : Place → Bool
+abbrev pub is_copy : SaveFile → Bool
 is_copy place.File = false
 is_copy place.Copy = true
 

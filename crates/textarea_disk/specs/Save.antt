@@ -1,11 +1,11 @@
 -- What each step of a save does to a disk, and what is right after a crash or a failure.
 use Rattle.std.specs.Prelude.{◌≡◌, ◌≢◌, ◌⊎◌, ◌++◌, ℕ, true, false, if◌then◌else◌, List, [], ◌∷◌, length, drop, Option, None, Some}
-use Rattle.textarea_disk.specs.Disk.{Content, File, Disk, IsDisk, Leaves, seen, with_entries, with_entry, with_new_file, changed}
+use Rattle.textarea_disk.specs.Disk.{Content, File, Disk, IsDisk, Leaves, seen, with_entries, with_entry, with_new_file, changed_file}
 use Rattle.textarea_disk.specs.Plan.{copy_is_removed}
 use Rattle.textarea_disk.specs.declared.step.DiskStep.{DiskStep}
 use Rattle.textarea_disk.specs.declared.step.DiskStep.TheVariants.{Create, Grow, Write, SetMode, Sync, SyncFolder, Rename, Remove}
-use Rattle.textarea_disk.specs.declared.step.Place.{Place}
-use Rattle.textarea_disk.specs.declared.step.Place.TheVariants as place
+use Rattle.textarea_disk.specs.declared.step.SaveFile.{SaveFile}
+use Rattle.textarea_disk.specs.declared.step.SaveFile.TheVariants as place
 
 -- what is saved: the names of the file and the copy, the text, the mode bits that the file is to have, and those of a new file
 pub record Save : Type 0 where
@@ -15,7 +15,7 @@ pub record Save : Type 0 where
   pub mode : ℕ
   pub first_mode : ℕ
 
-abbrev pub name_of : Save → Place → List ℕ
+abbrev pub name_of : Save → SaveFile → List ℕ
 name_of save place.File = save.file
 name_of save place.Copy = save.copy
 
@@ -29,8 +29,8 @@ abbrev pub created_at : Option ℕ → Save → Disk → Disk
 created_at None save disk = with_new_file disk save.copy (record { content = record { bytes = []; mode = save.first_mode }; is_synced = false })
 created_at (Some n) save disk = disk
 
-abbrev pub grown : List ℕ → File → File
-grown text file =
+abbrev pub grown_file : List ℕ → File → File
+grown_file text file =
     record { content = record { bytes = file.content.bytes ++ drop (length file.content.bytes) text; mode = file.content.mode }; is_synced = false }
 
 abbrev pub written : List ℕ → File → File
@@ -45,10 +45,10 @@ synced file = record { content = file.content; is_synced = true }
 -- the disk after a step that doesn't fail
 abbrev pub after_step : Save → DiskStep → Disk → Disk
 after_step save Create disk = created_at (disk.names save.copy).now save disk
-after_step save Grow disk = changed disk save.file (grown save.text)
-after_step save (Write p) disk = changed disk (name_of save p) (written save.text)
-after_step save (SetMode p) disk = changed disk (name_of save p) (with_mode save.mode)
-after_step save (Sync p) disk = changed disk (name_of save p) synced
+after_step save Grow disk = changed_file disk save.file (grown_file save.text)
+after_step save (Write p) disk = changed_file disk (name_of save p) (written save.text)
+after_step save (SetMode p) disk = changed_file disk (name_of save p) (with_mode save.mode)
+after_step save (Sync p) disk = changed_file disk (name_of save p) synced
 after_step save (SyncFolder p) disk = with_entries disk (name_of save p) (record { now = (disk.names (name_of save p)).now; before = [] })
 after_step save Rename disk = with_entry (with_entry disk save.file (disk.names save.copy).now) save.copy None
 after_step save Remove disk = with_entry disk save.copy None
@@ -97,8 +97,8 @@ unsynced file = record { content = file.content; is_synced = false }
 -- A step that fails may leave any bytes in a file that it writes over; one that fails to grow a file has cut it again, and no sync has
 -- made sure of that. No other failure does anything.
 abbrev pub after_failure : Save → List ℕ → DiskStep → Disk → Disk
-after_failure save bytes Grow disk = changed disk save.file unsynced
-after_failure save bytes (Write p) disk = changed disk (name_of save p) (written bytes)
+after_failure save bytes Grow disk = changed_file disk save.file unsynced
+after_failure save bytes (Write p) disk = changed_file disk (name_of save p) (written bytes)
 after_failure save bytes step disk = disk
 
 -- what the program does then

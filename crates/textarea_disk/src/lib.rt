@@ -8,4 +8,4 @@ pub mod laws;
 pub mod step;
 
 pub use content_hash::{NEW_HASH, hash_with};
-pub use step::{DiskStep, Ownership, Place, SavePlan};
+pub use step::{DiskStep, Ownership, SaveFile, SavePlan};

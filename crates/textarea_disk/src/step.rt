@@ -5,7 +5,7 @@ ghost use Rattle.textarea_disk.specs.Plan.{copy_is_removed, plan_of, steps_of};
 
 /// One of the two files of a save.
 #[derive(Clone, Copy, Debug, PartialEq, Eq)]
-pub enum Place {
+pub enum SaveFile {
     /// The file that is saved.
     File,
     /// A new file with the whole text, under a name that no file has yet.
@@ -22,13 +22,13 @@ pub enum DiskStep {
     /// room on the disk. If it fails, the file is cut to its old bytes.
     Grow,
     /// Writes the text over all bytes of a file.
-    Write(Place),
+    Write(SaveFile),
     /// Gives a file the mode bits that the saved file has to have.
-    SetMode(Place),
+    SetMode(SaveFile),
     /// Brings a file's bytes and mode bits to the disk.
-    Sync(Place),
+    Sync(SaveFile),
     /// Brings to the disk what the folder of a file has under the file's name.
-    SyncFolder(Place),
+    SyncFolder(SaveFile),
     /// Gives the copy the file's name.
     Rename,
     /// Removes the copy.
@@ -83,24 +83,24 @@ impl SavePlan {
             SavePlan::Beside => {
                 &[
                     DiskStep::Create,
-                    DiskStep::Write(Place::Copy),
-                    DiskStep::SetMode(Place::Copy),
-                    DiskStep::Sync(Place::Copy),
+                    DiskStep::Write(SaveFile::Copy),
+                    DiskStep::SetMode(SaveFile::Copy),
+                    DiskStep::Sync(SaveFile::Copy),
                     DiskStep::Rename,
-                    DiskStep::SyncFolder(Place::File),
+                    DiskStep::SyncFolder(SaveFile::File),
                 ]
             }
             SavePlan::InPlace => {
                 &[
                     DiskStep::Create,
-                    DiskStep::Write(Place::Copy),
-                    DiskStep::Sync(Place::Copy),
-                    DiskStep::SyncFolder(Place::Copy),
+                    DiskStep::Write(SaveFile::Copy),
+                    DiskStep::Sync(SaveFile::Copy),
+                    DiskStep::SyncFolder(SaveFile::Copy),
                     DiskStep::Grow,
-                    DiskStep::Write(Place::File),
-                    DiskStep::SetMode(Place::File),
-                    DiskStep::Sync(Place::File),
-                    DiskStep::SyncFolder(Place::File),
+                    DiskStep::Write(SaveFile::File),
+                    DiskStep::SetMode(SaveFile::File),
+                    DiskStep::Sync(SaveFile::File),
+                    DiskStep::SyncFolder(SaveFile::File),
                     DiskStep::Remove,
                 ]
             }
@@ -119,7 +119,7 @@ impl DiskStep {
             DiskStep::Write(place)
             | DiskStep::SetMode(place)
             | DiskStep::Sync(place)
-            | DiskStep::SyncFolder(place) => place == Place::Copy,
+            | DiskStep::SyncFolder(place) => place == SaveFile::Copy,
             DiskStep::Create | DiskStep::Remove => false,
         }
     }

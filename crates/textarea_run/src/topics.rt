@@ -11,12 +11,16 @@ use crate::special;
 use std::alloc::AllocError;
 use textarea_calls::Answer;
 use textarea_calls::topic::{
-    Appearance, History, Insert, Keys, Move, Options, Ranges, Read, Remove, Search, Select,
+    AppearanceCall, HistoryCall, InsertCall, KeysCall, MoveCall, OptionsCall, RangesCall, ReadCall,
+    RemoveCall, SearchCall, SelectCall,
 };
 use tui_textarea::TextArea;
 
 /// Insertions at the cursor, and new lines.
-pub(crate) fn insert_call(area: &mut TextArea<'_>, call: Insert<'_>) -> Result<Answer, AllocError>
+pub(crate) fn insert_call(
+    area: &mut TextArea<'_>,
+    call: InsertCall<'_>,
+) -> Result<Answer, AllocError>
     requires { CanBeMade (call_of_insert call) }
     ensures answer { IfOk result
         (λ answer. IsResultOf area.old (call_of_insert call.entry) (call_result answer)) }
@@ -25,21 +29,21 @@ pub(crate) fn insert_call(area: &mut TextArea<'_>, call: Insert<'_>) -> Result<A
     ensures err { OnErr result (RanOutOfMemory area.old (call_of_insert call.entry) area.new) }
 {
     match call {
-        Insert::InsertChar(c) => area.insert_char(c).map(|()| Answer::Done),
-        Insert::InsertNewline => area.insert_newline().map(|()| Answer::Done),
-        Insert::InsertStr(text) => area.insert_str(text).map(Answer::Flag),
-        Insert::InsertPasted(text) => area.insert_pasted(text).map(Answer::Flag),
-        Insert::InsertTab => area.insert_tab().map(Answer::Flag),
-        Insert::Paste => area.paste().map(Answer::Flag),
-        Insert::DuplicateLine => area.duplicate_line().map(|()| Answer::Done),
-        Insert::SetLines { lines, cursor } => {
+        InsertCall::InsertChar(c) => area.insert_char(c).map(|()| Answer::Done),
+        InsertCall::InsertNewline => area.insert_newline().map(|()| Answer::Done),
+        InsertCall::InsertStr(text) => area.insert_str(text).map(Answer::Flag),
+        InsertCall::InsertPasted(text) => area.insert_pasted(text).map(Answer::Flag),
+        InsertCall::InsertTab => area.insert_tab().map(Answer::Flag),
+        InsertCall::Paste => area.paste().map(Answer::Flag),
+        InsertCall::DuplicateLine => area.duplicate_line().map(|()| Answer::Done),
+        InsertCall::SetLines { lines, cursor } => {
             special::set_lines(area, lines, cursor).map(|()| Answer::Done)
         }
     }
 }
 
 /// Removals.
-pub(crate) fn remove_call(area: &mut TextArea<'_>, call: Remove) -> Result<Answer, AllocError>
+pub(crate) fn remove_call(area: &mut TextArea<'_>, call: RemoveCall) -> Result<Answer, AllocError>
     ensures answer { IfOk result
         (λ answer. IsResultOf area.old (call_of_remove call) (call_result answer)) }
     ensures ok { IfOk result
@@ -47,21 +51,21 @@ pub(crate) fn remove_call(area: &mut TextArea<'_>, call: Remove) -> Result<Answe
     ensures err { OnErr result (RanOutOfMemory area.old (call_of_remove call) area.new) }
 {
     match call {
-        Remove::DeleteChar => area.delete_char().map(Answer::Flag),
-        Remove::DeleteNextChar => area.delete_next_char().map(Answer::Flag),
-        Remove::DeleteNewline => area.delete_newline().map(Answer::Flag),
-        Remove::DeleteStr(count) => area.delete_str(count).map(Answer::Flag),
-        Remove::DeleteLineByEnd => area.delete_line_by_end().map(Answer::Flag),
-        Remove::DeleteLineByHead => area.delete_line_by_head().map(Answer::Flag),
-        Remove::DeleteWord => area.delete_word().map(Answer::Flag),
-        Remove::DeleteNextWord => area.delete_next_word().map(Answer::Flag),
-        Remove::Clear => area.clear().map(Answer::Flag),
-        Remove::Cut => area.cut().map(Answer::Flag),
+        RemoveCall::DeleteChar => area.delete_char().map(Answer::Flag),
+        RemoveCall::DeleteNextChar => area.delete_next_char().map(Answer::Flag),
+        RemoveCall::DeleteNewline => area.delete_newline().map(Answer::Flag),
+        RemoveCall::DeleteStr(count) => area.delete_str(count).map(Answer::Flag),
+        RemoveCall::DeleteLineByEnd => area.delete_line_by_end().map(Answer::Flag),
+        RemoveCall::DeleteLineByHead => area.delete_line_by_head().map(Answer::Flag),
+        RemoveCall::DeleteWord => area.delete_word().map(Answer::Flag),
+        RemoveCall::DeleteNextWord => area.delete_next_word().map(Answer::Flag),
+        RemoveCall::Clear => area.clear().map(Answer::Flag),
+        RemoveCall::Cut => area.cut().map(Answer::Flag),
     }
 }
 
 /// Undo and redo, and settings of the history.
-pub(crate) fn history_call(area: &mut TextArea<'_>, call: History) -> Result<Answer, AllocError>
+pub(crate) fn history_call(area: &mut TextArea<'_>, call: HistoryCall) -> Result<Answer, AllocError>
     ensures answer { IfOk result
         (λ answer. IsResultOf area.old (call_of_history call) (call_result answer)) }
     ensures ok { IfOk result
@@ -69,17 +73,17 @@ pub(crate) fn history_call(area: &mut TextArea<'_>, call: History) -> Result<Ans
     ensures err { OnErr result (RanOutOfMemory area.old (call_of_history call) area.new) }
 {
     match call {
-        History::Undo => area.undo().map(Answer::Flag),
-        History::Redo => area.redo().map(Answer::Flag),
-        History::SetMaxHistories(maximum) => {
+        HistoryCall::Undo => area.undo().map(Answer::Flag),
+        HistoryCall::Redo => area.redo().map(Answer::Flag),
+        HistoryCall::SetMaxHistories(maximum) => {
             area.set_max_histories(maximum);
             Ok(Answer::Done)
         }
-        History::SetUndoCoalescing(joins) => {
+        HistoryCall::SetUndoCoalescing(joins) => {
             area.set_undo_coalescing(joins);
             Ok(Answer::Done)
         }
-        History::SetNow(time) => {
+        HistoryCall::SetNow(time) => {
             area.set_now(time);
             Ok(Answer::Done)
         }
@@ -87,7 +91,10 @@ pub(crate) fn history_call(area: &mut TextArea<'_>, call: History) -> Result<Ans
 }
 
 /// The selection, and what is yanked.
-pub(crate) fn select_call(area: &mut TextArea<'_>, call: Select<'_>) -> Result<Answer, AllocError>
+pub(crate) fn select_call(
+    area: &mut TextArea<'_>,
+    call: SelectCall<'_>,
+) -> Result<Answer, AllocError>
     ensures answer { IfOk result
         (λ answer. IsResultOf area.old (call_of_select call.entry) (call_result answer)) }
     ensures ok { IfOk result
@@ -95,25 +102,25 @@ pub(crate) fn select_call(area: &mut TextArea<'_>, call: Select<'_>) -> Result<A
     ensures err { OnErr result (RanOutOfMemory area.old (call_of_select call.entry) area.new) }
 {
     match call {
-        Select::StartSelection => {
+        SelectCall::StartSelection => {
             area.start_selection();
             Ok(Answer::Done)
         }
-        Select::CancelSelection => {
+        SelectCall::CancelSelection => {
             area.cancel_selection();
             Ok(Answer::Done)
         }
-        Select::SelectAll => {
+        SelectCall::SelectAll => {
             area.select_all();
             Ok(Answer::Done)
         }
-        Select::Copy => area.copy().map(|()| Answer::Done),
-        Select::SetYankText(text) => area.set_yank_text(text).map(|()| Answer::Done),
+        SelectCall::Copy => area.copy().map(|()| Answer::Done),
+        SelectCall::SetYankText(text) => area.set_yank_text(text).map(|()| Answer::Done),
     }
 }
 
 /// Moves of the cursor, and scrolls.
-pub(crate) fn move_call(area: &mut TextArea<'_>, call: Move) -> Result<Answer, AllocError>
+pub(crate) fn move_call(area: &mut TextArea<'_>, call: MoveCall) -> Result<Answer, AllocError>
     ensures answer { IfOk result
         (λ answer. IsResultOf area.old (call_of_move call) (call_result answer)) }
     ensures ok { IfOk result
@@ -121,15 +128,15 @@ pub(crate) fn move_call(area: &mut TextArea<'_>, call: Move) -> Result<Answer, A
     ensures err { OnErr result (RanOutOfMemory area.old (call_of_move call) area.new) }
 {
     match call {
-        Move::Move(cursor_move) => {
+        MoveCall::Move(cursor_move) => {
             area.move_cursor(cursor_move);
             Ok(Answer::Done)
         }
-        Move::GoTo(place) => {
+        MoveCall::GoTo(place) => {
             area.go_to(place);
             Ok(Answer::Done)
         }
-        Move::Scroll(scrolling) => {
+        MoveCall::Scroll(scrolling) => {
             area.scroll(scrolling);
             Ok(Answer::Done)
         }
@@ -137,7 +144,10 @@ pub(crate) fn move_call(area: &mut TextArea<'_>, call: Move) -> Result<Answer, A
 }
 
 /// Searches.
-pub(crate) fn search_call(area: &mut TextArea<'_>, call: Search<'_>) -> Result<Answer, AllocError>
+pub(crate) fn search_call(
+    area: &mut TextArea<'_>,
+    call: SearchCall<'_>,
+) -> Result<Answer, AllocError>
     ensures answer { IfOk result
         (λ answer. IsResultOf area.old (call_of_search call.entry) (call_result answer)) }
     ensures ok { IfOk result
@@ -145,14 +155,19 @@ pub(crate) fn search_call(area: &mut TextArea<'_>, call: Search<'_>) -> Result<A
     ensures err { OnErr result (RanOutOfMemory area.old (call_of_search call.entry) area.new) }
 {
     match call {
-        Search::SetSearchPattern(pattern) => special::set_search_pattern(area, pattern),
-        Search::SearchForward(match_cursor) => area.search_forward(match_cursor).map(Answer::Flag),
-        Search::SearchBack(match_cursor) => area.search_back(match_cursor).map(Answer::Flag),
+        SearchCall::SetSearchPattern(pattern) => special::set_search_pattern(area, pattern),
+        SearchCall::SearchForward(match_cursor) => area
+            .search_forward(match_cursor)
+            .map(Answer::Flag),
+        SearchCall::SearchBack(match_cursor) => area.search_back(match_cursor).map(Answer::Flag),
     }
 }
 
 /// Atomic ranges.
-pub(crate) fn ranges_call(area: &mut TextArea<'_>, call: Ranges<'_>) -> Result<Answer, AllocError>
+pub(crate) fn ranges_call(
+    area: &mut TextArea<'_>,
+    call: RangesCall<'_>,
+) -> Result<Answer, AllocError>
     ensures answer { IfOk result
         (λ answer. IsResultOf area.old (call_of_ranges call.entry) (call_result answer)) }
     ensures ok { IfOk result
@@ -160,25 +175,25 @@ pub(crate) fn ranges_call(area: &mut TextArea<'_>, call: Ranges<'_>) -> Result<A
     ensures err { OnErr result (RanOutOfMemory area.old (call_of_ranges call.entry) area.new) }
 {
     match call {
-        Ranges::TrySetAtomicRanges(ranges) => special::try_set_atomic_ranges(area, ranges),
-        Ranges::ClearAtomicRanges => {
+        RangesCall::TrySetAtomicRanges(ranges) => special::try_set_atomic_ranges(area, ranges),
+        RangesCall::ClearAtomicRanges => {
             area.clear_atomic_ranges();
             Ok(Answer::Done)
         }
-        Ranges::NormalizeCursorAroundAtomicRanges(bias) => {
+        RangesCall::NormalizeCursorAroundAtomicRanges(bias) => {
             Ok(Answer::Flag(area.normalize_cursor_around_atomic_ranges(bias)))
         }
-        Ranges::AtomicRangeAtCursor(direction) => {
+        RangesCall::AtomicRangeAtCursor(direction) => {
             Ok(Answer::Range(area.atomic_range_at_cursor(direction)))
         }
-        Ranges::DeleteAtomicRangeAtCursor(direction) => area
+        RangesCall::DeleteAtomicRangeAtCursor(direction) => area
             .delete_atomic_range_at_cursor(direction)
             .map(Answer::Range),
     }
 }
 
 /// Settings of tabs, wrapping, line numbers and heights.
-pub(crate) fn options_call(area: &mut TextArea<'_>, call: Options) -> Result<Answer, AllocError>
+pub(crate) fn options_call(area: &mut TextArea<'_>, call: OptionsCall) -> Result<Answer, AllocError>
     ensures answer { IfOk result
         (λ answer. IsResultOf area.old (call_of_options call) (call_result answer)) }
     ensures ok { IfOk result
@@ -186,22 +201,24 @@ pub(crate) fn options_call(area: &mut TextArea<'_>, call: Options) -> Result<Ans
     ensures err { OnErr result (RanOutOfMemory area.old (call_of_options call) area.new) }
 {
     match call {
-        Options::SetTabLength(columns) => area.set_tab_length(columns).map(|()| Answer::Done),
-        Options::SetHardTabIndent(hard) => {
+        OptionsCall::SetTabLength(columns) => area.set_tab_length(columns).map(|()| Answer::Done),
+        OptionsCall::SetHardTabIndent(hard) => {
             area.set_hard_tab_indent(hard);
             Ok(Answer::Done)
         }
-        Options::SetWrapMode(mode) => area.set_wrap_mode(mode).map(|()| Answer::Done),
-        Options::SetLineNumberStyle(style) => area
+        OptionsCall::SetWrapMode(mode) => area.set_wrap_mode(mode).map(|()| Answer::Done),
+        OptionsCall::SetLineNumberStyle(style) => area
             .set_line_number_style(style)
             .map(|()| Answer::Done),
-        Options::RemoveLineNumber => area.remove_line_number().map(|()| Answer::Done),
-        Options::SetAlignment(alignment) => area.set_alignment(alignment).map(|()| Answer::Done),
-        Options::SetMinRows(rows) => {
+        OptionsCall::RemoveLineNumber => area.remove_line_number().map(|()| Answer::Done),
+        OptionsCall::SetAlignment(alignment) => area
+            .set_alignment(alignment)
+            .map(|()| Answer::Done),
+        OptionsCall::SetMinRows(rows) => {
             area.set_min_rows(rows);
             Ok(Answer::Done)
         }
-        Options::SetMaxRows(rows) => {
+        OptionsCall::SetMaxRows(rows) => {
             area.set_max_rows(rows);
             Ok(Answer::Done)
         }
@@ -211,7 +228,7 @@ pub(crate) fn options_call(area: &mut TextArea<'_>, call: Options) -> Result<Ans
 /// Settings of how the text and its surroundings look.
 pub(crate) fn appearance_call(
     area: &mut TextArea<'_>,
-    call: Appearance<'_>,
+    call: AppearanceCall<'_>,
 ) -> Result<Answer, AllocError>
     ensures answer { IfOk result
         (λ answer. IsResultOf area.old (call_of_appearance call.entry) (call_result answer)) }
@@ -220,61 +237,61 @@ pub(crate) fn appearance_call(
     ensures err { OnErr result (RanOutOfMemory area.old (call_of_appearance call.entry) area.new) }
 {
     match call {
-        Appearance::SetBlock(block) => special::set_block(area, block).map(|()| Answer::Done),
-        Appearance::RemoveBlock => {
+        AppearanceCall::SetBlock(block) => special::set_block(area, block).map(|()| Answer::Done),
+        AppearanceCall::RemoveBlock => {
             area.remove_block();
             Ok(Answer::Done)
         }
-        Appearance::SetPlaceholderText(text) => area
+        AppearanceCall::SetPlaceholderText(text) => area
             .set_placeholder_text(text)
             .map(|()| Answer::Done),
-        Appearance::SetStyledPlaceholder(text) => {
+        AppearanceCall::SetStyledPlaceholder(text) => {
             special::set_styled_placeholder(area, text).map(|()| Answer::Done)
         }
-        Appearance::SetPlaceholderStyle(style) => {
+        AppearanceCall::SetPlaceholderStyle(style) => {
             area.set_placeholder_style(style);
             Ok(Answer::Done)
         }
-        Appearance::SetStyle(style) => {
+        AppearanceCall::SetStyle(style) => {
             area.set_style(style);
             Ok(Answer::Done)
         }
-        Appearance::SetCursorStyle(style) => {
+        AppearanceCall::SetCursorStyle(style) => {
             area.set_cursor_style(style);
             Ok(Answer::Done)
         }
-        Appearance::SetCursorLineStyle(style) => {
+        AppearanceCall::SetCursorLineStyle(style) => {
             area.set_cursor_line_style(style);
             Ok(Answer::Done)
         }
-        Appearance::SetSelectionStyle(style) => {
+        AppearanceCall::SetSelectionStyle(style) => {
             area.set_selection_style(style);
             Ok(Answer::Done)
         }
-        Appearance::SetSearchStyle(style) => {
+        AppearanceCall::SetSearchStyle(style) => {
             area.set_search_style(style);
             Ok(Answer::Done)
         }
-        Appearance::SetMaskChar(mask) => {
+        AppearanceCall::SetMaskChar(mask) => {
             area.set_mask_char(mask);
             Ok(Answer::Done)
         }
-        Appearance::ClearMaskChar => {
+        AppearanceCall::ClearMaskChar => {
             area.clear_mask_char();
             Ok(Answer::Done)
         }
-        Appearance::SetCursorRenderMode(mode) => {
+        AppearanceCall::SetCursorRenderMode(mode) => {
             area.set_cursor_render_mode(mode);
             Ok(Answer::Done)
         }
-        Appearance::CustomHighlight {
+        AppearanceCall::CustomHighlight {
             range,
             style,
             priority,
         } => area
             .custom_highlight(range, style, priority)
             .map(|()| Answer::Done),
-        Appearance::ClearCustomHighlight => {
+        AppearanceCall::ClearCustomHighlight => {
             area.clear_custom_highlight();
             Ok(Answer::Done)
         }
@@ -282,7 +299,7 @@ pub(crate) fn appearance_call(
 }
 
 /// Inputs, by one of the two key tables.
-pub(crate) fn keys_call(area: &mut TextArea<'_>, call: Keys<'_>) -> Result<Answer, AllocError>
+pub(crate) fn keys_call(area: &mut TextArea<'_>, call: KeysCall<'_>) -> Result<Answer, AllocError>
     ensures answer { IfOk result
         (λ answer. IsResultOf area.old (call_of_keys call.entry) (call_result answer)) }
     ensures ok { IfOk result
@@ -290,15 +307,15 @@ pub(crate) fn keys_call(area: &mut TextArea<'_>, call: Keys<'_>) -> Result<Answe
     ensures err { OnErr result (RanOutOfMemory area.old (call_of_keys call.entry) area.new) }
 {
     match call {
-        Keys::Input(input) => area.input(copied(input)).map(Answer::Flag),
-        Keys::InputWithoutShortcuts(input) => area
+        KeysCall::Input(input) => area.input(copied(input)).map(Answer::Flag),
+        KeysCall::InputWithoutShortcuts(input) => area
             .input_without_shortcuts(copied(input))
             .map(Answer::Flag),
     }
 }
 
 /// Calls that only return something.
-pub(crate) fn read_call(area: &mut TextArea<'_>, call: Read) -> Result<Answer, AllocError>
+pub(crate) fn read_call(area: &mut TextArea<'_>, call: ReadCall) -> Result<Answer, AllocError>
     ensures answer { IfOk result
         (λ answer. IsResultOf area.old (call_of_read call) (call_result answer)) }
     ensures ok { IfOk result
@@ -306,31 +323,33 @@ pub(crate) fn read_call(area: &mut TextArea<'_>, call: Read) -> Result<Answer, A
     ensures err { OnErr result (RanOutOfMemory area.old (call_of_read call) area.new) }
 {
     match call {
-        Read::Text => area.text().map(Answer::Text),
-        Read::Cursor => Ok(Answer::Cursor(area.cursor())),
-        Read::IsEmpty => Ok(Answer::Flag(area.is_empty())),
-        Read::IsSelecting => Ok(Answer::Flag(area.is_selecting())),
-        Read::SelectionRange => Ok(Answer::Selection(area.selection_range())),
-        Read::YankText => area.yank_text().map(Answer::Text),
-        Read::MaxHistories => Ok(Answer::Number(area.max_histories())),
-        Read::UndoCoalescing => Ok(Answer::Flag(area.undo_coalescing())),
-        Read::TabLength => Ok(Answer::Number(area.tab_length() as usize)),
-        Read::HardTabIndent => Ok(Answer::Flag(area.hard_tab_indent())),
-        Read::WrapMode => Ok(Answer::WrapMode(area.wrap_mode())),
-        Read::LineNumberStyle => Ok(Answer::StyleIfVisible(area.line_number_style())),
-        Read::Alignment => Ok(Answer::Alignment(area.alignment())),
-        Read::MinRows => Ok(Answer::Number(area.min_rows() as usize)),
-        Read::MaxRows => Ok(Answer::Number(area.max_rows() as usize)),
-        Read::Measure(width) => area.measure(width).map(Answer::Measured),
-        Read::PlaceholderStyle => Ok(Answer::StyleIfVisible(area.placeholder_style())),
-        Read::Style => Ok(Answer::Style(area.style())),
-        Read::CursorStyle => Ok(Answer::Style(area.cursor_style())),
-        Read::CursorLineStyle => Ok(Answer::Style(area.cursor_line_style())),
-        Read::SelectionStyle => Ok(Answer::Style(area.selection_style())),
-        Read::SearchStyle => Ok(Answer::Style(area.search_style())),
-        Read::MaskChar => Ok(Answer::Character(area.mask_char())),
-        Read::CursorRenderMode => Ok(Answer::CursorRenderMode(area.cursor_render_mode())),
-        Read::RenderedCursorPosition => Ok(Answer::Position(area.rendered_cursor_position())),
-        Read::CursorAtPosition(position) => area.cursor_at_position(position).map(Answer::Place),
+        ReadCall::Text => area.text().map(Answer::Text),
+        ReadCall::Cursor => Ok(Answer::Cursor(area.cursor())),
+        ReadCall::IsEmpty => Ok(Answer::Flag(area.is_empty())),
+        ReadCall::IsSelecting => Ok(Answer::Flag(area.is_selecting())),
+        ReadCall::SelectionRange => Ok(Answer::Selection(area.selection_range())),
+        ReadCall::YankText => area.yank_text().map(Answer::Text),
+        ReadCall::MaxHistories => Ok(Answer::Number(area.max_histories())),
+        ReadCall::UndoCoalescing => Ok(Answer::Flag(area.undo_coalescing())),
+        ReadCall::TabLength => Ok(Answer::Number(area.tab_length() as usize)),
+        ReadCall::HardTabIndent => Ok(Answer::Flag(area.hard_tab_indent())),
+        ReadCall::WrapMode => Ok(Answer::WrapMode(area.wrap_mode())),
+        ReadCall::LineNumberStyle => Ok(Answer::StyleIfVisible(area.line_number_style())),
+        ReadCall::Alignment => Ok(Answer::Alignment(area.alignment())),
+        ReadCall::MinRows => Ok(Answer::Number(area.min_rows() as usize)),
+        ReadCall::MaxRows => Ok(Answer::Number(area.max_rows() as usize)),
+        ReadCall::Measure(width) => area.measure(width).map(Answer::Measured),
+        ReadCall::PlaceholderStyle => Ok(Answer::StyleIfVisible(area.placeholder_style())),
+        ReadCall::Style => Ok(Answer::Style(area.style())),
+        ReadCall::CursorStyle => Ok(Answer::Style(area.cursor_style())),
+        ReadCall::CursorLineStyle => Ok(Answer::Style(area.cursor_line_style())),
+        ReadCall::SelectionStyle => Ok(Answer::Style(area.selection_style())),
+        ReadCall::SearchStyle => Ok(Answer::Style(area.search_style())),
+        ReadCall::MaskChar => Ok(Answer::Character(area.mask_char())),
+        ReadCall::CursorRenderMode => Ok(Answer::CursorRenderMode(area.cursor_render_mode())),
+        ReadCall::RenderedCursorPosition => Ok(Answer::Position(area.rendered_cursor_position())),
+        ReadCall::CursorAtPosition(position) => area
+            .cursor_at_position(position)
+            .map(Answer::Place),
     }
 }

@@ -8,7 +8,7 @@ use std::io::{ErrorKind, Seek, SeekFrom, Write};
 use std::os::unix::fs::MetadataExt;
 use std::rt::{Env, Files};
 use std::{fs, io};
-use textarea_disk::{DiskStep, Ownership, Place, SavePlan};
+use textarea_disk::{DiskStep, Ownership, SaveFile, SavePlan};
 
 // A way to save a file, each tried where the one before can't be gone.
 #[derive(Clone, Copy, Debug, PartialEq, Eq)]
@@ -169,9 +169,9 @@ fn failure_at(step: DiskStep, error: &io::Error) -> Failure {
             next: Some(Way::InPlace),
         },
         (
-            DiskStep::Write(Place::File)
-            | DiskStep::SetMode(Place::File)
-            | DiskStep::Sync(Place::File),
+            DiskStep::Write(SaveFile::File)
+            | DiskStep::SetMode(SaveFile::File)
+            | DiskStep::Sync(SaveFile::File),
             _,
         ) => Failure {
             trouble: Trouble::InPart,
@@ -185,8 +185,11 @@ fn failure_at(step: DiskStep, error: &io::Error) -> Failure {
 fn make_step<R: Files>(rt: &R, saving: &mut Saving<'_, R::File>, step: DiskStep) -> io::Result<()> {
     match step {
         DiskStep::Create => Ok(()),
-        DiskStep::SyncFolder(Place::File) => sync_folder(rt, folder_of(saving.target)),
-        DiskStep::SyncFolder(Place::Copy) => sync_folder(rt, folder_of(saving.copy.name.as_str())),
+        DiskStep::SyncFolder(SaveFile::File) => sync_folder(rt, folder_of(saving.target)),
+        DiskStep::SyncFolder(SaveFile::Copy) => sync_folder(
+            rt,
+            folder_of(saving.copy.name.as_str()),
+        ),
         DiskStep::Rename => fs::rename(rt, saving.copy.name.as_str(), saving.target),
         DiskStep::Remove => {
             // The file is saved, so a copy that stays is no failure.
@@ -194,17 +197,17 @@ fn make_step<R: Files>(rt: &R, saving: &mut Saving<'_, R::File>, step: DiskStep)
             Ok(())
         }
         DiskStep::Grow
-        | DiskStep::Write(Place::File)
-        | DiskStep::SetMode(Place::File)
-        | DiskStep::Sync(Place::File) => {
+        | DiskStep::Write(SaveFile::File)
+        | DiskStep::SetMode(SaveFile::File)
+        | DiskStep::Sync(SaveFile::File) => {
             match &mut saving.file {
                 Some(file) => change_file(file, saving.text.as_bytes(), saving.old, step),
                 None => Ok(()),
             }
         }
-        DiskStep::Write(Place::Copy)
-        | DiskStep::SetMode(Place::Copy)
-        | DiskStep::Sync(Place::Copy) => {
+        DiskStep::Write(SaveFile::Copy)
+        | DiskStep::SetMode(SaveFile::Copy)
+        | DiskStep::Sync(SaveFile::Copy) => {
             change_copy(
                 &mut saving.copy.file,
                 saving.text.as_bytes(),
