@@ -1,9 +1,9 @@
-"""The commands of scripts whose arguments are read by their types: crates/textarea_commands."""
+"""The commands of scripts whose arguments are read by their types: crates/textarea_script_syntax."""
 from calls_files.layout import used
 from calls_files.table import NOTE, TABLE, stop
 
 # How scripts write an argument of a type: its reading in specs/Arguments.antt and specs/Escapes.antt of
-# textarea_commands, the function of src/arguments.rt that reads it, and its letters and meaning in RULES.md.
+# textarea_script_syntax, the function of src/arguments.rt that reads it, and its letters and meaning in RULES.md.
 READINGS = {
     "char": ("character", "one_character", "K", "one character"),
     "usize": ("number", "size", "N", "a decimal number"),
@@ -42,15 +42,15 @@ def command_definitions(table):
     escapes, arguments = [], readings(others, 0)
     if "character" in arguments:
         arguments.remove("character")
-        escapes = ["use Rattle.textarea_commands.specs.Escapes.{character}"]
+        escapes = ["use Rattle.textarea_script_syntax.specs.Escapes.{character}"]
     out = [
         f"-- {NOTE}",
         "-- The commands of calls that borrow nothing, and whose arguments are read by their types.",
         "use Rattle.std.specs.Prelude.{ℕ, List, [], ◌∷◌, ◌++◌, codes, Option}",
         "use Rattle.textarea_calls.specs.declared.call.Call.TheVariants as call",
-        f"use Rattle.textarea_commands.specs.Arguments.{{{', '.join(arguments)}}}",
+        f"use Rattle.textarea_script_syntax.specs.Arguments.{{{', '.join(arguments)}}}",
         *escapes,
-        "use Rattle.textarea_commands.specs.Meaning.{Meaning, meaning_by, plain_command, without_arguments}",
+        "use Rattle.textarea_script_syntax.specs.Meaning.{Meaning, meaning_by, plain_command, without_arguments}",
         "",
         "-- the names of those that have arguments, and the meanings of the arguments",
         f"abbrev pub commands_with_arguments : {kind}",
@@ -78,10 +78,10 @@ def command_reading(table):
         "// The calls of commands that borrow nothing, and whose arguments are read by their types.",
         "ghost use Rattle.std.specs.Prelude.{◌≡◌, IfSome, option_map};",
         "ghost use Rattle.textarea_calls.specs.Possible.{CanBeMade};",
-        "ghost use Rattle.textarea_commands.specs.CallCommands.{call_meaning};",
-        "ghost use Rattle.textarea_commands.specs.Commands.{plain_meaning};",
-        "ghost use Rattle.textarea_commands.specs.Script.{meaning_of};",
-        "ghost use Rattle.textarea_commands.specs.declared.commands.CommandContent.TheVariants.{Plain};",
+        "ghost use Rattle.textarea_script_syntax.specs.CallCommands.{call_meaning};",
+        "ghost use Rattle.textarea_script_syntax.specs.Commands.{plain_meaning};",
+        "ghost use Rattle.textarea_script_syntax.specs.Script.{meaning_of};",
+        "ghost use Rattle.textarea_script_syntax.specs.declared.commands.CommandContent.TheVariants.{Plain};",
         "",
         *used("crate::arguments", readings(others, 1)),
         "use textarea_calls::Call;",
@@ -118,6 +118,6 @@ def command_reading(table):
 
 def files(table):
     return {
-        "crates/textarea_commands/specs/CallCommands.antt": command_definitions(table),
-        "crates/textarea_commands/src/call_commands.rt": command_reading(table),
+        "crates/textarea_script_syntax/specs/CallCommands.antt": command_definitions(table),
+        "crates/textarea_script_syntax/src/call_commands.rt": command_reading(table),
     }

@@ -1,7 +1,7 @@
 //! Long values that calls borrow.
 use std::alloc::{AllocError, Global};
-use textarea_cases::expand::counted;
-use textarea_cases::words::{Borrows, character, titled};
+use textarea_test_support::expand::counted;
+use textarea_test_support::words::{Borrows, character, titled};
 use tui_textarea::{Borders, Line, Style, Text};
 
 /// Returns the values that the calls of a case borrow, and its other lines. A first line `lent

@@ -5,11 +5,11 @@ use crate::step::{Step, make};
 use crate::words::{script_of, step_of};
 use std::alloc::{AllocError, Global};
 use textarea_calls::Answer;
-use textarea_cases::differences::result_text;
-use textarea_cases::end::{Difference, End, EndReason, same};
-use textarea_cases::expand::{expanded, repeated, timed};
-use textarea_cases::tally::Tally;
-use textarea_cases::words::Borrows;
+use textarea_test_support::differences::result_text;
+use textarea_test_support::end::{Difference, End, EndReason, same};
+use textarea_test_support::expand::{expanded, repeated, timed};
+use textarea_test_support::tally::Tally;
+use textarea_test_support::words::Borrows;
 use tui_textarea::{Buffer, Rect, TextArea};
 
 /// The width of the buffer that the steps draw into, in columns.

@@ -8,8 +8,8 @@ use crate::history::calls::{Call, Place, call_of};
 use crate::history::kinds::line_count_in;
 use crate::history::recorded::{BothWays, Recorded};
 use std::alloc::{AllocError, Global};
-use textarea_cases::end::{Difference, End, EndReason, same};
-use textarea_cases::expand::timed;
+use textarea_test_support::end::{Difference, End, EndReason, same};
+use textarea_test_support::expand::timed;
 
 /// The number of remembered edits of a new history.
 const MAXIMUM: usize = 50;

@@ -8,13 +8,13 @@ use crate::step::{Step, make};
 use crate::words::{script_of, step_of};
 use std::alloc::{AllocError, Global};
 use textarea_calls::{Answer, Call};
-use textarea_cases::compare::{are_alike_outside, compare, compare_display};
-use textarea_cases::end::{Difference, End, EndReason, same};
-use textarea_cases::expand::expanded;
-use textarea_cases::words::Borrows;
-use textarea_commands::commands::{Command, calls, read};
 use textarea_run::RunEnd;
 use textarea_run::run::run;
+use textarea_script_syntax::commands::{Command, calls, read};
+use textarea_test_support::compare::{are_alike_outside, compare, compare_display};
+use textarea_test_support::end::{Difference, End, EndReason, same};
+use textarea_test_support::expand::expanded;
+use textarea_test_support::words::Borrows;
 use tui_textarea::{Buffer, Rect, TextArea};
 
 /// The area of the buffer that the calls of a case draw into.

@@ -4,8 +4,8 @@
 use crate::step::{Step, make};
 use std::alloc::{AllocError, Global};
 use textarea_calls::{Answer, Call};
-use textarea_cases::compare::compare;
-use textarea_cases::end::{Difference, EndReason, same};
+use textarea_test_support::compare::compare;
+use textarea_test_support::end::{Difference, EndReason, same};
 use tui_textarea::{Buffer, Input, Key, Rect, TextArea};
 
 /// The lines of each text area.

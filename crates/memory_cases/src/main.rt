@@ -39,7 +39,7 @@ use crate::enough_memory::{Results, make_row};
 use crate::judge::judge_row;
 use std::io::Read;
 use std::process::ExitCode;
-use textarea_cases::end::End;
+use textarea_test_support::end::End;
 
 const STREAM_FAILED: u8 = 1;
 

@@ -1,8 +1,8 @@
 //! Makes the calls of a script in one run.
-use textarea_cases::end::EndReason;
-use textarea_commands::commands::{Command, calls, read};
 use textarea_run::RunEnd;
 use textarea_run::run::run;
+use textarea_script_syntax::commands::{Command, calls, read};
+use textarea_test_support::end::EndReason;
 use tui_textarea::{Buffer, Rect, TextArea};
 
 /// Makes the calls of a script in one run, which draws into the buffer.

@@ -1,6 +1,6 @@
 //! Lines of cases that aren't script commands: test commands, named scripts, and other steps.
 use crate::step::Step;
-use textarea_cases::words::{Borrows, call_of};
+use textarea_test_support::words::{Borrows, call_of};
 
 /// A script that writes a text with edits of all kinds, and undoes two of them, in one run.
 const EDITED: &str = r"insert_str one two\nthree four\n\nfive

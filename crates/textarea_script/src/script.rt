@@ -7,11 +7,11 @@ use std::alloc::{AllocError, Global};
 use std::io::{Read, Write};
 use std::string::ToString;
 pub use textarea_calls::{Answer, Call};
-use textarea_commands::commands;
-use textarea_commands::commands::Command;
 use textarea_run::printing::{PrintedCells, Report};
 pub use textarea_run::run::{RunEnd, run};
 use textarea_screen::screen::{Buffer, Rect};
+use textarea_script_syntax::commands;
+use textarea_script_syntax::commands::Command;
 use tui_textarea::TextArea;
 
 /// The width of the screen buffer, in columns.

@@ -5,7 +5,7 @@ ghost use Rattle.textarea_script.specs.Failures.{status_of};
 
 use std::alloc::{AllocError, Global};
 use std::io::{Read, Write};
-use textarea_commands::commands::ReadError;
+use textarea_script_syntax::commands::ReadError;
 
 /// The input was run, and its end was printed.
 pub const DONE: u8 = 0;

@@ -1,7 +1,7 @@
 //! Frames of hostile texts, in many areas and settings and after each call.
 //!
 //! The cases of a section are blocks of lines. The first has the calls that are made on each text, as
-//! script commands or test commands (`textarea_cases`). Each further one is a text: a line with its
+//! script commands or test commands (`textarea_test_support`). Each further one is a text: a line with its
 //! name, a space and the width of its widest grapheme cluster except tabs, and a script that writes
 //! it. A line is printed for each text: the numbers of frames, calls, visible carets, promised
 //! carets, carets that hit tests map to the cursor, and failures.

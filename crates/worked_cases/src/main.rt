@@ -23,8 +23,8 @@ mod transcript;
 use std::alloc::Global;
 use std::io::Read;
 use std::process::ExitCode;
-use textarea_cases::lines;
-use textarea_cases::stop::Stop;
+use textarea_test_support::lines;
+use textarea_test_support::stop::Stop;
 
 const STREAM_FAILED: u8 = 1;
 

@@ -5,11 +5,11 @@
 //! rows. `^` holds Ctrl for the next key, and `~` Alt. The search pattern is `o`. At the end the
 //! mode, the end of the last run, the text area and the yanked text are printed.
 use std::alloc::{AllocError, Global};
-use textarea_cases::lines::keys_and_rest;
-use textarea_cases::stop::{Stop, compare};
 use textarea_data::input::{Input, Key};
 use textarea_modal::{Modal, ModalEnd};
 use textarea_run::printing::Report;
+use textarea_test_support::lines::keys_and_rest;
+use textarea_test_support::stop::{Stop, compare};
 use tui_textarea::{Buffer, Rect, TextArea};
 
 /// Runs the keys of a case, and compares the printed end.

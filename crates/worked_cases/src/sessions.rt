@@ -1,9 +1,9 @@
 //! Sessions of the modal editor, and lines that are no script.
 use std::alloc::Global;
 use std::str::from_utf8;
-use textarea_cases::lines::keys_and_rest;
-use textarea_cases::stop::{Stop, compare};
 use textarea_script::{modal, script, streams};
+use textarea_test_support::lines::keys_and_rest;
+use textarea_test_support::stop::{Stop, compare};
 
 /// Runs a session, and compares its whole output.
 pub fn check(alloc: Global, case: &str) -> Result<(), Stop> {

@@ -1,7 +1,7 @@
 //! Transcripts: calls with their results, and states of the text area between them.
 //!
-//! A line `CALL => ANSWER` has a script command, a test command (`textarea_cases::words`) or a
-//! question (`textarea_cases::report`), and its result, or `*` for any. `input_without_shortcuts`
+//! A line `CALL => ANSWER` has a script command, a test command (`textarea_test_support::words`) or a
+//! question (`textarea_test_support::report`), and its result, or `*` for any. `input_without_shortcuts`
 //! has the arguments of `input`. The inputs of a line `input HELD KEY | HELD KEY .. => ANSWER` are
 //! tried each in its own text area.
 //!
@@ -15,16 +15,16 @@ use crate::sessions::check_script;
 use std::alloc::{AllocError, Global};
 use std::mem::replace;
 use textarea_calls::Call;
-use textarea_cases::differences::result_text;
-use textarea_cases::lines::unescaped;
-use textarea_cases::report::report_text;
-use textarea_cases::stop::{Stop, compare};
-use textarea_cases::transcript::{PrintedState, Script};
-use textarea_cases::words::{Borrows, call_of, character, lines_in, titled};
-use textarea_commands::commands::{Command, read};
 use textarea_run::perform::perform;
 use textarea_run::printing::{Report, Screen};
 use textarea_script::script::{COLUMNS, ROWS};
+use textarea_script_syntax::commands::{Command, read};
+use textarea_test_support::differences::result_text;
+use textarea_test_support::lines::unescaped;
+use textarea_test_support::report::report_text;
+use textarea_test_support::stop::{Stop, compare};
+use textarea_test_support::transcript::{PrintedState, Script};
+use textarea_test_support::words::{Borrows, call_of, character, lines_in, titled};
 use tui_textarea::{Borders, Buffer, Color, Rect, Style, TextArea};
 
 // The script of a transcript's calls: its lines, and the expected output of `tascript`.

@@ -2,8 +2,8 @@
 use std::alloc::{AllocError, Global};
 use std::slice::Iter;
 use textarea_calls::Call;
-use textarea_cases::words::{Borrows, call_of, character, lines_in, titled};
-use textarea_commands::commands::Command;
+use textarea_script_syntax::commands::Command;
+use textarea_test_support::words::{Borrows, call_of, character, lines_in, titled};
 use tui_textarea::{Borders, Color, Style};
 
 /// Returns the values that calls borrow: a titled block, a placeholder of one line, and a key.

@@ -6,9 +6,9 @@ use crate::frames::setting::Setting;
 use crate::frames::tally::FrameTally;
 use std::alloc::{AllocError, Global};
 use textarea_calls::Call;
-use textarea_cases::end::EndReason;
-use textarea_cases::words::Borrows;
-use textarea_commands::commands::{Command, read};
+use textarea_script_syntax::commands::{Command, read};
+use textarea_test_support::end::EndReason;
+use textarea_test_support::words::Borrows;
 use tui_textarea::{CursorMove, Rect, TextArea};
 
 /// The number of frames in each area, each with the cursor at another position.
