@@ -13,6 +13,10 @@
  * there is no text area behind the handle, as before `ta_new` and after `ta_free`. It writes to what
  * other parameters point to only if it returns TA_OK, where its comment says nothing else.
  *
+ * A program that has no library for its terminal makes a terminal, too, by `ta_terminal_new`, with the
+ * same rules: `ta_decoder_feed` takes the bytes that the terminal sends, `ta_decoder_event` returns
+ * keys for `ta_input`, and `ta_painter_paint` makes the bytes that show what `ta_render` drew.
+ *
  * The library owes its promises to callers that keep to these rules:
  *
  * - A handle begins as zeroes. Only the library writes it, no copy of it is used beside it, only one
@@ -165,6 +169,44 @@ enum {
     TA_REASON_OVERLAPS_PREVIOUS = 3,
 };
 
+/** `Event`. */
+enum {
+    TA_EVENT_UNKNOWN = 0,
+    TA_EVENT_INPUT = 1,
+    TA_EVENT_PASTE = 2,
+    TA_EVENT_MOUSE = 3,
+    TA_EVENT_SIZE = 4,
+    TA_EVENT_CURSOR = 5,
+    TA_EVENT_FOCUS_GAINED = 6,
+    TA_EVENT_FOCUS_LOST = 7,
+};
+
+/** `MouseKind`. */
+enum {
+    TA_MOUSE_PRESS = 0,
+    TA_MOUSE_RELEASE = 1,
+    TA_MOUSE_DRAG = 2,
+    TA_MOUSE_MOVE = 3,
+    TA_MOUSE_RELEASE_ANY = 4,
+    TA_MOUSE_WHEEL_LEFT = 5,
+    TA_MOUSE_WHEEL_RIGHT = 6,
+};
+
+/** `MouseButton`. */
+enum {
+    TA_BUTTON_LEFT = 0,
+    TA_BUTTON_MIDDLE = 1,
+    TA_BUTTON_RIGHT = 2,
+};
+
+/** `Colors`. */
+enum {
+    TA_COLORS_NONE = 0,
+    TA_COLORS_SIXTEEN = 1,
+    TA_COLORS_INDEXED = 2,
+    TA_COLORS_TRUE = 3,
+};
+
 /** `Borders`, a set of bits. */
 enum {
     TA_BORDER_TOP = 1,
@@ -200,6 +242,20 @@ typedef struct ta_handle_t {
     ta_held_t stored;
     bool full;
 } ta_handle_t;
+
+/** A pointer to a terminal, or null. Dropping one forgets the terminal, so a handle drops none that
+ * has one. */
+typedef struct ta_held_terminal_t {
+    void *at;
+} ta_held_terminal_t;
+
+/** What C has of a terminal: a decoder of the bytes that it sends, and a painter of frames for it. C
+ * makes one with all bytes zero, which is empty, and passes it by its address to `ta_terminal_new`,
+ * then to other calls, and to `ta_terminal_free` at the end. The rules are those of a text area's. */
+typedef struct ta_terminal_handle_t {
+    ta_held_terminal_t stored;
+    bool full;
+} ta_terminal_handle_t;
 
 /** A rectangle of cells: its left column, its top row, its width and its height. */
 typedef struct ta_area_t {
@@ -247,6 +303,25 @@ typedef struct ta_input_t {
     bool alt;
     bool shift;
 } ta_input_t;
+
+/** An event that a terminal reports. Its kind is one of `TA_EVENT_..`, and fields that a kind doesn't
+ * name are 0.
+ *
+ * - `TA_EVENT_INPUT`: `input`, for `ta_input`.
+ * - `TA_EVENT_PASTE`: `bytes`, the length of the text, which `ta_decoder_pasted` returns.
+ * - `TA_EVENT_MOUSE`: `mouse`, one of `TA_MOUSE_..`; `button`, one of `TA_BUTTON_..` or the number of a
+ *   further one, from 8 on; the cell's `column` and `row`, from 0; and the modifiers in `input`.
+ * - `TA_EVENT_SIZE`: the numbers of columns and rows, in `column` and `row`.
+ * - `TA_EVENT_CURSOR`: the `column` and `row` of the cursor, from 0. */
+typedef struct ta_event_t {
+    uint32_t kind;
+    ta_input_t input;
+    uint32_t mouse;
+    uint32_t button;
+    uint16_t column;
+    uint16_t row;
+    size_t bytes;
+} ta_event_t;
 
 /** Measured heights, in screen rows: those of the text, or of the placeholder if that is drawn; the
  * height of the whole area that shows it, from `min_rows` to `max_rows`; and these two, which are
@@ -311,9 +386,9 @@ typedef struct ta_block_t {
 /* Making, copying and freeing text areas. */
 
 /** Makes an empty text area, with one empty line, behind the handle. A text area that was behind it
- * is freed first.
+ * is freed.
  *
- * Statuses: ok, out of memory (the handle is empty then). */
+ * Statuses: ok, out of memory (the handle stays as it was). */
 uint32_t ta_new(ta_handle_t *handle);
 
 /** Makes a text area with the text of a file behind the handle, and the cursor at the start. Each
@@ -328,10 +403,10 @@ uint32_t ta_from_text(ta_handle_t *handle, const uint8_t *text, size_t text_len)
 void ta_free(ta_handle_t *handle);
 
 /** Makes a copy of the text area, with its history, behind another handle, `copy`. A text area that
- * was behind that one is freed first. The copy's screen has no cells, and it has no rejected
- * ranges or pattern.
+ * was behind that one is freed. The copy's screen has no cells, and it has no rejected ranges or
+ * pattern.
  *
- * Statuses: ok, out of memory, empty handle (where it is not ok, `copy` is empty). */
+ * Statuses: ok, out of memory, empty handle. Where it is not ok, `copy` stays as it was. */
 uint32_t ta_clone(ta_handle_t *handle, ta_handle_t *copy);
 
 /* The lines of a text area. */
@@ -1034,6 +1109,100 @@ uint32_t ta_cursor_at_position(ta_handle_t *handle, uint16_t x, uint16_t y, size
  *
  * Statuses: ok, empty handle. */
 uint32_t ta_viewport(ta_handle_t *handle, size_t *row, size_t *column, size_t *width, size_t *height);
+
+/* A terminal: a decoder of the bytes that it sends, and a painter of frames for it. */
+
+/** Makes a terminal behind the handle. It shows the cells of an area, of which the first is in its
+ * first column and row; what it shows at first is unknown. A terminal that was behind the handle is
+ * freed.
+ *
+ * Statuses: ok, out of memory (the handle stays as it was). */
+uint32_t ta_terminal_new(ta_terminal_handle_t *terminal, const ta_area_t *area);
+
+/** Frees the terminal behind the handle, which is empty then. An empty handle stays empty. */
+void ta_terminal_free(ta_terminal_handle_t *terminal);
+
+/* The bytes that a terminal sends, as events. */
+
+/** Decodes the next bytes that the terminal sent, however they are split; `ta_decoder_event` takes
+ * the events. The bytes of what is incomplete are stored until more are there: at most 4097, but
+ * 1048576 in a string, and a pasted text until its end.
+ *
+ * Statuses: ok, out of memory, empty handle. Where it is not ok, nothing changes. */
+uint32_t ta_decoder_feed(ta_terminal_handle_t *terminal, const uint8_t *bytes, size_t bytes_len);
+
+/** Tells that the terminal sent nothing for so many milliseconds, since the last byte or the last
+ * call of this. The keys that are incomplete bytes by themselves are events then: a lone ESC is
+ * the key Esc, and ESC with `[`, `O` or the start of a string is Alt with that character. After 5
+ * seconds of such pauses nothing stays incomplete: what came of a pasted text is one, the rest of it
+ * is dropped when it comes, and queries without a reply are given up.
+ *
+ * Statuses: ok, out of memory, empty handle. Where it is not ok, nothing changes. */
+uint32_t ta_decoder_idle(ta_terminal_handle_t *terminal, uint32_t milliseconds);
+
+/** Takes the oldest event that was not taken yet.
+ *
+ * Statuses: ok, false (there is none), empty handle. */
+uint32_t ta_decoder_event(ta_terminal_handle_t *terminal, ta_event_t *event);
+
+/** Returns the text of the `TA_EVENT_PASTE` that `ta_decoder_event` returned last; empty before the
+ * first. `out` gets the first of its bytes, as many as there is room for, and `needed` the number of
+ * all.
+ *
+ * Statuses: ok, empty handle. */
+uint32_t ta_decoder_pasted(ta_terminal_handle_t *terminal, uint8_t *out, size_t out_len, size_t *needed);
+
+/** Tells that a query was sent whose reply is a size (`ESC [ 18 t`) or the cursor's position
+ * (`ESC [ ? 6 n`). Its reply is then no part of a pasted text in which it is sent.
+ *
+ * Statuses: ok, empty handle. */
+uint32_t ta_decoder_asked(ta_terminal_handle_t *terminal);
+
+/** Sets whether the terminal reports a new size by itself (mode 2048). Such a report is then no part
+ * of a pasted text in which it is sent.
+ *
+ * Statuses: ok, empty handle. */
+uint32_t ta_decoder_set_resizes(ta_terminal_handle_t *terminal, bool resizes);
+
+/** Sets whether the terminal is the Linux console, on which ESC and a tab are Tab with Shift.
+ *
+ * Statuses: ok, empty handle. */
+uint32_t ta_decoder_set_console(ta_terminal_handle_t *terminal, bool console);
+
+/* Frames on a terminal. */
+
+/** Paints the screen of a text area, on which `ta_render` draws: `ta_painter_bytes` returns the
+ * bytes that the terminal is to be sent after those of the frame before. With `has_caret` the
+ * terminal's cursor is shown in column `x` and row `y`, if the terminal's area has that cell;
+ * otherwise it is hidden. A cell that the screen doesn't have is a blank. A frame that the terminal
+ * shows already takes no byte.
+ *
+ * Statuses: ok, out of memory, empty handle (one of the two). Where it is not ok, nothing changes. */
+uint32_t ta_painter_paint(ta_terminal_handle_t *terminal, ta_handle_t *handle, bool has_caret, uint16_t x, uint16_t y);
+
+/** Returns the bytes of the last `ta_painter_paint`, which the terminal is to be sent. `out` gets the
+ * first of them, as many as there is room for, and `needed` the number of all.
+ *
+ * Statuses: ok, empty handle. */
+uint32_t ta_painter_bytes(ta_terminal_handle_t *terminal, uint8_t *out, size_t out_len, size_t *needed);
+
+/** Forgets what the terminal shows, and its modes, as after another program has written to it. The
+ * next `ta_painter_paint` erases it.
+ *
+ * Statuses: ok, empty handle. */
+uint32_t ta_painter_reset(ta_terminal_handle_t *terminal);
+
+/** Changes the area that the terminal shows, and forgets what it shows. Call it at each
+ * `TA_EVENT_SIZE`, also of the same size: the terminal may have had another in between.
+ *
+ * Statuses: ok, out of memory, empty handle. Where it is not ok, nothing changes. */
+uint32_t ta_painter_resize(ta_terminal_handle_t *terminal, const ta_area_t *area);
+
+/** Sets the colours that the terminal has, to one of `TA_COLORS_..`, and forgets what it shows. At
+ * first it has all. Other colours are shown as the nearest that it has.
+ *
+ * Statuses: ok, invalid argument (there are no such colours), empty handle. */
+uint32_t ta_painter_set_colors(ta_terminal_handle_t *terminal, uint32_t colors);
 
 #ifdef __cplusplus
 }

@@ -22,6 +22,8 @@ static void handles(void) {
     CHECK(ta_clone(&area, &copy) == TA_OK && has_lines(&copy, "one\ntwo\n"));
     CHECK(ta_undo(&copy) == TA_OK && has_lines(&copy, "\n") && has_lines(&area, "one\ntwo\n"));
     CHECK(ta_clone(&area, &copy) == TA_OK && has_lines(&copy, "one\ntwo\n"));
+    ta_handle_t no_area = {0};
+    CHECK(ta_clone(&no_area, &copy) == TA_EMPTY_HANDLE && has_lines(&copy, "one\ntwo\n"));
     CHECK(ta_from_text(&area, TEXT("a\r\nb\n\n")) == TA_OK && has_lines(&area, "a\nb\n\n"));
     CHECK(ta_from_text(&area, (const uint8_t *)"\xff", 1) == TA_INVALID_ARGUMENT && has_lines(&area, "a\nb\n\n"));
     CHECK(ta_from_text(&area, TEXT("")) == TA_OK && has_lines(&area, "\n"));

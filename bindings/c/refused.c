@@ -1,21 +1,38 @@
 /* Refuses each request for memory of a list of calls, one in turn. The call that is refused says so,
- * leaves the text area as it was, and, made again, leads to the same end. Linked with
- * -Wl,--wrap=malloc,--wrap=realloc. Exit status 1, and what fails, if something does. */
+ * leaves what is behind its handles as it was, and, made again, leads to the same end. At the end all
+ * handles are freed, and then no block of memory is left. Linked with
+ * -Wl,--wrap=malloc,--wrap=realloc,--wrap=free. Exit status 1, and what fails, if something does. */
 #include "check.h"
 
 static long refused_at; /* the number of the request to refuse; 0 for none */
 static long requests;
+static long blocks; /* the number of blocks that aren't freed */
 
 void *__real_malloc(size_t size);
 void *__real_realloc(void *at, size_t size);
+void __real_free(void *at);
 
 static int is_refused(void) { return ++requests == refused_at; }
 
-void *__wrap_malloc(size_t size) { return is_refused() ? NULL : __real_malloc(size); }
+static void *counted(void *at) {
+    if (at) blocks++;
+    return at;
+}
 
-void *__wrap_realloc(void *at, size_t size) { return is_refused() ? NULL : __real_realloc(at, size); }
+void *__wrap_malloc(size_t size) { return is_refused() ? NULL : counted(__real_malloc(size)); }
+
+void *__wrap_realloc(void *at, size_t size) {
+    if (is_refused()) return NULL;
+    return at ? __real_realloc(at, size) : counted(__real_realloc(at, size));
+}
+
+void __wrap_free(void *at) {
+    if (at) blocks--;
+    __real_free(at);
+}
 
 static ta_handle_t copy;
+static ta_terminal_handle_t terminal;
 static const ta_style_t none = {0};
 static const ta_area_t place = {1, 1, 12, 5};
 
@@ -95,29 +112,61 @@ static uint32_t key(ta_handle_t *a) {
     return ta_input(a, &input);
 }
 static uint32_t cleared(ta_handle_t *a) { return ta_clear(a); }
+static uint32_t terminal_made(ta_handle_t *a) { return (void)a, ta_terminal_new(&terminal, &place); }
+static uint32_t fed(ta_handle_t *a) {
+    return (void)a, ta_decoder_feed(&terminal, TEXT("abc\x1b[A\x1b[200~pasted\x1b[201~\x1b"));
+}
+static uint32_t idle(ta_handle_t *a) { return (void)a, ta_decoder_idle(&terminal, 50); }
+static uint32_t taken(ta_handle_t *a) {
+    ta_event_t event;
+    return (void)a, ta_decoder_event(&terminal, &event);
+}
+static uint32_t painted(ta_handle_t *a) { return ta_painter_paint(&terminal, a, true, 3, 2); }
+static uint32_t resized(ta_handle_t *a) {
+    ta_area_t wider = {0, 0, 20, 6};
+    return (void)a, ta_painter_resize(&terminal, &wider);
+}
 
 static uint32_t (*const steps[])(ta_handle_t *) = {
     made,    written, typed,    broken,  selected,  over,       tabbed,      copied, pasted, top,
     typed,   undone,  redone,   wrapped, numbered,  screen,     drawn,       some,   drawn,  next_word,
     to_end,  undone,  undone,   ranges,  bad_ranges, next_char, undone,      pattern, wrong, found,
     block,   placeholder, styled, highlight, drawn, long_cell,  measured,    yank,   pasted, cloned,
-    key,     lines,   key,      drawn,   cleared,   drawn,     loaded,      whole,  pasted_in,
+    key,     lines,   key,      drawn,   cleared,   drawn,     loaded,      whole,  pasted_in, cloned,
+    terminal_made, fed, taken, idle, screen, drawn, painted, typed, drawn, painted,
+    resized, painted, fed, terminal_made, fed, painted, made, typed,
 };
 
-/* A text of all that can be read of the text area without memory. */
+/* A text of all that can be read of the text area and the terminal without memory, but for the events
+ * that wait. */
 static const char *state_of(ta_handle_t *area) {
-    static char state[4][2500];
+    static char state[4][5000];
     static int next;
-    size_t n[6] = {0};
+    size_t n[8] = {0};
+    uint8_t bytes[2][1000] = {0};
+    char of_copy[500] = "";
     char *text = state[next++ % 4];
     if (!area->full) return "empty";
     long before = refused_at;
     refused_at = 0;
+    if (terminal.full) CHECK(ta_painter_bytes(&terminal, bytes[0], 999, &n[6]) == TA_OK);
+    if (terminal.full) CHECK(ta_decoder_pasted(&terminal, bytes[1], 999, &n[7]) == TA_OK);
+    if (copy.full) snprintf(of_copy, sizeof of_copy, "%s", lines_of(&copy));
     ta_cursor(area, &n[0], &n[1]);
     ta_selection_range(area, &n[2], &n[3], &n[4], &n[5]);
-    snprintf(text, 2500, "%s%zu %zu, %zu %zu %zu %zu", lines_of(area), n[0], n[1], n[2], n[3], n[4], n[5]);
+    snprintf(text, 5000, "%s%zu %zu, %zu %zu %zu %zu, %zu %zu %s %s %s", lines_of(area), n[0], n[1], n[2], n[3], n[4], n[5], n[6],
+             n[7], of_copy, bytes[0], bytes[1]);
     refused_at = before;
     return text;
+}
+
+/* Takes the events that wait at the end: no refused call has lost one, or added one. */
+static void check_events(void) {
+    static const uint32_t kinds[] = {TA_EVENT_INPUT, TA_EVENT_INPUT, TA_EVENT_INPUT, TA_EVENT_INPUT, TA_EVENT_PASTE};
+    ta_event_t event;
+    for (size_t i = 0; i < sizeof kinds / sizeof *kinds; i++)
+        CHECK(ta_decoder_event(&terminal, &event) == TA_OK && event.kind == kinds[i]);
+    CHECK(ta_decoder_event(&terminal, &event) == TA_FALSE);
 }
 
 /* Makes all calls; where one is refused, checks it and makes it again. */
@@ -142,14 +191,17 @@ static const char *run(long refused, int *was_refused) {
     }
     refused_at = 0;
     const char *end = state_of(&area);
+    check_events();
     ta_free(&area);
     ta_free(&copy);
+    ta_terminal_free(&terminal);
+    CHECK(blocks == 0);
     return end;
 }
 
 int main(void) {
     int was_refused;
-    char end[2500];
+    char end[5000];
     strcpy(end, run(0, &was_refused));
     long count = requests;
     for (long k = 1; k <= count; k++) {

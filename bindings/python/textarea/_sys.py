@@ -83,6 +83,28 @@ REASON_EMPTY = 0
 REASON_ROW_OUT_OF_BOUNDS = 1
 REASON_COLUMN_OUT_OF_BOUNDS = 2
 REASON_OVERLAPS_PREVIOUS = 3
+EVENT_UNKNOWN = 0
+EVENT_INPUT = 1
+EVENT_PASTE = 2
+EVENT_MOUSE = 3
+EVENT_SIZE = 4
+EVENT_CURSOR = 5
+EVENT_FOCUS_GAINED = 6
+EVENT_FOCUS_LOST = 7
+MOUSE_PRESS = 0
+MOUSE_RELEASE = 1
+MOUSE_DRAG = 2
+MOUSE_MOVE = 3
+MOUSE_RELEASE_ANY = 4
+MOUSE_WHEEL_LEFT = 5
+MOUSE_WHEEL_RIGHT = 6
+BUTTON_LEFT = 0
+BUTTON_MIDDLE = 1
+BUTTON_RIGHT = 2
+COLORS_NONE = 0
+COLORS_SIXTEEN = 1
+COLORS_INDEXED = 2
+COLORS_TRUE = 3
 BORDER_TOP = 1
 BORDER_RIGHT = 2
 BORDER_BOTTOM = 4
@@ -106,6 +128,14 @@ class Handle(Structure):
     _fields_ = [("stored", Held), ("full", c_bool)]
 
 
+class HeldTerminal(Structure):
+    _fields_ = [("at", c_void_p)]
+
+
+class TerminalHandle(Structure):
+    _fields_ = [("stored", HeldTerminal), ("full", c_bool)]
+
+
 class Area(Structure):
     _fields_ = [("x", c_uint16), ("y", c_uint16), ("width", c_uint16), ("height", c_uint16)]
 
@@ -124,6 +154,10 @@ class Cell(Structure):
 
 class Input(Structure):
     _fields_ = [("key", c_uint32), ("argument", c_uint32), ("ctrl", c_bool), ("alt", c_bool), ("shift", c_bool)]
+
+
+class Event(Structure):
+    _fields_ = [("kind", c_uint32), ("input", Input), ("mouse", c_uint32), ("button", c_uint32), ("column", c_uint16), ("row", c_uint16), ("bytes", c_size_t)]
 
 
 class Measure(Structure):
@@ -389,3 +423,31 @@ def declare(library):
     library.ta_cursor_at_position.restype = c_uint32
     library.ta_viewport.argtypes = [POINTER(Handle), POINTER(c_size_t), POINTER(c_size_t), POINTER(c_size_t), POINTER(c_size_t)]
     library.ta_viewport.restype = c_uint32
+    library.ta_terminal_new.argtypes = [POINTER(TerminalHandle), POINTER(Area)]
+    library.ta_terminal_new.restype = c_uint32
+    library.ta_terminal_free.argtypes = [POINTER(TerminalHandle)]
+    library.ta_terminal_free.restype = None
+    library.ta_decoder_feed.argtypes = [POINTER(TerminalHandle), POINTER(c_uint8), c_size_t]
+    library.ta_decoder_feed.restype = c_uint32
+    library.ta_decoder_idle.argtypes = [POINTER(TerminalHandle), c_uint32]
+    library.ta_decoder_idle.restype = c_uint32
+    library.ta_decoder_event.argtypes = [POINTER(TerminalHandle), POINTER(Event)]
+    library.ta_decoder_event.restype = c_uint32
+    library.ta_decoder_pasted.argtypes = [POINTER(TerminalHandle), POINTER(c_uint8), c_size_t, POINTER(c_size_t)]
+    library.ta_decoder_pasted.restype = c_uint32
+    library.ta_decoder_asked.argtypes = [POINTER(TerminalHandle)]
+    library.ta_decoder_asked.restype = c_uint32
+    library.ta_decoder_set_resizes.argtypes = [POINTER(TerminalHandle), c_bool]
+    library.ta_decoder_set_resizes.restype = c_uint32
+    library.ta_decoder_set_console.argtypes = [POINTER(TerminalHandle), c_bool]
+    library.ta_decoder_set_console.restype = c_uint32
+    library.ta_painter_paint.argtypes = [POINTER(TerminalHandle), POINTER(Handle), c_bool, c_uint16, c_uint16]
+    library.ta_painter_paint.restype = c_uint32
+    library.ta_painter_bytes.argtypes = [POINTER(TerminalHandle), POINTER(c_uint8), c_size_t, POINTER(c_size_t)]
+    library.ta_painter_bytes.restype = c_uint32
+    library.ta_painter_reset.argtypes = [POINTER(TerminalHandle)]
+    library.ta_painter_reset.restype = c_uint32
+    library.ta_painter_resize.argtypes = [POINTER(TerminalHandle), POINTER(Area)]
+    library.ta_painter_resize.restype = c_uint32
+    library.ta_painter_set_colors.argtypes = [POINTER(TerminalHandle), c_uint32]
+    library.ta_painter_set_colors.restype = c_uint32

@@ -6,6 +6,7 @@
 //! writes don't overlap, as Rust's `&mut` don't.
 
 use crate::data::OutOfMemory;
+use crate::ratatui::buffer::Cell;
 use crate::sys;
 use std::alloc::{Layout, handle_alloc_error};
 use std::cell::UnsafeCell;
@@ -45,12 +46,7 @@ impl Handle {
     /// statuses are for arguments that this crate never passes, or are asked for by `status`.
     #[inline]
     pub fn on(&self, call: impl FnOnce(*mut sys::Handle) -> u32) -> Result<bool, OutOfMemory> {
-        match call(self.0.get()) {
-            sys::OK => Ok(true),
-            sys::FALSE => Ok(false),
-            sys::OUT_OF_MEMORY => Err(OutOfMemory),
-            status => unreachable!("status {status} of the text area"),
-        }
+        status(call(self.0.get()))
     }
 
     /// Makes a call, and returns its status.
@@ -70,21 +66,14 @@ impl Handle {
         &self,
         call: impl Fn(*mut sys::Handle, *mut u8, usize, *mut usize) -> u32,
     ) -> Result<Option<String>, OutOfMemory> {
-        let mut bytes = vec![0; 64];
-        let mut needed = 0;
-        loop {
-            let found = self.on(|h| call(h, bytes.as_mut_ptr(), bytes.len(), &mut needed))?;
-            if !found {
-                return Ok(None);
-            }
-            let is_whole = needed <= bytes.len();
-            bytes.resize(needed, 0);
-            if is_whole {
-                return Ok(Some(
-                    String::from_utf8(bytes).expect("texts of the core are UTF-8"),
-                ));
-            }
-        }
+        text_of(|out, room, needed| self.on(|h| call(h, out, room, needed)))
+    }
+
+    /// Copies a cell to the screen, whose cell is fresh.
+    pub fn put(&self, x: u16, y: u16, cell: &Cell) -> Result<(), OutOfMemory> {
+        let (symbol, style) = (cell.symbol(), cell.style().into());
+        self.on(|h| unsafe { sys::ta_screen_put(h, x, y, symbol.as_ptr(), symbol.len(), &style) })?;
+        Ok(())
     }
 
     /// Returns the items that a call writes: as many as there is room for, and how many there are.
@@ -109,6 +98,38 @@ impl Handle {
 impl Drop for Handle {
     fn drop(&mut self) {
         unsafe { sys::ta_free(self.0.get()) }
+    }
+}
+
+/// Returns whether a status is ok, or that memory ran out.
+#[inline]
+pub fn status(status: u32) -> Result<bool, OutOfMemory> {
+    match status {
+        sys::OK => Ok(true),
+        sys::FALSE => Ok(false),
+        sys::OUT_OF_MEMORY => Err(OutOfMemory),
+        status => unreachable!("status {status} of the core"),
+    }
+}
+
+/// Returns the text that a call writes: as many bytes as there is room for, and how many it needs; or
+/// `None` if there is none.
+pub fn text_of(
+    mut call: impl FnMut(*mut u8, usize, *mut usize) -> Result<bool, OutOfMemory>,
+) -> Result<Option<String>, OutOfMemory> {
+    let mut bytes = vec![0; 64];
+    let mut needed = 0;
+    loop {
+        if !call(bytes.as_mut_ptr(), bytes.len(), &mut needed)? {
+            return Ok(None);
+        }
+        let is_whole = needed <= bytes.len();
+        bytes.resize(needed, 0);
+        if is_whole {
+            return Ok(Some(
+                String::from_utf8(bytes).expect("texts of the core are UTF-8"),
+            ));
+        }
     }
 }
 

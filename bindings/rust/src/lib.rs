@@ -58,6 +58,7 @@ mod input;
 pub mod ratatui;
 #[rustfmt::skip]
 mod sys;
+pub mod terminal;
 mod textarea;
 #[cfg(feature = "tui")]
 mod tui;

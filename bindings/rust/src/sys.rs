@@ -82,6 +82,28 @@ pub const REASON_EMPTY: u32 = 0;
 pub const REASON_ROW_OUT_OF_BOUNDS: u32 = 1;
 pub const REASON_COLUMN_OUT_OF_BOUNDS: u32 = 2;
 pub const REASON_OVERLAPS_PREVIOUS: u32 = 3;
+pub const EVENT_UNKNOWN: u32 = 0;
+pub const EVENT_INPUT: u32 = 1;
+pub const EVENT_PASTE: u32 = 2;
+pub const EVENT_MOUSE: u32 = 3;
+pub const EVENT_SIZE: u32 = 4;
+pub const EVENT_CURSOR: u32 = 5;
+pub const EVENT_FOCUS_GAINED: u32 = 6;
+pub const EVENT_FOCUS_LOST: u32 = 7;
+pub const MOUSE_PRESS: u32 = 0;
+pub const MOUSE_RELEASE: u32 = 1;
+pub const MOUSE_DRAG: u32 = 2;
+pub const MOUSE_MOVE: u32 = 3;
+pub const MOUSE_RELEASE_ANY: u32 = 4;
+pub const MOUSE_WHEEL_LEFT: u32 = 5;
+pub const MOUSE_WHEEL_RIGHT: u32 = 6;
+pub const BUTTON_LEFT: u32 = 0;
+pub const BUTTON_MIDDLE: u32 = 1;
+pub const BUTTON_RIGHT: u32 = 2;
+pub const COLORS_NONE: u32 = 0;
+pub const COLORS_SIXTEEN: u32 = 1;
+pub const COLORS_INDEXED: u32 = 2;
+pub const COLORS_TRUE: u32 = 3;
 pub const BORDER_TOP: u32 = 1;
 pub const BORDER_RIGHT: u32 = 2;
 pub const BORDER_BOTTOM: u32 = 4;
@@ -104,6 +126,17 @@ pub struct Held {
 #[repr(C)]
 pub struct Handle {
     pub stored: Held,
+    pub full: bool,
+}
+
+#[repr(C)]
+pub struct HeldTerminal {
+    pub at: *mut core::ffi::c_void,
+}
+
+#[repr(C)]
+pub struct TerminalHandle {
+    pub stored: HeldTerminal,
     pub full: bool,
 }
 
@@ -152,6 +185,18 @@ pub struct Input {
     pub ctrl: bool,
     pub alt: bool,
     pub shift: bool,
+}
+
+#[repr(C)]
+#[derive(Clone, Copy)]
+pub struct Event {
+    pub kind: u32,
+    pub input: Input,
+    pub mouse: u32,
+    pub button: u32,
+    pub column: u16,
+    pub row: u16,
+    pub bytes: usize,
 }
 
 #[repr(C)]
@@ -330,4 +375,18 @@ unsafe extern "C" {
     pub fn ta_rendered_cursor_position(handle: *mut Handle, x: *mut u16, y: *mut u16) -> u32;
     pub fn ta_cursor_at_position(handle: *mut Handle, x: u16, y: u16, row: *mut usize, column: *mut usize) -> u32;
     pub fn ta_viewport(handle: *mut Handle, row: *mut usize, column: *mut usize, width: *mut usize, height: *mut usize) -> u32;
+    pub fn ta_terminal_new(terminal: *mut TerminalHandle, area: *const Area) -> u32;
+    pub fn ta_terminal_free(terminal: *mut TerminalHandle);
+    pub fn ta_decoder_feed(terminal: *mut TerminalHandle, bytes: *const u8, bytes_len: usize) -> u32;
+    pub fn ta_decoder_idle(terminal: *mut TerminalHandle, milliseconds: u32) -> u32;
+    pub fn ta_decoder_event(terminal: *mut TerminalHandle, event: *mut Event) -> u32;
+    pub fn ta_decoder_pasted(terminal: *mut TerminalHandle, out: *mut u8, out_len: usize, needed: *mut usize) -> u32;
+    pub fn ta_decoder_asked(terminal: *mut TerminalHandle) -> u32;
+    pub fn ta_decoder_set_resizes(terminal: *mut TerminalHandle, resizes: bool) -> u32;
+    pub fn ta_decoder_set_console(terminal: *mut TerminalHandle, console: bool) -> u32;
+    pub fn ta_painter_paint(terminal: *mut TerminalHandle, handle: *mut Handle, has_caret: bool, x: u16, y: u16) -> u32;
+    pub fn ta_painter_bytes(terminal: *mut TerminalHandle, out: *mut u8, out_len: usize, needed: *mut usize) -> u32;
+    pub fn ta_painter_reset(terminal: *mut TerminalHandle) -> u32;
+    pub fn ta_painter_resize(terminal: *mut TerminalHandle, area: *const Area) -> u32;
+    pub fn ta_painter_set_colors(terminal: *mut TerminalHandle, colors: u32) -> u32;
 }

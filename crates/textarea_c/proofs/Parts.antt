@@ -31,6 +31,8 @@ use Rattle.std.specs.Prelude.{Option, Some, None, IsSome}
 use Rattle.textarea_c.specs.Held.{owns_content}
 use Rattle.textarea_c.specs.contracts.loose.Loose as loose
 use Rattle.textarea_c.specs.contracts.stored.Held as stored
+use Rattle.textarea_c.specs.contracts.stored.HeldTerminal as stored_terminal
+use Rattle.textarea_c.specs.contracts.terminal.Terminal.{the_row as terminal}
 
 -- a pointer beside an allocator's handle
 abbrev pub word : ℕ → ℕ → Val → Val
@@ -100,3 +102,23 @@ module _ {M : Type 1} {𝓤 : Ura M} {𝓛 : Logic 𝓤} {K : Type 0} {Γ : List
   held_in t p h a o = step (λ s. let w : Val = vstruct (vcons (ptr_val p) (vcons h vnil)) in let d : stored.the_row.Denot = record { at = p; alloc = a; content = o } in
       nothing t $ move t (2 ∷ 0 ∷ []) $ fjoin t $ feq_i t (List Val) (ptr_val p ∷ []) (ptr_val p ∷ []) refl $ fjoin t $ feq_i t (List Val) (w ∷ []) (w ∷ []) refl $ fjoin t $
       fpack t (Valss (shape stored.the_type).fields) (within (shape stored.the_type) (to stored.the_type d) (w ∷ [])) (ptr_val p ∷ [], (h ∷ [], tt)) $ fjoin t $ s)
+
+-- ---- the same at a terminal
+module _ {M : Type 1} {𝓤 : Ura M} {𝓛 : Logic 𝓤} {K : Type 0} {Γ : List (Item 𝓤)} {G : Goal 𝓤 𝓛.H} where
+  -- where it holds a terminal, that with its block, and the handle
+  pub terminal_out : K → (d : stored_terminal.the_row.Denot) (vs : List Val) (x : terminal.Denot) → d.content ≡ Some x
+      → ((b o : ℕ) (h : Val) → d.at ≡ block_ptr b o → vs ≡ word b o h ∷ [] → Good (layout Global) h → Seq K 𝓛 (‵ (box_owns (heap.dealloc_token d.alloc) terminal (block_ptr b o) x) ∷ ‵ (Global.own_val d.alloc (h ∷ [])) ∷ Γ) G)
+      → Seq K 𝓛 (‵ (stored_terminal.the_row.own_val d vs) ∷ Γ) G
+  terminal_out t d vs x full k =
+      fsplit t $ fpick t (λ vss. fsplit t $ feq_l t (λ whole. fsplit t $ feq_l t (λ at. fsplit t $ handle_tells global t d.alloc vss.1.0 (λ h single fits. move t (1 ∷ []) $ drop t $ move t (1 ∷ []) $
+      rewrite t 0 (λ (o : Option terminal.Denot). ‵ (owns_content d.alloc terminal d.at o)) full refl $
+      in_a_block t d.at (λ p. box_owns (heap.dealloc_token d.alloc) terminal p x) (fst∗ 𝓤 (never 𝓤) (sem 𝓛 (heap.dealloc_token d.alloc (bare (lone terminal.mir)) null_ptr))) (λ b o e. k b o h e
+      (subst (λ (p : Ptr). vs ≡ vstruct (of_list (ptr_val p ∷ h ∷ [])) ∷ []) e
+      (subst (λ (ws : List Val). vs ≡ vstruct (of_list (ptr_val d.at ∷ (ws ++ []))) ∷ []) single
+      (subst (λ (ps : List Val). vs ≡ vstruct (of_list (ps ++ (vss.1.0 ++ []))) ∷ []) at whole))) fits)))))
+
+  pub terminal_in : K → (p : Ptr) (h : Val) (a : Global.Denot) (o : Option terminal.Denot)
+      → Step K 𝓛 (‵ (stored_terminal.the_row.own_val (record { at = p; alloc = a; content = o }) (vstruct (vcons (ptr_val p) (vcons h vnil)) ∷ [])) ∷ Γ) G (‵ (owns_content a terminal p o) ∷ ‵ (Global.own_val a (h ∷ [])) ∷ Γ) G
+  terminal_in t p h a o = step (λ s. let w : Val = vstruct (vcons (ptr_val p) (vcons h vnil)) in let d : stored_terminal.the_row.Denot = record { at = p; alloc = a; content = o } in
+      nothing t $ move t (2 ∷ 0 ∷ []) $ fjoin t $ feq_i t (List Val) (ptr_val p ∷ []) (ptr_val p ∷ []) refl $ fjoin t $ feq_i t (List Val) (w ∷ []) (w ∷ []) refl $ fjoin t $
+      fpack t (Valss (shape stored_terminal.the_type).fields) (within (shape stored_terminal.the_type) (to stored_terminal.the_type d) (w ∷ [])) (ptr_val p ∷ [], (h ∷ [], tt)) $ fjoin t $ s)

@@ -10,9 +10,9 @@ use Rattle.textarea_calls.specs.declared.call.Call.{Call}
 use Rattle.textarea_screen.specs.declared.screen.style.Style.{Style}
 use Rattle.tui_textarea.specs.CallResults as reported
 use Rattle.tui_textarea.specs.CallResults.{CallResult}
-use Rattle.tui_textarea.specs.Calls.{result_of_call, state_after}
+use Rattle.tui_textarea.specs.Calls.{NeedsMemory, result_of_call, state_after}
 use Rattle.tui_textarea.specs.Input.{flag_of}
-use Rattle.tui_textarea.specs.Patterns.{MayRejectPattern}
+use Rattle.tui_textarea.specs.Patterns.{IsNewPattern, MayRejectPattern}
 use Rattle.tui_textarea.specs.Ranges.{ranges_accepted}
 use Rattle.tui_textarea.specs.Search.{with_pattern}
 use Rattle.tui_textarea.specs.State.{State}
@@ -22,16 +22,16 @@ use Rattle.textarea_screen.specs.Block.{BlockView}
 use Rattle.textarea_screen.specs.Text.{TextView}
 use Rattle.textarea_c.specs.declared.editor.Editor.{Editor}
 
--- an empty handle stays empty, and the status says so; otherwise an editor is behind the handle
+-- an empty handle stays empty, and the status says so; otherwise something is behind the handle
 -- before and after the call, and `P` relates the two
-abbrev pub Calls : Option Editor → ℕ → Option Editor → (Editor → Editor → Type 0) → Type 0
+abbrev pub Calls : {A : Type 0} → Option A → ℕ → Option A → (A → A → Type 0) → Type 0
 Calls before status after P = MatchOption before ((status ≡ 5) × (after ≡ None)) (λ a. IsSomeAnd after (P a))
 
 abbrev pub with_area : Editor → State → Editor
 with_area editor area = record editor { area = area }
 
 -- a call that changes nothing
-abbrev pub Reads : ℕ → Editor → Editor → Type 0
+abbrev pub Reads : {A : Type 0} → ℕ → A → A → Type 0
 Reads status a b = (status ≡ 0) × (b ≡ a)
 
 -- a call that changes nothing, of something that may not be there
@@ -63,7 +63,7 @@ abbrev pub Changes : State → ℕ → Editor → Editor → Type 0
 Changes area status a b = (status ≡ 0 → b ≡ with_area a area) × (status ≢ 0 → (status ≡ 2) × (b ≡ a))
 
 -- a call with an argument that may be invalid
-abbrev pub Given : {A : Type 0} → Option A → (A → ℕ → Editor → Editor → Type 0) → ℕ → Editor → Editor → Type 0
+abbrev pub Given : {A B : Type 0} → Option A → (A → ℕ → B → B → Type 0) → ℕ → B → B → Type 0
 Given argument P status a b = MatchOption argument ((status ≡ 6) × (b ≡ a)) (λ x. P x status a b)
 
 -- a call that only needs memory
@@ -99,18 +99,21 @@ Tries found area status a b = (status < 2 → b ≡ with_area a area) × (2 ≤ 
 abbrev pub TriesBy : {A : Type 0} → Option A → (A → Bool) → (A → State) → ℕ → Editor → Editor → Type 0
 TriesBy argument found area status a b = MatchOption argument ((status ≡ 6) × (b ≡ a)) (λ x. Tries (found x) (area x) status a b)
 
--- exports that only make a call: one that returns whether there was something to do, one without a
--- result, and one that needs no memory
+-- exports that only make a call: one that returns whether there was something to do; one without a
+-- result, which runs out of memory only where the call may need some; and one that needs no memory
 abbrev pub MakesAttempt : Call → ℕ → Editor → Editor → Type 0
 MakesAttempt call status a b = Tries (flag_of (result_of_call a.area call)) (state_after a.area call) status a b
 
 abbrev pub MakesChange : Call → ℕ → Editor → Editor → Type 0
-MakesChange call status a b = Changes (state_after a.area call) status a b
+MakesChange call status a b = Changes (state_after a.area call) status a b × (status ≡ 2 → NeedsMemory a.area call)
 
 abbrev pub MakesSetting : Call → ℕ → Editor → Editor → Type 0
 MakesSetting call status a b = Sets (state_after a.area call) status a b
 
--- one with an argument that may be invalid
+-- the last two with an argument that may be invalid
+abbrev pub MakesChangeBy : {A : Type 0} → Option A → (A → Call) → ℕ → Editor → Editor → Type 0
+MakesChangeBy argument call status a b = Given argument (λ x. MakesChange (call x)) status a b
+
 abbrev pub MakesSettingBy : {A : Type 0} → Option A → (A → Call) → ℕ → Editor → Editor → Type 0
 MakesSettingBy argument call status a b = SetsBy argument (λ x. state_after a.area (call x)) status a b
 
@@ -134,18 +137,19 @@ TriesToInsert found does area status a b =
     (status < 2 → b ≡ with_area a area) × (2 ≤ status → (status ≡ 2) × IsInsertOutOfMemory a.area b.area × (b ≡ with_area a b.area))
     × (status ≡ 0 → found ≡ true) × (status ≡ 1 → found ≡ false) × (does ≡ false → status ≢ 2)
 
--- a search: out of memory nothing changes
+-- a search: out of memory nothing changes, and without a pattern no memory is needed
 abbrev pub Searches : Bool → State → ℕ → Editor → Editor → Type 0
 Searches found area status a b =
-    (status < 2 → b ≡ with_area a area) × (2 ≤ status → (status ≡ 2) × (b ≡ a)) × (status ≡ 0 → found ≡ true)
-    × (status ≡ 1 → found ≡ false)
+    (status < 2 → b ≡ with_area a area) × (2 ≤ status → (status ≡ 2) × (b ≡ a) × (a.area.pattern ≢ None))
+    × (status ≡ 0 → found ≡ true) × (status ≡ 1 → found ≡ false)
 
--- setting a pattern: a rejected one leaves the text area, and its error is stored
+-- setting a pattern: a rejected one leaves the text area, and its error is stored; the empty and the
+-- present one are always set
 abbrev pub Patterns : List ℕ → ℕ → Editor → Editor → Type 0
 Patterns text status a b =
     (status ≡ 0 → b ≡ with_area a (with_pattern a.area text))
     × (status ≡ 3 → MayRejectPattern a.area text × (b ≡ record a { pattern_error = b.pattern_error }))
-    × (status ≢ 0 → status ≢ 3 → (status ≡ 2) × (b ≡ a))
+    × (status ≢ 0 → status ≢ 3 → (status ≡ 2) × (b ≡ a)) × (status ≢ 0 → IsNewPattern a.area text)
 
 -- setting ranges: only valid ones are set; the rejected ones of others are stored
 abbrev pub SetsRanges : List AtomicRange → ℕ → Editor → Editor → Type 0

@@ -1,9 +1,10 @@
 -- What is behind a handle at first.
-use Rattle.std.specs.Prelude.{ℕ, ◌≡◌, ◌≢◌, List, [], string_bytes, Option, IsSomeAnd, MatchOption}
+use Rattle.std.specs.Prelude.{ℕ, ◌≡◌, List, [], string_bytes, Option, MatchOption}
 use Rattle.std.specs.Str.{chars}
 use Rattle.textarea_screen.specs.Buffer.{area_of}
 use Rattle.textarea_text.specs.Fragment.{fragment_symbols, without_last_break}
 use Rattle.tui_textarea.specs.State.{State, new_state}
+use Rattle.textarea_c.specs.Made.{Makes}
 use Rattle.textarea_c.specs.declared.editor.Editor.{Editor}
 
 -- this text area, with a screen that has no cells, and nothing rejected
@@ -18,8 +19,7 @@ pub record IsEditorOf (area : State) (editor : Editor) : Type 0 where
 abbrev pub with_text : List ℕ → State
 with_text text = new_state (without_last_break (fragment_symbols (chars text)))
 
--- with status 0 an editor with this text is behind the handle, and otherwise what was before
+-- an editor with this text is made behind the handle
 abbrev pub Loads : Option (List ℕ) → Option Editor → ℕ → Option Editor → Type 0
 Loads text before status after =
-    MatchOption text ((status ≡ 6) × (after ≡ before))
-    (λ t. (status ≡ 0 → IsSomeAnd after (IsEditorOf (with_text t))) × (status ≢ 0 → (status ≡ 2) × (after ≡ before)))
+    MatchOption text ((status ≡ 6) × (after ≡ before)) (λ t. Makes (IsEditorOf (with_text t)) before status after)

@@ -3,6 +3,10 @@ pub mod Calls
 pub mod Drawn
 pub mod Fresh
 pub mod Held
+pub mod Incoming
 pub mod Lines
+pub mod Made
+pub mod Outgoing
 pub mod Rejections
 pub mod Rendered
+pub mod Terminals

@@ -1,7 +1,7 @@
 //! The exports. Each takes the editor behind the handle, makes one call on it, and puts it back.
 //!
 //! Each returns `TA_EMPTY_HANDLE` if the handle is empty, and leaves its out-parameters unchanged if
-//! it doesn't return `TA_OK`; the handle `copy` of `ta_clone` is empty then.
+//! it doesn't return `TA_OK`.
 
 // Takes the editor behind the handle, makes a call on it, and puts it back.
 macro_rules! on {
@@ -18,6 +18,7 @@ macro_rules! on {
 pub(crate) use on;
 
 pub mod appearance;
+pub mod decoder;
 pub mod edits;
 pub mod history;
 pub mod inputs;
@@ -25,6 +26,7 @@ pub mod layout;
 pub mod life;
 pub mod lines;
 pub mod moves;
+pub mod painter;
 pub mod plain;
 pub mod ranges;
 pub mod removals;
@@ -33,3 +35,4 @@ pub mod search;
 pub mod selection;
 pub mod settings;
 pub mod surround;
+pub mod terminal;

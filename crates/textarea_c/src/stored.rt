@@ -1,11 +1,14 @@
-//! The pointer in a handle, and the editor behind it.
+//! The pointer in a handle, and what is behind it.
 ghost use Rattle.std.specs.Prelude.{◌≡◌, Option, Some, None, IsSome};
 ghost use Rattle.textarea_c.specs.declared.editor.Editor.{Editor};
 ghost use Rattle.textarea_c.specs.contracts.editor.Editor.{the_row as editor};
+ghost use Rattle.textarea_c.specs.declared.terminal.Terminal.{Terminal};
+ghost use Rattle.textarea_c.specs.contracts.terminal.Terminal.{the_row as terminal};
 ghost use Rattle.textarea_c.specs.Held.{owns_content};
 
 use crate::editor::Editor;
 use crate::loose::Loose;
+use crate::terminal::Terminal;
 use std::alloc::Global;
 use std::marker::Model;
 
@@ -49,6 +52,52 @@ impl Held {
         ensures { result.content ≡ None }
     {
         Held {
+            at: std::ptr::null_mut(),
+            alloc,
+        }
+    }
+}
+
+/// A pointer to a terminal, or null. Dropping one forgets the terminal, so a handle drops none that
+/// has one.
+#[repr(C)]
+#[derive(Drop)]
+pub struct HeldTerminal {
+    at: *mut u8,
+    alloc: Global,
+    pub ghost content: { Option Terminal },
+}
+
+impl Model for HeldTerminal {
+    ghost also_owns = { λ h. owns_content h.alloc terminal h.at h.content };
+}
+
+impl HeldTerminal {
+    pub(crate) fn of(l: Loose<Terminal, Global>) -> HeldTerminal
+        ensures { result.content ≡ Some l.value }
+    {
+        let Loose { at, alloc } = l;
+        HeldTerminal {
+            at: at as *mut u8,
+            alloc,
+        }
+    }
+
+    pub(crate) fn into_loose(self) -> Loose<Terminal, Global>
+        requires { IsSome self.content }
+        ensures { self.content ≡ Some result.value }
+    {
+        let HeldTerminal { at, alloc } = self;
+        Loose {
+            at: at as *mut Terminal,
+            alloc,
+        }
+    }
+
+    pub(crate) fn empty(alloc: Global) -> HeldTerminal
+        ensures { result.content ≡ None }
+    {
+        HeldTerminal {
             at: std::ptr::null_mut(),
             alloc,
         }

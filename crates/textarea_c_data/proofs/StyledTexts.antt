@@ -34,7 +34,8 @@ pub line_more : (text : List ℕ) (from : ℕ) (spans : List Span) (first : ℕ)
 line_more text from spans first xs line lines v after is end =
     let next = spans_end from (slice_range spans first (first + line.spans)) in
     subst (λ (n : ℕ). option_map (λ rest. (xs ++ v ∷ []) ++ rest) (lines_read text n spans (first + line.spans) lines) ≡ option_map (λ rest. xs ++ rest) (lines_read text from spans first (line ∷ lines))) (sym end)
-    (subst (λ (one : Option LineView). option_map (λ rest. (xs ++ v ∷ []) ++ rest) (lines_read text next spans (first + line.spans) lines) ≡ option_map (λ rest. xs ++ rest) (all_read one (lines_read text next spans (first + line.spans) lines)))
+    (subst (λ (one : Option LineView). option_map (λ rest. (xs ++ v ∷ []) ++ rest) (lines_read text next spans (first + line.spans) lines)
+    ≡ option_map (λ rest. xs ++ rest) (all_read one (lines_read text next spans (first + line.spans) lines)))
     (sym is) (read_more xs v (lines_read text next spans (first + line.spans) lines)))
 
 -- what is written at a place past the greatest number, or at that number, is past the slice's end

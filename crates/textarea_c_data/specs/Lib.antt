@@ -1,6 +1,7 @@
 pub mod Areas
 pub mod Cells
 pub mod Copied
+pub mod Events
 pub mod Inputs
 pub mod Lines
 pub mod Measures

@@ -10,6 +10,8 @@ use Rattle.textarea_data.specs.declared.range.AtomicDeleteDirection.{AtomicDelet
 use Rattle.textarea_data.specs.declared.range.AtomicDeleteDirection.TheVariants as direction
 use Rattle.textarea_screen.specs.declared.screen.alignment.Alignment.{Alignment}
 use Rattle.textarea_screen.specs.declared.screen.alignment.Alignment.TheVariants as alignment
+use Rattle.textarea_terminal.specs.declared.output.colors.Colors.{Colors}
+use Rattle.textarea_terminal.specs.declared.output.colors.Colors.TheVariants as colors
 use Rattle.textarea_c_data.specs.Tables.{value_of_number}
 
 abbrev pub moves : List (ℕ × CursorMove)
@@ -43,3 +45,9 @@ alignments = (0, alignment.Left) ∷ (1, alignment.Center) ∷ (2, alignment.Rig
 
 abbrev pub alignment_of : ℕ → Option Alignment
 alignment_of = value_of_number alignments
+
+abbrev pub color_sets : List (ℕ × Colors)
+color_sets = (0, colors.None) ∷ (1, colors.Sixteen) ∷ (2, colors.Indexed) ∷ (3, colors.True) ∷ []
+
+abbrev pub colors_of : ℕ → Option Colors
+colors_of = value_of_number color_sets

@@ -1,5 +1,5 @@
-ghost use Rattle.std.specs.Prelude.{◌≡◌};
-ghost use Rattle.textarea_c_data.specs.Inputs.{input_read, key_read};
+ghost use Rattle.std.specs.Prelude.{◌≡◌, Some};
+ghost use Rattle.textarea_c_data.specs.Inputs.{blank_input, input_read, key_argument, key_number, key_read, plain_input};
 
 use textarea_data::input;
 use textarea_data::input::Key;
@@ -28,6 +28,34 @@ impl Input {
             alt: self.alt,
             shift: self.shift,
         })
+    }
+
+    /// Returns the struct that is read as this input.
+    pub fn of(input: &input::Input) -> Input
+        ensures value { result ≡ plain_input input.now }
+        ensures read { input_read result ≡ Some input.now }
+    {
+        let (key, argument) = numbers_of(input.key);
+        Input {
+            key,
+            argument,
+            ctrl: input.ctrl,
+            alt: input.alt,
+            shift: input.shift,
+        }
+    }
+
+    /// Returns no key without modifiers.
+    pub fn blank() -> Input
+        ensures { result ≡ blank_input }
+    {
+        Input {
+            key: 0,
+            argument: 0,
+            ctrl: false,
+            alt: false,
+            shift: false,
+        }
     }
 }
 
@@ -59,4 +87,35 @@ fn read_key(key: u32, argument: u32) -> Option<Key>
         20 => Key::MouseScrollUp,
         _ => return None,
     })
+}
+
+// Returns the numbers of the key, and of its character or of the function key.
+fn numbers_of(key: Key) -> (u32, u32)
+    ensures number { result.0 ≡ key_number key }
+    ensures argument { result.1 ≡ key_argument key }
+    ensures read { key_read result.0 result.1 ≡ Some key }
+{
+    match key {
+        Key::Null => (0, 0),
+        Key::Char(character) => (1, u32::from(character)),
+        Key::F(number) => (2, u32::from(number)),
+        Key::Backspace => (3, 0),
+        Key::Enter => (4, 0),
+        Key::Left => (5, 0),
+        Key::Right => (6, 0),
+        Key::Up => (7, 0),
+        Key::Down => (8, 0),
+        Key::Tab => (9, 0),
+        Key::Delete => (10, 0),
+        Key::Home => (11, 0),
+        Key::End => (12, 0),
+        Key::PageUp => (13, 0),
+        Key::PageDown => (14, 0),
+        Key::Esc => (15, 0),
+        Key::Copy => (16, 0),
+        Key::Cut => (17, 0),
+        Key::Paste => (18, 0),
+        Key::MouseScrollDown => (19, 0),
+        Key::MouseScrollUp => (20, 0),
+    }
 }

@@ -4,6 +4,7 @@
 pub mod area;
 pub mod cell;
 pub mod color;
+pub mod event;
 pub mod input;
 pub mod lines;
 pub mod measure;

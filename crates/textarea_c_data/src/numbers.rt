@@ -1,11 +1,12 @@
 //! The numbers by which C names the values of enums.
 ghost use Rattle.std.specs.Prelude.{◌≡◌, Some};
-ghost use Rattle.textarea_c_data.specs.Numbers.{alignment_of, bias_of, direction_of, move_of, page_of};
+ghost use Rattle.textarea_c_data.specs.Numbers.{alignment_of, bias_of, colors_of, direction_of, move_of, page_of};
 
 use textarea_data::cursor::CursorMove;
 use textarea_data::range::{AtomicCursorBias, AtomicDeleteDirection};
 use textarea_data::scroll::Scrolling;
 use textarea_screen::screen::Alignment;
+use textarea_terminal::output::Colors;
 
 /// Returns the move of this number. `CursorMove::Jump` has none.
 pub fn read_move(number: u32) -> Option<CursorMove>
@@ -86,4 +87,17 @@ pub fn alignment_number(alignment: Alignment) -> u32
         Alignment::Center => 1,
         Alignment::Right => 2,
     }
+}
+
+/// Returns the colours of a terminal that this number names.
+pub fn read_colors(number: u32) -> Option<Colors>
+    ensures { result ≡ colors_of number }
+{
+    Some(match number {
+        0 => Colors::None,
+        1 => Colors::Sixteen,
+        2 => Colors::Indexed,
+        3 => Colors::True,
+        _ => return None,
+    })
 }

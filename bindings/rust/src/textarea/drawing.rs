@@ -114,20 +114,12 @@ impl TextArea<'_> {
     fn lend_all(&self, part: Rect, buf: &Buffer) -> Result<(), OutOfMemory> {
         for y in part.top()..part.bottom() {
             for x in part.left()..part.right() {
-                self.lend(x, y, &buf[(x, y)])?;
+                let cell = &buf[(x, y)];
+                if !cell.is_blank() {
+                    self.core.put(x, y, cell)?;
+                }
             }
         }
-        Ok(())
-    }
-
-    fn lend(&self, x: u16, y: u16, cell: &Cell) -> Result<(), OutOfMemory> {
-        if cell.is_blank() {
-            return Ok(());
-        }
-        let (symbol, style) = (cell.symbol(), cell.style().into());
-        self.core.on(|h| unsafe {
-            sys::ta_screen_put(h, x, y, symbol.as_ptr(), symbol.len(), &style)
-        })?;
         Ok(())
     }
 

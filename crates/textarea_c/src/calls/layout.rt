@@ -1,8 +1,10 @@
 //! Wrapping, line numbers, alignment and measuring.
-ghost use Rattle.std.specs.Prelude.{◌≡◌, ◌≢◌, IfSome, MatchOption, Some};
-ghost use Rattle.tui_textarea.specs.LayoutCalls.{number_style, with_alignment, with_line_numbers, with_wrap_mode};
-ghost use Rattle.tui_textarea.specs.Measure.{IsMeasured};
-ghost use Rattle.textarea_c.specs.Calls.{Asks, Calls, ChangesBy, Copies, Reads};
+ghost use Rattle.std.specs.Prelude.{◌≡◌, ◌≢◌, ◌≤◌, IfSome, MatchOption, Some, true};
+ghost use Rattle.textarea_calls.specs.declared.call.Call.TheVariants as call;
+ghost use Rattle.textarea_view.specs.SurroundState.{AreBounds};
+ghost use Rattle.tui_textarea.specs.LayoutCalls.{number_style};
+ghost use Rattle.tui_textarea.specs.Measure.{IsMeasured, reads_rows};
+ghost use Rattle.textarea_c.specs.Calls.{Asks, Calls, Copies, MakesChangeBy, Reads};
 ghost use Rattle.textarea_c_data.specs.Measures.{measure_of};
 ghost use Rattle.textarea_c_data.specs.Modes.{wrap_mode_of};
 ghost use Rattle.textarea_c_data.specs.Numbers.{alignment_of};
@@ -24,7 +26,7 @@ use textarea_c_data::style::Style;
 #[unsafe(no_mangle)]
 pub extern "C" fn ta_set_wrap_mode(handle: &mut Handle, alloc: Global, mode: u32) -> u32
     ensures { Calls handle.old.stored.content result handle.new.stored.content
-        (λ a b. ChangesBy (wrap_mode_of mode) (λ m. with_wrap_mode a.area m) result a b) }
+        (λ a b. MakesChangeBy (wrap_mode_of mode) call.SetWrapMode result a b) }
 {
     on!(handle, alloc, editor => match read_wrap_mode(mode) {
         Some(mode) => done(editor.area.set_wrap_mode(mode)),
@@ -55,7 +57,7 @@ pub extern "C" fn ta_wrap_mode(handle: &mut Handle, alloc: Global, mode: &mut u3
 #[unsafe(no_mangle)]
 pub extern "C" fn ta_set_line_number_style(handle: &mut Handle, alloc: Global, style: &Style) -> u32
     ensures { Calls handle.old.stored.content result handle.new.stored.content
-        (λ a b. ChangesBy (style_of style.now) (λ s. with_line_numbers a.area s) result a b) }
+        (λ a b. MakesChangeBy (style_of style.now) call.SetLineNumberStyle result a b) }
 {
     on!(handle, alloc, editor => match style.read() {
         Some(style) => done(editor.area.set_line_number_style(style)),
@@ -90,7 +92,7 @@ pub extern "C" fn ta_line_number_style(handle: &mut Handle, alloc: Global, style
 #[unsafe(no_mangle)]
 pub extern "C" fn ta_set_alignment(handle: &mut Handle, alloc: Global, alignment: u32) -> u32
     ensures { Calls handle.old.stored.content result handle.new.stored.content
-        (λ a b. ChangesBy (alignment_of alignment) (λ x. with_alignment a.area x) result a b) }
+        (λ a b. MakesChangeBy (alignment_of alignment) call.SetAlignment result a b) }
 {
     on!(handle, alloc, editor => match read_alignment(alignment) {
         Some(alignment) => done(editor.area.set_alignment(alignment)),
@@ -130,6 +132,11 @@ pub extern "C" fn ta_measure(
         (λ a b. Copies result a b) }
     ensures measured { result ≡ 0 → IfSome handle.old.stored.content
         (λ a. IsMeasured a.area width (measure_of measure.new)) }
+    ensures bounds { result ≡ 0 → AreBounds measure.new.min_rows measure.new.max_rows }
+    ensures within { result ≡ 0 → (measure.new.min_rows ≤ measure.new.preferred_rows)
+        × (measure.new.preferred_rows ≤ measure.new.max_rows) }
+    ensures no_memory { IfSome handle.old.stored.content
+        (λ a. reads_rows a.area width ≡ true → result ≢ 2) }
     ensures unwritten { result ≢ 0 → measure.new ≡ measure.old }
 {
     on!(handle, alloc, editor => match editor.area.measure(width) {

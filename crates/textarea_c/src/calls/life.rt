@@ -3,6 +3,7 @@ ghost use Rattle.std.specs.Prelude.{◌≡◌, [], IfOk, MatchOption, None, Some
 ghost use Rattle.tui_textarea.specs.State.{new_state};
 ghost use Rattle.textarea_c.specs.Calls.{Calls};
 ghost use Rattle.textarea_c.specs.Fresh.{IsEditorOf, Loads, with_text};
+ghost use Rattle.textarea_c.specs.Made.{Makes};
 ghost use Rattle.textarea_c_data.specs.Texts.{text_in};
 
 use crate::calls::on;
@@ -56,17 +57,17 @@ fn copied_editor(alloc: Global, area: &TextArea<'static>) -> Result<Box<Editor>,
 }
 
 /// Makes an empty text area, with one empty line, behind the handle. A text area that was behind it
-/// is freed first.
+/// is freed.
 ///
-/// Statuses: ok, out of memory (the handle is empty then).
+/// Statuses: ok, out of memory (the handle stays as it was).
 #[unsafe(no_mangle)]
 pub extern "C" fn ta_new(handle: &mut Handle, alloc: Global) -> u32
-    ensures { MatchOption handle.new.stored.content (result ≡ 2)
-        (λ editor. (result ≡ 0) × IsEditorOf (new_state []) editor) }
+    ensures { Makes (IsEditorOf (new_state [])) handle.old.stored.content result
+        handle.new.stored.content }
 {
-    let _old = handle.take(alloc);
     match fresh_editor(alloc) {
         Ok(editor) => {
+            let _old = handle.take(alloc);
             handle.put(editor);
             OK
         }
@@ -113,21 +114,21 @@ pub extern "C" fn ta_free(handle: &mut Handle, alloc: Global)
 }
 
 /// Makes a copy of the text area, with its history, behind another handle, `copy`. A text area that
-/// was behind that one is freed first. The copy's screen has no cells, and it has no rejected
-/// ranges or pattern.
+/// was behind that one is freed. The copy's screen has no cells, and it has no rejected ranges or
+/// pattern.
 ///
-/// Statuses: ok, out of memory, empty handle (where it is not ok, `copy` is empty).
+/// Statuses: ok, out of memory, empty handle. Where it is not ok, `copy` stays as it was.
 #[unsafe(no_mangle)]
 pub extern "C" fn ta_clone(handle: &mut Handle, alloc: Global, copy: &mut Handle) -> u32
     ensures unchanged { Calls handle.old.stored.content result handle.new.stored.content
         (λ a b. b ≡ a) }
-    ensures copy { MatchOption handle.old.stored.content (copy.new.stored.content ≡ None)
-        (λ a. MatchOption copy.new.stored.content (result ≡ 2)
-        (λ editor. (result ≡ 0) × IsEditorOf a.area editor)) }
+    ensures copy { MatchOption handle.old.stored.content
+        (copy.new.stored.content ≡ copy.old.stored.content)
+        (λ a. Makes (IsEditorOf a.area) copy.old.stored.content result copy.new.stored.content) }
 {
-    let _old = copy.take(alloc);
     on!(handle, alloc, editor => match copied_editor(alloc, &editor.area) {
         Ok(copied) => {
+            let _old = copy.take(alloc);
             copy.put(copied);
             OK
         }

@@ -1,8 +1,9 @@
 //! The lines of a text area.
-ghost use Rattle.std.specs.Prelude.{◌≡◌, ◌≢◌, [], IfSome, length, option_map, slice_get};
+ghost use Rattle.std.specs.Prelude.{◌≡◌, ◌≢◌, ◌+◌, ◌<◌, ◌≤◌, [], IfSome, length, option_map, slice_get};
 ghost use Rattle.std.specs.List.{concat};
 ghost use Rattle.textarea_text.specs.Fragment.{fragment_text};
 ghost use Rattle.textarea_text.specs.Text.{lines, lines_of};
+ghost use Rattle.textarea_util.specs.Limit.{size_limit};
 ghost use Rattle.textarea_c.specs.Calls.{Asks, Calls, ChangesIf, Copies, Reads};
 ghost use Rattle.textarea_c.specs.Lines.{with_lines};
 ghost use Rattle.textarea_c_data.specs.Copied.{ends_of, written};
@@ -67,6 +68,7 @@ pub extern "C" fn ta_line_count(handle: &mut Handle, alloc: Global, count: &mut 
         (λ a b. Reads result a b) }
     ensures count { IfSome handle.old.stored.content
         (λ a. count.new ≡ length (lines a.area.document.text)) }
+    ensures some { result ≡ 0 → 0 < count.new }
     ensures unwritten { result ≢ 0 → count.new ≡ count.old }
 {
     on!(handle, alloc, editor => {
@@ -120,6 +122,8 @@ pub extern "C" fn ta_lines(
         × (needed.new ≡ length (concat (texts_of (lines a.area.document.text))))) }
     ensures ends { IfSome handle.old.stored.content
         (λ a. ends.new ≡ written ends.old (ends_of 0 (texts_of (lines a.area.document.text)))) }
+    ensures some { result ≡ 0 → 0 < count.new }
+    ensures limit { result ≡ 0 → needed.new + count.new ≤ size_limit }
     ensures unwritten { result ≢ 0 → (out.new ≡ out.old) × (needed.new ≡ needed.old)
         × (ends.new ≡ ends.old) × (count.new ≡ count.old) }
 {

@@ -2,6 +2,7 @@
 ghost use Rattle.std.specs.Prelude.{◌≡◌, ◌≢◌, IfSome};
 ghost use Rattle.textarea_data.specs.declared.cursor.CursorMove.TheVariants as move;
 ghost use Rattle.textarea_data.specs.declared.scroll.Scrolling.TheVariants as scrolling;
+ghost use Rattle.textarea_text.specs.Place.{IsPlace};
 ghost use Rattle.tui_textarea.specs.Moves.{IsMoved, IsScrolled, gone_to};
 ghost use Rattle.textarea_c.specs.Calls.{Calls, Goes, GoesBy, Reads, Sets};
 ghost use Rattle.textarea_c_data.specs.Numbers.{move_of, page_of};
@@ -85,6 +86,8 @@ pub extern "C" fn ta_cursor(
         (λ a b. Reads result a b) }
     ensures cursor { IfSome handle.old.stored.content
         (λ a. (row.new, column.new) ≡ a.area.document.cursor) }
+    ensures place { result ≡ 0 → IfSome handle.old.stored.content
+        (λ a. IsPlace a.area.document.text (row.new, column.new)) }
     ensures unwritten { result ≢ 0 → (row.new ≡ row.old) × (column.new ≡ column.old) }
 {
     on!(handle, alloc, editor => {

@@ -2,6 +2,9 @@
 ghost use Rattle.std.specs.Prelude.{◌≡◌, ◌≢◌, IfSome, MatchOption, MatchResult, is_some, length, map};
 ghost use Rattle.textarea_document.specs.Edits.{range_at_cursor};
 ghost use Rattle.textarea_ranges.specs.Lookup.{range_around};
+ghost use Rattle.textarea_ranges.specs.Order.{AreInOrder};
+ghost use Rattle.textarea_ranges.specs.Valid.{AreValid};
+ghost use Rattle.textarea_text.specs.Text.{lines};
 ghost use Rattle.tui_textarea.specs.Ranges.{cursor_normalized, atomic_range_removed};
 ghost use Rattle.textarea_c.specs.Calls.{Calls, Reads, SetsRanges, Tries, TriesBy};
 ghost use Rattle.textarea_c_data.specs.Copied.{written};
@@ -105,6 +108,10 @@ pub extern "C" fn ta_atomic_ranges(
     ensures ranges { IfSome handle.old.stored.content
         (λ a. (needed.new ≡ length a.area.document.ranges)
         × (out.new ≡ written out.old (map plain_range a.area.document.ranges))) }
+    ensures valid { IfSome handle.old.stored.content
+        (λ a. AreValid (lines a.area.document.text) a.area.document.ranges) }
+    ensures in_order { IfSome handle.old.stored.content
+        (λ a. AreInOrder a.area.document.ranges) }
     ensures unwritten { result ≢ 0 → (out.new ≡ out.old) × (needed.new ≡ needed.old) }
 {
     on!(handle, alloc, editor => {

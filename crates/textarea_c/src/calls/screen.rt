@@ -1,8 +1,13 @@
 //! The screen of a text area, and drawing on it.
-ghost use Rattle.std.specs.Prelude.{◌≡◌, ◌≢◌, ◌<◌, ◌==◌, ◌&&◌, ℕ, IfSome, MatchOption, None, Some, if◌then◌else◌, is_some, length};
+ghost use Rattle.std.specs.Prelude.{◌≡◌, ◌≢◌, ◌<◌, ◌≤◌, ◌==◌, ◌&&◌, ℕ, IfSome, MatchOption, None, Some, if◌then◌else◌, is_some, length};
 ghost use Rattle.textarea_screen.specs.Buffer.{Changes, KeepsOutside, area_of, cell_at};
 ghost use Rattle.textarea_screen.specs.Cell.{fresh_cell, with_symbol};
 ghost use Rattle.textarea_screen.specs.Rect.{contains};
+ghost use Rattle.textarea_screen.specs.declared.screen.cell.TheConstants.{INLINE_BYTES};
+ghost use Rattle.textarea_screen.specs.declared.screen.alignment.Alignment.TheVariants.{Left};
+ghost use Rattle.textarea_text.specs.Place.{IsPlace};
+ghost use Rattle.tui_textarea.specs.CaretHit.{IsCaretHit, IsCursorAtCaret};
+ghost use Rattle.tui_textarea.specs.CaretVisible.{IsCaretVisible};
 ghost use Rattle.tui_textarea.specs.Drawing.{IsRendered, widget_of};
 ghost use Rattle.tui_textarea.specs.Hit.{IsHitTest};
 ghost use Rattle.tui_textarea.specs.Rendered.{IsDrawn};
@@ -100,10 +105,11 @@ pub extern "C" fn ta_screen_put(
     text: &[u8],
     style: &Style,
 ) -> u32
-    ensures { Calls handle.old.stored.content result handle.new.stored.content
+    ensures put { Calls handle.old.stored.content result handle.new.stored.content
         (λ a b. Given (text_in text.now) (λ t. Given (style_of style.now) (λ s. Paints (λ before
         after. Changes before.screen after.screen (λ column row cell.
         if (column == x) && (row == y) then with_symbol t s cell else cell)))) result a b) }
+    ensures inline { IfSome (text_in text.now) (λ t. length t ≤ INLINE_BYTES → result ≢ 2) }
 {
     on!(handle, alloc, editor => match text_of(text) {
         Some(text) => match style.read() {
@@ -251,6 +257,8 @@ fn draw_in(editor: &mut Editor, area: Rect) -> u32
     ensures rendered { result ≡ 0 → IsRendered editor.old.area area editor.new.area }
     ensures drawn { result ≡ 0
         → IsDrawn (widget_of editor.new.area) area editor.old.screen editor.new.screen }
+    ensures back { result ≡ 0 → IsCaretHit (widget_of editor.new.area) }
+    ensures displayed { result ≡ 0 → IsCaretVisible (widget_of editor.new.area) }
     ensures outside { KeepsOutside (contains area) editor.old.screen editor.new.screen }
     ensures left { result ≢ 0 → (result ≡ 2) × (editor.new.area ≡ editor.old.area) }
     ensures rest { editor.new
@@ -308,8 +316,14 @@ pub extern "C" fn ta_cursor_at_position(
         (λ a b. (b ≡ a) × (result < 3)) }
     ensures hit { result ≡ 0 → IfSome handle.old.stored.content
         (λ a. IsHitTest (widget_of a.area) x y (Some (row.new, column.new))) }
+    ensures place { result ≡ 0 → IfSome handle.old.stored.content
+        (λ a. IsPlace a.area.document.text (row.new, column.new)) }
+    ensures back { result ≡ 0 → IfSome handle.old.stored.content
+        (λ a. IsCursorAtCaret (widget_of a.area) x y (Some (row.new, column.new))) }
     ensures none { result ≡ 1 → IfSome handle.old.stored.content
-        (λ a. IsHitTest (widget_of a.area) x y None) }
+        (λ a. IsHitTest (widget_of a.area) x y None × IsCursorAtCaret (widget_of a.area) x y None) }
+    ensures left { IfSome handle.old.stored.content
+        (λ a. a.area.drawing.look.alignment ≡ Left → result ≢ 2) }
     ensures unwritten { result ≢ 0 → (row.new ≡ row.old) × (column.new ≡ column.old) }
 {
     on!(handle, alloc, editor => find_position(&editor, Position { x, y }, row, column))
@@ -319,7 +333,12 @@ pub extern "C" fn ta_cursor_at_position(
 fn find_position(editor: &Editor, cell: Position, row: &mut usize, column: &mut usize) -> u32
     ensures hit { result ≡ 0
         → IsHitTest (widget_of editor.now.area) cell.x cell.y (Some (row.new, column.new)) }
-    ensures none { result ≡ 1 → IsHitTest (widget_of editor.now.area) cell.x cell.y None }
+    ensures place { result ≡ 0 → IsPlace editor.now.area.document.text (row.new, column.new) }
+    ensures back { result ≡ 0
+        → IsCursorAtCaret (widget_of editor.now.area) cell.x cell.y (Some (row.new, column.new)) }
+    ensures none { result ≡ 1 → IsHitTest (widget_of editor.now.area) cell.x cell.y None
+        × IsCursorAtCaret (widget_of editor.now.area) cell.x cell.y None }
+    ensures left { editor.now.area.drawing.look.alignment ≡ Left → result ≢ 2 }
     ensures status { result < 3 }
     ensures unwritten { result ≢ 0 → (row.new ≡ row.old) × (column.new ≡ column.old) }
 {

@@ -1,5 +1,6 @@
 //! The search pattern, and the searches for it.
 ghost use Rattle.std.specs.Prelude.{◌≡◌, ◌≢◌, IfSome, MatchOption, is_some, length, string_bytes};
+ghost use Rattle.textarea_text.specs.Place.{IsPlace};
 ghost use Rattle.tui_textarea.specs.Search.{next_match, previous_match, after_search};
 ghost use Rattle.textarea_c.specs.Calls.{Asks, Calls, Given, Patterns, Reads, Searches};
 ghost use Rattle.textarea_c.specs.Rejections.{IsRejection};
@@ -115,9 +116,11 @@ pub extern "C" fn ta_search_pattern(
 /// Statuses: ok (there was a match), false, out of memory, empty handle.
 #[unsafe(no_mangle)]
 pub extern "C" fn ta_search_forward(handle: &mut Handle, alloc: Global, match_cursor: bool) -> u32
-    ensures { Calls handle.old.stored.content result handle.new.stored.content
+    ensures found { Calls handle.old.stored.content result handle.new.stored.content
         (λ a b. Searches (is_some (next_match a.area match_cursor))
         (after_search a.area (next_match a.area match_cursor)) result a b) }
+    ensures place { result ≡ 0 → IfSome handle.old.stored.content
+        (λ a. IfSome (next_match a.area match_cursor) (IsPlace a.area.document.text)) }
 {
     on!(handle, alloc, editor => flag(editor.area.search_forward(match_cursor)))
 }
@@ -129,9 +132,11 @@ pub extern "C" fn ta_search_forward(handle: &mut Handle, alloc: Global, match_cu
 /// Statuses: ok (there was a match), false, out of memory, empty handle.
 #[unsafe(no_mangle)]
 pub extern "C" fn ta_search_back(handle: &mut Handle, alloc: Global, match_cursor: bool) -> u32
-    ensures { Calls handle.old.stored.content result handle.new.stored.content
+    ensures found { Calls handle.old.stored.content result handle.new.stored.content
         (λ a b. Searches (is_some (previous_match a.area match_cursor))
         (after_search a.area (previous_match a.area match_cursor)) result a b) }
+    ensures place { result ≡ 0 → IfSome handle.old.stored.content
+        (λ a. IfSome (previous_match a.area match_cursor) (IsPlace a.area.document.text)) }
 {
     on!(handle, alloc, editor => flag(editor.area.search_back(match_cursor)))
 }

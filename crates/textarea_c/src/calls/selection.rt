@@ -3,6 +3,7 @@ ghost use Rattle.std.specs.Prelude.{◌≡◌, ◌≢◌, IfSome, MatchOption, i
 ghost use Rattle.std.specs.Str.{chars};
 ghost use Rattle.textarea_document.specs.Selection.{selection};
 ghost use Rattle.textarea_text.specs.Fragment.{fragment_symbols, fragment_text};
+ghost use Rattle.textarea_text.specs.Place.{IsPlace};
 ghost use Rattle.textarea_c.specs.Calls.{Answers, Asks, Calls, ChangesBy, Copies};
 ghost use Rattle.textarea_c_data.specs.Lines.{AreCharactersOut};
 ghost use Rattle.textarea_c_data.specs.Texts.{text_in};
@@ -42,6 +43,9 @@ pub extern "C" fn ta_selection_range(
         (λ a. MatchOption (selection a.area.document) (result ≡ 1)
         (λ ends. (result ≡ 0) × ((start_row.new, start_column.new) ≡ ends.0)
         × ((end_row.new, end_column.new) ≡ ends.1))) }
+    ensures places { result ≡ 0 → IfSome handle.old.stored.content
+        (λ a. IsPlace a.area.document.text (start_row.new, start_column.new)
+        × IsPlace a.area.document.text (end_row.new, end_column.new)) }
     ensures unwritten { result ≢ 0 → (start_row.new ≡ start_row.old)
         × (start_column.new ≡ start_column.old) × (end_row.new ≡ end_row.old)
         × (end_column.new ≡ end_column.old) }

@@ -1,5 +1,5 @@
 //! The surround: a block around the text, a placeholder for an empty text, and height limits.
-ghost use Rattle.std.specs.Prelude.{◌≡◌, ◌≢◌, IfSome, MatchOption, None, Some, length, map, option_map};
+ghost use Rattle.std.specs.Prelude.{◌≡◌, ◌≢◌, [], IfSome, MatchOption, None, Some, length, map, option_map};
 ghost use Rattle.textarea_screen.specs.Block.{block_view};
 ghost use Rattle.textarea_screen.specs.Text.{text_view};
 ghost use Rattle.textarea_view.specs.SurroundState.{first_bytes, style_with_lines};
@@ -117,9 +117,10 @@ pub extern "C" fn ta_block(
 /// Statuses: ok, out of memory, invalid argument (the text is not UTF-8), empty handle.
 #[unsafe(no_mangle)]
 pub extern "C" fn ta_set_placeholder_text(handle: &mut Handle, alloc: Global, text: &[u8]) -> u32
-    ensures { Calls handle.old.stored.content result handle.new.stored.content
+    ensures set { Calls handle.old.stored.content result handle.new.stored.content
         (λ a b. ChangesBy (text_in text.now)
         (λ t. with_surround a.area (with_placeholder_text a.area.surround t)) result a b) }
+    ensures empty { IfSome (text_in text.now) (λ t. t ≡ [] → result ≢ 2) }
 {
     on!(handle, alloc, editor => match text_of(text) {
         Some(text) => done(editor.area.set_placeholder_text(text)),

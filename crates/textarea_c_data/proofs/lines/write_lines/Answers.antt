@@ -33,5 +33,6 @@ loop-row-preserved c =
       ends =
           subst (λ (ends : List ℕ). written_at (row + 1) ends (ends_of (used + count) rest) ≡ written c.args.ends.now (ends_of 0 (texts_of (lines_of all))))
           (sym c.put.ensures.out)
-          (end_out row used count c.loop-row.ends text rest _ counted (subst (λ (ts : List (List ℕ)). written_at row c.loop-row.ends (ends_of used ts) ≡ written c.args.ends.now (ends_of 0 (texts_of (lines_of all)))) texts c.loop-row.invariant.ends));
+          (end_out row used count c.loop-row.ends text rest _ counted
+          (subst (λ (ts : List (List ℕ)). written_at row c.loop-row.ends (ends_of used ts) ≡ written c.args.ends.now (ends_of 0 (texts_of (lines_of all)))) texts c.loop-row.invariant.ends));
     }

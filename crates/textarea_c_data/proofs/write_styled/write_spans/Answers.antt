@@ -25,7 +25,8 @@ loop-span-preserved c =
           subst (λ spans. f.0 + length (bytes_of (map span_view spans)) ≡ at + length (bytes_of (map span_view all))) left f.2 in
           let out : written_at f.0 c.loop-span.text (bytes_of (map span_view (span ∷ rest))) ≡ written_at at c.args.text.now (bytes_of (map span_view all)) =
           subst (λ spans. written_at f.0 c.loop-span.text (bytes_of (map span_view spans)) ≡ written_at at c.args.text.now (bytes_of (map span_view all))) left f.3 in
-          let next = next_out f.0 n c.loop-span.bytes c.saturating_add-bytes.result _ c.loop-span.text bytes (bytes_of (map span_view rest)) _ f.1 (ap length content_is) (omega (arith, c.saturating_add-bytes.ensures)) c.copy_at.ensures.room sum out in (
+          let next = next_out f.0 n c.loop-span.bytes c.saturating_add-bytes.result _ c.loop-span.text bytes (bytes_of (map span_view rest)) _ f.1
+          (ap length content_is) (omega (arith, c.saturating_add-bytes.ensures)) c.copy_at.ensures.room sum out in (
             f.0 + n,
             next.0,
             next.1,
@@ -38,7 +39,8 @@ loop-span-preserved c =
           let sum : f.0 + length (span ∷ rest) ≡ at + length all = subst (λ spans. f.0 + length spans ≡ at + length all) left f.2 in
           let out : written_at f.0 c.loop-span.out (map plain_span (map span_view (span ∷ rest))) ≡ written_at at c.args.out.now (map plain_span (map span_view all)) =
           subst (λ spans. written_at f.0 c.loop-span.out (map plain_span (map span_view spans)) ≡ written_at at c.args.out.now (map plain_span (map span_view all))) left f.3 in
-          let next = next_out f.0 1 c.loop-span.count c.saturating_add-count.result (at + length all) c.loop-span.out (plain_span (span_view span) ∷ []) (map plain_span views) _ f.1 refl (omega (arith, c.saturating_add-count.ensures)) c.put.ensures.room
+          let next = next_out f.0 1 c.loop-span.count c.saturating_add-count.result (at + length all) c.loop-span.out (plain_span (span_view span) ∷ []) (map plain_span views) _ f.1 refl
+          (omega (arith, c.saturating_add-count.ensures)) c.put.ensures.room
           (omega (arith, sum, length-map views plain_span, length-map rest span_view)) out in (
             f.0 + 1,
             next.0,

@@ -1,10 +1,13 @@
+use Rattle.textarea_calls.specs.declared.call.Call.TheVariants as call
 use Rattle.tui_textarea.specs.Removals.{has_word_after, removes_or, unselected_or, word_after_removed}
-use Rattle.textarea_c.specs.Calls.{Tries}
-use Rattle.textarea_c.proofs.Tried.{lifted}
+use Rattle.textarea_c.specs.Calls.{MakesAttempt, with_area}
+use Rattle.textarea_c.proofs.Tried.{lifted, tried}
 use Rattle.textarea_c.proofs.calls.removals.ta_delete_next_word.Goals as goal
 
 pub returns : goal.returns
 returns c =
-    lifted c.args.handle.now.stored.content c.put.new.self.stored.content c.remove_word_after-status.result
-    (λ a b. Tries (removes_or a.area (has_word_after a.area)) (unselected_or a.area (word_after_removed a.area)) c.remove_word_after-status.result a b)
-    c.in-Some.editor.value c.remove_word_after-status.new.editor c.deref_mut.result.now c.in-Some.ensures.taken c.deref_mut.ensures.value c.put.ensures c.remove_word_after-status.ensures
+    let a = c.deref_mut.result.now in let removed = c.delete_next_word.ensures in
+    lifted c.args.handle.now.stored.content c.put.new.self.stored.content c.flag-status.result (λ a b. MakesAttempt call.DeleteNextWord c.flag-status.result a b)
+    c.in-Some.editor.value (with_area a c.delete_next_word.new.self) a c.in-Some.ensures.taken c.deref_mut.ensures.value c.put.ensures
+    (tried c.delete_next_word.result c.flag-status.result (removes_or a.area (has_word_after a.area)) (unselected_or a.area (word_after_removed a.area)) c.delete_next_word.new.self a
+    removed.removed removed.ok removed.err removed.nothing c.flag-status.ensures.ok c.flag-status.ensures.no_memory)
