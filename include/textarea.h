@@ -53,7 +53,7 @@ enum {
     TA_PATTERN_REJECTED = 3,
     /** The atomic ranges are not valid for the text. */
     TA_RANGES_REJECTED = 4,
-    /** There is no text area behind the handle. */
+    /** There is nothing behind the handle. */
     TA_EMPTY_HANDLE = 5,
     /** An argument has a value that its type in C allows, but the call does not. */
     TA_INVALID_ARGUMENT = 6,

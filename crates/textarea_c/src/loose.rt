@@ -1,4 +1,4 @@
-//! A box as its pointer.
+//! A box as its pointer, for both handles.
 ghost use Rattle.std.specs.Prelude.{◌≡◌};
 ghost use Rattle.std.specs.Box.Ownership.{box_owns};
 

@@ -1,4 +1,5 @@
-//! The pointer in a handle, and what is behind it.
+//! The pointers in handles, and what is behind them. Each handle has its own struct, since a struct
+//! that crosses to C can't be generic.
 ghost use Rattle.std.specs.Prelude.{◌≡◌, Option, Some, None, IsSome};
 ghost use Rattle.textarea_c.specs.declared.editor.Editor.{Editor};
 ghost use Rattle.textarea_c.specs.contracts.editor.Editor.{the_row as editor};

@@ -19,7 +19,7 @@ pub const PATTERN_REJECTED: u32 = 3;
 /// The atomic ranges are not valid for the text.
 pub const RANGES_REJECTED: u32 = 4;
 
-/// There is no text area behind the handle.
+/// There is nothing behind the handle.
 pub const EMPTY_HANDLE: u32 = 5;
 
 /// An argument has a value that its type in C allows, but the call does not.

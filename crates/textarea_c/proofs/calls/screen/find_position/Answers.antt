@@ -14,8 +14,7 @@ returns-in-Ok-clause-back c = λ ok.
 
 pub returns-in-Ok-clause-none : goal.returns-in-Ok-clause-none
 returns-in-Ok-clause-none c = λ ok.
-    let none = c.write_place.ensures.none ok in
-    (
+    let none = c.write_place.ensures.none ok in (
       subst (λ (found : Option (ℕ × ℕ)). IsHitTest (widget_of c.args.editor.now.area) c.args.cell.x c.args.cell.y found) none c.in-Ok.ensures.hit,
       subst (λ (found : Option (ℕ × ℕ)). IsCursorAtCaret (widget_of c.args.editor.now.area) c.args.cell.x c.args.cell.y found) none c.in-Ok.ensures.back,
     )
