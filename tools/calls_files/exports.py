@@ -71,7 +71,7 @@ def style_setter(call):
         "    None => INVALID_ARGUMENT,",
         "}",
     ]
-    clauses = makes(f"MakesSettingBy (style_of style.now) call.{call.variant}")
+    clauses = makes(f"MakesSettingBy (style_of_numbers style.now) call.{call.variant}")
     return Form(["style: &Style"], clauses, body, "ok, invalid argument (a colour's kind does not exist), empty handle")
 
 
@@ -81,14 +81,14 @@ def reader(call, made):
     if call.result == "bool":
         return Form([], makes(f"Answers (flag_of {found})"), [f"truth({made})"], "ok (true), false, empty handle")
     if call.result == "Style":
-        out, value, written = "style", f"style_of style.new ≡ style_in {found}", f"Style::of({made})"
+        out, value, written = "style", f"style_of_numbers style.new ≡ style_in {found}", f"Style::of({made})"
     elif call.result in NUMBERS:
         out, value, written = call.name, f"{call.name}.new ≡ number_in {found}", made
     else:
         stop(f"{TABLE}: there is no plain export of `{call.name}`")
     clauses = [
         f"ensures unchanged {{ {HANDLE}",
-        "    (λ a b. Reads result a b) }",
+        "    (λ a b. OnlyReads result a b) }",
         "ensures value { IfSome handle.old.stored.content",
         f"    (λ a. {value}) }}",
         f"ensures unwritten {{ result ≢ 0 → {out}.new ≡ {out}.old }}",
@@ -120,8 +120,8 @@ GHOSTS = {
     "Rattle.std.specs.Prelude": ["◌≡◌", "◌≢◌", "IfSome"],
     "Rattle.tui_textarea.specs.Calls": ["result_of_call"],
     "Rattle.tui_textarea.specs.Input": ["flag_of"],
-    "Rattle.textarea_c.specs.Calls": "Answers Calls MakesAttempt MakesChange MakesSetting MakesSettingBy Reads number_in style_in".split(),
-    "Rattle.textarea_c_data.specs.Styles": ["style_of"],
+    "Rattle.textarea_c.specs.Calls": "Answers Calls MakesAttempt MakesChange MakesSetting MakesSettingBy OnlyReads number_in style_in".split(),
+    "Rattle.textarea_c_data.specs.Styles": ["style_of_numbers"],
 }
 STATUSES = ["INVALID_ARGUMENT", "OK", "done", "flag", "truth"]
 

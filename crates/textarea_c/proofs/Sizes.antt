@@ -8,13 +8,13 @@ use Rattle.std.proofs.lemmas.Str.{IsUtf8-string_bytes, encodes-chars}
 use Rattle.std_alloc.proofs.Concat.{String-len_is}
 use Rattle.textarea_text.specs.Size.{size_of}
 use Rattle.textarea_text.specs.Text.{lines_of}
-use Rattle.textarea_c_data.specs.Lines.{texts_of}
+use Rattle.textarea_c_data.specs.Lines.{encoded_lines}
 
 -- the bytes that are written for lines, and the number of these, are their size
-pub size_written : {Z : Type 0} (lines : List (String Z)) → length (concat (texts_of (lines_of lines))) + length lines ≡ size_of lines
+pub size_written : {Z : Type 0} (lines : List (String Z)) → length (concat (encoded_lines (lines_of lines))) + length lines ≡ size_of lines
 size_written [] = refl
 size_written (line ∷ lines) =
     let bytes = string_bytes line in
     let first : length (encode_utf8_all (chars bytes)) ≡ string_len line = ap length (encodes-chars bytes (IsUtf8-string_bytes line)) ∙ sym (String-len_is line) in
     let rest = size_written lines in
-    let both = length-append (encode_utf8_all (chars bytes)) (concat (texts_of (lines_of lines))) in omega (arith, first, rest, both)
+    let both = length-append (encode_utf8_all (chars bytes)) (concat (encoded_lines (lines_of lines))) in omega (arith, first, rest, both)

@@ -11,7 +11,7 @@ use Rattle.textarea_text.specs.Text.{lines}
 use Rattle.tui_textarea.specs.Ranges.{ranges_accepted}
 use Rattle.tui_textarea.specs.State.{State}
 use Rattle.textarea_c.specs.declared.editor.Editor.{Editor}
-use Rattle.textarea_c.specs.Calls.{Calls, SetsRanges, Tells, Tries, with_area}
+use Rattle.textarea_c.specs.Calls.{Calls, SetsValidRanges, Tells, Tries, with_area}
 use Rattle.textarea_c_data.specs.Ranges.{IsRangeOut}
 use Rattle.textarea_c_data.specs.declared.range.Range.{Range}
 use Rattle.textarea_util.proofs.Options.{none_of_test}
@@ -60,7 +60,7 @@ pub ranges_set : {T : Type 0} (outcome : Result T AtomicRangeError) (status : �
     → MatchResult outcome (λ _. AreValid (lines a.area.document.text) ranges) (λ error. AreRejected (lines a.area.document.text) ranges error.rejected.items)
     → OnOk outcome (b.area ≡ ranges_accepted a.area ranges) → OnErr outcome (b.area ≡ a.area)
     → MatchResult outcome (λ _. (status ≡ 0) × (b.rejected ≡ a.rejected)) (λ error. (status ≡ 4) × (b.rejected ≡ error.rejected))
-    → b ≡ record a { area = b.area; rejected = b.rejected } → SetsRanges ranges status a b
+    → b ≡ record a { area = b.area; rejected = b.rejected } → SetsValidRanges ranges status a b
 ranges_set (Ok done) status ranges a b judged set left stored rest =
     ((λ _. (judged, rest ∙ ap₂ (λ area rejected. record a { area = area; rejected = rejected }) set stored.1)), (λ four. absurd (omega arith)), (λ none four. absurd (none stored.0)))
 ranges_set (Err error) status ranges a b judged set left stored rest = (

@@ -31,8 +31,8 @@ abbrev pub with_area : Editor → State → Editor
 with_area editor area = record editor { area = area }
 
 -- a call that changes nothing
-abbrev pub Reads : {A : Type 0} → ℕ → A → A → Type 0
-Reads status a b = (status ≡ 0) × (b ≡ a)
+abbrev pub OnlyReads : {A : Type 0} → ℕ → A → A → Type 0
+OnlyReads status a b = (status ≡ 0) × (b ≡ a)
 
 -- a call that changes nothing, of something that may not be there
 abbrev pub Asks : ℕ → Editor → Editor → Type 0
@@ -84,8 +84,8 @@ ChangesIf argument area status a b =
 abbrev pub with_block : State → BlockView → State
 with_block state block = with_surround state (record state.surround { block = Some block })
 
-abbrev pub with_placeholder : State → TextView → State
-with_placeholder state placeholder = with_surround state (record state.surround { placeholder = placeholder })
+abbrev pub with_placeholder_text : State → TextView → State
+with_placeholder_text state placeholder = with_surround state (record state.surround { placeholder = placeholder })
 
 -- the status says whether there was something to do; without it no memory is needed
 abbrev pub Tells : Bool → ℕ → Type 0
@@ -152,8 +152,8 @@ Patterns text status a b =
     × (status ≢ 0 → status ≢ 3 → (status ≡ 2) × (b ≡ a)) × (status ≢ 0 → IsNewPattern a.area text)
 
 -- setting ranges: only valid ones are set; the rejected ones of others are stored
-abbrev pub SetsRanges : List AtomicRange → ℕ → Editor → Editor → Type 0
-SetsRanges ranges status a b =
+abbrev pub SetsValidRanges : List AtomicRange → ℕ → Editor → Editor → Type 0
+SetsValidRanges ranges status a b =
     (status ≡ 0 → AreValid (lines a.area.document.text) ranges × (b ≡ with_area a (ranges_accepted a.area ranges)))
     × (status ≡ 4 → AreRejected (lines a.area.document.text) ranges b.rejected.items × (b ≡ record a { rejected = b.rejected }))
     × (status ≢ 0 → status ≢ 4 → (status ≡ 2) × (b ≡ a))

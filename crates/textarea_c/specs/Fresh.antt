@@ -16,10 +16,10 @@ pub record IsEditorOf (area : State) (editor : Editor) : Type 0 where
   pub error_is : string_bytes editor.pattern_error ≡ []
 
 -- a new text area with the text of a file
-abbrev pub with_text : List ℕ → State
-with_text text = new_state (without_last_break (fragment_symbols (chars text)))
+abbrev pub state_of_file : List ℕ → State
+state_of_file text = new_state (without_last_break (fragment_symbols (chars text)))
 
 -- an editor with this text is made behind the handle
 abbrev pub Loads : Option (List ℕ) → Option Editor → ℕ → Option Editor → Type 0
 Loads text before status after =
-    MatchOption text ((status ≡ 6) × (after ≡ before)) (λ t. Makes (IsEditorOf (with_text t)) before status after)
+    MatchOption text ((status ≡ 6) × (after ≡ before)) (λ t. Makes (IsEditorOf (state_of_file t)) before status after)

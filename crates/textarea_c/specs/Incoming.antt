@@ -1,7 +1,7 @@
 -- What a terminal sent, behind a handle.
 use Rattle.std.specs.Prelude.{ℕ, List, [], ◌∷◌, ◌++◌, Option, Some, None}
 use Rattle.textarea_terminal.specs.InputEvent.{EventValue, paste}
-use Rattle.textarea_terminal.specs.InputState.{DecoderState, new_state, with_expected}
+use Rattle.textarea_terminal.specs.InputState.{DecoderState, new_decoder, with_expected}
 use Rattle.textarea_terminal.specs.declared.input.reply.Expected.{Expected}
 use Rattle.textarea_c_data.specs.Events.{plain_event}
 use Rattle.textarea_c_data.specs.declared.event.Event.{Event}
@@ -13,7 +13,7 @@ pub record IncomingState : Type 0 where
   pub pasted : List ℕ
 
 abbrev pub new_incoming : IncomingState
-new_incoming = record { decoder = new_state; events = []; pasted = [] }
+new_incoming = record { decoder = new_decoder; events = []; pasted = [] }
 
 -- the decoder's step is made, and its events wait after the others
 abbrev pub after_decoding : IncomingState → List EventValue × DecoderState → IncomingState

@@ -6,7 +6,7 @@ use Rattle.textarea_document.specs.DocumentState.{fresh_document}
 use Rattle.tui_textarea.specs.State.{State, with_other_lines}
 
 -- these lines replace the old ones, as `set_lines` says
-abbrev pub with_lines : State → List (List ℕ) → ℕ × ℕ → State
-with_lines state lines cursor =
+abbrev pub with_copied_lines : State → List (List ℕ) → ℕ × ℕ → State
+with_copied_lines state lines cursor =
     with_other_lines state
     (fresh_document (joined lines) state.document.layout.settings state.document.layout.count (clip lines cursor) state.document.log.maximum)

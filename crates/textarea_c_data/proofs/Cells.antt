@@ -10,7 +10,7 @@ use Rattle.textarea_screen.specs.Cell.{CellView, cell_view, fresh_cell}
 use Rattle.textarea_screen.specs.Rect.{contains}
 use Rattle.textarea_screen.specs.declared.screen.buffer.Buffer.{Buffer}
 use Rattle.textarea_screen.specs.declared.screen.cell.Cell.{Cell as ScreenCell}
-use Rattle.textarea_c_data.specs.Cells.{plain_cell, plain_cells, plain_row, plain_rows, plain_screen_cell}
+use Rattle.textarea_c_data.specs.Cells.{plain_cell, plain_cells, row_for_c, plain_rows, plain_screen_cell}
 
 -- the list has the buffer's cells, row after row
 abbrev pub AreCellsOf : Buffer → List ScreenCell → Type 0
@@ -30,7 +30,7 @@ from_index (c ∷ cells) (suc i) (suc n) cell inside next is = from_index cells 
 -- a row of the screen begins the cells from its first one on
 row_is : (screen : Buffer) (cells : List ScreenCell) (y x count i n : ℕ) → AreCellsOf screen cells → (area_of screen).y ≤ y → y < (area_of screen).y + (area_of screen).height
     → (area_of screen).x ≤ x → x + count ≡ (area_of screen).x + (area_of screen).width → i ≡ place_in (area_of screen) x y → n ≡ i + count → n ≤ length cells
-    → map plain_screen_cell (drop i cells) ≡ plain_row screen y x count ++ map plain_screen_cell (drop n cells)
+    → map plain_screen_cell (drop i cells) ≡ row_for_c screen y x count ++ map plain_screen_cell (drop n cells)
 row_is screen cells y x zero i n are top bottom left right at after room = let same : n ≡ i = omega arith in rw same refl
 row_is screen cells y x (suc count) i n are top bottom left right at after room =
     let inside : contains (area_of screen) x y ≡ true = grind (arith, nat_tests) in
@@ -49,7 +49,7 @@ rows_are screen cells y (suc count) i are top bottom at all =
     let next : (y + 1 - (area_of screen).y) * width ≡ (y - (area_of screen).y) * width + width =
     (let one : y + 1 - (area_of screen).y ≡ (y - (area_of screen).y) + 1 = omega arith in rw one (omega (arith, add-mul (y - (area_of screen).y) 1 width))) in
     row_is screen cells y (area_of screen).x width i (i + width) are top (omega arith) (omega arith) refl (omega (arith, at)) refl (omega (arith, all))
-    ∙ ap (λ rest. plain_row screen y (area_of screen).x width ++ rest)
+    ∙ ap (λ rest. row_for_c screen y (area_of screen).x width ++ rest)
     (rows_are screen cells (y + 1) count (i + width) are (omega arith) (omega arith) (omega (arith, at, next)) (omega (arith, all)))
 
 -- all cells of the screen

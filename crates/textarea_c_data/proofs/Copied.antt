@@ -1,14 +1,14 @@
 -- Items that are written into a slice, one after another.
 use Rattle.std.proofs.Common.{◌≡◌, ◌≤◌, ◌<◌, ℕ, zero, suc, ◌+◌, List, [], ◌∷◌, ◌++◌, length, take, drop, set, get_or, map, min, refl, ap, subst, arith}
-use Rattle.textarea_c_data.specs.Copied.{written, written_at}
+use Rattle.textarea_c_data.specs.Copied.{copied_over, written_at}
 
 -- no room, nothing written
-pub written_none : {A : Type 0} (xs : List A) → written [] xs ≡ []
+pub written_none : {A : Type 0} (xs : List A) → copied_over [] xs ≡ []
 written_none [] = refl
 written_none (x ∷ xs) = refl
 
 -- a copy of as many items as there is room for
-pub copied_is : {A : Type 0} (xs out : List A) (n : ℕ) → n ≡ min (length xs) (length out) → take n xs ++ drop n out ≡ written out xs
+pub copied_is : {A : Type 0} (xs out : List A) (n : ℕ) → n ≡ min (length xs) (length out) → take n xs ++ drop n out ≡ copied_over out xs
 copied_is [] out n is = let none : n ≡ 0 = omega arith in rw none refl
 copied_is (x ∷ xs) [] n is = let none : n ≡ 0 = omega arith in rw none refl
 copied_is (x ∷ xs) (o ∷ out) zero is = absurd (omega arith)
@@ -28,7 +28,7 @@ set_is_written zero (o ∷ out) x inside = refl
 set_is_written {A} (suc n) (o ∷ out) x inside = let less : n < length out = omega arith in ap (λ (r : List A). o ∷ r) (set_is_written n out x less)
 
 -- what is written after other items
-written_more : {A : Type 0} (out xs ys : List A) → take (length xs) (written out xs) ++ written (drop (length xs) (written out xs)) ys ≡ written out (xs ++ ys)
+written_more : {A : Type 0} (out xs ys : List A) → take (length xs) (copied_over out xs) ++ copied_over (drop (length xs) (copied_over out xs)) ys ≡ copied_over out (xs ++ ys)
 written_more out [] ys = refl
 written_more [] (x ∷ xs) ys = written_none ys
 written_more {A} (o ∷ out) (x ∷ xs) ys = ap (λ (r : List A). x ∷ r) (written_more out xs ys)

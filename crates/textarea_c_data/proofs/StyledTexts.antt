@@ -8,8 +8,8 @@ use Rattle.textarea_screen.specs.declared.screen.text.SpanText.{SpanText}
 use Rattle.textarea_screen.specs.declared.screen.text.SpanText.TheVariants.{Borrowed, Owned}
 use Rattle.textarea_view.specs.SurroundState.{span_bytes}
 use Rattle.textarea_c_data.specs.Copied.{saturated, written_at}
-use Rattle.textarea_c_data.specs.Spans.{bytes_of, lines_read, line_read, own_spans_read, span_read, spans_end, spans_read}
-use Rattle.textarea_c_data.specs.Styles.{style_of}
+use Rattle.textarea_c_data.specs.Spans.{joined_texts, lines_read, line_read, own_spans_read, span_read, spans_end, spans_read}
+use Rattle.textarea_c_data.specs.Styles.{style_of_numbers}
 use Rattle.textarea_c_data.specs.Texts.{all_read, items_between, text_between}
 use Rattle.textarea_c_data.specs.declared.color.Color.{Color}
 use Rattle.textarea_c_data.specs.declared.spans.Line.{Line}
@@ -29,7 +29,7 @@ span_more text from xs span spans v is =
     (sym is) (read_more xs v (spans_read text (from + span.bytes) spans))
 
 pub line_more : (text : List ℕ) (from : ℕ) (spans : List Span) (first : ℕ) (xs : List LineView) (line : Line) (lines : List Line) (v : LineView) (after : ℕ)
-    → line_read (own_spans_read text from (items_between spans first (first + line.spans))) (style_of line.style) ≡ Some v → after ≡ spans_end from (slice_range spans first (first + line.spans))
+    → line_read (own_spans_read text from (items_between spans first (first + line.spans))) (style_of_numbers line.style) ≡ Some v → after ≡ spans_end from (slice_range spans first (first + line.spans))
     → option_map (λ rest. (xs ++ v ∷ []) ++ rest) (lines_read text after spans (first + line.spans) lines) ≡ option_map (λ rest. xs ++ rest) (lines_read text from spans first (line ∷ lines))
 line_more text from spans first xs line lines v after is end =
     let next = spans_end from (slice_range spans first (first + line.spans)) in
@@ -47,9 +47,9 @@ written_at_saturated at index out xs is room =
     ]
 
 -- the bytes of spans one after another
-pub bytes_append : (a b : List SpanView) → bytes_of (a ++ b) ≡ bytes_of a ++ bytes_of b
+pub bytes_append : (a b : List SpanView) → joined_texts (a ++ b) ≡ joined_texts a ++ joined_texts b
 bytes_append [] b = refl
-bytes_append (span ∷ a) b = ap (λ (r : List ℕ). span_bytes span.content ++ r) (bytes_append a b) ∙ sym (append_assoc (span_bytes span.content) (bytes_of a) (bytes_of b))
+bytes_append (span ∷ a) b = ap (λ (r : List ℕ). span_bytes span.content ++ r) (bytes_append a b) ∙ sym (append_assoc (span_bytes span.content) (joined_texts a) (joined_texts b))
 
 -- after the first items the others lead to the same slice, with places that stand for those past the greatest number
 pub next_out : {A : Type 0} (here n index next total : ℕ) (out items rest whole : List A) → index ≡ saturated here → n ≡ length items → next ≡ saturated (index + n) → length out ≤ 18446744073709551615
@@ -68,7 +68,7 @@ bytes_are (Owned text) = refl
 
 -- a line that can't be read ends the reading
 pub lines_past : (text : List ℕ) (from : ℕ) (spans : List Span) (first : ℕ) (xs : List LineView) (lines : List Line) (i : ℕ) (d : Line) (total : Option (List LineView)) → i < length lines
-    → line_read (own_spans_read text from (items_between spans first (first + (get_or lines i d).spans))) (style_of (get_or lines i d).style) ≡ None
+    → line_read (own_spans_read text from (items_between spans first (first + (get_or lines i d).spans))) (style_of_numbers (get_or lines i d).style) ≡ None
     → option_map (λ rest. xs ++ rest) (lines_read text from spans first (drop i lines)) ≡ total → None ≡ total
 lines_past text from spans first xs lines i d total inside none h =
     let line = get_or lines i d in let next = lines_read text (spans_end from (slice_range spans first (first + line.spans))) spans (first + line.spans) (drop (i + 1) lines) in

@@ -6,7 +6,7 @@ use Rattle.textarea_screen.specs.declared.screen.buffer.Buffer.{Buffer}
 use Rattle.textarea_screen.specs.declared.screen.cell.Cell.{Cell as ScreenCell}
 use Rattle.textarea_c_data.specs.declared.cell.Cell.{Cell}
 use Rattle.textarea_c_data.specs.Styles.{plain_color}
-use Rattle.textarea_c_data.specs.Copied.{written}
+use Rattle.textarea_c_data.specs.Copied.{copied_over}
 
 -- a cell as C gets it: its colours, its modifiers, the length of its text, and the first bytes of it
 abbrev pub plain_cell : CellView → Cell
@@ -15,21 +15,21 @@ plain_cell cell = record {
   bg = plain_color (Some cell.bg);
   modifier = cell.modifier.0;
   bytes = min (length cell.symbol) 65535;
-  symbol = written (replicate 24 0) cell.symbol;
+  symbol = copied_over (replicate 24 0) cell.symbol;
 }
 
 abbrev pub plain_screen_cell : ScreenCell → Cell
 plain_screen_cell cell = plain_cell (cell_view cell)
 
 -- this many cells of a row of the screen, from a column on
-abbrev pub plain_row : Buffer → ℕ → ℕ → ℕ → List Cell
-plain_row screen y x zero = []
-plain_row screen y x (suc count) = plain_cell (unwrap_or (cell_at screen x y) fresh_cell) ∷ plain_row screen y (x + 1) count
+abbrev pub row_for_c : Buffer → ℕ → ℕ → ℕ → List Cell
+row_for_c screen y x zero = []
+row_for_c screen y x (suc count) = plain_cell (unwrap_or (cell_at screen x y) fresh_cell) ∷ row_for_c screen y (x + 1) count
 
 -- all cells of this many rows of the screen, from a row on
 abbrev pub plain_rows : Buffer → ℕ → ℕ → List Cell
 plain_rows screen y zero = []
-plain_rows screen y (suc count) = plain_row screen y (area_of screen).x (area_of screen).width ++ plain_rows screen (y + 1) count
+plain_rows screen y (suc count) = row_for_c screen y (area_of screen).x (area_of screen).width ++ plain_rows screen (y + 1) count
 
 -- all cells of the screen, row after row
 abbrev pub plain_cells : Buffer → List Cell

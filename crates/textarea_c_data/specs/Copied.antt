@@ -2,14 +2,14 @@
 use Rattle.std.specs.Prelude.{ℕ, ◌+◌, List, [], ◌∷◌, ◌++◌, length, take, drop, min}
 
 -- the items over the slice from its start on, as many as there is room for
-abbrev pub written : {A : Type 0} → List A → List A → List A
-written out [] = out
-written [] (x ∷ items) = []
-written (o ∷ out) (x ∷ items) = x ∷ written out items
+abbrev pub copied_over : {A : Type 0} → List A → List A → List A
+copied_over out [] = out
+copied_over [] (x ∷ items) = []
+copied_over (o ∷ out) (x ∷ items) = x ∷ copied_over out items
 
 -- the items over the slice from this index on
 abbrev pub written_at : {A : Type 0} → ℕ → List A → List A → List A
-written_at start out items = take start out ++ written (drop start out) items
+written_at start out items = take start out ++ copied_over (drop start out) items
 
 -- the index after each of the lists, where the first begins at `start`
 abbrev pub ends_of : {A : Type 0} → ℕ → List (List A) → List ℕ

@@ -15,13 +15,13 @@ plain_keys =
     ∷ (19, key.MouseScrollDown) ∷ (20, key.MouseScrollUp) ∷ []
 
 -- the character of a number, unless it is a surrogate or too large
-abbrev pub character_of : ℕ → Option ℕ
-character_of number = if scalar number then Some number else None
+abbrev pub character_of_number : ℕ → Option ℕ
+character_of_number number = if scalar number then Some number else None
 
 -- the key of a number; 1 is that of a character, and 2 that of a function key
 abbrev pub key_read : ℕ → ℕ → Option Key
 key_read number argument =
-    if number == 1 then option_map key.Char (character_of argument)
+    if number == 1 then option_map key.Char (character_of_number argument)
     else if number == 2 then (if nat_lt argument 256 then Some (key.F argument) else None)
     else value_of_number plain_keys number
 

@@ -14,25 +14,25 @@ use Rattle.textarea_terminal.specs.declared.output.colors.Colors.{Colors}
 use Rattle.textarea_terminal.specs.declared.output.colors.Colors.TheVariants as colors
 use Rattle.textarea_c_data.specs.Tables.{value_of_number}
 
-abbrev pub moves : List (ℕ × CursorMove)
-moves =
+abbrev pub numbered_moves : List (ℕ × CursorMove)
+numbered_moves =
     (0, move.Forward) ∷ (1, move.Back) ∷ (2, move.Up) ∷ (3, move.Down) ∷ (4, move.Head) ∷ (5, move.End) ∷ (6, move.Top) ∷ (7, move.Bottom)
     ∷ (8, move.WordForward) ∷ (9, move.WordEnd) ∷ (10, move.WordBack) ∷ (11, move.ParagraphForward) ∷ (12, move.ParagraphBack) ∷ (13, move.InViewport) ∷ []
 
 abbrev pub move_of : ℕ → Option CursorMove
-move_of = value_of_number moves
+move_of = value_of_number numbered_moves
 
-abbrev pub pages : List (ℕ × Scrolling)
-pages = (0, scrolling.PageDown) ∷ (1, scrolling.PageUp) ∷ (2, scrolling.HalfPageDown) ∷ (3, scrolling.HalfPageUp) ∷ []
+abbrev pub numbered_pages : List (ℕ × Scrolling)
+numbered_pages = (0, scrolling.PageDown) ∷ (1, scrolling.PageUp) ∷ (2, scrolling.HalfPageDown) ∷ (3, scrolling.HalfPageUp) ∷ []
 
 abbrev pub page_of : ℕ → Option Scrolling
-page_of = value_of_number pages
+page_of = value_of_number numbered_pages
 
 abbrev pub biases : List (ℕ × AtomicCursorBias)
 biases = (0, bias.Backward) ∷ (1, bias.Forward) ∷ []
 
-abbrev pub bias_of : ℕ → Option AtomicCursorBias
-bias_of = value_of_number biases
+abbrev pub bias_of_number : ℕ → Option AtomicCursorBias
+bias_of_number = value_of_number biases
 
 abbrev pub directions : List (ℕ × AtomicDeleteDirection)
 directions = (0, direction.Backward) ∷ (1, direction.Forward) ∷ []

@@ -7,8 +7,8 @@ use Rattle.textarea_screen.specs.Text.ContentView.{OwnedBytes}
 use Rattle.textarea_screen.specs.declared.screen.style.Style.{Style}
 use Rattle.textarea_view.specs.SurroundState.{span_bytes}
 use Rattle.textarea_c_data.specs.Areas.{padding_of, plain_padding}
-use Rattle.textarea_c_data.specs.Copied.{saturated, written}
-use Rattle.textarea_c_data.specs.Styles.{plain_style, style_of}
+use Rattle.textarea_c_data.specs.Copied.{saturated, copied_over}
+use Rattle.textarea_c_data.specs.Styles.{plain_style, style_of_numbers}
 use Rattle.textarea_c_data.specs.Texts.{all_read, items_between, text_between}
 use Rattle.textarea_c_data.specs.declared.spans.Block.{Block}
 use Rattle.textarea_c_data.specs.declared.spans.Line.{Line}
@@ -20,13 +20,13 @@ use Rattle.textarea_c_data.specs.declared.spans.Span.{Span}
 abbrev pub plain_span : SpanView → Span
 plain_span span = record { bytes = length (span_bytes span.content); style = plain_style span.style }
 
-abbrev pub plain_line : LineView → Line
-plain_line line = record { spans = length line.spans; style = plain_style line.style }
+abbrev pub line_for_c : LineView → Line
+line_for_c line = record { spans = length line.spans; style = plain_style line.style }
 
 -- the texts of spans, one after another
-abbrev pub bytes_of : List SpanView → List ℕ
-bytes_of [] = []
-bytes_of (span ∷ spans) = span_bytes span.content ++ bytes_of spans
+abbrev pub joined_texts : List SpanView → List ℕ
+joined_texts [] = []
+joined_texts (span ∷ spans) = span_bytes span.content ++ joined_texts spans
 
 -- the spans of lines, one after another
 abbrev pub spans_of : List LineView → List SpanView
@@ -35,9 +35,9 @@ spans_of (line ∷ lines) = line.spans ++ spans_of lines
 
 -- the spans and their texts are written, with the numbers of all bytes and spans
 pub record AreSpansOut (views : List SpanView) (old_text text : List ℕ) (bytes : ℕ) (old_spans spans : List Span) (count : ℕ) : Type 0 where
-  pub text_is : text ≡ written old_text (bytes_of views)
-  pub bytes_is : bytes ≡ saturated (length (bytes_of views))
-  pub spans_are : spans ≡ written old_spans (map plain_span views)
+  pub text_is : text ≡ copied_over old_text (joined_texts views)
+  pub bytes_is : bytes ≡ saturated (length (joined_texts views))
+  pub spans_are : spans ≡ copied_over old_spans (map plain_span views)
   pub count_is : count ≡ saturated (length views)
 
 -- the spans of a title; none without one
@@ -50,8 +50,8 @@ title_style None = empty_style
 title_style (Some line) = line.style
 
 -- a block as C gets it, without its title's spans
-abbrev pub plain_block : BlockView → Block
-plain_block block = record {
+abbrev pub block_for_c : BlockView → Block
+block_for_c block = record {
   borders = block.borders.0;
   has_title = is_some block.title;
   padding = plain_padding block.padding;
@@ -65,7 +65,7 @@ plain_block block = record {
 -- a span that C passes, with this text
 abbrev pub span_read : Option (List ℕ) → Span → Option SpanView
 span_read None span = None
-span_read (Some bytes) span = option_map (λ style. record { content = OwnedBytes bytes; style = style }) (style_of span.style)
+span_read (Some bytes) span = option_map (λ style. record { content = OwnedBytes bytes; style = style }) (style_of_numbers span.style)
 
 -- the spans that C passes, whose texts follow one another from the byte `start` on
 abbrev pub spans_read : List ℕ → ℕ → List Span → Option (List SpanView)
@@ -93,7 +93,7 @@ own_spans_read text start (Some spans) = spans_read text start spans
 abbrev pub lines_read : List ℕ → ℕ → List Span → ℕ → List Line → Option (List LineView)
 lines_read text start spans first [] = if (start == length text) && (first == length spans) then Some [] else None
 lines_read text start spans first (line ∷ lines) =
-    all_read (line_read (own_spans_read text start (items_between spans first (first + line.spans))) (style_of line.style))
+    all_read (line_read (own_spans_read text start (items_between spans first (first + line.spans))) (style_of_numbers line.style))
     (lines_read text (spans_end start (slice_range spans first (first + line.spans))) spans (first + line.spans) lines)
 
 -- the styled text that C passes
@@ -119,4 +119,4 @@ block_read block title spans =
       title = title_read block.has_title line;
       style = style;
       border_style = border_style;
-    }) (whole_line title spans (style_of block.title_style))) (style_of block.border_style)) (style_of block.style)
+    }) (whole_line title spans (style_of_numbers block.title_style))) (style_of_numbers block.border_style)) (style_of_numbers block.style)

@@ -23,8 +23,8 @@ color_of c =
     else if c.kind == 19 then Some (Some (color.Indexed c.red))
     else option_map Some (value_of_number colors c.kind)
 
-abbrev pub style_of : PlainStyle → Option Style
-style_of s =
+abbrev pub style_of_numbers : PlainStyle → Option Style
+style_of_numbers s =
     option_and_then
     (λ fg. option_map (λ bg. record { fg = fg; bg = bg; add_modifier = record { 0 = s.add_modifier }; sub_modifier = record { 0 = s.sub_modifier } }) (color_of s.bg))
     (color_of s.fg)

@@ -1,7 +1,7 @@
 ghost use Rattle.std.specs.Prelude.{◌≡◌, ◌≤◌, [], ◌∷◌, length, map};
 ghost use Rattle.textarea_screen.specs.Cell.{cell_view};
 ghost use Rattle.textarea_c_data.specs.Cells.{plain_cell, plain_cells, plain_screen_cell};
-ghost use Rattle.textarea_c_data.specs.Copied.{written, written_at};
+ghost use Rattle.textarea_c_data.specs.Copied.{copied_over, written_at};
 
 use crate::color::Color;
 use crate::slices::copied;
@@ -45,7 +45,7 @@ impl Cell {
 #[tactic(auto, using(crate::proofs::Cells::cells_are))]
 pub fn write_cells(buffer: &Buffer, out: &mut [Cell]) -> usize
     ensures needed { result ≡ length (plain_cells buffer.now) }
-    ensures out { out.new ≡ written out.old (plain_cells buffer.now) }
+    ensures out { out.new ≡ copied_over out.old (plain_cells buffer.now) }
 {
     let cells = buffer.cells();
     write_all(cells, out);
@@ -54,7 +54,7 @@ pub fn write_cells(buffer: &Buffer, out: &mut [Cell]) -> usize
 
 // Writes the cells, as many as there is room for.
 fn write_all(cells: &[screen::Cell], out: &mut [Cell])
-    ensures { out.new ≡ written out.old (map plain_screen_cell cells.now) }
+    ensures { out.new ≡ copied_over out.old (map plain_screen_cell cells.now) }
 {
     for (index, cell) in cells.iter().enumerate() {
         write_at(cell, index, out);

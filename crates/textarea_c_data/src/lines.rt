@@ -3,8 +3,8 @@ ghost use Rattle.std.specs.List.{concat};
 ghost use Rattle.textarea_text.specs.Size.{size_of};
 ghost use Rattle.textarea_text.specs.Text.{lines_of};
 ghost use Rattle.textarea_util.specs.Limit.{size_limit};
-ghost use Rattle.textarea_c_data.specs.Copied.{ends_of, written};
-ghost use Rattle.textarea_c_data.specs.Lines.{IsLineOut, texts_of};
+ghost use Rattle.textarea_c_data.specs.Copied.{ends_of, copied_over};
+ghost use Rattle.textarea_c_data.specs.Lines.{IsLineOut, encoded_lines};
 ghost use Rattle.textarea_c_data.specs.Split.{lines_between};
 
 use crate::slices::{copied_text, copied_text_at, put, text_between};
@@ -37,9 +37,9 @@ pub fn read_lines(
 /// room for. Returns the number of all bytes.
 pub fn write_lines(lines: &[String], out: &mut [u8], ends: &mut [usize]) -> usize
     requires { size_of lines.now ≤ size_limit }
-    ensures needed { result ≡ length (concat (texts_of (lines_of lines.now))) }
-    ensures out { out.new ≡ written out.old (concat (texts_of (lines_of lines.now))) }
-    ensures ends { ends.new ≡ written ends.old (ends_of 0 (texts_of (lines_of lines.now))) }
+    ensures needed { result ≡ length (concat (encoded_lines (lines_of lines.now))) }
+    ensures out { out.new ≡ copied_over out.old (concat (encoded_lines (lines_of lines.now))) }
+    ensures ends { ends.new ≡ copied_over ends.old (ends_of 0 (encoded_lines (lines_of lines.now))) }
 {
     let mut used: usize = 0;
     for (row, line) in lines.iter().enumerate() {

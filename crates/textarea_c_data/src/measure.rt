@@ -1,5 +1,5 @@
 ghost use Rattle.std.specs.Prelude.{◌≡◌};
-ghost use Rattle.textarea_c_data.specs.Measures.{measure_of};
+ghost use Rattle.textarea_c_data.specs.Measures.{measure_of_numbers};
 
 use textarea_data::measure::TextAreaMeasure;
 
@@ -17,7 +17,7 @@ pub struct Measure {
 
 impl Measure {
     pub fn of(measure: TextAreaMeasure) -> Measure
-        ensures { measure_of result ≡ measure }
+        ensures { measure_of_numbers result ≡ measure }
     {
         Measure {
             content_rows: measure.content_rows,

@@ -1,6 +1,6 @@
 //! The numbers by which C names the values of enums.
 ghost use Rattle.std.specs.Prelude.{◌≡◌, Some};
-ghost use Rattle.textarea_c_data.specs.Numbers.{alignment_of, bias_of, colors_of, direction_of, move_of, page_of};
+ghost use Rattle.textarea_c_data.specs.Numbers.{alignment_of, bias_of_number, colors_of, direction_of, move_of, page_of};
 
 use textarea_data::cursor::CursorMove;
 use textarea_data::range::{AtomicCursorBias, AtomicDeleteDirection};
@@ -46,7 +46,7 @@ pub fn read_page(number: u32) -> Option<Scrolling>
 
 /// Returns the end of an atomic range that this number names.
 pub fn read_bias(number: u32) -> Option<AtomicCursorBias>
-    ensures { result ≡ bias_of number }
+    ensures { result ≡ bias_of_number number }
 {
     Some(match number {
         0 => AtomicCursorBias::Backward,

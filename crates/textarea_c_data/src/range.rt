@@ -1,5 +1,5 @@
 ghost use Rattle.std.specs.Prelude.{◌≡◌, ◌≢◌, map, IfOk, length};
-ghost use Rattle.textarea_c_data.specs.Copied.{written};
+ghost use Rattle.textarea_c_data.specs.Copied.{copied_over};
 ghost use Rattle.textarea_c_data.specs.Ranges.{IsRangeOut, plain_range, plain_rejected, range_of};
 
 use crate::slices::put;
@@ -53,7 +53,7 @@ pub fn read_ranges(alloc: Global, ranges: &[Range]) -> Result<Vec<AtomicRange>, 
 /// Writes the first ranges, as many as there is room for, and returns the number of all.
 pub fn write_ranges(ranges: &[AtomicRange], out: &mut [Range]) -> usize
     ensures needed { result ≡ length ranges.now }
-    ensures out { out.new ≡ written out.old (map plain_range ranges.now) }
+    ensures out { out.new ≡ copied_over out.old (map plain_range ranges.now) }
 {
     for (index, range) in ranges.iter().enumerate() {
         put(Range::of(*range), index, out);
@@ -102,7 +102,7 @@ impl Rejected {
 /// Writes the first rejected ranges, as many as there is room for, and returns the number of all.
 pub fn write_rejected(rejected: &[RejectedAtomicRange], out: &mut [Rejected]) -> usize
     ensures needed { result ≡ length rejected.now }
-    ensures out { out.new ≡ written out.old (map plain_rejected rejected.now) }
+    ensures out { out.new ≡ copied_over out.old (map plain_rejected rejected.now) }
 {
     for (index, item) in rejected.iter().enumerate() {
         put(Rejected::of(*item), index, out);

@@ -3,7 +3,7 @@ ghost use Rattle.std.specs.Prelude.{◌≡◌, ◌+◌, IfOk, IfSome, map, optio
 ghost use Rattle.textarea_screen.specs.Block.{block_view};
 ghost use Rattle.textarea_screen.specs.Text.{line_view, span_view, text_view};
 ghost use Rattle.textarea_c_data.specs.Spans.{block_read, line_read, lines_read, span_read, spans_end, spans_read, text_read, whole_line};
-ghost use Rattle.textarea_c_data.specs.Styles.{style_of};
+ghost use Rattle.textarea_c_data.specs.Styles.{style_of_numbers};
 ghost use Rattle.textarea_c_data.specs.Texts.{text_between};
 
 use crate::slices::{end_of, text_between};
@@ -72,7 +72,7 @@ pub fn read_text(
     style: Style,
 ) -> Result<Option<screen::Text<'static>>, AllocError>
     ensures { IfOk result (λ read. option_map (λ t. text_view t) read
-        ≡ text_read text.now spans.now lines.now (style_of style)) }
+        ≡ text_read text.now spans.now lines.now (style_of_numbers style)) }
 {
     let Some(style) = style.read() else {
         return Ok(None);
@@ -124,7 +124,7 @@ fn read_line(
     style: Style,
 ) -> Result<Option<(screen::Line<'static>, usize)>, AllocError>
     ensures line { IfOk result (λ read. option_map (λ r. line_view r.0) read
-        ≡ line_read (spans_read text.now start spans.now) (style_of style)) }
+        ≡ line_read (spans_read text.now start spans.now) (style_of_numbers style)) }
     ensures end { IfOk result (λ read. IfSome read (λ r. r.1 ≡ spans_end start spans.now)) }
 {
     let Some((spans, end)) = read_spans(alloc, text, start, spans)? else {
@@ -173,7 +173,7 @@ fn read_whole_line(
     style: Style,
 ) -> Result<Option<screen::Line<'static>>, AllocError>
     ensures { IfOk result (λ read. option_map (λ line. line_view line) read
-        ≡ whole_line text.now spans.now (style_of style)) }
+        ≡ whole_line text.now spans.now (style_of_numbers style)) }
 {
     let Some((line, end)) = read_line(alloc, text, 0, spans, style)? else {
         return Ok(None);

@@ -1,6 +1,6 @@
 //! What is read from the slices of callers, and written into them.
 ghost use Rattle.std.specs.Prelude.{◌≡◌, ◌+◌, ◌<◌, ◌≤◌, [], ◌∷◌, MatchOption, length, option_map, chars, encode_utf8_all};
-ghost use Rattle.textarea_c_data.specs.Copied.{written, written_at};
+ghost use Rattle.textarea_c_data.specs.Copied.{copied_over, written_at};
 ghost use Rattle.textarea_c_data.specs.Texts.{items_between, text_between, text_in};
 
 /// Returns the text, if the bytes are UTF-8.
@@ -51,7 +51,7 @@ pub fn items_between<T>(items: &[T], start: usize, end: usize) -> Option<&[T]>
 #[tactic(auto, using(crate::proofs::Copied::copied_is))]
 pub fn copied(bytes: &[u8], out: &mut [u8]) -> usize
     ensures needed { result ≡ length bytes.now }
-    ensures out { out.new ≡ written out.old bytes.now }
+    ensures out { out.new ≡ copied_over out.old bytes.now }
 {
     let count = bytes.len().min(out.len());
     out[..count].copy_from_slice(&bytes[..count]);
@@ -61,7 +61,7 @@ pub fn copied(bytes: &[u8], out: &mut [u8]) -> usize
 /// Copies the first bytes of a text, as many as there is room for, and returns the number of all.
 pub fn copied_text(text: &str, out: &mut [u8]) -> usize
     ensures needed { result ≡ length (encode_utf8_all (chars text.now)) }
-    ensures out { out.new ≡ written out.old (encode_utf8_all (chars text.now)) }
+    ensures out { out.new ≡ copied_over out.old (encode_utf8_all (chars text.now)) }
 {
     copied(text.as_bytes(), out)
 }

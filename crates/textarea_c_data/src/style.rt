@@ -1,5 +1,5 @@
 ghost use Rattle.std.specs.Prelude.{◌≡◌, Some};
-ghost use Rattle.textarea_c_data.specs.Styles.{plain_style, style_of};
+ghost use Rattle.textarea_c_data.specs.Styles.{plain_style, style_of_numbers};
 
 use crate::color::Color;
 use textarea_screen::screen;
@@ -20,7 +20,7 @@ pub struct Style {
 impl Style {
     /// Returns the style, or `None` if one of its colours has a kind that does not exist.
     pub fn read(self) -> Option<screen::Style>
-        ensures { result ≡ style_of self }
+        ensures { result ≡ style_of_numbers self }
     {
         Some(screen::Style {
             fg: self.fg.read()?,
@@ -33,7 +33,7 @@ impl Style {
     /// Returns the struct that is read as this style.
     pub fn of(style: screen::Style) -> Style
         ensures value { result ≡ plain_style style }
-        ensures read { style_of result ≡ Some style }
+        ensures read { style_of_numbers result ≡ Some style }
     {
         Style {
             fg: Color::of(style.fg),

@@ -2,8 +2,8 @@
 ghost use Rattle.std.specs.Prelude.{◌≡◌, ℕ, ◌+◌, length, map, option_map};
 ghost use Rattle.textarea_screen.specs.Block.{block_view};
 ghost use Rattle.textarea_screen.specs.Text.{line_view, span_view};
-ghost use Rattle.textarea_c_data.specs.Copied.{saturated, written, written_at};
-ghost use Rattle.textarea_c_data.specs.Spans.{AreSpansOut, bytes_of, plain_block, plain_line, plain_span, spans_of, title_spans};
+ghost use Rattle.textarea_c_data.specs.Copied.{saturated, copied_over, written_at};
+ghost use Rattle.textarea_c_data.specs.Spans.{AreSpansOut, joined_texts, block_for_c, line_for_c, plain_span, spans_of, title_spans};
 
 use crate::area::Padding;
 use crate::slices::{copy_at, put};
@@ -13,7 +13,7 @@ use textarea_screen::screen;
 
 /// Returns the block without its title's spans.
 pub fn block_of(block: &screen::Block<'static>) -> Block
-    ensures { result ≡ plain_block (block_view block.now) }
+    ensures { result ≡ block_for_c (block_view block.now) }
 {
     let title_style = match &block.title {
         Some(title) => title.style,
@@ -55,7 +55,7 @@ pub fn write_lines(
 ) -> (usize, usize)
     ensures spans { AreSpansOut (spans_of (map line_view content.now)) text.old text.new result.0
         spans.old spans.new result.1 }
-    ensures lines { lines.new ≡ written lines.old (map plain_line (map line_view content.now)) }
+    ensures lines { lines.new ≡ copied_over lines.old (map line_for_c (map line_view content.now)) }
 {
     let mut used = (0, 0);
     for (row, line) in content.iter().enumerate() {
@@ -81,9 +81,9 @@ fn write_spans(
     out: &mut [Span],
 ) -> (usize, usize)
     ensures text { (at : ℕ) → start ≡ saturated at
-        → text.new ≡ written_at at text.old (bytes_of (map span_view spans.now)) }
+        → text.new ≡ written_at at text.old (joined_texts (map span_view spans.now)) }
     ensures bytes { (at : ℕ) → start ≡ saturated at
-        → result.0 ≡ saturated (at + length (bytes_of (map span_view spans.now))) }
+        → result.0 ≡ saturated (at + length (joined_texts (map span_view spans.now))) }
     ensures spans { (at : ℕ) → first ≡ saturated at
         → out.new ≡ written_at at out.old (map plain_span (map span_view spans.now)) }
     ensures count { (at : ℕ) → first ≡ saturated at

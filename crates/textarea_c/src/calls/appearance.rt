@@ -1,10 +1,10 @@
 //! The mask, the cursor's cell, and custom highlights.
 ghost use Rattle.std.specs.Prelude.{◌≡◌, ◌≢◌, IfSome, MatchOption, None, Some};
 ghost use Rattle.tui_textarea.specs.Drawing.{highlighted, with_look_set};
-ghost use Rattle.textarea_c.specs.Calls.{Asks, Calls, ChangesBy, Reads, SetsBy};
-ghost use Rattle.textarea_c_data.specs.Inputs.{character_of};
+ghost use Rattle.textarea_c.specs.Calls.{Asks, Calls, ChangesBy, OnlyReads, SetsBy};
+ghost use Rattle.textarea_c_data.specs.Inputs.{character_of_number};
 ghost use Rattle.textarea_c_data.specs.Modes.{render_mode_of};
-ghost use Rattle.textarea_c_data.specs.Styles.{style_of};
+ghost use Rattle.textarea_c_data.specs.Styles.{style_of_numbers};
 
 use crate::calls::on;
 use crate::handle::Handle;
@@ -20,7 +20,7 @@ use textarea_c_data::style::Style;
 #[unsafe(no_mangle)]
 pub extern "C" fn ta_set_mask_char(handle: &mut Handle, alloc: Global, mask: u32) -> u32
     ensures { Calls handle.old.stored.content result handle.new.stored.content
-        (λ a b. SetsBy (character_of mask)
+        (λ a b. SetsBy (character_of_number mask)
         (λ c. with_look_set a.area (record a.area.drawing.look { mask = Some c })) result a b) }
 {
     on!(handle, alloc, editor => match char::from_u32(mask) {
@@ -78,7 +78,7 @@ pub extern "C" fn ta_set_cursor_render_mode(handle: &mut Handle, alloc: Global, 
 #[unsafe(no_mangle)]
 pub extern "C" fn ta_cursor_render_mode(handle: &mut Handle, alloc: Global, mode: &mut u32) -> u32
     ensures unchanged { Calls handle.old.stored.content result handle.new.stored.content
-        (λ a b. Reads result a b) }
+        (λ a b. OnlyReads result a b) }
     ensures mode { IfSome handle.old.stored.content
         (λ a. render_mode_of mode.new ≡ Some a.area.drawing.look.cursor_render_mode) }
     ensures unwritten { result ≢ 0 → mode.new ≡ mode.old }
@@ -108,7 +108,7 @@ pub extern "C" fn ta_custom_highlight(
     priority: u8,
 ) -> u32
     ensures { Calls handle.old.stored.content result handle.new.stored.content
-        (λ a b. ChangesBy (style_of style.now)
+        (λ a b. ChangesBy (style_of_numbers style.now)
         (λ s. highlighted a.area ((start_row, start_byte), (end_row, end_byte)) s priority)
         result a b) }
 {

@@ -1,9 +1,9 @@
 //! The bytes that a terminal sends, as events.
 ghost use Rattle.std.specs.Prelude.{◌≡◌, ◌≢◌, IfSome, length};
 ghost use Rattle.textarea_terminal.specs.InputState.{asked, fed, on_console, paused, resizing};
-ghost use Rattle.textarea_c.specs.Calls.{Calls, Reads};
+ghost use Rattle.textarea_c.specs.Calls.{Calls, OnlyReads};
 ghost use Rattle.textarea_c.specs.Terminals.{Decodes, IsTold, TakesEvent};
-ghost use Rattle.textarea_c_data.specs.Copied.{written};
+ghost use Rattle.textarea_c_data.specs.Copied.{copied_over};
 
 use crate::calls::on;
 use crate::handle::TerminalHandle;
@@ -79,9 +79,9 @@ pub extern "C" fn ta_decoder_pasted(
     needed: &mut usize,
 ) -> u32
     ensures unchanged { Calls terminal.old.stored.content result terminal.new.stored.content
-        (λ a b. Reads result a b) }
+        (λ a b. OnlyReads result a b) }
     ensures text { IfSome terminal.old.stored.content
-        (λ a. (out.new ≡ written out.old a.incoming.pasted)
+        (λ a. (out.new ≡ copied_over out.old a.incoming.pasted)
         × (needed.new ≡ length a.incoming.pasted)) }
     ensures unwritten { result ≢ 0 → (out.new ≡ out.old) × (needed.new ≡ needed.old) }
 {

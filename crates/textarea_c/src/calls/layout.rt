@@ -4,11 +4,11 @@ ghost use Rattle.textarea_calls.specs.declared.call.Call.TheVariants as call;
 ghost use Rattle.textarea_view.specs.SurroundState.{AreBounds};
 ghost use Rattle.tui_textarea.specs.LayoutCalls.{number_style};
 ghost use Rattle.tui_textarea.specs.Measure.{IsMeasured, reads_rows};
-ghost use Rattle.textarea_c.specs.Calls.{Asks, Calls, Copies, MakesChangeBy, Reads};
-ghost use Rattle.textarea_c_data.specs.Measures.{measure_of};
+ghost use Rattle.textarea_c.specs.Calls.{Asks, Calls, Copies, MakesChangeBy, OnlyReads};
+ghost use Rattle.textarea_c_data.specs.Measures.{measure_of_numbers};
 ghost use Rattle.textarea_c_data.specs.Modes.{wrap_mode_of};
 ghost use Rattle.textarea_c_data.specs.Numbers.{alignment_of};
-ghost use Rattle.textarea_c_data.specs.Styles.{style_of};
+ghost use Rattle.textarea_c_data.specs.Styles.{style_of_numbers};
 
 use crate::calls::on;
 use crate::handle::Handle;
@@ -40,7 +40,7 @@ pub extern "C" fn ta_set_wrap_mode(handle: &mut Handle, alloc: Global, mode: u32
 #[unsafe(no_mangle)]
 pub extern "C" fn ta_wrap_mode(handle: &mut Handle, alloc: Global, mode: &mut u32) -> u32
     ensures unchanged { Calls handle.old.stored.content result handle.new.stored.content
-        (λ a b. Reads result a b) }
+        (λ a b. OnlyReads result a b) }
     ensures mode { IfSome handle.old.stored.content
         (λ a. wrap_mode_of mode.new ≡ Some a.area.document.layout.settings.mode) }
     ensures unwritten { result ≢ 0 → mode.new ≡ mode.old }
@@ -57,7 +57,7 @@ pub extern "C" fn ta_wrap_mode(handle: &mut Handle, alloc: Global, mode: &mut u3
 #[unsafe(no_mangle)]
 pub extern "C" fn ta_set_line_number_style(handle: &mut Handle, alloc: Global, style: &Style) -> u32
     ensures { Calls handle.old.stored.content result handle.new.stored.content
-        (λ a b. MakesChangeBy (style_of style.now) call.SetLineNumberStyle result a b) }
+        (λ a b. MakesChangeBy (style_of_numbers style.now) call.SetLineNumberStyle result a b) }
 {
     on!(handle, alloc, editor => match style.read() {
         Some(style) => done(editor.area.set_line_number_style(style)),
@@ -73,7 +73,7 @@ pub extern "C" fn ta_line_number_style(handle: &mut Handle, alloc: Global, style
     ensures unchanged { Calls handle.old.stored.content result handle.new.stored.content
         (λ a b. Asks result a b) }
     ensures style { IfSome handle.old.stored.content (λ a. MatchOption (number_style a.area)
-        (result ≡ 1) (λ s. (result ≡ 0) × (style_of style.new ≡ Some s))) }
+        (result ≡ 1) (λ s. (result ≡ 0) × (style_of_numbers style.new ≡ Some s))) }
     ensures unwritten { result ≢ 0 → style.new ≡ style.old }
 {
     on!(handle, alloc, editor => match editor.area.line_number_style() {
@@ -106,7 +106,7 @@ pub extern "C" fn ta_set_alignment(handle: &mut Handle, alloc: Global, alignment
 #[unsafe(no_mangle)]
 pub extern "C" fn ta_alignment(handle: &mut Handle, alloc: Global, alignment: &mut u32) -> u32
     ensures unchanged { Calls handle.old.stored.content result handle.new.stored.content
-        (λ a b. Reads result a b) }
+        (λ a b. OnlyReads result a b) }
     ensures alignment { IfSome handle.old.stored.content
         (λ a. alignment_of alignment.new ≡ Some a.area.drawing.look.alignment) }
     ensures unwritten { result ≢ 0 → alignment.new ≡ alignment.old }
@@ -131,7 +131,7 @@ pub extern "C" fn ta_measure(
     ensures unchanged { Calls handle.old.stored.content result handle.new.stored.content
         (λ a b. Copies result a b) }
     ensures measured { result ≡ 0 → IfSome handle.old.stored.content
-        (λ a. IsMeasured a.area width (measure_of measure.new)) }
+        (λ a. IsMeasured a.area width (measure_of_numbers measure.new)) }
     ensures bounds { result ≡ 0 → AreBounds measure.new.min_rows measure.new.max_rows }
     ensures within { result ≡ 0 → (measure.new.min_rows ≤ measure.new.preferred_rows)
         × (measure.new.preferred_rows ≤ measure.new.max_rows) }

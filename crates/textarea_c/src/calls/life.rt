@@ -2,7 +2,7 @@
 ghost use Rattle.std.specs.Prelude.{◌≡◌, [], IfOk, MatchOption, None, Some};
 ghost use Rattle.tui_textarea.specs.State.{new_state};
 ghost use Rattle.textarea_c.specs.Calls.{Calls};
-ghost use Rattle.textarea_c.specs.Fresh.{IsEditorOf, Loads, with_text};
+ghost use Rattle.textarea_c.specs.Fresh.{IsEditorOf, Loads, state_of_file};
 ghost use Rattle.textarea_c.specs.Made.{Makes};
 ghost use Rattle.textarea_c_data.specs.Texts.{text_in};
 
@@ -44,7 +44,7 @@ fn fresh_editor(alloc: Global) -> Result<Box<Editor>, AllocError>
 
 // Returns an editor with this text.
 fn editor_with(alloc: Global, text: &str) -> Result<Box<Editor>, AllocError>
-    ensures { IfOk result (λ editor. IsEditorOf (with_text text.now) editor.value) }
+    ensures { IfOk result (λ editor. IsEditorOf (state_of_file text.now) editor.value) }
 {
     editor_of(alloc, TextArea::from_text(alloc, text)?)
 }

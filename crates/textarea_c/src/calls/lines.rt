@@ -4,10 +4,10 @@ ghost use Rattle.std.specs.List.{concat};
 ghost use Rattle.textarea_text.specs.Fragment.{fragment_text};
 ghost use Rattle.textarea_text.specs.Text.{lines, lines_of};
 ghost use Rattle.textarea_util.specs.Limit.{size_limit};
-ghost use Rattle.textarea_c.specs.Calls.{Asks, Calls, ChangesIf, Copies, Reads};
-ghost use Rattle.textarea_c.specs.Lines.{with_lines};
-ghost use Rattle.textarea_c_data.specs.Copied.{ends_of, written};
-ghost use Rattle.textarea_c_data.specs.Lines.{AreCharactersOut, IsLineOut, texts_of};
+ghost use Rattle.textarea_c.specs.Calls.{Asks, Calls, ChangesIf, Copies, OnlyReads};
+ghost use Rattle.textarea_c.specs.Lines.{with_copied_lines};
+ghost use Rattle.textarea_c_data.specs.Copied.{ends_of, copied_over};
+ghost use Rattle.textarea_c_data.specs.Lines.{AreCharactersOut, IsLineOut, encoded_lines};
 ghost use Rattle.textarea_c_data.specs.Split.{lines_between};
 ghost use Rattle.textarea_c_data.specs.Texts.{some_of};
 
@@ -37,7 +37,7 @@ pub extern "C" fn ta_set_lines(
 ) -> u32
     ensures { Calls handle.old.stored.content result handle.new.stored.content
         (λ a b. ChangesIf (some_of (lines_between text.now 0 ends.now))
-        (λ rows. with_lines a.area rows (row, column)) result a b) }
+        (λ rows. with_copied_lines a.area rows (row, column)) result a b) }
 {
     on!(handle, alloc, editor => match read_lines(alloc, text, ends) {
         Ok(found) => replace_lines(&mut editor, found, (row, column)),
@@ -48,7 +48,7 @@ pub extern "C" fn ta_set_lines(
 // Replaces the lines, if there are any, and returns the status.
 fn replace_lines(editor: &mut Editor, found: Option<Vec<String>>, cursor: (usize, usize)) -> u32
     ensures { ChangesIf (some_of (option_map (λ lines. lines_of lines.items) found))
-        (λ rows. with_lines editor.old.area rows cursor) result editor.old editor.new }
+        (λ rows. with_copied_lines editor.old.area rows cursor) result editor.old editor.new }
 {
     let Some(lines) = found else {
         return INVALID_ARGUMENT;
@@ -65,7 +65,7 @@ fn replace_lines(editor: &mut Editor, found: Option<Vec<String>>, cursor: (usize
 #[unsafe(no_mangle)]
 pub extern "C" fn ta_line_count(handle: &mut Handle, alloc: Global, count: &mut usize) -> u32
     ensures unchanged { Calls handle.old.stored.content result handle.new.stored.content
-        (λ a b. Reads result a b) }
+        (λ a b. OnlyReads result a b) }
     ensures count { IfSome handle.old.stored.content
         (λ a. count.new ≡ length (lines a.area.document.text)) }
     ensures some { result ≡ 0 → 0 < count.new }
@@ -114,14 +114,14 @@ pub extern "C" fn ta_lines(
     count: &mut usize,
 ) -> u32
     ensures unchanged { Calls handle.old.stored.content result handle.new.stored.content
-        (λ a b. Reads result a b) }
+        (λ a b. OnlyReads result a b) }
     ensures count { IfSome handle.old.stored.content
         (λ a. count.new ≡ length (lines a.area.document.text)) }
     ensures bytes { IfSome handle.old.stored.content
-        (λ a. (out.new ≡ written out.old (concat (texts_of (lines a.area.document.text))))
-        × (needed.new ≡ length (concat (texts_of (lines a.area.document.text))))) }
+        (λ a. (out.new ≡ copied_over out.old (concat (encoded_lines (lines a.area.document.text))))
+        × (needed.new ≡ length (concat (encoded_lines (lines a.area.document.text))))) }
     ensures ends { IfSome handle.old.stored.content
-        (λ a. ends.new ≡ written ends.old (ends_of 0 (texts_of (lines a.area.document.text)))) }
+        (λ a. ends.new ≡ copied_over ends.old (ends_of 0 (encoded_lines (lines a.area.document.text)))) }
     ensures some { result ≡ 0 → 0 < count.new }
     ensures limit { result ≡ 0 → needed.new + count.new ≤ size_limit }
     ensures unwritten { result ≢ 0 → (out.new ≡ out.old) × (needed.new ≡ needed.old)

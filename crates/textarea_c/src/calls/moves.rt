@@ -4,7 +4,7 @@ ghost use Rattle.textarea_data.specs.declared.cursor.CursorMove.TheVariants as m
 ghost use Rattle.textarea_data.specs.declared.scroll.Scrolling.TheVariants as scrolling;
 ghost use Rattle.textarea_text.specs.Place.{IsPlace};
 ghost use Rattle.tui_textarea.specs.Moves.{IsMoved, IsScrolled, gone_to};
-ghost use Rattle.textarea_c.specs.Calls.{Calls, Goes, GoesBy, Reads, Sets};
+ghost use Rattle.textarea_c.specs.Calls.{Calls, Goes, GoesBy, OnlyReads, Sets};
 ghost use Rattle.textarea_c_data.specs.Numbers.{move_of, page_of};
 
 use crate::calls::on;
@@ -83,7 +83,7 @@ pub extern "C" fn ta_cursor(
     column: &mut usize,
 ) -> u32
     ensures unchanged { Calls handle.old.stored.content result handle.new.stored.content
-        (λ a b. Reads result a b) }
+        (λ a b. OnlyReads result a b) }
     ensures cursor { IfSome handle.old.stored.content
         (λ a. (row.new, column.new) ≡ a.area.document.cursor) }
     ensures place { result ≡ 0 → IfSome handle.old.stored.content

@@ -1,8 +1,8 @@
 //! Frames on a terminal.
 ghost use Rattle.std.specs.Prelude.{◌≡◌, ◌≢◌, IfSome, MatchOption, length};
-ghost use Rattle.textarea_c.specs.Calls.{Calls, Given, Reads};
+ghost use Rattle.textarea_c.specs.Calls.{Calls, Given, OnlyReads};
 ghost use Rattle.textarea_c.specs.Terminals.{HasColors, IsUnpainted, PaintsScreen, Resizes, caret_at};
-ghost use Rattle.textarea_c_data.specs.Copied.{written};
+ghost use Rattle.textarea_c_data.specs.Copied.{copied_over};
 ghost use Rattle.textarea_c_data.specs.Numbers.{colors_of};
 
 use crate::calls::on;
@@ -86,9 +86,9 @@ pub extern "C" fn ta_painter_bytes(
     needed: &mut usize,
 ) -> u32
     ensures unchanged { Calls terminal.old.stored.content result terminal.new.stored.content
-        (λ a b. Reads result a b) }
+        (λ a b. OnlyReads result a b) }
     ensures bytes { IfSome terminal.old.stored.content
-        (λ a. (out.new ≡ written out.old a.outgoing.bytes)
+        (λ a. (out.new ≡ copied_over out.old a.outgoing.bytes)
         × (needed.new ≡ length a.outgoing.bytes)) }
     ensures unwritten { result ≢ 0 → (out.new ≡ out.old) × (needed.new ≡ needed.old) }
 {

@@ -6,9 +6,9 @@ ghost use Rattle.textarea_ranges.specs.Order.{AreInOrder};
 ghost use Rattle.textarea_ranges.specs.Valid.{AreValid};
 ghost use Rattle.textarea_text.specs.Text.{lines};
 ghost use Rattle.tui_textarea.specs.Ranges.{cursor_normalized, atomic_range_removed};
-ghost use Rattle.textarea_c.specs.Calls.{Calls, Reads, SetsRanges, Tries, TriesBy};
-ghost use Rattle.textarea_c_data.specs.Copied.{written};
-ghost use Rattle.textarea_c_data.specs.Numbers.{bias_of, direction_of};
+ghost use Rattle.textarea_c.specs.Calls.{Calls, OnlyReads, SetsValidRanges, Tries, TriesBy};
+ghost use Rattle.textarea_c_data.specs.Copied.{copied_over};
+ghost use Rattle.textarea_c_data.specs.Numbers.{bias_of_number, direction_of};
 ghost use Rattle.textarea_c_data.specs.Ranges.{IsRangeOut, plain_range, plain_rejected, range_of};
 
 use crate::calls::on;
@@ -32,14 +32,14 @@ use textarea_data::range::{AtomicDeleteDirection, AtomicRangeError, RejectedAtom
 #[unsafe(no_mangle)]
 pub extern "C" fn ta_set_atomic_ranges(handle: &mut Handle, alloc: Global, ranges: &[Range]) -> u32
     ensures { Calls handle.old.stored.content result handle.new.stored.content
-        (λ a b. SetsRanges (map range_of ranges.now) result a b) }
+        (λ a b. SetsValidRanges (map range_of ranges.now) result a b) }
 {
     on!(handle, alloc, editor => set_ranges(&mut editor, alloc, ranges))
 }
 
 // Sets the ranges, or stores those that are rejected.
 fn set_ranges(editor: &mut Editor, alloc: Global, ranges: &[Range]) -> u32
-    ensures { SetsRanges (map range_of ranges.now) result editor.old editor.new }
+    ensures { SetsValidRanges (map range_of ranges.now) result editor.old editor.new }
 {
     let Ok(read) = read_ranges(alloc, ranges) else {
         return OUT_OF_MEMORY;
@@ -80,10 +80,10 @@ pub extern "C" fn ta_rejected_ranges(
     needed: &mut usize,
 ) -> u32
     ensures unchanged { Calls handle.old.stored.content result handle.new.stored.content
-        (λ a b. Reads result a b) }
+        (λ a b. OnlyReads result a b) }
     ensures ranges { IfSome handle.old.stored.content
         (λ a. (needed.new ≡ length a.rejected.items)
-        × (out.new ≡ written out.old (map plain_rejected a.rejected.items))) }
+        × (out.new ≡ copied_over out.old (map plain_rejected a.rejected.items))) }
     ensures unwritten { result ≢ 0 → (out.new ≡ out.old) × (needed.new ≡ needed.old) }
 {
     on!(handle, alloc, editor => {
@@ -104,10 +104,10 @@ pub extern "C" fn ta_atomic_ranges(
     needed: &mut usize,
 ) -> u32
     ensures unchanged { Calls handle.old.stored.content result handle.new.stored.content
-        (λ a b. Reads result a b) }
+        (λ a b. OnlyReads result a b) }
     ensures ranges { IfSome handle.old.stored.content
         (λ a. (needed.new ≡ length a.area.document.ranges)
-        × (out.new ≡ written out.old (map plain_range a.area.document.ranges))) }
+        × (out.new ≡ copied_over out.old (map plain_range a.area.document.ranges))) }
     ensures valid { IfSome handle.old.stored.content
         (λ a. AreValid (lines a.area.document.text) a.area.document.ranges) }
     ensures in_order { IfSome handle.old.stored.content
@@ -131,7 +131,7 @@ pub extern "C" fn ta_normalize_cursor_around_atomic_ranges(
     bias: u32,
 ) -> u32
     ensures area { Calls handle.old.stored.content result handle.new.stored.content
-        (λ a b. TriesBy (bias_of bias)
+        (λ a b. TriesBy (bias_of_number bias)
         (λ end. is_some (range_around a.area.document.ranges a.area.document.cursor))
         (λ end. cursor_normalized a.area end) result a b) }
 {

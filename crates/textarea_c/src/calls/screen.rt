@@ -12,12 +12,12 @@ ghost use Rattle.tui_textarea.specs.Drawing.{IsRendered, widget_of};
 ghost use Rattle.tui_textarea.specs.Hit.{IsHitTest};
 ghost use Rattle.tui_textarea.specs.Rendered.{IsDrawn};
 ghost use Rattle.textarea_c_data.specs.Areas.{IsArea};
-ghost use Rattle.textarea_c.specs.Calls.{Asks, Calls, Given, Paints, Reads, Restyles};
+ghost use Rattle.textarea_c.specs.Calls.{Asks, Calls, Given, Paints, OnlyReads, Restyles};
 ghost use Rattle.textarea_c_data.specs.Cells.{plain_cell, plain_cells};
-ghost use Rattle.textarea_c_data.specs.Copied.{written};
+ghost use Rattle.textarea_c_data.specs.Copied.{copied_over};
 ghost use Rattle.textarea_c.specs.Drawn.{IsStyledIn};
 ghost use Rattle.textarea_c.specs.Rendered.{IsRenderedIn};
-ghost use Rattle.textarea_c_data.specs.Styles.{style_of};
+ghost use Rattle.textarea_c_data.specs.Styles.{style_of_numbers};
 ghost use Rattle.textarea_c_data.specs.Texts.{text_in};
 
 use crate::calls::on;
@@ -81,7 +81,7 @@ fn clear_screen(editor: &mut Editor)
 #[unsafe(no_mangle)]
 pub extern "C" fn ta_screen_area(handle: &mut Handle, alloc: Global, area: &mut Area) -> u32
     ensures unchanged { Calls handle.old.stored.content result handle.new.stored.content
-        (λ a b. Reads result a b) }
+        (λ a b. OnlyReads result a b) }
     ensures area { IfSome handle.old.stored.content (λ a. IsArea area.new (area_of a.screen)) }
     ensures unwritten { result ≢ 0 → area.new ≡ area.old }
 {
@@ -106,7 +106,7 @@ pub extern "C" fn ta_screen_put(
     style: &Style,
 ) -> u32
     ensures put { Calls handle.old.stored.content result handle.new.stored.content
-        (λ a b. Given (text_in text.now) (λ t. Given (style_of style.now) (λ s. Paints (λ before
+        (λ a b. Given (text_in text.now) (λ t. Given (style_of_numbers style.now) (λ s. Paints (λ before
         after. Changes before.screen after.screen (λ column row cell.
         if (column == x) && (row == y) then with_symbol t s cell else cell)))) result a b) }
     ensures inline { IfSome (text_in text.now) (λ t. length t ≤ INLINE_BYTES → result ≢ 2) }
@@ -131,7 +131,7 @@ pub extern "C" fn ta_screen_set_style(
     style: &Style,
 ) -> u32
     ensures { Calls handle.old.stored.content result handle.new.stored.content
-        (λ a b. Given (style_of style.now) (λ s. Restyles (λ before after.
+        (λ a b. Given (style_of_numbers style.now) (λ s. Restyles (λ before after.
         IsStyledIn area.now s before.screen after.screen)) result a b) }
 {
     on!(handle, alloc, editor => match style.read() {
@@ -195,7 +195,7 @@ pub extern "C" fn ta_screen_symbol(
         (λ a b. Asks result a b) }
     ensures text { IfSome handle.old.stored.content
         (λ a. MatchOption (cell_at a.screen x y) (result ≡ 1) (λ cell. (result ≡ 0)
-        × (out.new ≡ written out.old cell.symbol) × (needed.new ≡ length cell.symbol))) }
+        × (out.new ≡ copied_over out.old cell.symbol) × (needed.new ≡ length cell.symbol))) }
     ensures unwritten { result ≢ 0 → (out.new ≡ out.old) × (needed.new ≡ needed.old) }
 {
     on!(handle, alloc, editor => match editor.screen.cell(x, y) {
@@ -219,9 +219,9 @@ pub extern "C" fn ta_screen_cells(
     needed: &mut usize,
 ) -> u32
     ensures unchanged { Calls handle.old.stored.content result handle.new.stored.content
-        (λ a b. Reads result a b) }
+        (λ a b. OnlyReads result a b) }
     ensures cells { IfSome handle.old.stored.content
-        (λ a. (out.new ≡ written out.old (plain_cells a.screen))
+        (λ a. (out.new ≡ copied_over out.old (plain_cells a.screen))
         × (needed.new ≡ length (plain_cells a.screen))) }
     ensures unwritten { result ≢ 0 → (out.new ≡ out.old) × (needed.new ≡ needed.old) }
 {
@@ -378,7 +378,7 @@ pub extern "C" fn ta_viewport(
     height: &mut usize,
 ) -> u32
     ensures unchanged { Calls handle.old.stored.content result handle.new.stored.content
-        (λ a b. Reads result a b) }
+        (λ a b. OnlyReads result a b) }
     ensures viewport { IfSome handle.old.stored.content
         (λ a. a.area.drawing.viewport ≡ record {
           row = row.new;

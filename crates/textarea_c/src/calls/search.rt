@@ -2,9 +2,9 @@
 ghost use Rattle.std.specs.Prelude.{◌≡◌, ◌≢◌, IfSome, MatchOption, is_some, length, string_bytes};
 ghost use Rattle.textarea_text.specs.Place.{IsPlace};
 ghost use Rattle.tui_textarea.specs.Search.{next_match, previous_match, after_search};
-ghost use Rattle.textarea_c.specs.Calls.{Asks, Calls, Given, Patterns, Reads, Searches};
+ghost use Rattle.textarea_c.specs.Calls.{Asks, Calls, Given, Patterns, OnlyReads, Searches};
 ghost use Rattle.textarea_c.specs.Rejections.{IsRejection};
-ghost use Rattle.textarea_c_data.specs.Copied.{written};
+ghost use Rattle.textarea_c_data.specs.Copied.{copied_over};
 ghost use Rattle.textarea_c_data.specs.Texts.{text_in};
 
 use crate::calls::on;
@@ -70,9 +70,9 @@ pub extern "C" fn ta_pattern_error(
     needed: &mut usize,
 ) -> u32
     ensures unchanged { Calls handle.old.stored.content result handle.new.stored.content
-        (λ a b. Reads result a b) }
+        (λ a b. OnlyReads result a b) }
     ensures text { IfSome handle.old.stored.content
-        (λ a. (out.new ≡ written out.old (string_bytes a.pattern_error))
+        (λ a. (out.new ≡ copied_over out.old (string_bytes a.pattern_error))
         × (needed.new ≡ length (string_bytes a.pattern_error))) }
     ensures unwritten { result ≢ 0 → (out.new ≡ out.old) × (needed.new ≡ needed.old) }
 {
@@ -97,7 +97,7 @@ pub extern "C" fn ta_search_pattern(
         (λ a b. Asks result a b) }
     ensures text { IfSome handle.old.stored.content
         (λ a. MatchOption a.area.pattern (result ≡ 1) (λ text. (result ≡ 0)
-        × (out.new ≡ written out.old text) × (needed.new ≡ length text))) }
+        × (out.new ≡ copied_over out.old text) × (needed.new ≡ length text))) }
     ensures unwritten { result ≢ 0 → (out.new ≡ out.old) × (needed.new ≡ needed.old) }
 {
     on!(handle, alloc, editor => match editor.area.search_pattern() {

@@ -5,10 +5,10 @@ ghost use Rattle.textarea_screen.specs.Text.{text_view};
 ghost use Rattle.textarea_view.specs.SurroundState.{first_bytes, style_with_lines};
 ghost use Rattle.textarea_view.specs.Outcomes.{with_placeholder_style, with_placeholder_text};
 ghost use Rattle.tui_textarea.specs.Measure.{with_surround};
-ghost use Rattle.textarea_c.specs.Calls.{Asks, Calls, ChangesBy, ChangesIf, Reads, Sets, SetsBy, with_block, with_placeholder};
-ghost use Rattle.textarea_c_data.specs.Copied.{written};
-ghost use Rattle.textarea_c_data.specs.Spans.{AreSpansOut, block_read, plain_block, plain_line, spans_of, text_read, title_spans};
-ghost use Rattle.textarea_c_data.specs.Styles.{style_of};
+ghost use Rattle.textarea_c.specs.Calls.{Asks, Calls, ChangesBy, ChangesIf, OnlyReads, Sets, SetsBy, with_block, with_placeholder_text};
+ghost use Rattle.textarea_c_data.specs.Copied.{copied_over};
+ghost use Rattle.textarea_c_data.specs.Spans.{AreSpansOut, block_read, block_for_c, line_for_c, spans_of, text_read, title_spans};
+ghost use Rattle.textarea_c_data.specs.Styles.{style_of_numbers};
 ghost use Rattle.textarea_c_data.specs.Texts.{text_in};
 
 use crate::calls::on;
@@ -93,7 +93,7 @@ pub extern "C" fn ta_block(
         (λ a b. Asks result a b) }
     ensures block { IfSome handle.old.stored.content
         (λ a. MatchOption a.area.surround.block (result ≡ 1)
-        (λ view. (result ≡ 0) × (block.new ≡ plain_block view))) }
+        (λ view. (result ≡ 0) × (block.new ≡ block_for_c view))) }
     ensures title { IfSome handle.old.stored.content (λ a. IfSome a.area.surround.block
         (λ view. AreSpansOut (title_spans view.title) title.old title.new title_needed.new
         spans.old spans.new spans_needed.new)) }
@@ -144,8 +144,8 @@ pub extern "C" fn ta_set_styled_placeholder(
     style: &Style,
 ) -> u32
     ensures { Calls handle.old.stored.content result handle.new.stored.content
-        (λ a b. ChangesIf (text_read text.now spans.now lines.now (style_of style.now))
-        (with_placeholder a.area) result a b) }
+        (λ a b. ChangesIf (text_read text.now spans.now lines.now (style_of_numbers style.now))
+        (with_placeholder_text a.area) result a b) }
 {
     on!(handle, alloc, editor => match read_text(alloc, text, spans, lines, *style) {
         Ok(found) => replace_placeholder(&mut editor, found),
@@ -156,7 +156,7 @@ pub extern "C" fn ta_set_styled_placeholder(
 // Sets the placeholder, if there is one, and returns the status.
 fn replace_placeholder(editor: &mut Editor, found: Option<screen::Text<'static>>) -> u32
     ensures { ChangesIf (option_map (λ text. text_view text) found.entry)
-        (with_placeholder editor.old.area) result editor.old editor.new }
+        (with_placeholder_text editor.old.area) result editor.old editor.new }
 {
     match found {
         Some(placeholder) => {
@@ -173,7 +173,7 @@ fn replace_placeholder(editor: &mut Editor, found: Option<screen::Text<'static>>
 #[unsafe(no_mangle)]
 pub extern "C" fn ta_set_placeholder_style(handle: &mut Handle, alloc: Global, style: &Style) -> u32
     ensures { Calls handle.old.stored.content result handle.new.stored.content
-        (λ a b. SetsBy (style_of style.now)
+        (λ a b. SetsBy (style_of_numbers style.now)
         (λ s. with_surround a.area (with_placeholder_style a.area.surround s)) result a b) }
 {
     on!(handle, alloc, editor => match style.read() {
@@ -203,14 +203,14 @@ pub extern "C" fn ta_placeholder(
     lines_needed: &mut usize,
 ) -> u32
     ensures unchanged { Calls handle.old.stored.content result handle.new.stored.content
-        (λ a b. Reads result a b) }
+        (λ a b. OnlyReads result a b) }
     ensures style { IfSome handle.old.stored.content
-        (λ a. style_of style.new ≡ Some a.area.surround.placeholder.style) }
+        (λ a. style_of_numbers style.new ≡ Some a.area.surround.placeholder.style) }
     ensures spans { IfSome handle.old.stored.content
         (λ a. AreSpansOut (spans_of a.area.surround.placeholder.lines) text.old text.new
         text_needed.new spans.old spans.new spans_needed.new) }
     ensures lines { IfSome handle.old.stored.content
-        (λ a. (lines.new ≡ written lines.old (map plain_line a.area.surround.placeholder.lines))
+        (λ a. (lines.new ≡ copied_over lines.old (map line_for_c a.area.surround.placeholder.lines))
         × (lines_needed.new ≡ length a.area.surround.placeholder.lines)) }
     ensures unwritten { result ≢ 0 → (style.new ≡ style.old) × (text.new ≡ text.old)
         × (text_needed.new ≡ text_needed.old) × (spans.new ≡ spans.old)
@@ -238,9 +238,9 @@ pub extern "C" fn ta_placeholder_text(
     needed: &mut usize,
 ) -> u32
     ensures unchanged { Calls handle.old.stored.content result handle.new.stored.content
-        (λ a b. Reads result a b) }
+        (λ a b. OnlyReads result a b) }
     ensures text { IfSome handle.old.stored.content
-        (λ a. (out.new ≡ written out.old (first_bytes a.area.surround.placeholder.lines))
+        (λ a. (out.new ≡ copied_over out.old (first_bytes a.area.surround.placeholder.lines))
         × (needed.new ≡ length (first_bytes a.area.surround.placeholder.lines))) }
     ensures unwritten { result ≢ 0 → (out.new ≡ out.old) × (needed.new ≡ needed.old) }
 {
@@ -260,7 +260,7 @@ pub extern "C" fn ta_placeholder_style(handle: &mut Handle, alloc: Global, style
     ensures style { IfSome handle.old.stored.content
         (λ a. MatchOption (style_with_lines a.area.surround.placeholder.lines
         a.area.surround.placeholder.style) (result ≡ 1)
-        (λ s. (result ≡ 0) × (style_of style.new ≡ Some s))) }
+        (λ s. (result ≡ 0) × (style_of_numbers style.new ≡ Some s))) }
     ensures unwritten { result ≢ 0 → style.new ≡ style.old }
 {
     on!(handle, alloc, editor => match editor.area.placeholder_style() {

@@ -3,7 +3,7 @@
 ghost use Rattle.std.specs.Prelude.{◌≡◌, ◌≢◌, IfSome};
 ghost use Rattle.tui_textarea.specs.Calls.{result_of_call};
 ghost use Rattle.tui_textarea.specs.Input.{flag_of};
-ghost use Rattle.textarea_c.specs.Calls.{Answers, Calls, MakesAttempt, MakesSetting, Reads, number_in};
+ghost use Rattle.textarea_c.specs.Calls.{Answers, Calls, MakesAttempt, MakesSetting, OnlyReads, number_in};
 ghost use Rattle.textarea_calls.specs.declared.call.Call.TheVariants as call;
 
 use crate::calls::on;
@@ -73,7 +73,7 @@ pub extern "C" fn ta_max_histories(
     max_histories: &mut usize,
 ) -> u32
     ensures unchanged { Calls handle.old.stored.content result handle.new.stored.content
-        (λ a b. Reads result a b) }
+        (λ a b. OnlyReads result a b) }
     ensures value { IfSome handle.old.stored.content
         (λ a. max_histories.new ≡ number_in (result_of_call a.area call.MaxHistories)) }
     ensures unwritten { result ≢ 0 → max_histories.new ≡ max_histories.old }

@@ -3,7 +3,7 @@
 ghost use Rattle.std.specs.Prelude.{◌≡◌, ◌≢◌, IfSome};
 ghost use Rattle.tui_textarea.specs.Calls.{result_of_call};
 ghost use Rattle.tui_textarea.specs.Input.{flag_of};
-ghost use Rattle.textarea_c.specs.Calls.{Answers, Calls, MakesChange, MakesSetting, Reads, number_in};
+ghost use Rattle.textarea_c.specs.Calls.{Answers, Calls, MakesChange, MakesSetting, OnlyReads, number_in};
 ghost use Rattle.textarea_calls.specs.declared.call.Call.TheVariants as call;
 
 use crate::calls::on;
@@ -83,7 +83,7 @@ pub extern "C" fn ta_set_max_rows(handle: &mut Handle, alloc: Global, rows: u16)
 #[unsafe(no_mangle)]
 pub extern "C" fn ta_tab_length(handle: &mut Handle, alloc: Global, tab_length: &mut u8) -> u32
     ensures unchanged { Calls handle.old.stored.content result handle.new.stored.content
-        (λ a b. Reads result a b) }
+        (λ a b. OnlyReads result a b) }
     ensures value { IfSome handle.old.stored.content
         (λ a. tab_length.new ≡ number_in (result_of_call a.area call.TabLength)) }
     ensures unwritten { result ≢ 0 → tab_length.new ≡ tab_length.old }
@@ -111,7 +111,7 @@ pub extern "C" fn ta_hard_tab_indent(handle: &mut Handle, alloc: Global) -> u32
 #[unsafe(no_mangle)]
 pub extern "C" fn ta_min_rows(handle: &mut Handle, alloc: Global, min_rows: &mut u16) -> u32
     ensures unchanged { Calls handle.old.stored.content result handle.new.stored.content
-        (λ a b. Reads result a b) }
+        (λ a b. OnlyReads result a b) }
     ensures value { IfSome handle.old.stored.content
         (λ a. min_rows.new ≡ number_in (result_of_call a.area call.MinRows)) }
     ensures unwritten { result ≢ 0 → min_rows.new ≡ min_rows.old }
@@ -128,7 +128,7 @@ pub extern "C" fn ta_min_rows(handle: &mut Handle, alloc: Global, min_rows: &mut
 #[unsafe(no_mangle)]
 pub extern "C" fn ta_max_rows(handle: &mut Handle, alloc: Global, max_rows: &mut u16) -> u32
     ensures unchanged { Calls handle.old.stored.content result handle.new.stored.content
-        (λ a b. Reads result a b) }
+        (λ a b. OnlyReads result a b) }
     ensures value { IfSome handle.old.stored.content
         (λ a. max_rows.new ≡ number_in (result_of_call a.area call.MaxRows)) }
     ensures unwritten { result ≢ 0 → max_rows.new ≡ max_rows.old }

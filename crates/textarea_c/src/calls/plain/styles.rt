@@ -2,8 +2,8 @@
 //! The styles of a text area.
 ghost use Rattle.std.specs.Prelude.{◌≡◌, ◌≢◌, IfSome};
 ghost use Rattle.tui_textarea.specs.Calls.{result_of_call};
-ghost use Rattle.textarea_c.specs.Calls.{Calls, MakesSettingBy, Reads, style_in};
-ghost use Rattle.textarea_c_data.specs.Styles.{style_of};
+ghost use Rattle.textarea_c.specs.Calls.{Calls, MakesSettingBy, OnlyReads, style_in};
+ghost use Rattle.textarea_c_data.specs.Styles.{style_of_numbers};
 ghost use Rattle.textarea_calls.specs.declared.call.Call.TheVariants as call;
 
 use crate::calls::on;
@@ -18,7 +18,7 @@ use textarea_c_data::style::Style;
 #[unsafe(no_mangle)]
 pub extern "C" fn ta_set_style(handle: &mut Handle, alloc: Global, style: &Style) -> u32
     ensures { Calls handle.old.stored.content result handle.new.stored.content
-        (λ a b. MakesSettingBy (style_of style.now) call.SetStyle result a b) }
+        (λ a b. MakesSettingBy (style_of_numbers style.now) call.SetStyle result a b) }
 {
     on!(handle, alloc, editor => match style.read() {
         Some(style) => {
@@ -35,7 +35,7 @@ pub extern "C" fn ta_set_style(handle: &mut Handle, alloc: Global, style: &Style
 #[unsafe(no_mangle)]
 pub extern "C" fn ta_set_cursor_style(handle: &mut Handle, alloc: Global, style: &Style) -> u32
     ensures { Calls handle.old.stored.content result handle.new.stored.content
-        (λ a b. MakesSettingBy (style_of style.now) call.SetCursorStyle result a b) }
+        (λ a b. MakesSettingBy (style_of_numbers style.now) call.SetCursorStyle result a b) }
 {
     on!(handle, alloc, editor => match style.read() {
         Some(style) => {
@@ -52,7 +52,7 @@ pub extern "C" fn ta_set_cursor_style(handle: &mut Handle, alloc: Global, style:
 #[unsafe(no_mangle)]
 pub extern "C" fn ta_set_cursor_line_style(handle: &mut Handle, alloc: Global, style: &Style) -> u32
     ensures { Calls handle.old.stored.content result handle.new.stored.content
-        (λ a b. MakesSettingBy (style_of style.now) call.SetCursorLineStyle result a b) }
+        (λ a b. MakesSettingBy (style_of_numbers style.now) call.SetCursorLineStyle result a b) }
 {
     on!(handle, alloc, editor => match style.read() {
         Some(style) => {
@@ -69,7 +69,7 @@ pub extern "C" fn ta_set_cursor_line_style(handle: &mut Handle, alloc: Global, s
 #[unsafe(no_mangle)]
 pub extern "C" fn ta_set_selection_style(handle: &mut Handle, alloc: Global, style: &Style) -> u32
     ensures { Calls handle.old.stored.content result handle.new.stored.content
-        (λ a b. MakesSettingBy (style_of style.now) call.SetSelectionStyle result a b) }
+        (λ a b. MakesSettingBy (style_of_numbers style.now) call.SetSelectionStyle result a b) }
 {
     on!(handle, alloc, editor => match style.read() {
         Some(style) => {
@@ -86,7 +86,7 @@ pub extern "C" fn ta_set_selection_style(handle: &mut Handle, alloc: Global, sty
 #[unsafe(no_mangle)]
 pub extern "C" fn ta_set_search_style(handle: &mut Handle, alloc: Global, style: &Style) -> u32
     ensures { Calls handle.old.stored.content result handle.new.stored.content
-        (λ a b. MakesSettingBy (style_of style.now) call.SetSearchStyle result a b) }
+        (λ a b. MakesSettingBy (style_of_numbers style.now) call.SetSearchStyle result a b) }
 {
     on!(handle, alloc, editor => match style.read() {
         Some(style) => {
@@ -103,9 +103,9 @@ pub extern "C" fn ta_set_search_style(handle: &mut Handle, alloc: Global, style:
 #[unsafe(no_mangle)]
 pub extern "C" fn ta_style(handle: &mut Handle, alloc: Global, style: &mut Style) -> u32
     ensures unchanged { Calls handle.old.stored.content result handle.new.stored.content
-        (λ a b. Reads result a b) }
+        (λ a b. OnlyReads result a b) }
     ensures value { IfSome handle.old.stored.content
-        (λ a. style_of style.new ≡ style_in (result_of_call a.area call.Style)) }
+        (λ a. style_of_numbers style.new ≡ style_in (result_of_call a.area call.Style)) }
     ensures unwritten { result ≢ 0 → style.new ≡ style.old }
 {
     on!(handle, alloc, editor => {
@@ -120,9 +120,9 @@ pub extern "C" fn ta_style(handle: &mut Handle, alloc: Global, style: &mut Style
 #[unsafe(no_mangle)]
 pub extern "C" fn ta_cursor_style(handle: &mut Handle, alloc: Global, style: &mut Style) -> u32
     ensures unchanged { Calls handle.old.stored.content result handle.new.stored.content
-        (λ a b. Reads result a b) }
+        (λ a b. OnlyReads result a b) }
     ensures value { IfSome handle.old.stored.content
-        (λ a. style_of style.new ≡ style_in (result_of_call a.area call.CursorStyle)) }
+        (λ a. style_of_numbers style.new ≡ style_in (result_of_call a.area call.CursorStyle)) }
     ensures unwritten { result ≢ 0 → style.new ≡ style.old }
 {
     on!(handle, alloc, editor => {
@@ -137,9 +137,9 @@ pub extern "C" fn ta_cursor_style(handle: &mut Handle, alloc: Global, style: &mu
 #[unsafe(no_mangle)]
 pub extern "C" fn ta_cursor_line_style(handle: &mut Handle, alloc: Global, style: &mut Style) -> u32
     ensures unchanged { Calls handle.old.stored.content result handle.new.stored.content
-        (λ a b. Reads result a b) }
+        (λ a b. OnlyReads result a b) }
     ensures value { IfSome handle.old.stored.content
-        (λ a. style_of style.new ≡ style_in (result_of_call a.area call.CursorLineStyle)) }
+        (λ a. style_of_numbers style.new ≡ style_in (result_of_call a.area call.CursorLineStyle)) }
     ensures unwritten { result ≢ 0 → style.new ≡ style.old }
 {
     on!(handle, alloc, editor => {
@@ -154,9 +154,9 @@ pub extern "C" fn ta_cursor_line_style(handle: &mut Handle, alloc: Global, style
 #[unsafe(no_mangle)]
 pub extern "C" fn ta_selection_style(handle: &mut Handle, alloc: Global, style: &mut Style) -> u32
     ensures unchanged { Calls handle.old.stored.content result handle.new.stored.content
-        (λ a b. Reads result a b) }
+        (λ a b. OnlyReads result a b) }
     ensures value { IfSome handle.old.stored.content
-        (λ a. style_of style.new ≡ style_in (result_of_call a.area call.SelectionStyle)) }
+        (λ a. style_of_numbers style.new ≡ style_in (result_of_call a.area call.SelectionStyle)) }
     ensures unwritten { result ≢ 0 → style.new ≡ style.old }
 {
     on!(handle, alloc, editor => {
@@ -171,9 +171,9 @@ pub extern "C" fn ta_selection_style(handle: &mut Handle, alloc: Global, style: 
 #[unsafe(no_mangle)]
 pub extern "C" fn ta_search_style(handle: &mut Handle, alloc: Global, style: &mut Style) -> u32
     ensures unchanged { Calls handle.old.stored.content result handle.new.stored.content
-        (λ a b. Reads result a b) }
+        (λ a b. OnlyReads result a b) }
     ensures value { IfSome handle.old.stored.content
-        (λ a. style_of style.new ≡ style_in (result_of_call a.area call.SearchStyle)) }
+        (λ a. style_of_numbers style.new ≡ style_in (result_of_call a.area call.SearchStyle)) }
     ensures unwritten { result ≢ 0 → style.new ≡ style.old }
 {
     on!(handle, alloc, editor => {

@@ -1,8 +1,8 @@
 use Rattle.std.proofs.Common.{◌≡◌, drop, map}
-use Rattle.textarea_c_data.specs.Copied.{written, written_at}
+use Rattle.textarea_c_data.specs.Copied.{copied_over, written_at}
 use Rattle.textarea_c_data.specs.Ranges.{plain_range}
 use Rattle.textarea_c_data.proofs.range.write_ranges.Given as goal
 
 -- what is left to write leads to the same slice
 abbrev pub invariant-loop-index : goal.invariant-loop-index
-invariant-loop-index l = written_at l.index l.out (map plain_range (drop l.index l.ranges)) ≡ written l.initial.out (map plain_range l.ranges)
+invariant-loop-index l = written_at l.index l.out (map plain_range (drop l.index l.ranges)) ≡ copied_over l.initial.out (map plain_range l.ranges)

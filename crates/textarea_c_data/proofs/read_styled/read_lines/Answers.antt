@@ -3,7 +3,7 @@ use Rattle.std.specs.Prelude.{slice_range}
 use Rattle.std.proofs.lemmas.List.{map-append}
 use Rattle.textarea_screen.specs.Text.{LineView, line_view}
 use Rattle.textarea_c_data.specs.Spans.{line_read, lines_read, own_spans_read, spans_end, spans_read}
-use Rattle.textarea_c_data.specs.Styles.{style_of}
+use Rattle.textarea_c_data.specs.Styles.{style_of_numbers}
 use Rattle.textarea_c_data.specs.Texts.{items_between}
 use Rattle.textarea_c_data.specs.declared.spans.Line.{Line}
 use Rattle.textarea_c_data.specs.declared.spans.Span.{Span}
@@ -17,16 +17,16 @@ returns-in_default c =
     let line : Line = get_or c.args.lines.now c.loop-line.line-index no_line in
     let past : items_between c.args.spans.now c.loop-line.first (c.loop-line.first + line.spans) ≡ None = past_end c.args.spans.now c.loop-line.first (c.loop-line.first + line.spans) c.in_default.ensures in
     lines_past c.args.text.now c.loop-line.from c.args.spans.now c.loop-line.first _ c.args.lines.now c.loop-line.line-index no_line _ c.loop-line-test.true
-    (ap (λ (part : Option (List Span)). line_read (own_spans_read c.args.text.now c.loop-line.from part) (style_of line.style)) past) c.loop-line.invariant
+    (ap (λ (part : Option (List Span)). line_read (own_spans_read c.args.text.now c.loop-line.from part) (style_of_numbers line.style)) past) c.loop-line.invariant
 
 pub returns-in_default-2 : goal.returns-in_default-2
 returns-in_default-2 c =
     let line : Line = get_or c.args.lines.now c.loop-line.line-index no_line in let first = c.loop-line.first in let spans = c.args.spans.now in let end = c.in-Some.end in
     let part : items_between spans first (first + line.spans) ≡ Some (slice_range spans first end) =
     subst (λ (e : ℕ). items_between spans first e ≡ Some (slice_range spans first end)) c.in-Some.ensures.0 (inside spans first end (omega arith) c.in-Some.ensures.1) in
-    let none : None ≡ line_read (spans_read c.args.text.now c.loop-line.from (slice_range spans first end)) (style_of line.style) = rw c.in_default-2.is at c.in_ok-own.ensures.line in
+    let none : None ≡ line_read (spans_read c.args.text.now c.loop-line.from (slice_range spans first end)) (style_of_numbers line.style) = rw c.in_default-2.is at c.in_ok-own.ensures.line in
     lines_past c.args.text.now c.loop-line.from spans first _ c.args.lines.now c.loop-line.line-index no_line _ c.loop-line-test.true
-    (ap (λ (own : Option (List Span)). line_read (own_spans_read c.args.text.now c.loop-line.from own) (style_of line.style)) part ∙ sym none) c.loop-line.invariant
+    (ap (λ (own : Option (List Span)). line_read (own_spans_read c.args.text.now c.loop-line.from own) (style_of_numbers line.style)) part ∙ sym none) c.loop-line.invariant
 
 pub loop-line-preserved : goal.loop-line-preserved
 loop-line-preserved c =
@@ -35,9 +35,9 @@ loop-line-preserved c =
     let after = c.in-Some-2.after in let v : LineView = line_view c.in-Some-2.own in let xs : List LineView = map line_view c.loop-line.read.items in
     let part : items_between spans first (first + line.spans) ≡ Some (slice_range spans first end) =
     subst (λ (e : ℕ). items_between spans first e ≡ Some (slice_range spans first end)) c.in-Some.ensures.0 (inside spans first end (omega arith) c.in-Some.ensures.1) in
-    let read : Some v ≡ line_read (spans_read text from (slice_range spans first end)) (style_of line.style) = rw c.in-Some-2.is at c.in_ok-own.ensures.line in
+    let read : Some v ≡ line_read (spans_read text from (slice_range spans first end)) (style_of_numbers line.style) = rw c.in-Some-2.is at c.in_ok-own.ensures.line in
     let after_is : after ≡ spans_end from (slice_range spans first end) = rw c.in-Some-2.is at c.in_ok-own.ensures.end in
-    let more = line_more text from spans first xs line later v after (ap (λ (own : Option (List Span)). line_read (own_spans_read text from own) (style_of line.style)) part ∙ sym read)
+    let more = line_more text from spans first xs line later v after (ap (λ (own : Option (List Span)). line_read (own_spans_read text from own) (style_of_numbers line.style)) part ∙ sym read)
     (subst (λ (e : ℕ). after ≡ spans_end from (slice_range spans first e)) c.in-Some.ensures.0 after_is) in
     let whole = lines_read text 0 spans 0 all in
     let left : option_map (λ rest. xs ++ rest) (lines_read text from spans first (line ∷ later)) ≡ whole =

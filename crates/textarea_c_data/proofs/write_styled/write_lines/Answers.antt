@@ -2,7 +2,7 @@ use Rattle.std.proofs.Common.{◌≡◌, ◌+◌, ◌∙◌, ℕ, List, [], ◌�
 use Rattle.std.proofs.lemmas.List.{length-append, length-map, map-append}
 use Rattle.textarea_screen.specs.Text.{SpanView, line_view, span_view}
 use Rattle.textarea_c_data.specs.Copied.{saturated, written_at}
-use Rattle.textarea_c_data.specs.Spans.{bytes_of, plain_line, plain_span, spans_of}
+use Rattle.textarea_c_data.specs.Spans.{joined_texts, line_for_c, plain_span, spans_of}
 use Rattle.textarea_c_data.specs.declared.spans.Line.{Line}
 use Rattle.textarea_c_data.specs.declared.spans.Span.{Span}
 use Rattle.textarea_c_data.proofs.Copied.{drop_item, written_at_more}
@@ -20,19 +20,19 @@ loop-row-preserved c =
     let wrote = c.write_spans-used.ensures in
     record {
       text =
-          let f = c.loop-row.invariant.text in let n = length (bytes_of own) in let parts = bytes_append own later in
-          let sum : f.0 + length (bytes_of (own ++ later)) ≡ length (bytes_of (spans_of (map line_view all))) =
-          subst (λ lines. f.0 + length (bytes_of (spans_of (map line_view lines))) ≡ length (bytes_of (spans_of (map line_view all)))) left f.2 in
-          let out : written_at f.0 c.loop-row.text (bytes_of (own ++ later)) ≡ written_at 0 c.args.text.now (bytes_of (spans_of (map line_view all))) =
-          subst (λ lines. written_at f.0 c.loop-row.text (bytes_of (spans_of (map line_view lines))) ≡ written_at 0 c.args.text.now (bytes_of (spans_of (map line_view all)))) left f.3 in
-          let parted : written_at f.0 c.loop-row.text (bytes_of own ++ bytes_of later) ≡ written_at 0 c.args.text.now (bytes_of (spans_of (map line_view all))) =
-          subst (λ (bytes : List ℕ). written_at f.0 c.loop-row.text bytes ≡ written_at 0 c.args.text.now (bytes_of (spans_of (map line_view all)))) parts out in (
+          let f = c.loop-row.invariant.text in let n = length (joined_texts own) in let parts = bytes_append own later in
+          let sum : f.0 + length (joined_texts (own ++ later)) ≡ length (joined_texts (spans_of (map line_view all))) =
+          subst (λ lines. f.0 + length (joined_texts (spans_of (map line_view lines))) ≡ length (joined_texts (spans_of (map line_view all)))) left f.2 in
+          let out : written_at f.0 c.loop-row.text (joined_texts (own ++ later)) ≡ written_at 0 c.args.text.now (joined_texts (spans_of (map line_view all))) =
+          subst (λ lines. written_at f.0 c.loop-row.text (joined_texts (spans_of (map line_view lines))) ≡ written_at 0 c.args.text.now (joined_texts (spans_of (map line_view all)))) left f.3 in
+          let parted : written_at f.0 c.loop-row.text (joined_texts own ++ joined_texts later) ≡ written_at 0 c.args.text.now (joined_texts (spans_of (map line_view all))) =
+          subst (λ (bytes : List ℕ). written_at f.0 c.loop-row.text bytes ≡ written_at 0 c.args.text.now (joined_texts (spans_of (map line_view all)))) parts out in (
             f.0 + n,
-            wrote.bytes f.0 f.1 ∙ ap (λ (views : List SpanView). saturated (f.0 + length (bytes_of views))) same,
-            omega (arith, sum, ap length parts, length-append (bytes_of own) (bytes_of later)),
-            subst (λ (text : List ℕ). written_at (f.0 + n) text (bytes_of later) ≡ written_at 0 c.args.text.now (bytes_of (spans_of (map line_view all))))
-                (sym (wrote.text f.0 f.1 ∙ ap (λ (views : List SpanView). written_at f.0 c.loop-row.text (bytes_of views)) same))
-                (rw (written_at_more f.0 (f.0 + n) c.loop-row.text (bytes_of own) (bytes_of later) refl) parted),
+            wrote.bytes f.0 f.1 ∙ ap (λ (views : List SpanView). saturated (f.0 + length (joined_texts views))) same,
+            omega (arith, sum, ap length parts, length-append (joined_texts own) (joined_texts later)),
+            subst (λ (text : List ℕ). written_at (f.0 + n) text (joined_texts later) ≡ written_at 0 c.args.text.now (joined_texts (spans_of (map line_view all))))
+                (sym (wrote.text f.0 f.1 ∙ ap (λ (views : List SpanView). written_at f.0 c.loop-row.text (joined_texts views)) same))
+                (rw (written_at_more f.0 (f.0 + n) c.loop-row.text (joined_texts own) (joined_texts later) refl) parted),
           );
       spans =
           let f = c.loop-row.invariant.spans in let n = length own in let whole = map plain_span (spans_of (map line_view all)) in
@@ -51,13 +51,13 @@ loop-row-preserved c =
                 (rw (written_at_more f.0 (f.0 + n) c.loop-row.spans (map plain_span own) (map plain_span later) after) parted),
           );
       lines =
-          let whole = map plain_line (map line_view all) in let views = map plain_line (map line_view rest) in
+          let whole = map line_for_c (map line_view all) in let views = map line_for_c (map line_view rest) in
           let one : Line = record { spans = length passed; style = c.of.result } in
-          let one_is : one ≡ plain_line (line_view line) = ap₂ (λ (n : ℕ) s. record { spans = n; style = s }) counted c.of.ensures.value in
-          let out : written_at row c.loop-row.lines (plain_line (line_view line) ∷ views) ≡ written_at 0 c.args.lines.now whole =
-          subst (λ lines. written_at row c.loop-row.lines (map plain_line (map line_view lines)) ≡ written_at 0 c.args.lines.now whole) left c.loop-row.invariant.lines in
-          let after : row + 1 ≡ row + length (plain_line (line_view line) ∷ []) = omega arith in
+          let one_is : one ≡ line_for_c (line_view line) = ap₂ (λ (n : ℕ) s. record { spans = n; style = s }) counted c.of.ensures.value in
+          let out : written_at row c.loop-row.lines (line_for_c (line_view line) ∷ views) ≡ written_at 0 c.args.lines.now whole =
+          subst (λ lines. written_at row c.loop-row.lines (map line_for_c (map line_view lines)) ≡ written_at 0 c.args.lines.now whole) left c.loop-row.invariant.lines in
+          let after : row + 1 ≡ row + length (line_for_c (line_view line) ∷ []) = omega arith in
           subst (λ (lines : List Line). written_at (row + 1) lines views ≡ written_at 0 c.args.lines.now whole)
           (sym (c.put.ensures.out ∙ ap (λ (l : Line). written_at row c.loop-row.lines (l ∷ [])) one_is))
-          (rw (written_at_more row (row + 1) c.loop-row.lines (plain_line (line_view line) ∷ []) views after) out);
+          (rw (written_at_more row (row + 1) c.loop-row.lines (line_for_c (line_view line) ∷ []) views after) out);
     }

@@ -3,7 +3,7 @@ use Rattle.std.proofs.lemmas.List.{length-map}
 use Rattle.textarea_screen.specs.Text.{span_view}
 use Rattle.textarea_view.specs.SurroundState.{span_bytes}
 use Rattle.textarea_c_data.specs.Copied.{written_at}
-use Rattle.textarea_c_data.specs.Spans.{bytes_of, plain_span}
+use Rattle.textarea_c_data.specs.Spans.{joined_texts, plain_span}
 use Rattle.textarea_c_data.specs.declared.spans.Span.{Span}
 use Rattle.textarea_c_data.proofs.Copied.{drop_item}
 use Rattle.textarea_c_data.proofs.StyledTexts.{bytes_are, next_out}
@@ -21,16 +21,16 @@ loop-span-preserved c =
     record {
       text = λ at start_is.
           let f = c.loop-span.invariant.text at start_is in
-          let sum : f.0 + length (bytes_of (map span_view (span ∷ rest))) ≡ at + length (bytes_of (map span_view all)) =
-          subst (λ spans. f.0 + length (bytes_of (map span_view spans)) ≡ at + length (bytes_of (map span_view all))) left f.2 in
-          let out : written_at f.0 c.loop-span.text (bytes_of (map span_view (span ∷ rest))) ≡ written_at at c.args.text.now (bytes_of (map span_view all)) =
-          subst (λ spans. written_at f.0 c.loop-span.text (bytes_of (map span_view spans)) ≡ written_at at c.args.text.now (bytes_of (map span_view all))) left f.3 in
-          let next = next_out f.0 n c.loop-span.bytes c.saturating_add-bytes.result _ c.loop-span.text bytes (bytes_of (map span_view rest)) _ f.1
+          let sum : f.0 + length (joined_texts (map span_view (span ∷ rest))) ≡ at + length (joined_texts (map span_view all)) =
+          subst (λ spans. f.0 + length (joined_texts (map span_view spans)) ≡ at + length (joined_texts (map span_view all))) left f.2 in
+          let out : written_at f.0 c.loop-span.text (joined_texts (map span_view (span ∷ rest))) ≡ written_at at c.args.text.now (joined_texts (map span_view all)) =
+          subst (λ spans. written_at f.0 c.loop-span.text (joined_texts (map span_view spans)) ≡ written_at at c.args.text.now (joined_texts (map span_view all))) left f.3 in
+          let next = next_out f.0 n c.loop-span.bytes c.saturating_add-bytes.result _ c.loop-span.text bytes (joined_texts (map span_view rest)) _ f.1
           (ap length content_is) (omega (arith, c.saturating_add-bytes.ensures)) c.copy_at.ensures.room sum out in (
             f.0 + n,
             next.0,
             next.1,
-            subst (λ (text : List ℕ). written_at (f.0 + n) text (bytes_of (map span_view rest)) ≡ written_at at c.args.text.now (bytes_of (map span_view all)))
+            subst (λ (text : List ℕ). written_at (f.0 + n) text (joined_texts (map span_view rest)) ≡ written_at at c.args.text.now (joined_texts (map span_view all)))
                 (sym (c.copy_at.ensures.out ∙ ap (λ (b : List ℕ). written_at c.loop-span.bytes c.loop-span.text b) content_is)) next.2,
           );
       spans = λ at first_is.
