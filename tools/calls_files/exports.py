@@ -72,7 +72,7 @@ def style_setter(call):
         "}",
     ]
     clauses = makes(f"MakesSettingBy (style_of_numbers style.now) call.{call.variant}")
-    return Form(["style: &Style"], clauses, body, "ok, invalid argument (a colour's kind does not exist), empty handle")
+    return Form(["style: &CStyle"], clauses, body, "ok, invalid argument (a colour's kind does not exist), empty handle")
 
 
 def reader(call, made):
@@ -81,7 +81,7 @@ def reader(call, made):
     if call.result == "bool":
         return Form([], makes(f"Answers (flag_of {found})"), [f"truth({made})"], "ok (true), false, empty handle")
     if call.result == "Style":
-        out, value, written = "style", f"style_of_numbers style.new ≡ style_in {found}", f"Style::of({made})"
+        out, value, written = "style", f"style_of_numbers style.new ≡ style_in {found}", f"CStyle::of({made})"
     elif call.result in NUMBERS:
         out, value, written = call.name, f"{call.name}.new ≡ number_in {found}", made
     else:
@@ -93,7 +93,8 @@ def reader(call, made):
         f"    (λ a. {value}) }}",
         f"ensures unwritten {{ result ≢ 0 → {out}.new ≡ {out}.old }}",
     ]
-    return Form([f"{out}: &mut {call.result}"], clauses, ["{", f"    *{out} = {written};", "    OK", "}"], "ok, empty handle")
+    type = "CStyle" if call.result == "Style" else call.result
+    return Form([f"{out}: &mut {type}"], clauses, ["{", f"    *{out} = {written};", "    OK", "}"], "ok, empty handle")
 
 
 def export(call, names):
@@ -146,7 +147,7 @@ def exports_of(topic, calls, table):
         "use crate::handle::Handle;",
         "use std::alloc::Global;",
         *used("textarea_c_data::status", named(STATUSES, code)),
-        *(["use textarea_c_data::style::Style;"] if "Style" in re.sub(r"call\.\w+", "", code) else []),
+        *(["use textarea_c_data::style::CStyle;"] if "CStyle" in re.sub(r"call\.\w+", "", code) else []),
         *lines,
     ]
 

@@ -13,7 +13,7 @@ use Rattle.tui_textarea.specs.State.{State}
 use Rattle.textarea_c.specs.declared.editor.Editor.{Editor}
 use Rattle.textarea_c.specs.Calls.{Calls, SetsValidRanges, Tells, Tries, with_area}
 use Rattle.textarea_c_data.specs.Ranges.{IsRangeOut}
-use Rattle.textarea_c_data.specs.declared.range.Range.{Range}
+use Rattle.textarea_c_data.specs.declared.range.CRange.{CRange}
 use Rattle.textarea_util.proofs.Options.{none_of_test}
 
 -- a call that returns whether there was something to do
@@ -32,17 +32,17 @@ tried (Err e) status found area new a removed ok err nothing said refused = (
 )
 
 -- the status of a range that was found, or not
-pub range_tells : (found : Option AtomicRange) (status : ℕ) (range : Range) → IsRangeOut found status range → Tells (is_some found) status
+pub range_tells : (found : Option AtomicRange) (status : ℕ) (range : CRange) → IsRangeOut found status range → Tells (is_some found) status
 range_tells None status range is = ((λ none. absurd (omega arith)), (λ _. refl), (λ none more. omega arith))
 range_tells (Some hit) status range is = ((λ _. refl), (λ one. absurd (omega (arith, is.0))), (λ none more. omega (arith, is.0)))
 
 -- a range that was found is removed
-found_range_removed : (found : Option AtomicRange) (status : ℕ) (range : Range) (area : State) (a : Editor) (new : State)
+found_range_removed : (found : Option AtomicRange) (status : ℕ) (range : CRange) (area : State) (a : Editor) (new : State)
     → new ≡ area → IsRangeOut found status range → Tries (is_some found) area status a (with_area a new)
 found_range_removed None status range area a new ok is = ((λ _. ap (with_area a) ok), (λ more. absurd (omega arith)), range_tells None status range is)
 found_range_removed (Some hit) status range area a new ok is = ((λ _. ap (with_area a) ok), (λ more. absurd (omega arith)), range_tells (Some hit) status range is)
 
-pub range_removed : (found hit : Option AtomicRange) (status : ℕ) (range : Range) (area : State) (a : Editor) (new : State)
+pub range_removed : (found hit : Option AtomicRange) (status : ℕ) (range : CRange) (area : State) (a : Editor) (new : State)
     → found ≡ hit → new ≡ area → IsRangeOut found status range → Tries (is_some hit) area status a (with_area a new)
 range_removed found hit status range area a new same ok is =
     subst (λ (h : Option AtomicRange). Tries (is_some h) area status a (with_area a new)) same (found_range_removed found status range area a new ok is)

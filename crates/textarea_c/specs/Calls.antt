@@ -84,8 +84,8 @@ ChangesIf argument area status a b =
 abbrev pub with_block : State → BlockView → State
 with_block state block = with_surround state (record state.surround { block = Some block })
 
-abbrev pub with_placeholder_text : State → TextView → State
-with_placeholder_text state placeholder = with_surround state (record state.surround { placeholder = placeholder })
+abbrev pub with_placeholder_view : State → TextView → State
+with_placeholder_view state placeholder = with_surround state (record state.surround { placeholder = placeholder })
 
 -- the status says whether there was something to do; without it no memory is needed
 abbrev pub Tells : Bool → ℕ → Type 0

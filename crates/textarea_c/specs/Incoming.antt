@@ -4,7 +4,7 @@ use Rattle.textarea_terminal.specs.InputEvent.{EventValue, paste}
 use Rattle.textarea_terminal.specs.InputState.{DecoderState, new_decoder, with_expected}
 use Rattle.textarea_terminal.specs.declared.input.reply.Expected.{Expected}
 use Rattle.textarea_c_data.specs.Events.{plain_event}
-use Rattle.textarea_c_data.specs.declared.event.Event.{Event}
+use Rattle.textarea_c_data.specs.declared.event.CEvent.{CEvent}
 
 -- the decoder, the events that were not taken yet, and the text of the pasted one that was taken last
 pub record IncomingState : Type 0 where
@@ -20,7 +20,7 @@ abbrev pub after_decoding : IncomingState → List EventValue × DecoderState �
 after_decoding s step = record { decoder = step.1; events = s.events ++ step.0; pasted = s.pasted }
 
 -- the oldest of these events, as C gets it
-abbrev pub event_taken : List EventValue → Option Event
+abbrev pub event_taken : List EventValue → Option CEvent
 event_taken [] = None
 event_taken (value ∷ rest) = Some (plain_event value)
 

@@ -8,7 +8,7 @@ use Rattle.textarea_terminal.specs.declared.input.reply.Expected.{Expected}
 use Rattle.textarea_terminal.specs.declared.output.colors.Colors.{Colors}
 use Rattle.textarea_c_data.specs.Areas.{IsArea}
 use Rattle.textarea_c_data.specs.declared.area.Area.{Area}
-use Rattle.textarea_c_data.specs.declared.event.Event.{Event}
+use Rattle.textarea_c_data.specs.declared.event.CEvent.{CEvent}
 use Rattle.textarea_c.specs.Incoming.{IncomingState, after_decoding, event_taken, new_incoming, rest_taken, with_expected_in}
 use Rattle.textarea_c.specs.Outgoing.{IsPainted, OutgoingState, new_outgoing, resized, unpainted, with_colors}
 use Rattle.textarea_c.specs.declared.terminal.Terminal.{Terminal}
@@ -30,7 +30,7 @@ Decodes step status a b =
     (status ≡ 0 → b ≡ with_incoming a (after_decoding a.incoming step)) × (status ≢ 0 → (status ≡ 2) × (b ≡ a))
 
 -- the oldest event, if there is one, is taken
-abbrev pub TakesEvent : Event → ℕ → Terminal → Terminal → Type 0
+abbrev pub TakesEvent : CEvent → ℕ → Terminal → Terminal → Type 0
 TakesEvent event status a b =
     (b ≡ with_incoming a (rest_taken a.incoming a.incoming.events))
     × MatchOption (event_taken a.incoming.events) (status ≡ 1) (λ taken. (status ≡ 0) × (event ≡ taken))
@@ -40,8 +40,8 @@ abbrev pub IsTold : Expected → ℕ → Terminal → Terminal → Type 0
 IsTold expected status a b = (status ≡ 0) × (b ≡ with_incoming a (with_expected_in a.incoming expected))
 
 -- the caret's cell that C passes
-abbrev pub caret_at : Bool → ℕ → ℕ → Option Position
-caret_at has_caret x y = if has_caret then Some (record { x = x; y = y }) else None
+abbrev pub passed_caret : Bool → ℕ → ℕ → Option Position
+passed_caret has_caret x y = if has_caret then Some (record { x = x; y = y }) else None
 
 -- the frame of a screen and a caret is painted, unless memory runs out
 abbrev pub PaintsScreen : Buffer → Option Position → ℕ → Terminal → Terminal → Type 0

@@ -11,9 +11,9 @@ use Rattle.textarea_c_data.specs.Copied.{saturated, written_at}
 use Rattle.textarea_c_data.specs.Spans.{joined_texts, lines_read, line_read, own_spans_read, span_read, spans_end, spans_read}
 use Rattle.textarea_c_data.specs.Styles.{style_of_numbers}
 use Rattle.textarea_c_data.specs.Texts.{all_read, items_between, text_between}
-use Rattle.textarea_c_data.specs.declared.color.Color.{Color}
-use Rattle.textarea_c_data.specs.declared.spans.Line.{Line}
-use Rattle.textarea_c_data.specs.declared.spans.Span.{Span}
+use Rattle.textarea_c_data.specs.declared.color.CColor.{CColor}
+use Rattle.textarea_c_data.specs.declared.spans.CLine.{CLine}
+use Rattle.textarea_c_data.specs.declared.spans.CSpan.{CSpan}
 use Rattle.textarea_c_data.proofs.Copied.{drop_item, written_at_more, written_past}
 
 -- one more is read after others
@@ -22,13 +22,13 @@ read_more : {A : Type 0} (xs : List A) (v : A) (others : Option (List A))
 read_more xs v None = refl
 read_more xs v (Some rest) = ap Some (append_assoc xs (v ∷ []) rest)
 
-pub span_more : (text : List ℕ) (from : ℕ) (xs : List SpanView) (span : Span) (spans : List Span) (v : SpanView) → span_read (text_between text from (from + span.bytes)) span ≡ Some v
+pub span_more : (text : List ℕ) (from : ℕ) (xs : List SpanView) (span : CSpan) (spans : List CSpan) (v : SpanView) → span_read (text_between text from (from + span.bytes)) span ≡ Some v
     → option_map (λ rest. (xs ++ v ∷ []) ++ rest) (spans_read text (from + span.bytes) spans) ≡ option_map (λ rest. xs ++ rest) (spans_read text from (span ∷ spans))
 span_more text from xs span spans v is =
     subst (λ (one : Option SpanView). option_map (λ rest. (xs ++ v ∷ []) ++ rest) (spans_read text (from + span.bytes) spans) ≡ option_map (λ rest. xs ++ rest) (all_read one (spans_read text (from + span.bytes) spans)))
     (sym is) (read_more xs v (spans_read text (from + span.bytes) spans))
 
-pub line_more : (text : List ℕ) (from : ℕ) (spans : List Span) (first : ℕ) (xs : List LineView) (line : Line) (lines : List Line) (v : LineView) (after : ℕ)
+pub line_more : (text : List ℕ) (from : ℕ) (spans : List CSpan) (first : ℕ) (xs : List LineView) (line : CLine) (lines : List CLine) (v : LineView) (after : ℕ)
     → line_read (own_spans_read text from (items_between spans first (first + line.spans))) (style_of_numbers line.style) ≡ Some v → after ≡ spans_end from (slice_range spans first (first + line.spans))
     → option_map (λ rest. (xs ++ v ∷ []) ++ rest) (lines_read text after spans (first + line.spans) lines) ≡ option_map (λ rest. xs ++ rest) (lines_read text from spans first (line ∷ lines))
 line_more text from spans first xs line lines v after is end =
@@ -67,17 +67,17 @@ bytes_are (Borrowed text) = refl
 bytes_are (Owned text) = refl
 
 -- a line that can't be read ends the reading
-pub lines_past : (text : List ℕ) (from : ℕ) (spans : List Span) (first : ℕ) (xs : List LineView) (lines : List Line) (i : ℕ) (d : Line) (total : Option (List LineView)) → i < length lines
+pub lines_past : (text : List ℕ) (from : ℕ) (spans : List CSpan) (first : ℕ) (xs : List LineView) (lines : List CLine) (i : ℕ) (d : CLine) (total : Option (List LineView)) → i < length lines
     → line_read (own_spans_read text from (items_between spans first (first + (get_or lines i d).spans))) (style_of_numbers (get_or lines i d).style) ≡ None
     → option_map (λ rest. xs ++ rest) (lines_read text from spans first (drop i lines)) ≡ total → None ≡ total
 lines_past text from spans first xs lines i d total inside none h =
     let line = get_or lines i d in let next = lines_read text (spans_end from (slice_range spans first (first + line.spans))) spans (first + line.spans) (drop (i + 1) lines) in
     let h' : option_map (λ rest. xs ++ rest) (lines_read text from spans first (line ∷ drop (i + 1) lines)) ≡ total =
-    subst (λ (ls : List Line). option_map (λ rest. xs ++ rest) (lines_read text from spans first ls) ≡ total) (drop_item lines i (i + 1) d inside refl) h in
+    subst (λ (ls : List CLine). option_map (λ rest. xs ++ rest) (lines_read text from spans first ls) ≡ total) (drop_item lines i (i + 1) d inside refl) h in
     sym (ap (λ (one : Option LineView). option_map (λ rest. xs ++ rest) (all_read one next)) none) ∙ h'
 
 -- the line that stands for one past the end of a list
-abbrev pub no_line : Line
+abbrev pub no_line : CLine
 no_line =
-    let none : Color = record { kind = 0; red = 0; green = 0; blue = 0 } in
+    let none : CColor = record { kind = 0; red = 0; green = 0; blue = 0 } in
     record { spans = 0; style = record { fg = none; bg = none; add_modifier = 0; sub_modifier = 0 } }

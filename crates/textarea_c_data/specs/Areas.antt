@@ -3,7 +3,7 @@ use Rattle.std.specs.Prelude.{◌≡◌, ◌-◌, min}
 use Rattle.textarea_screen.specs.declared.screen.rect.Rect.{Rect}
 use Rattle.textarea_screen.specs.declared.screen.rect.Padding.{Padding}
 use Rattle.textarea_c_data.specs.declared.area.Area.{Area}
-use Rattle.textarea_c_data.specs.declared.area.Padding.{Padding as PlainPadding}
+use Rattle.textarea_c_data.specs.declared.area.CPadding.{CPadding as PlainPadding}
 
 -- the rectangle, without the columns and rows past 65535
 abbrev pub IsArea : Area → Rect → Type 0

@@ -7,7 +7,7 @@ use Rattle.textarea_terminal.specs.declared.input.event.MouseButton.TheVariants.
 use Rattle.textarea_terminal.specs.declared.input.event.MouseKind.{MouseKind}
 use Rattle.textarea_terminal.specs.declared.input.event.MouseKind.TheVariants.{Press, Release, Drag, Move, ReleaseAny, WheelLeft, WheelRight}
 use Rattle.textarea_c_data.specs.Inputs.{blank_input, plain_input}
-use Rattle.textarea_c_data.specs.declared.event.Event.{Event}
+use Rattle.textarea_c_data.specs.declared.event.CEvent.{CEvent}
 
 -- the number of an event's kind; the report of a new size and the release of a key, which a decoder
 -- makes no events of, count as a size and as unknown
@@ -46,13 +46,13 @@ mouse_button (Drag button) = button_number button
 mouse_button other = 0
 
 -- an event of this kind with nothing else
-abbrev pub bare_event : ℕ → Event
+abbrev pub bare_event : ℕ → CEvent
 bare_event kind = record { kind = kind; input = blank_input; mouse = 0; button = 0; column = 0; row = 0; bytes = 0 }
 
-abbrev pub at_cell : ℕ → ℕ → Event → Event
-at_cell column row event = record event { column = column; row = row }
+abbrev pub event_at_cell : ℕ → ℕ → CEvent → CEvent
+event_at_cell column row event = record event { column = column; row = row }
 
-abbrev pub with_mouse : Mouse → Event → Event
+abbrev pub with_mouse : Mouse → CEvent → CEvent
 with_mouse m event = record event {
   input = record event.input { ctrl = m.ctrl; alt = m.alt; shift = m.shift };
   mouse = mouse_number m.kind;
@@ -62,11 +62,11 @@ with_mouse m event = record event {
 }
 
 -- an event as C gets it; that of a pasted text has its length
-abbrev pub plain_event : EventValue → Event
+abbrev pub plain_event : EventValue → CEvent
 plain_event (input i) = record (bare_event 1) { input = plain_input i }
 plain_event (paste text) = record (bare_event 2) { bytes = length text }
 plain_event (mouse m) = with_mouse m (bare_event 3)
-plain_event (size columns rows) = at_cell columns rows (bare_event 4)
-plain_event (cursor column row) = at_cell column row (bare_event 5)
-plain_event (resized columns rows) = at_cell columns rows (bare_event 4)
+plain_event (size columns rows) = event_at_cell columns rows (bare_event 4)
+plain_event (cursor column row) = event_at_cell column row (bare_event 5)
+plain_event (resized columns rows) = event_at_cell columns rows (bare_event 4)
 plain_event other = bare_event (event_kind other)

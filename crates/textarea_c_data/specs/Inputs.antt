@@ -4,7 +4,7 @@ use lib.Utf8.{scalar}
 use Rattle.textarea_data.specs.declared.input.Key.{Key}
 use Rattle.textarea_data.specs.declared.input.Key.TheVariants as key
 use Rattle.textarea_data.specs.declared.input.Input.{Input}
-use Rattle.textarea_c_data.specs.declared.input.Input.{Input as PlainInput}
+use Rattle.textarea_c_data.specs.declared.input.CInput.{CInput as PlainInput}
 use Rattle.textarea_c_data.specs.Tables.{value_of_number}
 
 -- the keys that take no argument

@@ -4,8 +4,8 @@ use Rattle.textarea_screen.specs.declared.screen.color.Color.{Color}
 use Rattle.textarea_screen.specs.declared.screen.color.Color.TheVariants as color
 use Rattle.textarea_screen.specs.declared.screen.color.Color.TheVariants.{Reset, Black, Red, Green, Yellow, Blue, Magenta, Cyan, Gray, DarkGray, LightRed, LightGreen, LightYellow, LightBlue, LightMagenta, LightCyan, White, Rgb, Indexed}
 use Rattle.textarea_screen.specs.declared.screen.style.Style.{Style}
-use Rattle.textarea_c_data.specs.declared.color.Color.{Color as PlainColor}
-use Rattle.textarea_c_data.specs.declared.style.Style.{Style as PlainStyle}
+use Rattle.textarea_c_data.specs.declared.color.CColor.{CColor as PlainColor}
+use Rattle.textarea_c_data.specs.declared.style.CStyle.{CStyle as PlainStyle}
 use Rattle.textarea_c_data.specs.Tables.{value_of_number}
 
 -- the colours that have no numbers of their own

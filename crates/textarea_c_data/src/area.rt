@@ -37,24 +37,24 @@ impl Area {
 /// Free columns and rows at the four sides of a rectangle.
 #[repr(C)]
 #[derive(Clone, Copy, Debug, PartialEq, Eq)]
-pub struct Padding {
+pub struct CPadding {
     pub left: u16,
     pub right: u16,
     pub top: u16,
     pub bottom: u16,
 }
 
-impl Padding {
+impl CPadding {
     pub fn read(self) -> screen::Padding
         ensures { result ≡ padding_of self }
     {
         screen::Padding::new(self.left, self.right, self.top, self.bottom)
     }
 
-    pub fn of(padding: screen::Padding) -> Padding
+    pub fn of(padding: screen::Padding) -> CPadding
         ensures { result ≡ plain_padding padding }
     {
-        Padding {
+        CPadding {
             left: padding.left,
             right: padding.right,
             top: padding.top,

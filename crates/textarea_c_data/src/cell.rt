@@ -3,7 +3,7 @@ ghost use Rattle.textarea_screen.specs.Cell.{cell_view};
 ghost use Rattle.textarea_c_data.specs.Cells.{plain_cell, plain_cells, plain_screen_cell};
 ghost use Rattle.textarea_c_data.specs.Copied.{copied_over, written_at};
 
-use crate::color::Color;
+use crate::color::CColor;
 use crate::slices::copied;
 use textarea_screen::screen;
 use textarea_screen::screen::Buffer;
@@ -13,21 +13,21 @@ use textarea_screen::screen::Buffer;
 /// whole.
 #[repr(C)]
 #[derive(Clone, Copy, Debug, PartialEq, Eq)]
-pub struct Cell {
-    pub fg: Color,
-    pub bg: Color,
+pub struct CCell {
+    pub fg: CColor,
+    pub bg: CColor,
     pub modifier: u16,
     pub bytes: u16,
     pub symbol: [u8; 24],
 }
 
-impl Cell {
+impl CCell {
     /// Writes a cell here.
     pub fn set(&mut self, cell: &screen::Cell)
         ensures { self.new ≡ plain_cell (cell_view cell.now) }
     {
-        self.fg = Color::of(Some(cell.fg));
-        self.bg = Color::of(Some(cell.bg));
+        self.fg = CColor::of(Some(cell.fg));
+        self.bg = CColor::of(Some(cell.bg));
         self.modifier = cell.modifier.0;
         self.symbol = [0; 24];
         let symbol = cell.symbol().as_bytes();
@@ -43,7 +43,7 @@ impl Cell {
 /// Writes the cells of a buffer, row after row, as many as there is room for, and returns the
 /// number of all.
 #[tactic(auto, using(crate::proofs::Cells::cells_are))]
-pub fn write_cells(buffer: &Buffer, out: &mut [Cell]) -> usize
+pub fn write_cells(buffer: &Buffer, out: &mut [CCell]) -> usize
     ensures needed { result ≡ length (plain_cells buffer.now) }
     ensures out { out.new ≡ copied_over out.old (plain_cells buffer.now) }
 {
@@ -53,7 +53,7 @@ pub fn write_cells(buffer: &Buffer, out: &mut [Cell]) -> usize
 }
 
 // Writes the cells, as many as there is room for.
-fn write_all(cells: &[screen::Cell], out: &mut [Cell])
+fn write_all(cells: &[screen::Cell], out: &mut [CCell])
     ensures { out.new ≡ copied_over out.old (map plain_screen_cell cells.now) }
 {
     for (index, cell) in cells.iter().enumerate() {
@@ -63,7 +63,7 @@ fn write_all(cells: &[screen::Cell], out: &mut [Cell])
 
 // Writes a cell to an index of the slice, if there is room for it.
 #[tactic(auto, using(crate::proofs::Copied::set_is_written, crate::proofs::Copied::written_past))]
-fn write_at(cell: &screen::Cell, index: usize, out: &mut [Cell])
+fn write_at(cell: &screen::Cell, index: usize, out: &mut [CCell])
     ensures out { out.new ≡ written_at index out.old (plain_screen_cell cell.now ∷ []) }
     ensures room { length out.old ≤ 18446744073709551615 }
 {

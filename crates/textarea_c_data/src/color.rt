@@ -7,14 +7,14 @@ use textarea_screen::screen;
 /// an indexed one its number in `red`. With all bytes zero it is none.
 #[repr(C)]
 #[derive(Clone, Copy, Debug, PartialEq, Eq)]
-pub struct Color {
+pub struct CColor {
     pub kind: u8,
     pub red: u8,
     pub green: u8,
     pub blue: u8,
 }
 
-impl Color {
+impl CColor {
     /// Returns the colour, or `None` in the inner option for none. Returns `None` for a kind that
     /// does not exist.
     pub fn read(self) -> Option<Option<screen::Color>>
@@ -46,13 +46,13 @@ impl Color {
     }
 
     /// Returns the struct that is read as this colour, or as none.
-    pub fn of(color: Option<screen::Color>) -> Color
+    pub fn of(color: Option<screen::Color>) -> CColor
         ensures value { result ≡ plain_color color }
         ensures read { color_of result ≡ Some color }
     {
         match color {
-            Some(color) => Color::some(color),
-            None => Color {
+            Some(color) => CColor::some(color),
+            None => CColor {
                 kind: 0,
                 red: 0,
                 green: 0,
@@ -62,11 +62,11 @@ impl Color {
     }
 
     // Returns the struct that is read as this colour. Without jumps, as a frame has many colours.
-    fn some(color: screen::Color) -> Color
+    fn some(color: screen::Color) -> CColor
         ensures { result ≡ plain_color (Some color) }
     {
         let (red, green, blue) = parts_of(color);
-        Color {
+        CColor {
             kind: kind_of(color),
             red,
             green,

@@ -2,7 +2,7 @@ ghost use Rattle.std.specs.Prelude.{◌≡◌};
 ghost use Rattle.textarea_terminal.specs.InputEvent.{value_of};
 ghost use Rattle.textarea_c_data.specs.Events.{button_number, event_kind, mouse_button, mouse_number, plain_event, with_mouse};
 
-use crate::input::Input;
+use crate::input::CInput;
 use textarea_terminal::input;
 use textarea_terminal::input::{Mouse, MouseButton, MouseKind};
 
@@ -17,9 +17,9 @@ use textarea_terminal::input::{Mouse, MouseButton, MouseKind};
 /// - `TA_EVENT_CURSOR`: the `column` and `row` of the cursor, from 0.
 #[repr(C)]
 #[derive(Clone, Copy, Debug, PartialEq, Eq)]
-pub struct Event {
+pub struct CEvent {
     pub kind: u32,
-    pub input: Input,
+    pub input: CInput,
     pub mouse: u32,
     pub button: u32,
     pub column: u16,
@@ -27,14 +27,14 @@ pub struct Event {
     pub bytes: usize,
 }
 
-impl Event {
+impl CEvent {
     /// Returns the struct for this event.
-    pub fn of(event: &input::Event) -> Event
+    pub fn of(event: &input::Event) -> CEvent
         ensures { result ≡ plain_event (value_of event.now) }
     {
-        let blank = Event {
+        let blank = CEvent {
             kind: kind_of(event),
-            input: Input::blank(),
+            input: CInput::blank(),
             mouse: 0,
             button: 0,
             column: 0,
@@ -42,21 +42,21 @@ impl Event {
             bytes: 0,
         };
         match event {
-            input::Event::Input(input) => Event {
-                input: Input::of(input),
+            input::Event::Input(input) => CEvent {
+                input: CInput::of(input),
                 ..blank
             },
-            input::Event::Paste(text) => Event {
+            input::Event::Paste(text) => CEvent {
                 bytes: text.len(),
                 ..blank
             },
             input::Event::Mouse(mouse) => with_mouse(blank, *mouse),
-            input::Event::Size { columns, rows } => Event {
+            input::Event::Size { columns, rows } => CEvent {
                 column: *columns,
                 row: *rows,
                 ..blank
             },
-            input::Event::Cursor { column, row } => Event {
+            input::Event::Cursor { column, row } => CEvent {
                 column: *column,
                 row: *row,
                 ..blank
@@ -83,11 +83,11 @@ fn kind_of(event: &input::Event) -> u32
 }
 
 // Returns the event with a report of a mouse.
-fn with_mouse(event: Event, mouse: Mouse) -> Event
+fn with_mouse(event: CEvent, mouse: Mouse) -> CEvent
     ensures { result ≡ with_mouse mouse event }
 {
-    Event {
-        input: Input {
+    CEvent {
+        input: CInput {
             ctrl: mouse.ctrl,
             alt: mouse.alt,
             shift: mouse.shift,

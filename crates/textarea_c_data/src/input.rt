@@ -9,7 +9,7 @@ use textarea_data::input::Key;
 /// any other key. With all bytes zero it is no key, which text areas ignore.
 #[repr(C)]
 #[derive(Clone, Copy, Debug, PartialEq, Eq)]
-pub struct Input {
+pub struct CInput {
     pub key: u32,
     pub argument: u32,
     pub ctrl: bool,
@@ -17,7 +17,7 @@ pub struct Input {
     pub shift: bool,
 }
 
-impl Input {
+impl CInput {
     /// Returns the input, or `None` if there is no such key.
     pub fn read(self) -> Option<input::Input>
         ensures { result ≡ input_read self }
@@ -31,12 +31,12 @@ impl Input {
     }
 
     /// Returns the struct that is read as this input.
-    pub fn of(input: &input::Input) -> Input
+    pub fn of(input: &input::Input) -> CInput
         ensures value { result ≡ plain_input input.now }
         ensures read { input_read result ≡ Some input.now }
     {
         let (key, argument) = numbers_of(input.key);
-        Input {
+        CInput {
             key,
             argument,
             ctrl: input.ctrl,
@@ -46,10 +46,10 @@ impl Input {
     }
 
     /// Returns no key without modifiers.
-    pub fn blank() -> Input
+    pub fn blank() -> CInput
         ensures { result ≡ blank_input }
     {
-        Input {
+        CInput {
             key: 0,
             argument: 0,
             ctrl: false,

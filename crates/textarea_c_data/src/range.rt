@@ -11,13 +11,13 @@ use textarea_data::range::{AtomicRange, AtomicRangeRejectReason, RejectedAtomicR
 /// `end_col`. Row and columns count from 0, columns in characters.
 #[repr(C)]
 #[derive(Clone, Copy, Debug, PartialEq, Eq)]
-pub struct Range {
+pub struct CRange {
     pub row: usize,
     pub start_col: usize,
     pub end_col: usize,
 }
 
-impl Range {
+impl CRange {
     pub fn read(self) -> AtomicRange
         ensures { result ≡ range_of self }
     {
@@ -28,10 +28,10 @@ impl Range {
         }
     }
 
-    pub fn of(range: AtomicRange) -> Range
+    pub fn of(range: AtomicRange) -> CRange
         ensures { result ≡ plain_range range }
     {
-        Range {
+        CRange {
             row: range.row,
             start_col: range.start_col,
             end_col: range.end_col,
@@ -40,7 +40,7 @@ impl Range {
 }
 
 /// Returns the ranges in a vector.
-pub fn read_ranges(alloc: Global, ranges: &[Range]) -> Result<Vec<AtomicRange>, AllocError>
+pub fn read_ranges(alloc: Global, ranges: &[CRange]) -> Result<Vec<AtomicRange>, AllocError>
     ensures { IfOk result (λ read. read.items ≡ map range_of ranges.now) }
 {
     let mut read = Vec::new(alloc);
@@ -51,24 +51,24 @@ pub fn read_ranges(alloc: Global, ranges: &[Range]) -> Result<Vec<AtomicRange>, 
 }
 
 /// Writes the first ranges, as many as there is room for, and returns the number of all.
-pub fn write_ranges(ranges: &[AtomicRange], out: &mut [Range]) -> usize
+pub fn write_ranges(ranges: &[AtomicRange], out: &mut [CRange]) -> usize
     ensures needed { result ≡ length ranges.now }
     ensures out { out.new ≡ copied_over out.old (map plain_range ranges.now) }
 {
     for (index, range) in ranges.iter().enumerate() {
-        put(Range::of(*range), index, out);
+        put(CRange::of(*range), index, out);
     }
     ranges.len()
 }
 
 /// Writes the range, if there is one, and returns the status.
-pub fn write_range(found: Option<AtomicRange>, range: &mut Range) -> u32
+pub fn write_range(found: Option<AtomicRange>, range: &mut CRange) -> u32
     ensures range { IsRangeOut found result range.new }
     ensures unwritten { result ≢ 0 → range.new ≡ range.old }
 {
     match found {
         Some(found) => {
-            *range = Range::of(found);
+            *range = CRange::of(found);
             OK
         }
         None => FALSE,
@@ -79,7 +79,7 @@ pub fn write_range(found: Option<AtomicRange>, range: &mut Range) -> u32
 #[repr(C)]
 #[derive(Clone, Copy, Debug, PartialEq, Eq)]
 pub struct Rejected {
-    pub range: Range,
+    pub range: CRange,
     pub reason: u32,
 }
 
@@ -88,7 +88,7 @@ impl Rejected {
         ensures { result ≡ plain_rejected rejected }
     {
         Rejected {
-            range: Range::of(rejected.range),
+            range: CRange::of(rejected.range),
             reason: match rejected.reason {
                 AtomicRangeRejectReason::Empty => 0,
                 AtomicRangeRejectReason::RowOutOfBounds => 1,

@@ -7,8 +7,8 @@ ghost use Rattle.textarea_c_data.specs.Styles.{style_of_numbers};
 ghost use Rattle.textarea_c_data.specs.Texts.{text_between};
 
 use crate::slices::{end_of, text_between};
-use crate::spans::{Block, Line, Span};
-use crate::style::Style;
+use crate::spans::{CBlock, CLine, CSpan};
+use crate::style::CStyle;
 use std::alloc::{AllocError, Global};
 use textarea_screen::screen;
 use textarea_screen::screen::{Borders, SpanText};
@@ -19,7 +19,7 @@ fn read_spans(
     alloc: Global,
     text: &[u8],
     start: usize,
-    spans: &[Span],
+    spans: &[CSpan],
 ) -> Result<Option<(Vec<screen::Span<'static>>, usize)>, AllocError>
     ensures spans { IfOk result (λ read. option_map (λ r. map span_view r.0.items) read
         ≡ spans_read text.now start spans.now) }
@@ -43,7 +43,7 @@ fn read_span(
     alloc: Global,
     text: &[u8],
     start: usize,
-    span: Span,
+    span: CSpan,
 ) -> Result<Option<(screen::Span<'static>, usize)>, AllocError>
     ensures span { IfOk result (λ read. option_map (λ r. span_view r.0) read
         ≡ span_read (text_between text.now start (start + span.bytes)) span) }
@@ -67,9 +67,9 @@ fn read_span(
 pub fn read_text(
     alloc: Global,
     text: &[u8],
-    spans: &[Span],
-    lines: &[Line],
-    style: Style,
+    spans: &[CSpan],
+    lines: &[CLine],
+    style: CStyle,
 ) -> Result<Option<screen::Text<'static>>, AllocError>
     ensures { IfOk result (λ read. option_map (λ t. text_view t) read
         ≡ text_read text.now spans.now lines.now (style_of_numbers style)) }
@@ -87,8 +87,8 @@ pub fn read_text(
 fn read_lines(
     alloc: Global,
     text: &[u8],
-    spans: &[Span],
-    lines: &[Line],
+    spans: &[CSpan],
+    lines: &[CLine],
 ) -> Result<Option<Vec<screen::Line<'static>>>, AllocError>
     ensures { IfOk result (λ read. option_map (λ r. map line_view r.items) read
         ≡ lines_read text.now 0 spans.now 0 lines.now) }
@@ -120,8 +120,8 @@ fn read_line(
     alloc: Global,
     text: &[u8],
     start: usize,
-    spans: &[Span],
-    style: Style,
+    spans: &[CSpan],
+    style: CStyle,
 ) -> Result<Option<(screen::Line<'static>, usize)>, AllocError>
     ensures line { IfOk result (λ read. option_map (λ r. line_view r.0) read
         ≡ line_read (spans_read text.now start spans.now) (style_of_numbers style)) }
@@ -140,9 +140,9 @@ fn read_line(
 /// exactly `title`, or a style has a colour that does not exist.
 pub fn read_block(
     alloc: Global,
-    block: Block,
+    block: CBlock,
     title: &[u8],
-    spans: &[Span],
+    spans: &[CSpan],
 ) -> Result<Option<screen::Block<'static>>, AllocError>
     ensures { IfOk result (λ read. option_map (λ b. block_view b) read
         ≡ block_read block title.now spans.now) }
@@ -169,8 +169,8 @@ pub fn read_block(
 fn read_whole_line(
     alloc: Global,
     text: &[u8],
-    spans: &[Span],
-    style: Style,
+    spans: &[CSpan],
+    style: CStyle,
 ) -> Result<Option<screen::Line<'static>>, AllocError>
     ensures { IfOk result (λ read. option_map (λ line. line_view line) read
         ≡ whole_line text.now spans.now (style_of_numbers style)) }

@@ -1,22 +1,22 @@
-use crate::area::Padding;
-use crate::style::Style;
+use crate::area::CPadding;
+use crate::style::CStyle;
 
 /// A text in one style. `bytes` is the length of the text; the texts of several spans follow one
 /// another in one slice.
 #[repr(C)]
 #[derive(Clone, Copy, Debug, PartialEq, Eq)]
-pub struct Span {
+pub struct CSpan {
     pub bytes: usize,
-    pub style: Style,
+    pub style: CStyle,
 }
 
 /// A line of styled text. `spans` is the number of its spans; the spans of several lines follow one
 /// another in one slice. The style of the line is under theirs.
 #[repr(C)]
 #[derive(Clone, Copy, Debug, PartialEq, Eq)]
-pub struct Line {
+pub struct CLine {
     pub spans: usize,
-    pub style: Style,
+    pub style: CStyle,
 }
 
 /// A frame around an area: the sides with a border, a set of `TA_BORDER_..`; free rows and columns
@@ -24,11 +24,11 @@ pub struct Line {
 /// a block with no border, no padding and no title, in empty styles.
 #[repr(C)]
 #[derive(Clone, Copy, Debug, PartialEq, Eq)]
-pub struct Block {
+pub struct CBlock {
     pub borders: u8,
     pub has_title: bool,
-    pub padding: Padding,
-    pub style: Style,
-    pub border_style: Style,
-    pub title_style: Style,
+    pub padding: CPadding,
+    pub style: CStyle,
+    pub border_style: CStyle,
+    pub title_style: CStyle,
 }

@@ -1,7 +1,7 @@
 ghost use Rattle.std.specs.Prelude.{◌≡◌, Some};
 ghost use Rattle.textarea_c_data.specs.Styles.{plain_style, style_of_numbers};
 
-use crate::color::Color;
+use crate::color::CColor;
 use textarea_screen::screen;
 use textarea_screen::screen::Modifier;
 
@@ -10,14 +10,14 @@ use textarea_screen::screen::Modifier;
 /// set of `TA_MODIFIER_..`. With all bytes zero it is the empty style, which changes nothing.
 #[repr(C)]
 #[derive(Clone, Copy, Debug, PartialEq, Eq)]
-pub struct Style {
-    pub fg: Color,
-    pub bg: Color,
+pub struct CStyle {
+    pub fg: CColor,
+    pub bg: CColor,
     pub add_modifier: u16,
     pub sub_modifier: u16,
 }
 
-impl Style {
+impl CStyle {
     /// Returns the style, or `None` if one of its colours has a kind that does not exist.
     pub fn read(self) -> Option<screen::Style>
         ensures { result ≡ style_of_numbers self }
@@ -31,13 +31,13 @@ impl Style {
     }
 
     /// Returns the struct that is read as this style.
-    pub fn of(style: screen::Style) -> Style
+    pub fn of(style: screen::Style) -> CStyle
         ensures value { result ≡ plain_style style }
         ensures read { style_of_numbers result ≡ Some style }
     {
-        Style {
-            fg: Color::of(style.fg),
-            bg: Color::of(style.bg),
+        CStyle {
+            fg: CColor::of(style.fg),
+            bg: CColor::of(style.bg),
             add_modifier: style.add_modifier.0,
             sub_modifier: style.sub_modifier.0,
         }

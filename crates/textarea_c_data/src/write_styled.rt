@@ -5,27 +5,27 @@ ghost use Rattle.textarea_screen.specs.Text.{line_view, span_view};
 ghost use Rattle.textarea_c_data.specs.Copied.{saturated, copied_over, written_at};
 ghost use Rattle.textarea_c_data.specs.Spans.{AreSpansOut, joined_texts, block_for_c, line_for_c, plain_span, spans_of, title_spans};
 
-use crate::area::Padding;
+use crate::area::CPadding;
 use crate::slices::{copy_at, put};
-use crate::spans::{Block, Line, Span};
-use crate::style::Style;
+use crate::spans::{CBlock, CLine, CSpan};
+use crate::style::CStyle;
 use textarea_screen::screen;
 
 /// Returns the block without its title's spans.
-pub fn block_of(block: &screen::Block<'static>) -> Block
+pub fn block_of(block: &screen::Block<'static>) -> CBlock
     ensures { result ≡ block_for_c (block_view block.now) }
 {
     let title_style = match &block.title {
         Some(title) => title.style,
         None => screen::Style::new(),
     };
-    Block {
+    CBlock {
         borders: block.borders.0,
         has_title: block.title.is_some(),
-        padding: Padding::of(block.padding),
-        style: Style::of(block.style),
-        border_style: Style::of(block.border_style),
-        title_style: Style::of(title_style),
+        padding: CPadding::of(block.padding),
+        style: CStyle::of(block.style),
+        border_style: CStyle::of(block.border_style),
+        title_style: CStyle::of(title_style),
     }
 }
 
@@ -34,7 +34,7 @@ pub fn block_of(block: &screen::Block<'static>) -> Block
 pub fn write_title(
     title: &Option<screen::Line<'static>>,
     text: &mut [u8],
-    spans: &mut [Span],
+    spans: &mut [CSpan],
 ) -> (usize, usize)
     ensures { AreSpansOut (title_spans (option_map line_view title.now)) text.old text.new result.0
         spans.old spans.new result.1 }
@@ -50,8 +50,8 @@ pub fn write_title(
 pub fn write_lines(
     content: &[screen::Line<'static>],
     text: &mut [u8],
-    spans: &mut [Span],
-    lines: &mut [Line],
+    spans: &mut [CSpan],
+    lines: &mut [CLine],
 ) -> (usize, usize)
     ensures spans { AreSpansOut (spans_of (map line_view content.now)) text.old text.new result.0
         spans.old spans.new result.1 }
@@ -61,9 +61,9 @@ pub fn write_lines(
     for (row, line) in content.iter().enumerate() {
         let own = line.spans.as_slice();
         used = write_spans(own, used.0, used.1, text, spans);
-        let plain = Line {
+        let plain = CLine {
             spans: own.len(),
-            style: Style::of(line.style),
+            style: CStyle::of(line.style),
         };
         put(plain, row, lines);
     }
@@ -78,7 +78,7 @@ fn write_spans(
     start: usize,
     first: usize,
     text: &mut [u8],
-    out: &mut [Span],
+    out: &mut [CSpan],
 ) -> (usize, usize)
     ensures text { (at : ℕ) → start ≡ saturated at
         → text.new ≡ written_at at text.old (joined_texts (map span_view spans.now)) }
@@ -93,9 +93,9 @@ fn write_spans(
     let mut count = first;
     for span in spans {
         let content = span.content.as_str().as_bytes();
-        let plain = Span {
+        let plain = CSpan {
             bytes: content.len(),
-            style: Style::of(span.style),
+            style: CStyle::of(span.style),
         };
         copy_at(content, bytes, text);
         put(plain, count, out);

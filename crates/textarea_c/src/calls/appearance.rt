@@ -11,7 +11,7 @@ use crate::handle::Handle;
 use std::alloc::Global;
 use textarea_c_data::modes::{read_render_mode, render_mode_number};
 use textarea_c_data::status::{FALSE, INVALID_ARGUMENT, OK, done};
-use textarea_c_data::style::Style;
+use textarea_c_data::style::CStyle;
 
 /// Shows the character with this number instead of each character of the text. The cursor's cell
 /// and `ta_cursor_at_position` still follow the columns of the text itself.
@@ -104,7 +104,7 @@ pub extern "C" fn ta_custom_highlight(
     start_byte: usize,
     end_row: usize,
     end_byte: usize,
-    style: &Style,
+    style: &CStyle,
     priority: u8,
 ) -> u32
     ensures { Calls handle.old.stored.content result handle.new.stored.content

@@ -8,7 +8,7 @@ ghost use Rattle.textarea_c_data.specs.Copied.{copied_over};
 use crate::calls::on;
 use crate::handle::TerminalHandle;
 use std::alloc::Global;
-use textarea_c_data::event::Event;
+use textarea_c_data::event::CEvent;
 use textarea_c_data::slices::copied;
 use textarea_c_data::status::{FALSE, OK, done};
 
@@ -51,7 +51,7 @@ pub extern "C" fn ta_decoder_idle(
 pub extern "C" fn ta_decoder_event(
     terminal: &mut TerminalHandle,
     alloc: Global,
-    event: &mut Event,
+    event: &mut CEvent,
 ) -> u32
     ensures taken { Calls terminal.old.stored.content result terminal.new.stored.content
         (λ a b. TakesEvent event.new result a b) }

@@ -7,7 +7,7 @@ ghost use Rattle.textarea_c_data.specs.Inputs.{input_read};
 use crate::calls::on;
 use crate::handle::Handle;
 use std::alloc::Global;
-use textarea_c_data::input::Input;
+use textarea_c_data::input::CInput;
 use textarea_c_data::status::{INVALID_ARGUMENT, flag};
 
 /// Makes the call that the key table with shortcuts has for the input. With Shift, a move or scroll
@@ -19,7 +19,7 @@ use textarea_c_data::status::{INVALID_ARGUMENT, flag};
 /// return it, which leaves the text area as that call does), invalid argument (there is no such
 /// key), empty handle.
 #[unsafe(no_mangle)]
-pub extern "C" fn ta_input(handle: &mut Handle, alloc: Global, input: &Input) -> u32
+pub extern "C" fn ta_input(handle: &mut Handle, alloc: Global, input: &CInput) -> u32
     ensures { Calls handle.old.stored.content result handle.new.stored.content
         (λ a b. ActsBy (input_read input.now) asked_by result a b) }
 {
@@ -38,7 +38,7 @@ pub extern "C" fn ta_input(handle: &mut Handle, alloc: Global, input: &Input) ->
 pub extern "C" fn ta_input_without_shortcuts(
     handle: &mut Handle,
     alloc: Global,
-    input: &Input,
+    input: &CInput,
 ) -> u32
     ensures { Calls handle.old.stored.content result handle.new.stored.content
         (λ a b. ActsBy (input_read input.now) asked_without_shortcuts result a b) }

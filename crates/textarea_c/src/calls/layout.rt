@@ -17,7 +17,7 @@ use textarea_c_data::measure::Measure;
 use textarea_c_data::modes::{read_wrap_mode, wrap_mode_number};
 use textarea_c_data::numbers::{alignment_number, read_alignment};
 use textarea_c_data::status::{FALSE, INVALID_ARGUMENT, OK, OUT_OF_MEMORY, done};
-use textarea_c_data::style::Style;
+use textarea_c_data::style::CStyle;
 
 /// Sets how lines are wrapped, to one of `TA_WRAP_..`. Before the first `ta_render` no line is
 /// wrapped.
@@ -55,7 +55,11 @@ pub extern "C" fn ta_wrap_mode(handle: &mut Handle, alloc: Global, mode: &mut u3
 ///
 /// Statuses: ok, out of memory, invalid argument (a colour's kind does not exist), empty handle.
 #[unsafe(no_mangle)]
-pub extern "C" fn ta_set_line_number_style(handle: &mut Handle, alloc: Global, style: &Style) -> u32
+pub extern "C" fn ta_set_line_number_style(
+    handle: &mut Handle,
+    alloc: Global,
+    style: &CStyle,
+) -> u32
     ensures { Calls handle.old.stored.content result handle.new.stored.content
         (λ a b. MakesChangeBy (style_of_numbers style.now) call.SetLineNumberStyle result a b) }
 {
@@ -69,7 +73,11 @@ pub extern "C" fn ta_set_line_number_style(handle: &mut Handle, alloc: Global, s
 ///
 /// Statuses: ok, false (they are hidden), empty handle.
 #[unsafe(no_mangle)]
-pub extern "C" fn ta_line_number_style(handle: &mut Handle, alloc: Global, style: &mut Style) -> u32
+pub extern "C" fn ta_line_number_style(
+    handle: &mut Handle,
+    alloc: Global,
+    style: &mut CStyle,
+) -> u32
     ensures unchanged { Calls handle.old.stored.content result handle.new.stored.content
         (λ a b. Asks result a b) }
     ensures style { IfSome handle.old.stored.content (λ a. MatchOption (number_style a.area)
@@ -78,7 +86,7 @@ pub extern "C" fn ta_line_number_style(handle: &mut Handle, alloc: Global, style
 {
     on!(handle, alloc, editor => match editor.area.line_number_style() {
         Some(found) => {
-            *style = Style::of(found);
+            *style = CStyle::of(found);
             OK
         }
         None => FALSE,

@@ -1,7 +1,7 @@
 //! Frames on a terminal.
 ghost use Rattle.std.specs.Prelude.{◌≡◌, ◌≢◌, IfSome, MatchOption, length};
 ghost use Rattle.textarea_c.specs.Calls.{Calls, Given, OnlyReads};
-ghost use Rattle.textarea_c.specs.Terminals.{HasColors, IsUnpainted, PaintsScreen, Resizes, caret_at};
+ghost use Rattle.textarea_c.specs.Terminals.{HasColors, IsUnpainted, PaintsScreen, Resizes, passed_caret};
 ghost use Rattle.textarea_c_data.specs.Copied.{copied_over};
 ghost use Rattle.textarea_c_data.specs.Numbers.{colors_of};
 
@@ -35,7 +35,7 @@ pub extern "C" fn ta_painter_paint(
     ensures unchanged { handle.new.stored.content ≡ handle.old.stored.content }
     ensures painted { Calls terminal.old.stored.content result terminal.new.stored.content
         (λ a b. MatchOption handle.old.stored.content ((result ≡ 5) × (b ≡ a))
-        (λ editor. PaintsScreen editor.screen (caret_at has_caret x y) result a b)) }
+        (λ editor. PaintsScreen editor.screen (passed_caret has_caret x y) result a b)) }
 {
     let caret = caret_of(has_caret, x, y);
     on!(terminal, alloc, behind => paint_handle(&mut behind, alloc, handle, caret))
@@ -65,7 +65,7 @@ fn paint(terminal: &mut Terminal, editor: &Editor, caret: Option<Position>) -> u
 
 // Returns the caret's cell, if there is a caret.
 fn caret_of(has_caret: bool, x: u16, y: u16) -> Option<Position>
-    ensures { result ≡ caret_at has_caret x y }
+    ensures { result ≡ passed_caret has_caret x y }
 {
     if has_caret {
         Some(Position { x, y })

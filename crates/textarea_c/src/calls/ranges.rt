@@ -17,7 +17,7 @@ use crate::handle::Handle;
 use std::alloc::Global;
 use textarea_c_data::numbers::{read_bias, read_direction};
 use textarea_c_data::range::{
-    Range, Rejected, read_ranges, write_range, write_ranges, write_rejected,
+    CRange, Rejected, read_ranges, write_range, write_ranges, write_rejected,
 };
 use textarea_c_data::status::{INVALID_ARGUMENT, OK, OUT_OF_MEMORY, RANGES_REJECTED, truth};
 use textarea_data::range::{AtomicDeleteDirection, AtomicRangeError, RejectedAtomicRange};
@@ -30,7 +30,7 @@ use textarea_data::range::{AtomicDeleteDirection, AtomicRangeError, RejectedAtom
 ///
 /// Statuses: ok, out of memory, ranges rejected, empty handle. Where it is not ok, the ranges stay.
 #[unsafe(no_mangle)]
-pub extern "C" fn ta_set_atomic_ranges(handle: &mut Handle, alloc: Global, ranges: &[Range]) -> u32
+pub extern "C" fn ta_set_atomic_ranges(handle: &mut Handle, alloc: Global, ranges: &[CRange]) -> u32
     ensures { Calls handle.old.stored.content result handle.new.stored.content
         (λ a b. SetsValidRanges (map range_of ranges.now) result a b) }
 {
@@ -38,7 +38,7 @@ pub extern "C" fn ta_set_atomic_ranges(handle: &mut Handle, alloc: Global, range
 }
 
 // Sets the ranges, or stores those that are rejected.
-fn set_ranges(editor: &mut Editor, alloc: Global, ranges: &[Range]) -> u32
+fn set_ranges(editor: &mut Editor, alloc: Global, ranges: &[CRange]) -> u32
     ensures { SetsValidRanges (map range_of ranges.now) result editor.old editor.new }
 {
     let Ok(read) = read_ranges(alloc, ranges) else {
@@ -100,7 +100,7 @@ pub extern "C" fn ta_rejected_ranges(
 pub extern "C" fn ta_atomic_ranges(
     handle: &mut Handle,
     alloc: Global,
-    out: &mut [Range],
+    out: &mut [CRange],
     needed: &mut usize,
 ) -> u32
     ensures unchanged { Calls handle.old.stored.content result handle.new.stored.content
@@ -150,7 +150,7 @@ pub extern "C" fn ta_atomic_range_at_cursor(
     handle: &mut Handle,
     alloc: Global,
     direction: u32,
-    range: &mut Range,
+    range: &mut CRange,
 ) -> u32
     ensures unchanged { Calls handle.old.stored.content result handle.new.stored.content
         (λ a b. b ≡ a) }
@@ -162,7 +162,7 @@ pub extern "C" fn ta_atomic_range_at_cursor(
 }
 
 // Writes the atomic range at the cursor, if there is one, and returns the status.
-fn find_range(editor: &Editor, direction: u32, range: &mut Range) -> u32
+fn find_range(editor: &Editor, direction: u32, range: &mut CRange) -> u32
     ensures range { MatchOption (direction_of direction) (result ≡ 6)
         (λ side. IsRangeOut (range_at_cursor editor.now.area.document side) result range.new) }
     ensures unwritten { result ≢ 0 → range.new ≡ range.old }
@@ -184,7 +184,7 @@ pub extern "C" fn ta_delete_atomic_range_at_cursor(
     handle: &mut Handle,
     alloc: Global,
     direction: u32,
-    range: &mut Range,
+    range: &mut CRange,
 ) -> u32
     ensures area { Calls handle.old.stored.content result handle.new.stored.content
         (λ a b. TriesBy (direction_of direction)
@@ -199,7 +199,7 @@ pub extern "C" fn ta_delete_atomic_range_at_cursor(
 }
 
 // Removes the atomic range at the side with this number, if there is such a side.
-fn remove_numbered(editor: &mut Editor, direction: u32, range: &mut Range) -> u32
+fn remove_numbered(editor: &mut Editor, direction: u32, range: &mut CRange) -> u32
     ensures area { TriesBy (direction_of direction)
         (λ side. is_some (range_at_cursor editor.old.area.document side))
         (λ side. atomic_range_removed editor.old.area side) result editor.old editor.new }
@@ -214,7 +214,7 @@ fn remove_numbered(editor: &mut Editor, direction: u32, range: &mut Range) -> u3
 }
 
 // Removes the atomic range at the cursor, if there is one, writes it, and returns the status.
-fn remove_range(editor: &mut Editor, direction: AtomicDeleteDirection, range: &mut Range) -> u32
+fn remove_range(editor: &mut Editor, direction: AtomicDeleteDirection, range: &mut CRange) -> u32
     ensures area { Tries (is_some (range_at_cursor editor.old.area.document direction))
         (atomic_range_removed editor.old.area direction) result editor.old editor.new }
     ensures range { result ≢ 2

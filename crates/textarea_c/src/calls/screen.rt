@@ -25,10 +25,10 @@ use crate::editor::Editor;
 use crate::handle::Handle;
 use std::alloc::Global;
 use textarea_c_data::area::Area;
-use textarea_c_data::cell::{Cell, write_cells};
+use textarea_c_data::cell::{CCell, write_cells};
 use textarea_c_data::slices::{copied, text_of};
 use textarea_c_data::status::{FALSE, INVALID_ARGUMENT, OK, OUT_OF_MEMORY, done};
-use textarea_c_data::style::Style;
+use textarea_c_data::style::CStyle;
 use textarea_screen::screen;
 use textarea_screen::screen::{Buffer, Position, Rect};
 
@@ -103,7 +103,7 @@ pub extern "C" fn ta_screen_put(
     x: u16,
     y: u16,
     text: &[u8],
-    style: &Style,
+    style: &CStyle,
 ) -> u32
     ensures put { Calls handle.old.stored.content result handle.new.stored.content
         (λ a b. Given (text_in text.now) (λ t. Given (style_of_numbers style.now) (λ s. Paints (λ before
@@ -128,7 +128,7 @@ pub extern "C" fn ta_screen_set_style(
     handle: &mut Handle,
     alloc: Global,
     area: &Area,
-    style: &Style,
+    style: &CStyle,
 ) -> u32
     ensures { Calls handle.old.stored.content result handle.new.stored.content
         (λ a b. Given (style_of_numbers style.now) (λ s. Restyles (λ before after.
@@ -160,7 +160,7 @@ pub extern "C" fn ta_screen_cell(
     alloc: Global,
     x: u16,
     y: u16,
-    cell: &mut Cell,
+    cell: &mut CCell,
 ) -> u32
     ensures unchanged { Calls handle.old.stored.content result handle.new.stored.content
         (λ a b. Asks result a b) }
@@ -215,7 +215,7 @@ pub extern "C" fn ta_screen_symbol(
 pub extern "C" fn ta_screen_cells(
     handle: &mut Handle,
     alloc: Global,
-    out: &mut [Cell],
+    out: &mut [CCell],
     needed: &mut usize,
 ) -> u32
     ensures unchanged { Calls handle.old.stored.content result handle.new.stored.content

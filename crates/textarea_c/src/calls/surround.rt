@@ -5,7 +5,7 @@ ghost use Rattle.textarea_screen.specs.Text.{text_view};
 ghost use Rattle.textarea_view.specs.SurroundState.{first_bytes, style_with_lines};
 ghost use Rattle.textarea_view.specs.Outcomes.{with_placeholder_style, with_placeholder_text};
 ghost use Rattle.tui_textarea.specs.Measure.{with_surround};
-ghost use Rattle.textarea_c.specs.Calls.{Asks, Calls, ChangesBy, ChangesIf, OnlyReads, Sets, SetsBy, with_block, with_placeholder_text};
+ghost use Rattle.textarea_c.specs.Calls.{Asks, Calls, ChangesBy, ChangesIf, OnlyReads, Sets, SetsBy, with_block, with_placeholder_view};
 ghost use Rattle.textarea_c_data.specs.Copied.{copied_over};
 ghost use Rattle.textarea_c_data.specs.Spans.{AreSpansOut, block_read, block_for_c, line_for_c, spans_of, text_read, title_spans};
 ghost use Rattle.textarea_c_data.specs.Styles.{style_of_numbers};
@@ -17,9 +17,9 @@ use crate::handle::Handle;
 use std::alloc::Global;
 use textarea_c_data::read_styled::{read_block, read_text};
 use textarea_c_data::slices::{copied, text_of};
-use textarea_c_data::spans::{Block, Line, Span};
+use textarea_c_data::spans::{CBlock, CLine, CSpan};
 use textarea_c_data::status::{FALSE, INVALID_ARGUMENT, OK, OUT_OF_MEMORY, done};
-use textarea_c_data::style::Style;
+use textarea_c_data::style::CStyle;
 use textarea_c_data::write_styled::{block_of, write_lines, write_title};
 use textarea_screen::screen;
 
@@ -32,9 +32,9 @@ use textarea_screen::screen;
 pub extern "C" fn ta_set_block(
     handle: &mut Handle,
     alloc: Global,
-    block: &Block,
+    block: &CBlock,
     title: &[u8],
-    spans: &[Span],
+    spans: &[CSpan],
 ) -> u32
     ensures { Calls handle.old.stored.content result handle.new.stored.content
         (λ a b. ChangesIf (block_read block.now title.now spans.now) (with_block a.area)
@@ -83,10 +83,10 @@ pub extern "C" fn ta_remove_block(handle: &mut Handle, alloc: Global) -> u32
 pub extern "C" fn ta_block(
     handle: &mut Handle,
     alloc: Global,
-    block: &mut Block,
+    block: &mut CBlock,
     title: &mut [u8],
     title_needed: &mut usize,
-    spans: &mut [Span],
+    spans: &mut [CSpan],
     spans_needed: &mut usize,
 ) -> u32
     ensures unchanged { Calls handle.old.stored.content result handle.new.stored.content
@@ -139,13 +139,13 @@ pub extern "C" fn ta_set_styled_placeholder(
     handle: &mut Handle,
     alloc: Global,
     text: &[u8],
-    spans: &[Span],
-    lines: &[Line],
-    style: &Style,
+    spans: &[CSpan],
+    lines: &[CLine],
+    style: &CStyle,
 ) -> u32
     ensures { Calls handle.old.stored.content result handle.new.stored.content
         (λ a b. ChangesIf (text_read text.now spans.now lines.now (style_of_numbers style.now))
-        (with_placeholder_text a.area) result a b) }
+        (with_placeholder_view a.area) result a b) }
 {
     on!(handle, alloc, editor => match read_text(alloc, text, spans, lines, *style) {
         Ok(found) => replace_placeholder(&mut editor, found),
@@ -156,7 +156,7 @@ pub extern "C" fn ta_set_styled_placeholder(
 // Sets the placeholder, if there is one, and returns the status.
 fn replace_placeholder(editor: &mut Editor, found: Option<screen::Text<'static>>) -> u32
     ensures { ChangesIf (option_map (λ text. text_view text) found.entry)
-        (with_placeholder_text editor.old.area) result editor.old editor.new }
+        (with_placeholder_view editor.old.area) result editor.old editor.new }
 {
     match found {
         Some(placeholder) => {
@@ -171,7 +171,11 @@ fn replace_placeholder(editor: &mut Editor, found: Option<screen::Text<'static>>
 ///
 /// Statuses: ok, invalid argument (a colour's kind does not exist), empty handle.
 #[unsafe(no_mangle)]
-pub extern "C" fn ta_set_placeholder_style(handle: &mut Handle, alloc: Global, style: &Style) -> u32
+pub extern "C" fn ta_set_placeholder_style(
+    handle: &mut Handle,
+    alloc: Global,
+    style: &CStyle,
+) -> u32
     ensures { Calls handle.old.stored.content result handle.new.stored.content
         (λ a b. SetsBy (style_of_numbers style.now)
         (λ s. with_surround a.area (with_placeholder_style a.area.surround s)) result a b) }
@@ -194,12 +198,12 @@ pub extern "C" fn ta_set_placeholder_style(handle: &mut Handle, alloc: Global, s
 pub extern "C" fn ta_placeholder(
     handle: &mut Handle,
     alloc: Global,
-    style: &mut Style,
+    style: &mut CStyle,
     text: &mut [u8],
     text_needed: &mut usize,
-    spans: &mut [Span],
+    spans: &mut [CSpan],
     spans_needed: &mut usize,
-    lines: &mut [Line],
+    lines: &mut [CLine],
     lines_needed: &mut usize,
 ) -> u32
     ensures unchanged { Calls handle.old.stored.content result handle.new.stored.content
@@ -219,7 +223,7 @@ pub extern "C" fn ta_placeholder(
 {
     on!(handle, alloc, editor => {
         let found = editor.area.placeholder();
-        *style = Style::of(found.style);
+        *style = CStyle::of(found.style);
         (*text_needed, *spans_needed) = write_lines(&found.lines, text, spans, lines);
         *lines_needed = found.lines.len();
         OK
@@ -254,7 +258,11 @@ pub extern "C" fn ta_placeholder_text(
 ///
 /// Statuses: ok, false (it has no line), empty handle.
 #[unsafe(no_mangle)]
-pub extern "C" fn ta_placeholder_style(handle: &mut Handle, alloc: Global, style: &mut Style) -> u32
+pub extern "C" fn ta_placeholder_style(
+    handle: &mut Handle,
+    alloc: Global,
+    style: &mut CStyle,
+) -> u32
     ensures unchanged { Calls handle.old.stored.content result handle.new.stored.content
         (λ a b. Asks result a b) }
     ensures style { IfSome handle.old.stored.content
@@ -265,7 +273,7 @@ pub extern "C" fn ta_placeholder_style(handle: &mut Handle, alloc: Global, style
 {
     on!(handle, alloc, editor => match editor.area.placeholder_style() {
         Some(found) => {
-            *style = Style::of(found);
+            *style = CStyle::of(found);
             OK
         }
         None => FALSE,

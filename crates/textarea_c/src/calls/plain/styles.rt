@@ -10,13 +10,13 @@ use crate::calls::on;
 use crate::handle::Handle;
 use std::alloc::Global;
 use textarea_c_data::status::{INVALID_ARGUMENT, OK};
-use textarea_c_data::style::Style;
+use textarea_c_data::style::CStyle;
 
 /// Sets the style of each cell of the inner area, under all others; a placeholder has its own.
 ///
 /// Statuses: ok, invalid argument (a colour's kind does not exist), empty handle.
 #[unsafe(no_mangle)]
-pub extern "C" fn ta_set_style(handle: &mut Handle, alloc: Global, style: &Style) -> u32
+pub extern "C" fn ta_set_style(handle: &mut Handle, alloc: Global, style: &CStyle) -> u32
     ensures { Calls handle.old.stored.content result handle.new.stored.content
         (λ a b. MakesSettingBy (style_of_numbers style.now) call.SetStyle result a b) }
 {
@@ -33,7 +33,7 @@ pub extern "C" fn ta_set_style(handle: &mut Handle, alloc: Global, style: &Style
 ///
 /// Statuses: ok, invalid argument (a colour's kind does not exist), empty handle.
 #[unsafe(no_mangle)]
-pub extern "C" fn ta_set_cursor_style(handle: &mut Handle, alloc: Global, style: &Style) -> u32
+pub extern "C" fn ta_set_cursor_style(handle: &mut Handle, alloc: Global, style: &CStyle) -> u32
     ensures { Calls handle.old.stored.content result handle.new.stored.content
         (λ a b. MakesSettingBy (style_of_numbers style.now) call.SetCursorStyle result a b) }
 {
@@ -50,7 +50,11 @@ pub extern "C" fn ta_set_cursor_style(handle: &mut Handle, alloc: Global, style:
 ///
 /// Statuses: ok, invalid argument (a colour's kind does not exist), empty handle.
 #[unsafe(no_mangle)]
-pub extern "C" fn ta_set_cursor_line_style(handle: &mut Handle, alloc: Global, style: &Style) -> u32
+pub extern "C" fn ta_set_cursor_line_style(
+    handle: &mut Handle,
+    alloc: Global,
+    style: &CStyle,
+) -> u32
     ensures { Calls handle.old.stored.content result handle.new.stored.content
         (λ a b. MakesSettingBy (style_of_numbers style.now) call.SetCursorLineStyle result a b) }
 {
@@ -67,7 +71,7 @@ pub extern "C" fn ta_set_cursor_line_style(handle: &mut Handle, alloc: Global, s
 ///
 /// Statuses: ok, invalid argument (a colour's kind does not exist), empty handle.
 #[unsafe(no_mangle)]
-pub extern "C" fn ta_set_selection_style(handle: &mut Handle, alloc: Global, style: &Style) -> u32
+pub extern "C" fn ta_set_selection_style(handle: &mut Handle, alloc: Global, style: &CStyle) -> u32
     ensures { Calls handle.old.stored.content result handle.new.stored.content
         (λ a b. MakesSettingBy (style_of_numbers style.now) call.SetSelectionStyle result a b) }
 {
@@ -84,7 +88,7 @@ pub extern "C" fn ta_set_selection_style(handle: &mut Handle, alloc: Global, sty
 ///
 /// Statuses: ok, invalid argument (a colour's kind does not exist), empty handle.
 #[unsafe(no_mangle)]
-pub extern "C" fn ta_set_search_style(handle: &mut Handle, alloc: Global, style: &Style) -> u32
+pub extern "C" fn ta_set_search_style(handle: &mut Handle, alloc: Global, style: &CStyle) -> u32
     ensures { Calls handle.old.stored.content result handle.new.stored.content
         (λ a b. MakesSettingBy (style_of_numbers style.now) call.SetSearchStyle result a b) }
 {
@@ -101,7 +105,7 @@ pub extern "C" fn ta_set_search_style(handle: &mut Handle, alloc: Global, style:
 ///
 /// Statuses: ok, empty handle.
 #[unsafe(no_mangle)]
-pub extern "C" fn ta_style(handle: &mut Handle, alloc: Global, style: &mut Style) -> u32
+pub extern "C" fn ta_style(handle: &mut Handle, alloc: Global, style: &mut CStyle) -> u32
     ensures unchanged { Calls handle.old.stored.content result handle.new.stored.content
         (λ a b. OnlyReads result a b) }
     ensures value { IfSome handle.old.stored.content
@@ -109,7 +113,7 @@ pub extern "C" fn ta_style(handle: &mut Handle, alloc: Global, style: &mut Style
     ensures unwritten { result ≢ 0 → style.new ≡ style.old }
 {
     on!(handle, alloc, editor => {
-        *style = Style::of(editor.area.style());
+        *style = CStyle::of(editor.area.style());
         OK
     })
 }
@@ -118,7 +122,7 @@ pub extern "C" fn ta_style(handle: &mut Handle, alloc: Global, style: &mut Style
 ///
 /// Statuses: ok, empty handle.
 #[unsafe(no_mangle)]
-pub extern "C" fn ta_cursor_style(handle: &mut Handle, alloc: Global, style: &mut Style) -> u32
+pub extern "C" fn ta_cursor_style(handle: &mut Handle, alloc: Global, style: &mut CStyle) -> u32
     ensures unchanged { Calls handle.old.stored.content result handle.new.stored.content
         (λ a b. OnlyReads result a b) }
     ensures value { IfSome handle.old.stored.content
@@ -126,7 +130,7 @@ pub extern "C" fn ta_cursor_style(handle: &mut Handle, alloc: Global, style: &mu
     ensures unwritten { result ≢ 0 → style.new ≡ style.old }
 {
     on!(handle, alloc, editor => {
-        *style = Style::of(editor.area.cursor_style());
+        *style = CStyle::of(editor.area.cursor_style());
         OK
     })
 }
@@ -135,7 +139,11 @@ pub extern "C" fn ta_cursor_style(handle: &mut Handle, alloc: Global, style: &mu
 ///
 /// Statuses: ok, empty handle.
 #[unsafe(no_mangle)]
-pub extern "C" fn ta_cursor_line_style(handle: &mut Handle, alloc: Global, style: &mut Style) -> u32
+pub extern "C" fn ta_cursor_line_style(
+    handle: &mut Handle,
+    alloc: Global,
+    style: &mut CStyle,
+) -> u32
     ensures unchanged { Calls handle.old.stored.content result handle.new.stored.content
         (λ a b. OnlyReads result a b) }
     ensures value { IfSome handle.old.stored.content
@@ -143,7 +151,7 @@ pub extern "C" fn ta_cursor_line_style(handle: &mut Handle, alloc: Global, style
     ensures unwritten { result ≢ 0 → style.new ≡ style.old }
 {
     on!(handle, alloc, editor => {
-        *style = Style::of(editor.area.cursor_line_style());
+        *style = CStyle::of(editor.area.cursor_line_style());
         OK
     })
 }
@@ -152,7 +160,7 @@ pub extern "C" fn ta_cursor_line_style(handle: &mut Handle, alloc: Global, style
 ///
 /// Statuses: ok, empty handle.
 #[unsafe(no_mangle)]
-pub extern "C" fn ta_selection_style(handle: &mut Handle, alloc: Global, style: &mut Style) -> u32
+pub extern "C" fn ta_selection_style(handle: &mut Handle, alloc: Global, style: &mut CStyle) -> u32
     ensures unchanged { Calls handle.old.stored.content result handle.new.stored.content
         (λ a b. OnlyReads result a b) }
     ensures value { IfSome handle.old.stored.content
@@ -160,7 +168,7 @@ pub extern "C" fn ta_selection_style(handle: &mut Handle, alloc: Global, style: 
     ensures unwritten { result ≢ 0 → style.new ≡ style.old }
 {
     on!(handle, alloc, editor => {
-        *style = Style::of(editor.area.selection_style());
+        *style = CStyle::of(editor.area.selection_style());
         OK
     })
 }
@@ -169,7 +177,7 @@ pub extern "C" fn ta_selection_style(handle: &mut Handle, alloc: Global, style: 
 ///
 /// Statuses: ok, empty handle.
 #[unsafe(no_mangle)]
-pub extern "C" fn ta_search_style(handle: &mut Handle, alloc: Global, style: &mut Style) -> u32
+pub extern "C" fn ta_search_style(handle: &mut Handle, alloc: Global, style: &mut CStyle) -> u32
     ensures unchanged { Calls handle.old.stored.content result handle.new.stored.content
         (λ a b. OnlyReads result a b) }
     ensures value { IfSome handle.old.stored.content
@@ -177,7 +185,7 @@ pub extern "C" fn ta_search_style(handle: &mut Handle, alloc: Global, style: &mu
     ensures unwritten { result ≢ 0 → style.new ≡ style.old }
 {
     on!(handle, alloc, editor => {
-        *style = Style::of(editor.area.search_style());
+        *style = CStyle::of(editor.area.search_style());
         OK
     })
 }

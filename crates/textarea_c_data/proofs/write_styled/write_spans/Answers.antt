@@ -4,7 +4,7 @@ use Rattle.textarea_screen.specs.Text.{span_view}
 use Rattle.textarea_view.specs.SurroundState.{span_bytes}
 use Rattle.textarea_c_data.specs.Copied.{written_at}
 use Rattle.textarea_c_data.specs.Spans.{joined_texts, plain_span}
-use Rattle.textarea_c_data.specs.declared.spans.Span.{Span}
+use Rattle.textarea_c_data.specs.declared.spans.CSpan.{CSpan}
 use Rattle.textarea_c_data.proofs.Copied.{drop_item}
 use Rattle.textarea_c_data.proofs.StyledTexts.{bytes_are, next_out}
 use Rattle.textarea_c_data.proofs.write_styled.write_spans.Goals as goal
@@ -16,7 +16,7 @@ loop-span-preserved c =
     let content = c.as_bytes-content.result.now in let bytes : List ℕ = span_bytes (span_view span).content in
     let content_is : content ≡ bytes = c.as_bytes-content.ensures.value ∙ c.as_str.ensures ∙ bytes_are span.content in
     let n = length content in
-    let one : Span = record { bytes = n; style = c.of.result } in
+    let one : CSpan = record { bytes = n; style = c.of.result } in
     let one_is : one ≡ plain_span (span_view span) = ap₂ (λ (b : ℕ) s. record { bytes = b; style = s }) (ap length content_is) c.of.ensures.value in
     record {
       text = λ at start_is.
@@ -45,7 +45,7 @@ loop-span-preserved c =
             f.0 + 1,
             next.0,
             omega (arith, next.1, length-map views plain_span, length-map rest span_view),
-            subst (λ (out : List Span). written_at (f.0 + 1) out (map plain_span views) ≡ written_at at c.args.out.now (map plain_span (map span_view all)))
-                (sym (c.put.ensures.out ∙ ap (λ (s : Span). written_at c.loop-span.count c.loop-span.out (s ∷ [])) one_is)) next.2,
+            subst (λ (out : List CSpan). written_at (f.0 + 1) out (map plain_span views) ≡ written_at at c.args.out.now (map plain_span (map span_view all)))
+                (sym (c.put.ensures.out ∙ ap (λ (s : CSpan). written_at c.loop-span.count c.loop-span.out (s ∷ [])) one_is)) next.2,
           );
     }
