@@ -1,7 +1,8 @@
 -- Rows drawn one below the other.
 use Rattle.std.proofs.Common.{◌≡◌, ℕ, ◌+◌, ◌==◌, false, List, [], ◌∷◌, ◌++◌, length, refl, sym, ap, ◌∙◌, subst, arith}
 use Rattle.std.proofs.lemmas.List.{length-append}
-use Rattle.textarea_view.specs.Prelude.{ShowsRow, row_cell, RowArea, Changes, KeepsOutside, CellView, contains, is_in_row, LineView, Buffer, Rect, AreDisplayed, DrawnTo, IsDrawnAs, lines_change, VisualRow, row_at, highlights_of, row_highlights, SceneState}
+use Rattle.textarea_view.specs.Prelude.{ShowsRow, row_cell, RowArea, Changes, KeepsOutside, CellView, contains, is_in_row, LineView, Buffer, Rect, AreDisplayed, DrawnTo, IsDrawnAs, lines_change}
+use Rattle.textarea_view.specs.Prelude.{VisualRow, row_at, highlights_of, row_highlights, SceneState}
 use Rattle.textarea_screen.proofs.ChangeLemmas.{Changes-as, Changes-none, Changes-then, KeepsOutside-from_changes, KeepsOutside-then, KeepsOutside-wider}
 use Rattle.std.proofs.lemmas.Bool.{and_right}
 use Rattle.textarea_paint.proofs.RowAreaLemmas.{row_cell-outside}
@@ -16,7 +17,8 @@ AreDisplayed-push scene row [] line h shows = (subst (λ n. ShowsRow (row_highli
 AreDisplayed-push scene row (first ∷ lines) line h shows =
     (h.0, AreDisplayed-push scene (row + 1) lines line h.1 (subst (λ n. ShowsRow (row_highlights scene n) line) (omega arith) shows))
 
-pub lines_change-push : (rows : RowArea) (y : ℕ) (lines : List LineView) (line : LineView) (column row : ℕ) (cell : CellView) → row_cell rows (y + length lines) line column row (lines_change rows y lines column row cell) ≡ lines_change rows y (lines ++ line ∷ []) column row cell
+pub lines_change-push : (rows : RowArea) (y : ℕ) (lines : List LineView) (line : LineView) (column row : ℕ) (cell : CellView) →
+    row_cell rows (y + length lines) line column row (lines_change rows y lines column row cell) ≡ lines_change rows y (lines ++ line ∷ []) column row cell
 lines_change-push rows y [] line column row cell = ap (λ n. row_cell rows n line column row cell) (omega arith)
 lines_change-push rows y (first ∷ lines) line column row cell =
     ap (λ n. row_cell rows n line column row (lines_change rows (y + 1) lines column row (row_cell rows y first column row cell))) (omega arith)
@@ -25,7 +27,8 @@ lines_change-push rows y (first ∷ lines) line column row cell =
 pub drawn_none : (scene : SceneState) (top : ℕ) (rows : RowArea) (buffer : Buffer) → DrawnTo scene top rows buffer buffer 0
 drawn_none scene top rows buffer = record { lines = []; many = refl; displayed = tt; change = Changes-none buffer (lines_change rows rows.area.y []) (λ x y cell. refl) }
 
-pub drawn_more : (scene : SceneState) (top : ℕ) (rows : RowArea) (old now new : Buffer) (count : ℕ) (line : LineView) → DrawnTo scene top rows old now count → ShowsRow (row_highlights scene (top + count)) line → Changes now new (row_cell rows (rows.area.y + count) line) → DrawnTo scene top rows old new (count + 1)
+pub drawn_more : (scene : SceneState) (top : ℕ) (rows : RowArea) (old now new : Buffer) (count : ℕ) (line : LineView) → DrawnTo scene top rows old now count →
+    ShowsRow (row_highlights scene (top + count)) line → Changes now new (row_cell rows (rows.area.y + count) line) → DrawnTo scene top rows old new (count + 1)
 drawn_more scene top rows old now new count line h shows change = record {
   lines = h.lines ++ line ∷ [];
   many = omega (arith, length-append h.lines (line ∷ []), h.many);

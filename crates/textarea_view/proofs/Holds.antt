@@ -15,7 +15,8 @@ of_row row place h = by row.is_last refl
     by true e = grind (arith, nat_tests, h.line, h.from, h.to)
     by false e = grind (arith, nat_tests, h.line, h.from, h.before_next e)
 
-holds_once : (w : Wrapping) (lines : List (List ℕ)) (rows : List RowsView) (place : Place) (row : ℕ) (visual : VisualPosition) → AreRowsOf w lines rows → IsVisualPosition w.tab_len lines rows place visual → row < length (visual_rows lines rows) → row ≢ visual.row → holds_place (row_at lines rows row) place ≡ false
+holds_once : (w : Wrapping) (lines : List (List ℕ)) (rows : List RowsView) (place : Place) (row : ℕ) (visual : VisualPosition) → AreRowsOf w lines rows →
+    IsVisualPosition w.tab_len lines rows place visual → row < length (visual_rows lines rows) → row ≢ visual.row → holds_place (row_at lines rows row) place ≡ false
 holds_once w lines rows place row visual h is within apart = by (holds_place (row_at lines rows row) place) refl
   where
     by : (b : Bool) → holds_place (row_at lines rows row) place ≡ b → b ≡ false
@@ -30,7 +31,8 @@ holds_here : (w : Wrapping) (lines : List (List ℕ)) (rows : List RowsView) (pl
 holds_here w lines rows place visual is = of_row (row_at lines rows visual.row) place is.holds
 
 -- a visual row has a position exactly if it is the visual row of the position
-pub holds_where_visual : (w : Wrapping) (lines : List (List ℕ)) (rows : List RowsView) (place : Place) (row : ℕ) (visual : VisualPosition) → AreRowsOf w lines rows → IsVisualPosition w.tab_len lines rows place visual → row < length (visual_rows lines rows) → (row == visual.row) ≡ holds_place (row_at lines rows row) place
+pub holds_where_visual : (w : Wrapping) (lines : List (List ℕ)) (rows : List RowsView) (place : Place) (row : ℕ) (visual : VisualPosition) → AreRowsOf w lines rows →
+    IsVisualPosition w.tab_len lines rows place visual → row < length (visual_rows lines rows) → (row == visual.row) ≡ holds_place (row_at lines rows row) place
 holds_where_visual w lines rows place row visual h is within = by (row == visual.row) refl
   where
     by : (b : Bool) → (row == visual.row) ≡ b → b ≡ holds_place (row_at lines rows row) place

@@ -1,7 +1,9 @@
 -- The layers of a frame, one after another, and the cells outside of them.
 use Rattle.std.proofs.Common.{◌≡◌, ℕ, Bool, true, false, IsTrue, List, Result, Ok, Err, OnOk, OnErr, IfOk, take, refl, sym, subst}
 use Rattle.std.proofs.lemmas.Bool.{cond-false}
-use Rattle.textarea_view.specs.Prelude.{AreLinesOf, AreLinesWith, block_change, frame_change, inside_change, inside_with, drawn_lines, placeholder_change, rows_change, style_change, row_area, FrameState, shows_placeholder, CursorCellRender, Look, block_cell, RowArea, FillsArea, lines_change, rows_above_end, in_placeholder_style, placeholder_lines, cursor_cell, SceneState, BlockView, Changes, KeepsOutside, area_of, CellView, contains, LineView, TextView, Buffer, Rect, Style, ViewportState}
+use Rattle.textarea_view.specs.Prelude.{AreLinesOf, AreLinesWith, block_change, frame_change, inside_change, inside_with, drawn_lines, placeholder_change, rows_change, style_change, row_area}
+use Rattle.textarea_view.specs.Prelude.{FrameState, shows_placeholder, CursorCellRender, Look, block_cell, RowArea, FillsArea, lines_change, rows_above_end, in_placeholder_style, placeholder_lines}
+use Rattle.textarea_view.specs.Prelude.{cursor_cell, SceneState, BlockView, Changes, KeepsOutside, area_of, CellView, contains, LineView, TextView, Buffer, Rect, Style, ViewportState}
 use Rattle.textarea_view.proofs.Drawing.{lines_inside}
 use Rattle.textarea_screen.proofs.ChangeLemmas.{Changes-then, KeepsOutside-from_changes}
 

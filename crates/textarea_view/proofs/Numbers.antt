@@ -21,7 +21,8 @@ use Rattle.textarea_highlight.specs.Seen.{IsText, span_columns}
 use Rattle.textarea_highlight.specs.Texts.{text_bytes_of}
 use Rattle.textarea_wrap.specs.Metrics.{line_number_columns}
 use Rattle.textarea_screen.specs.Text.{SpanView}
-use Rattle.textarea_view.specs.Prelude.{SceneState, VisualRow, highlights_of, holds_place, number_digits, number_width, segment_in, with_cursor, with_custom, with_match, with_range_segment, with_row_number, with_search_matches, with_selected, with_selected_segment, byte_range, matches_in, searched_lines}
+use Rattle.textarea_view.specs.Prelude.{SceneState, VisualRow, highlights_of, holds_place, number_digits, number_width, segment_in, with_cursor, with_custom, with_match, with_range_segment}
+use Rattle.textarea_view.specs.Prelude.{with_row_number, with_search_matches, with_selected, with_selected_segment, byte_range, matches_in, searched_lines}
 use Rattle.textarea_view.specs.SceneDrawn.{AreNumbers}
 use Rattle.textarea_view.specs.SceneRows.{bare_row, match_range, with_line_number}
 

@@ -4,7 +4,8 @@ use Rattle.std.specs.List.{flat_map}
 use Rattle.std.proofs.lemmas.Bool.{cond-false}
 use Rattle.std.proofs.lemmas.Bool.Decides.{nat_tests}
 use Rattle.std.proofs.lemmas.List.{length-take, take_more}
-use Rattle.textarea_view.specs.Prelude.{CursorCellRender, Draw, Hidden, row_clusters, span_clusters, cells_of_row, placed_row, row_cell, row_change, RowArea, Changes, CellView, is_in_row, patched, LineView, SpanView, Buffer, Style, lines_change, after_cursor, blank, cell_of_line, borrowed_line, borrowed_span, placeholder_lines}
+use Rattle.textarea_view.specs.Prelude.{CursorCellRender, Draw, Hidden, row_clusters, span_clusters, cells_of_row, placed_row, row_cell, row_change, RowArea, Changes, CellView, is_in_row, patched}
+use Rattle.textarea_view.specs.Prelude.{LineView, SpanView, Buffer, Style, lines_change, after_cursor, blank, cell_of_line, borrowed_line, borrowed_span, placeholder_lines}
 use Rattle.textarea_paint.specs.Row.{first_visible_column}
 use Rattle.textarea_screen.proofs.ChangeLemmas.{Changes-as, Changes-then}
 use Rattle.textarea_view.proofs.Drawing.{lines_change-push}

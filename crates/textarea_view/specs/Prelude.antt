@@ -48,7 +48,9 @@ pub use Rattle.textarea_view.specs.Measure.{chrome_of, measure_of, visible_row_c
 pub use Rattle.textarea_view.specs.Outcomes.{plain_lines, with_max_rows, with_min_rows, with_placeholder_style, with_placeholder_text}
 pub use Rattle.textarea_view.specs.Placements.{IsPlacement, IsPlacementInRows, IsStart, HasRowView, Placement, cell_of_position, corner_caret, placed_at_corner, row_area, row_view, viewport_at}
 pub use Rattle.textarea_view.specs.Placeholder.{AreLinesInline, after_cursor, blank, cell_of_line, in_placeholder_style, borrowed_line, borrowed_span, placeholder_lines}
-pub use Rattle.textarea_view.specs.SceneRows.{AreMatchesOf, KnownMatches, byte_place, byte_range, cursor_cell, from_in, highlights_of, holds_place, matches_in, number_digits, with_row_number, segment_in, searched_lines, to_in, with_cursor, with_custom, with_customs, with_search_matches, with_line_number, with_match, with_range_segment, with_selected, with_selected_segment}
+pub use Rattle.textarea_view.specs.SceneRows.{AreMatchesOf, KnownMatches, byte_place, byte_range, cursor_cell, from_in, highlights_of, holds_place, matches_in, number_digits, with_row_number}
+pub use Rattle.textarea_view.specs.SceneRows.{segment_in, searched_lines, to_in, with_cursor, with_custom, with_customs, with_search_matches, with_line_number, with_match, with_range_segment}
+pub use Rattle.textarea_view.specs.SceneRows.{with_selected, with_selected_segment}
 unfoldable pub use Rattle.textarea_view.specs.SceneRows.{row_highlights}
 pub use Rattle.textarea_view.specs.Scene.{HasPlaces, SceneState}
 pub use Rattle.textarea_view.specs.SceneDrawn.{AreDisplayed, AreNumbers, DrawnTo, FillsArea, IsDrawnAs, IsRowStart, lines_change, rows_above_end}

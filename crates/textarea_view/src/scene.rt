@@ -71,12 +71,12 @@ impl<'a> Scene<'a> {
         ensures err { OnErr result (KeepsOutside (contains rows.area) buffer.old buffer.new) }
     {
         let room = rows_above_end(rows.area, buffer.area());
-        let frame = RowContext::new(self);
+        let context = RowContext::new(self);
         let lines = self.rows.lines();
         let mut matches = LineMatches::new(alloc, self.search, lines, cached, usize::from(room))?;
         let left = self.rows.row_count().saturating_sub(top);
         let count = left.min(usize::from(room));
-        draw_rows(alloc, &frame, &mut matches, buffer, rows, top, count)
+        draw_rows(alloc, &context, &mut matches, buffer, rows, top, count)
     }
 
     /// Returns how the cell at the cursor is drawn: in the cursor's style, or as any other.
@@ -110,35 +110,35 @@ impl<'a> Scene<'a> {
         requires row { row < row_total self.now.rows.rows }
         ensures { IfOk result (λ line. ShowsRow (row_highlights self.now row) (line_view line)) }
     {
-        let frame = RowContext::new(self);
+        let context = RowContext::new(self);
         let mut cached = MatchCache::new(alloc);
         let lines = self.rows.lines();
         let mut matches = LineMatches::new(alloc, self.search, lines, &mut cached, 0)?;
-        frame.row_line(alloc, row, &mut matches)
+        context.row_line(alloc, row, &mut matches)
     }
 }
 
 // Draws `count` visual rows from `top` on, one below the other.
 fn draw_rows<'a>(
     alloc: Global,
-    frame: &RowContext<'_, 'a>,
+    context: &RowContext<'_, 'a>,
     matches: &mut LineMatches<'_, '_>,
     buffer: &mut Buffer,
     rows: RowArea,
     top: usize,
     count: usize,
 ) -> Result<(), AllocError>
-    requires matches { matches.old.searched ≡ searched_lines frame.now }
-    requires displayed { count ≤ row_total frame.now.rows.rows - top }
+    requires matches { matches.old.searched ≡ searched_lines context.now }
+    requires displayed { count ≤ row_total context.now.rows.rows - top }
     requires end { top + count < 2 ^ 64 }
     requires room { count ≤ rows.area.height }
-    ensures ok { OnOk result (DrawnTo frame.now top rows buffer.old buffer.new count) }
+    ensures ok { OnOk result (DrawnTo context.now top rows buffer.old buffer.new count) }
     ensures err { OnErr result (KeepsOutside (contains rows.area) buffer.old buffer.new) }
 {
-    let mut highlighter = frame.highlighter(alloc);
+    let mut highlighter = context.highlighter(alloc);
     let mut line = Line::from_spans(Vec::new(alloc));
     for i in 0..count {
-        let left = frame.show_visible_in(&mut line, rows, top + i, matches, &mut highlighter)?;
+        let left = context.show_visible_in(&mut line, rows, top + i, matches, &mut highlighter)?;
         draw_row(
             buffer,
             RowArea { left, ..rows },

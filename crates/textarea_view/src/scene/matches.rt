@@ -59,11 +59,17 @@ impl<'a, 'k> LineMatches<'a, 'k> {
         if self.line == Some(line) {
             return Ok(());
         }
-        self.line = None;
         let text = self.lines[line].as_str();
-        self.matcher.spans_into(line, text, &mut self.found)?;
-        self.line = Some(line);
-        Ok(())
+        match self.matcher.spans_into(line, text, &mut self.found) {
+            Ok(()) => {
+                self.line = Some(line);
+                Ok(())
+            }
+            Err(error) => {
+                self.line = None;
+                Err(error)
+            }
+        }
     }
 
     /// Returns the byte offsets of each match's start and end in its line, as `regex` lists them.

@@ -79,7 +79,8 @@ fn draw_line(
 {
     match cursor_cell {
         CursorCellRender::Draw(style) => {
-            draw_row(buffer, rows, y, &after_blank(alloc, line, style)?)
+            let displayed = after_blank(alloc, line, style)?;
+            draw_row(buffer, rows, y, &displayed)
         }
         CursorCellRender::Hidden => draw_row(buffer, rows, y, line),
     }

@@ -34,9 +34,9 @@ impl<'f, 'a> Model for RowContext<'f, 'a> {
 
     ghost Value = { SceneState };
 
-    ghost view = { λ frame. frame.scene.now };
+    ghost view = { λ context. context.scene.now };
 
-    ghost invariant = { λ frame. IsKnown frame.scene.now frame.cursor_row frame.selected };
+    ghost invariant = { λ context. IsKnown context.scene.now context.cursor_row context.selected };
 }
 
 impl<'f, 'a> RowContext<'f, 'a> {

@@ -23,7 +23,8 @@ returns-then-shows_placeholder-clause-ok c =
     rw (← c.self.view_is) (on_ok c.draw_placeholder.result c.draw_placeholder.ensures.ok
     (λ change. filled_by_placeholder (frame shown) c.args.viewport c.args.inner c.args.buffer.now c.draw_placeholder.new.buffer
     (rw (← c.self.view_is) at (sym c.shows_placeholder.ensures ∙ c.if-shows_placeholder.true))
-    (placeholder_drawn c.self.inside.scene.look c.self.inside.surround.now.placeholder c.args.viewport c.args.inner c.args.buffer.now c.draw_placeholder.new.buffer c.row_area-rows.result (text_view c.placeholder-placeholder.result.now) c.cursor_cell.result
+    (placeholder_drawn c.self.inside.scene.look c.self.inside.surround.now.placeholder c.args.viewport c.args.inner c.args.buffer.now c.draw_placeholder.new.buffer c.row_area-rows.result
+    (text_view c.placeholder-placeholder.result.now) c.cursor_cell.result
     (rows_are shown) c.placeholder-placeholder.ensures c.cursor_cell.ensures change)))
 
 pub returns-then-shows_placeholder-clause-outside : goal.returns-then-shows_placeholder-clause-outside

@@ -4,11 +4,11 @@ use Rattle.textarea_view.specs.Prelude.{CursorCellRender, row_cell, Changes, lin
 use Rattle.textarea_view.proofs.Placeholder.{drawn_after}
 use Rattle.textarea_view.proofs.scene.placeholder.draw_line.Goals as goal
 
-pub returns-in_ok-after_blank-in-Draw-clause-ok : goal.returns-in_ok-after_blank-in-Draw-clause-ok
-returns-in_ok-after_blank-in-Draw-clause-ok c =
+pub returns-in_ok-displayed-in-Draw-clause-ok : goal.returns-in_ok-displayed-in-Draw-clause-ok
+returns-in_ok-displayed-in-Draw-clause-ok c =
     let line = line_view c.args.line.now in
     on_ok_weaker c.draw_row.result
     (λ change.
     subst (λ (cell : CursorCellRender). Changes c.args.buffer.now c.draw_row.new.buffer (row_cell c.args.rows c.args.y (after_cursor cell line))) (sym c.in-Draw.is)
-    (drawn_after c.args.rows c.args.y c.in-Draw.style line (line_view c.in_ok-after_blank-in-Draw.field-0) c.args.buffer.now c.draw_row.new.buffer c.in_ok-after_blank-in-Draw.ensures change))
+    (drawn_after c.args.rows c.args.y c.in-Draw.style line (line_view c.in_ok-displayed-in-Draw.displayed) c.args.buffer.now c.draw_row.new.buffer c.in_ok-displayed-in-Draw.ensures change))
     c.draw_row.ensures.ok

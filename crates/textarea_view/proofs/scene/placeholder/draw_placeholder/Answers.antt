@@ -1,7 +1,8 @@
 use Rattle.std.proofs.Common.{◌≡◌, ℕ, ◌<◌, ◌+◌, min, true, false, List, length, map, take, get_or, sym, ap, subst, ◌∙◌, arith}
 use Rattle.std.proofs.lemmas.List.{get_or-map, length-map, take_min}
 use Rattle.std.proofs.lemmas.List.Elements.{All-get_or}
-use Rattle.textarea_view.specs.Prelude.{AreInline, row_clusters, row_cell, RowArea, CursorCellRender, area_of, Changes, KeepsOutside, is_in_row, LineView, line_view, lines_change, rows_above_end, after_cursor, cell_of_line, in_placeholder_style, placeholder_lines}
+use Rattle.textarea_view.specs.Prelude.{AreInline, row_clusters, row_cell, RowArea, CursorCellRender, area_of, Changes, KeepsOutside, is_in_row, LineView, line_view, lines_change, rows_above_end}
+use Rattle.textarea_view.specs.Prelude.{after_cursor, cell_of_line, in_placeholder_style, placeholder_lines}
 use Rattle.textarea_view.proofs.Drawing.{lines_failed}
 use Rattle.textarea_view.proofs.Placeholder.{cell_of_line-hidden, length-placeholder_lines, line_at, lines_more}
 use Rattle.textarea_view.proofs.Layers.{also_on_err}

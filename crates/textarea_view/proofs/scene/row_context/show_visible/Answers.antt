@@ -8,7 +8,8 @@ use Rattle.textarea_view.proofs.scene.row_context.show_visible.Goals as goal
 use Rattle.textarea_view.proofs.scene.row_context.show_visible.Goals.{In_ok-part}
 
 -- the part is drawn as the row, from the column at which the row or the part begins
-drawn : (c : In_ok-part) (left : ℕ) → left ≡ cond (c.in_ok-part.part.from == 0) c.args.rows.left ((c.args.rows.left - c.args.number_columns) - c.in_ok-part.part.column) → IsDrawnAs c.args.highlighter.now c.args.rows left (line_view c.show_between_in.new.line)
+drawn : (c : In_ok-part) (left : ℕ) → left ≡ cond (c.in_ok-part.part.from == 0) c.args.rows.left ((c.args.rows.left - c.args.number_columns) - c.in_ok-part.part.column) →
+    IsDrawnAs c.args.highlighter.now c.args.rows left (line_view c.show_between_in.new.line)
 drawn c left is =
     let h = c.args.highlighter.now in
     let part = c.in_ok-part.part in
