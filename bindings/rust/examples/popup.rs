@@ -6,7 +6,7 @@ use crossterm::event::Event;
 use screen::{Frame, Program};
 use tui::layout::Rect;
 use tui::style::{Color, Modifier, Style};
-use tui::text::{Span, Spans, Text};
+use tui::text::{Span, Spans};
 use tui_textarea::ratatui::widgets::{Block, Padding};
 use tui_textarea::{Input, Key, TextArea};
 
@@ -24,7 +24,7 @@ impl Popup {
             Span::styled(" to go on", gray),
         ]);
         let mut area = TextArea::default();
-        area.set_styled_placeholder(Text::from(placeholder));
+        area.set_styled_placeholder(placeholder);
         // A block of tui has no padding, but one of the text area has.
         let block = Block::bordered().title(" Your name ");
         area.set_block(block.padding(Padding::horizontal(1)));

@@ -102,6 +102,18 @@ impl<'a> From<text::Spans<'a>> for Line<'a> {
     }
 }
 
+impl<'a> From<text::Span<'a>> for Text<'a> {
+    fn from(span: text::Span<'a>) -> Text<'a> {
+        Line::from(span).into()
+    }
+}
+
+impl<'a> From<text::Spans<'a>> for Text<'a> {
+    fn from(line: text::Spans<'a>) -> Text<'a> {
+        Line::from(line).into()
+    }
+}
+
 impl<'a> From<text::Text<'a>> for Text<'a> {
     fn from(text: text::Text<'a>) -> Text<'a> {
         text.lines.into_iter().collect()

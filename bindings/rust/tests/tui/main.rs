@@ -217,6 +217,22 @@ fn calls_for_cells() {
 }
 
 #[test]
+fn placeholders() {
+    use tui::text::{Span, Spans, Text};
+    let red = tui::style::Style::default().fg(tui::style::Color::Red);
+    let mut area = TextArea::default();
+    area.set_styled_placeholder(Span::styled("name", red));
+    let found = area.placeholder().clone();
+    assert_eq!(found.lines.len(), 1);
+    assert_eq!(found.lines[0].spans[0].content, "name");
+    assert_eq!(found.lines[0].spans[0].style, red.into());
+    area.set_styled_placeholder(Spans::from(Span::styled("name", red)));
+    assert_eq!(*area.placeholder(), found);
+    area.set_styled_placeholder(Text::styled("name", red));
+    assert_eq!(*area.placeholder(), found);
+}
+
+#[test]
 fn a_block_of_tui_stays() {
     use tui::widgets::{Block, BorderType, Borders};
     let block = Block::default()
