@@ -62,7 +62,9 @@ impl TextArea<'_> {
     ///             let modifier = Modifier::from_bits_truncate(style.add_modifier.bits());
     ///             let mut shown = Style::new().add_modifier(modifier);
     ///             (shown.fg, shown.bg) = (color(style.fg), color(style.bg));
-    ///             buf[(x, y)].set_symbol(symbol).set_style(shown);
+    ///             if let Some(cell) = buf.cell_mut((x, y)) {
+    ///                 cell.set_symbol(symbol).set_style(shown);
+    ///             }
     ///         });
     ///     }
     /// }
