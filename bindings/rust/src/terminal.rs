@@ -39,9 +39,11 @@ use std::time::Duration;
 /// A button of a mouse.
 #[derive(Clone, Copy, Debug, PartialEq, Eq, Hash)]
 pub enum MouseButton {
+    /// The left button.
     Left,
     /// The middle one, or the wheel if it is pressed.
     Middle,
+    /// The right button.
     Right,
     /// A further one, by its number: 8 is mostly the one for "back", and 9 the one for "forward".
     Other(u8),
@@ -69,13 +71,17 @@ pub enum MouseKind {
 /// A report of a mouse, except of the steps of its wheel up and down, which are inputs.
 #[derive(Clone, Copy, Debug, PartialEq, Eq, Hash)]
 pub struct Mouse {
+    /// What the mouse did.
     pub kind: MouseKind,
     /// The column of the cell that it is at, from 0.
     pub column: u16,
     /// The row of that cell, from 0.
     pub row: u16,
+    /// Whether Ctrl was pressed.
     pub ctrl: bool,
+    /// Whether Alt was pressed.
     pub alt: bool,
+    /// Whether Shift was pressed.
     pub shift: bool,
 }
 
@@ -89,9 +95,19 @@ pub enum Event {
     /// The mouse was pressed, released or moved.
     Mouse(Mouse),
     /// The terminal's size in cells, as the reply to a query or by the terminal itself.
-    Size { columns: u16, rows: u16 },
+    Size {
+        /// The number of its columns.
+        columns: u16,
+        /// The number of its rows.
+        rows: u16,
+    },
     /// The position of the terminal's cursor, from 0, as the reply to a query.
-    Cursor { column: u16, row: u16 },
+    Cursor {
+        /// Its column.
+        column: u16,
+        /// Its row.
+        row: u16,
+    },
     /// The terminal's window got the focus.
     FocusGained,
     /// The terminal's window lost the focus.
