@@ -1,5 +1,6 @@
 -- Symbols inserted at the cursor, and lines duplicated.
-use Rattle.std.proofs.Common.{◌≡◌, ◌≢◌, ◌≤◌, ◌<◌, ◌+◌, ◌-◌, ℕ, suc, Bool, true, false, cond, nat_lt, ◌&&◌, List, [], ◌∷◌, ◌++◌, length, take, drop, Option, None, Some, option_map, unwrap_or, ap, refl, sym, subst, ◌∙◌, arith, ◌==◌, not, get_or, String}
+use Rattle.std.proofs.Common.{◌≡◌, ◌≢◌, ◌≤◌, ◌<◌, ◌+◌, ◌-◌, ℕ, suc, Bool, true, false, cond, nat_lt, ◌&&◌, List, [], ◌∷◌, ◌++◌, length, take, drop, Option, None, Some, option_map}
+use Rattle.std.proofs.Common.{unwrap_or, ap, refl, sym, subst, ◌∙◌, arith, ◌==◌, not, get_or, String}
 use Rattle.std.proofs.lemmas.Bool.{eqb-false, eqb-true}
 use Rattle.std.proofs.lemmas.Bool.Decides.{nat_tests}
 use Rattle.std.proofs.lemmas.Grind.{common_steps}
@@ -11,7 +12,8 @@ use Rattle.textarea_text.proofs.PlaceLemmas.{end_of_more}
 use Rattle.textarea_text.proofs.Splices.{lines-joined}
 use Rattle.textarea_text.proofs.StringRows.{rows_replaced}
 use Rattle.textarea_text.proofs.TextPlaces.{joined-lines}
-use Rattle.textarea_document.specs.Prelude.{IfSome, string_len, Symbol, characters, characters_of, joined, lines, lines_of, text_of, Place, IsPlace, IsPlaceOf, line_end, end, is_before, Fits, applied, SplitsNoRange, DocumentState, IsSound, Splice, after_edit, after_move, insertion, has_symbols}
+use Rattle.textarea_document.specs.Prelude.{IfSome, string_len, Symbol, characters, characters_of, joined, lines, lines_of, text_of, Place, IsPlace, IsPlaceOf, line_end, end}
+use Rattle.textarea_document.specs.Prelude.{is_before, Fits, applied, SplitsNoRange, DocumentState, IsSound, Splice, after_edit, after_move, insertion, has_symbols}
 use Rattle.textarea_document.specs.Selection.{duplication, first_selected_row, last_selected_row, last_selected_row_by, lines_duplicated, origin, rows_down, selection_duplication, selection_end, selection_start, with_lines_again}
 use Rattle.textarea_document.proofs.Ranges.{outside_end}
 use Rattle.textarea_document.proofs.Sounds.{sound_edited}
@@ -105,7 +107,8 @@ rows_by count cursor from false is here there =
     let ends = rows_up_to count from cursor _ refl up here in
     record { ordered = ends.0; within = ends.1; cursor_from = up; anchor_from = omega arith }
 
-pub selected_rows : (document : DocumentState) → IsPlace document.text document.cursor → IfSome document.anchor (IsPlace document.text) → SelectedRows (length (lines document.text)) document.cursor (origin document) (selection_start document) (selection_end document)
+pub selected_rows : (document : DocumentState) → IsPlace document.text document.cursor → IfSome document.anchor (IsPlace document.text)
+    → SelectedRows (length (lines document.text)) document.cursor (origin document) (selection_start document) (selection_end document)
 selected_rows document at from =
     rows_by (length (lines document.text)) document.cursor (origin document) (is_before document.cursor (origin document)) refl at.0 (origin_within document.anchor from)
   where
@@ -115,7 +118,9 @@ selected_rows document at from =
 
 -- ---- the document after it
 
-anchor_down : (text new : List Symbol) (count first : ℕ) (cursor : Place) (anchor : Option Place) → ((place : Place) → first ≤ place.0 → IsPlace text place → IsPlace new (rows_down count place)) → first ≤ (unwrap_or anchor cursor).0 → IfSome anchor (IsPlace text) → IfSome (option_map (rows_down count) anchor) (IsPlace new)
+anchor_down : (text new : List Symbol) (count first : ℕ) (cursor : Place) (anchor : Option Place)
+    → ((place : Place) → first ≤ place.0 → IsPlace text place → IsPlace new (rows_down count place)) → first ≤ (unwrap_or anchor cursor).0
+    → IfSome anchor (IsPlace text) → IfSome (option_map (rows_down count) anchor) (IsPlace new)
 anchor_down text new count first cursor None down from at = tt
 anchor_down text new count first cursor (Some place) down from at = down place from at
 
@@ -162,7 +167,9 @@ duplication_splits_none document h =
     outside_end (lines document.text) document.ranges (line_end (lines document.text) (last_selected_row document)) h.ranges (omega arith)
 
 -- an edit of copies of the lines is the duplication
-pub splice_of_copy : {Z : Type 0} (text : List Symbol) (first last row end_row : ℕ) (place : Place) (items copy : List (String Z)) → row ≡ first → end_row ≡ last → row ≤ end_row → place ≡ line_end (lines text) end_row → lines_of items ≡ lines text → lines_of copy ≡ [] ∷ lines_of (take (end_row + 1 - row) (drop row items)) → insertion place (text_of copy) ≡ duplication text first last
+pub splice_of_copy : {Z : Type 0} (text : List Symbol) (first last row end_row : ℕ) (place : Place) (items copy : List (String Z)) → row ≡ first
+    → end_row ≡ last → row ≤ end_row → place ≡ line_end (lines text) end_row → lines_of items ≡ lines text
+    → lines_of copy ≡ [] ∷ lines_of (take (end_row + 1 - row) (drop row items)) → insertion place (text_of copy) ≡ duplication text first last
 splice_of_copy text first last row end_row place items copy from to ordered at read is =
     let copied : lines_of (take (end_row + 1 - row) (drop row items)) ≡ drop row (take (end_row + 1) (lines text)) =
     sym (take-map characters_of (end_row + 1 - row) (drop row items))
@@ -188,7 +195,9 @@ duplication_ends text first last ordered within =
     end_of_more (line_end rows last) ([] ∷ copied) count (omega (arith, long)) (omega (arith, ordered))
     ∙ ap (λ (l : List ℕ). (last + count, length l)) here
 
-pub ends_as : (text : List Symbol) (first last row end_row : ℕ) (place to : Place) → row ≡ first → end_row ≡ last → place ≡ line_end (lines text) end_row → to ≡ (end_row + (end_row + 1 - row), place.1) → row ≤ end_row → end_row < length (lines text) → to ≡ end (duplication text first last).place (duplication text first last).symbols
+pub ends_as : (text : List Symbol) (first last row end_row : ℕ) (place to : Place) → row ≡ first → end_row ≡ last → place ≡ line_end (lines text) end_row
+    → to ≡ (end_row + (end_row + 1 - row), place.1) → row ≤ end_row → end_row < length (lines text)
+    → to ≡ end (duplication text first last).place (duplication text first last).symbols
 ends_as text first last row end_row place to from until at is ordered within =
     is
     ∙ ap (λ (p : Place). (end_row + (end_row + 1 - row), p.1)) at
@@ -203,13 +212,19 @@ two_lines count row end_row copied all items long ordered within is more =
 
 -- ---- the same of values that are equal to these
 
-pub place_as : (text new : List Symbol) (place cursor : Place) (row end_row first last : ℕ) → new ≡ text → place ≡ cursor → row ≡ first → end_row ≡ last → IsPlace text (rows_down (last + 1 - first) cursor) → IsPlace new (rows_down (end_row + 1 - row) place)
+pub place_as : (text new : List Symbol) (place cursor : Place) (row end_row first last : ℕ) → new ≡ text → place ≡ cursor → row ≡ first → end_row ≡ last
+    → IsPlace text (rows_down (last + 1 - first) cursor) → IsPlace new (rows_down (end_row + 1 - row) place)
 place_as text new place cursor row end_row first last same at from to h = rw (same, at, from, to) h
 
-pub anchor_as : (text new : List Symbol) (place found anchor : Option Place) (row end_row first last : ℕ) → new ≡ text → place ≡ option_map (rows_down (end_row + 1 - row)) found → found ≡ anchor → row ≡ first → end_row ≡ last → IfSome (option_map (rows_down (last + 1 - first)) anchor) (IsPlace text) → IfSome place (IsPlace new)
+pub anchor_as : (text new : List Symbol) (place found anchor : Option Place) (row end_row first last : ℕ) → new ≡ text
+    → place ≡ option_map (rows_down (end_row + 1 - row)) found → found ≡ anchor → row ≡ first → end_row ≡ last
+    → IfSome (option_map (rows_down (last + 1 - first)) anchor) (IsPlace text) → IfSome place (IsPlace new)
 anchor_as text new place found anchor row end_row first last same is at from to h = rw (same, is, at, from, to) h
 
-pub duplicated_as : (document edited new : DocumentState) (splice : Splice) (place : Place) (found moved : Option Place) (row end_row now : ℕ) → edited ≡ after_edit document splice false now → splice ≡ selection_duplication document → place ≡ document.cursor → moved ≡ option_map (rows_down (end_row + 1 - row)) found → found ≡ document.anchor → row ≡ first_selected_row document → end_row ≡ last_selected_row document → new ≡ after_move edited (rows_down (end_row + 1 - row) place) moved → new ≡ lines_duplicated document now
+pub duplicated_as : (document edited new : DocumentState) (splice : Splice) (place : Place) (found moved : Option Place) (row end_row now : ℕ)
+    → edited ≡ after_edit document splice false now → splice ≡ selection_duplication document → place ≡ document.cursor
+    → moved ≡ option_map (rows_down (end_row + 1 - row)) found → found ≡ document.anchor → row ≡ first_selected_row document
+    → end_row ≡ last_selected_row document → new ≡ after_move edited (rows_down (end_row + 1 - row) place) moved → new ≡ lines_duplicated document now
 duplicated_as document edited new splice place found moved row end_row now made is at moved_is found_is from to h = rw (h, moved_is, made, is, at, found_is, from, to) refl
 
 pub text_is : (document edited : DocumentState) (splice : Splice) (now : ℕ) → edited ≡ after_edit document splice false now → splice ≡ selection_duplication document → edited.text ≡ applied document.text (selection_duplication document)

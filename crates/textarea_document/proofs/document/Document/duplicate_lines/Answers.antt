@@ -9,7 +9,8 @@ use Rattle.textarea_document.proofs.document.Document.duplicate_lines.Goals as g
 use Rattle.textarea_document.proofs.document.Document.duplicate_lines.Goals.{After-of_fragment-edit}
 
 -- the lines of the copy
-copied : (c : After-of_fragment-edit) → lines_of (arc_value c.in_ok-shared.shared).items ≡ [] ∷ lines_of (take (c.selected_rows-first.result.1 + 1 - c.selected_rows-first.result.0) (drop c.selected_rows-first.result.0 c.lines-lines.result.now))
+copied : (c : After-of_fragment-edit)
+    → lines_of (arc_value c.in_ok-shared.shared).items ≡ [] ∷ lines_of (take (c.selected_rows-first.result.1 + 1 - c.selected_rows-first.result.0) (drop c.selected_rows-first.result.0 c.lines-lines.result.now))
 unfolding chars
 copied c =
     ap (λ (v : Vec (String Global) Global). lines_of v.items) c.in_ok-shared.ensures.ok
@@ -44,10 +45,16 @@ edit-requires-clause-well_formed c =
     let long : length c.lines-lines.result.now ≡ length (lines document.text) = sym (length-map c.lines-lines.result.now characters_of) ∙ ap length c.lines-lines.ensures.lines in
     well_formed made.result (selection_duplication document) (splice_is before)
     (selection_duplication_fits document (cursor_is before) (anchor_is before)).some
-    (ends_as document.text (first_selected_row document) (last_selected_row document) rows.result.0 rows.result.1 c.line_end-start.result made.result.end rows.ensures.first rows.ensures.last (starts before) made.ensures.end rows.ensures.ordered rows.ensures.within)
+    (ends_as document.text (first_selected_row document) (last_selected_row document) rows.result.0 rows.result.1 c.line_end-start.result made.result.end
+    rows.ensures.first rows.ensures.last (starts before) made.ensures.end rows.ensures.ordered rows.ensures.within)
     (subst (λ (o : Option ℕ). IfSome o (λ n. 2 ≤ n)) (sym made.ensures.fragment_lines)
     (subst (λ (v : Vec (String Global) Global). 2 ≤ length v.items) (sym c.in_ok-shared.ensures.ok)
-    (omega (arith, c.insert.new.self.ok, two_lines (length (lines document.text)) rows.result.0 rows.result.1 (vec_len c.in_ok-copy.copy) (vec_len c.insert.new.self) c.lines-lines.result.now long rows.ensures.ordered rows.ensures.within c.in_ok-copy.ensures.len c.in_ok-insert.ensures.len))))
+    (omega (
+      arith,
+      c.insert.new.self.ok,
+      two_lines (length (lines document.text)) rows.result.0 rows.result.1 (vec_len c.in_ok-copy.copy) (vec_len c.insert.new.self)
+          c.lines-lines.result.now long rows.ensures.ordered rows.ensures.within c.in_ok-copy.ensures.len c.in_ok-insert.ensures.len,
+    ))))
 
 pub edit-requires-clause-fits : goal.edit-requires-clause-fits
 edit-requires-clause-fits c =
