@@ -1,5 +1,5 @@
 -- Each call and each input, by any fact of splices that edits have; and that each keeps documents sound.
-use Rattle.std.proofs.Common.{◌≡◌, ◌<◌, ℕ, List, [], ◌∷◌, length, Option, None, Some, ap, arith, false, is_some, refl, subst, sym, true, unwrap_or, ◌∙◌, inl, inr, ⊎_elim}
+use Rattle.std.proofs.Common.{◌≡◌, ℕ, List, [], ◌∷◌, length, Option, None, Some, ap, arith, false, is_some, refl, subst, sym, true, unwrap_or, ◌∙◌, inl, inr, ⊎_elim}
 use Rattle.std.proofs.lemmas.List.{length-map}
 use Rattle.std.specs.Str.{chars}
 use Rattle.textarea_calls.specs.Possible.{CanBeMade}

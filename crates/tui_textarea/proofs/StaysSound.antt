@@ -1,5 +1,5 @@
 -- Each call keeps the invariant of documents, in every state.
-use Rattle.std.proofs.Common.{◌≡◌, Bool, is_some, subst, sym, ⊎_elim}
+use Rattle.std.proofs.Common.{Bool, is_some, subst, sym, ⊎_elim}
 use Rattle.textarea_calls.specs.Possible.{CanBeMade}
 use Rattle.textarea_calls.specs.declared.action.Action.{Action}
 use Rattle.textarea_calls.specs.declared.action.Action.TheVariants as action

@@ -1,6 +1,5 @@
 -- Calls that don't edit make no splice, and leave the text as it is.
-use Rattle.std.proofs.Common.{◌≡◌, ◌∙◌, ℕ, Bool, true, false, List, [], Option, None, Some, ap, if◌then◌else◌, is_some, refl, sym, ◌∷◌}
-use Rattle.std.proofs.lemmas.Bool.{false≢true}
+use Rattle.std.proofs.Common.{◌≡◌, ◌∙◌, ℕ, Bool, true, false, List, [], Option, None, Some, ap, if◌then◌else◌, is_some, refl, ◌∷◌}
 use Rattle.textarea_calls.specs.Edits.{edits}
 use Rattle.textarea_calls.specs.FlagRule.{may_change_text}
 use Rattle.textarea_calls.specs.declared.action.Action.{Action}
