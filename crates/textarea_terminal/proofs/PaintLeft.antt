@@ -5,7 +5,7 @@ use Rattle.std.specs.Bool.{MatchBool}
 use Rattle.std.proofs.lemmas.Bool.{cases_Bool, and_parts, eqb-true}
 use Rattle.textarea_screen.specs.Cell.{CellView}
 use Rattle.textarea_terminal.specs.PaintCells.{cluster_columns, is_half, is_plain_half, can_begin, are_whole}
-use Rattle.textarea_terminal.specs.Screen.{IsOfFamily, mended, first_of, settled_cells, settled_cells}
+use Rattle.textarea_terminal.specs.Screen.{IsOfFamily, mended, first_of, settled_cells, settled_frame}
 use Rattle.textarea_terminal.proofs.PaintFrames.{begins-whole, plain_half-half, columns-some}
 use Rattle.textarea_terminal.proofs.SettledLemmas.{Shown, settled-first}
 
@@ -66,7 +66,7 @@ module _ (rest : CellView → CellView) (blank : (cell : CellView) → is_half (
 
   -- the cells of a cluster after its first are printed over what was there
   pub Ahead-printed : (shown_as : Shown) (columns index : ℕ) (first cells olds news : List CellView) → are_whole columns index (length first) news ≡ true → length olds ≡ length news →
-      Damaged cells olds ⊎ (cells ≡ olds) → Ahead (first ++ mended rest (drop (length first) cells)) olds news (settled_cells shown_as first news)
+      Damaged cells olds ⊎ (cells ≡ olds) → Ahead (first ++ mended rest (drop (length first) cells)) olds news (settled_frame shown_as first news)
   Ahead-printed shown_as columns index [] [] [] [] whole long left = tt
   Ahead-printed shown_as columns index [] (cell ∷ cells) [] [] whole long (inl damaged) = absurd damaged
   Ahead-printed shown_as columns index [] (cell ∷ cells) [] [] whole long (inr same) = cc same
@@ -74,7 +74,7 @@ module _ (rest : CellView → CellView) (blank : (cell : CellView) → is_half (
   Ahead-printed shown_as columns index [] cells [] (new ∷ news) whole long left = absurd (omega arith)
   Ahead-printed shown_as columns index [] cells (old ∷ olds) (new ∷ news) whole long left =
       let begins = (and_parts (can_begin columns index new) (are_whole columns (index + 1) (cluster_columns new.symbol - 1) news) whole).0 in
-      Ahead-start (mended rest cells) old new (first_of new (settled_cells shown_as new)) olds news (settled_cells shown_as (drop 1 (settled_cells shown_as new)) news)
+      Ahead-start (mended rest cells) old new (first_of new (settled_cells shown_as new)) olds news (settled_frame shown_as (drop 1 (settled_cells shown_as new)) news)
       (begins-whole columns index new begins) (mended-again cells (old ∷ olds) left)
   Ahead-printed shown_as columns index (shown ∷ first) cells olds [] whole long left = absurd (omega (arith, eqb-true (length (shown ∷ first)) 0 whole))
   Ahead-printed shown_as columns index (shown ∷ first) cells [] (new ∷ news) whole long left = absurd (omega arith)
@@ -88,7 +88,7 @@ module _ (rest : CellView → CellView) (blank : (cell : CellView) → is_half (
 
 -- where the old cells are there, and a cluster of both frames has the same cells
 pub Ahead-same : (shown_as : Shown) → IsOfFamily shown_as → (columns index : ℕ) (first olds news : List CellView) → are_whole columns index (length first) olds ≡ true →
-    are_whole columns index (length first) news ≡ true → length olds ≡ length news → Ahead (settled_cells shown_as first olds) (settled_cells shown_as first olds) news (settled_cells shown_as first news)
+    are_whole columns index (length first) news ≡ true → length olds ≡ length news → Ahead (settled_frame shown_as first olds) (settled_frame shown_as first olds) news (settled_frame shown_as first news)
 Ahead-same shown_as family columns index [] [] [] old_whole new_whole long = tt
 Ahead-same shown_as family columns index (shown ∷ first) [] [] old_whole new_whole long = tt
 Ahead-same shown_as family columns index first (old ∷ olds) [] old_whole new_whole long = absurd (omega arith)

@@ -12,7 +12,7 @@ use Rattle.textarea_terminal.specs.Disputed.{is_disputed}
 use Rattle.textarea_terminal.specs.Paint.{prints_of, moves_of, pens_of, AreChanges, HasRuns, HasLooks, Knows, Shows, Repaints, KeepsCell, ChangesCell, IsCellStep, with_cell, printed_texts, inner_moves}
 use Rattle.textarea_terminal.specs.PaintCells.{cluster_columns, half, is_half, is_plain_half, can_begin, are_whole}
 use Rattle.textarea_terminal.specs.Pen.{in_look, look_of}
-use Rattle.textarea_terminal.specs.Screen.{Terminal, IsOfFamily, run, begins_half, mended, printed, rest_of, cursor_after, cluster_cells, first_of, settled_cells, settled_cells}
+use Rattle.textarea_terminal.specs.Screen.{Terminal, IsOfFamily, run, begins_half, mended, printed, rest_of, cursor_after, cluster_cells, first_of, settled_cells, settled_frame}
 use Rattle.textarea_terminal.specs.declared.output.brush.Brush.{Brush}
 use Rattle.textarea_terminal.proofs.ControlLemmas.{run-append, prints_of-append, moves_of-append, pens_of-append}
 use Rattle.textarea_terminal.proofs.DisputedBlank.{false-from_not}
@@ -64,8 +64,8 @@ Split-any cells index within =
 -- they are the new ones up to an index, as the terminal shows them, and then those ahead
 pub record Between (shown_as : Shown) (index : ℕ) (old new cells : List CellView) : Type 0 where
   pub rest : List CellView
-  pub cells_are : cells ≡ take index (settled_cells shown_as [] new) ++ rest
-  pub ahead : Ahead rest (drop index (settled_cells shown_as [] old)) (drop index new) (drop index (settled_cells shown_as [] new))
+  pub cells_are : cells ≡ take index (settled_frame shown_as [] new) ++ rest
+  pub ahead : Ahead rest (drop index (settled_frame shown_as [] old)) (drop index new) (drop index (settled_frame shown_as [] new))
 
 Ahead-nil : (rest : List CellView) → Ahead rest [] [] [] → rest ≡ []
 Ahead-nil [] ahead = refl
@@ -76,29 +76,29 @@ Ahead-some [] o n s os ns ss ahead = absurd ahead
 Ahead-some (t ∷ ts) o n s os ns ss ahead = omega arith
 
 pub Between-start : (shown_as : Shown) → IsOfFamily shown_as → (columns : ℕ) (old new : List CellView) → are_whole columns 0 0 old ≡ true → are_whole columns 0 0 new ≡ true →
-    length old ≡ length new → Between shown_as 0 old new (settled_cells shown_as [] old)
+    length old ≡ length new → Between shown_as 0 old new (settled_frame shown_as [] old)
 Between-start shown_as family columns old new old_whole new_whole long = record {
-  rest = settled_cells shown_as [] old;
+  rest = settled_frame shown_as [] old;
   cells_are = refl;
   ahead = Ahead-same shown_as family columns 0 [] old new old_whole new_whole long;
 }
 
 pub Between-end : (shown_as : Shown) (index : ℕ) (old new cells : List CellView) → index ≡ length new → length old ≡ length new → Between shown_as index old new cells →
-    cells ≡ settled_cells shown_as [] new
+    cells ≡ settled_frame shown_as [] new
 Between-end shown_as index old new cells at long between =
-    let no_old : drop index (settled_cells shown_as [] old) ≡ [] = drop_all index (settled_cells shown_as [] old) (omega (arith, settled-length shown_as [] old)) in
+    let no_old : drop index (settled_frame shown_as [] old) ≡ [] = drop_all index (settled_frame shown_as [] old) (omega (arith, settled-length shown_as [] old)) in
     let no_new : drop index new ≡ [] = drop_all index new (omega arith) in
-    let no_shown : drop index (settled_cells shown_as [] new) ≡ [] = drop_all index (settled_cells shown_as [] new) (omega (arith, settled-length shown_as [] new)) in
+    let no_shown : drop index (settled_frame shown_as [] new) ≡ [] = drop_all index (settled_frame shown_as [] new) (omega (arith, settled-length shown_as [] new)) in
     let none = Ahead-nil between.rest (rw (no_old, no_new, no_shown) at between.ahead) in
-    between.cells_are ∙ ap (λ rest. take index (settled_cells shown_as [] new) ++ rest) none ∙ append-nil (take index (settled_cells shown_as [] new))
-    ∙ take_all index (settled_cells shown_as [] new) (omega (arith, settled-length shown_as [] new))
+    between.cells_are ∙ ap (λ rest. take index (settled_frame shown_as [] new) ++ rest) none ∙ append-nil (take index (settled_frame shown_as [] new))
+    ∙ take_all index (settled_frame shown_as [] new) (omega (arith, settled-length shown_as [] new))
 
-Between-next : (shown_as : Shown) (index : ℕ) (old new cells ts : List CellView) (o n s : CellView) (os ns ss : List CellView) → Split index (settled_cells shown_as [] old) o os →
-    Split index new n ns → Split index (settled_cells shown_as [] new) s ss → cells ≡ take index (settled_cells shown_as [] new) ++ s ∷ ts → Ahead ts os ns ss →
+Between-next : (shown_as : Shown) (index : ℕ) (old new cells ts : List CellView) (o n s : CellView) (os ns ss : List CellView) → Split index (settled_frame shown_as [] old) o os →
+    Split index new n ns → Split index (settled_frame shown_as [] new) s ss → cells ≡ take index (settled_frame shown_as [] new) ++ s ∷ ts → Ahead ts os ns ss →
     Between shown_as (index + 1) old new cells
 Between-next shown_as index old new cells ts o n s os ns ss old_at new_at shown_at is ahead = record {
   rest = ts;
-  cells_are = is ∙ sym (append_assoc (take index (settled_cells shown_as [] new)) (s ∷ []) ts) ∙ ap (λ front. front ++ ts) (sym shown_at.done);
+  cells_are = is ∙ sym (append_assoc (take index (settled_frame shown_as [] new)) (s ∷ []) ts) ∙ ap (λ front. front ++ ts) (sym shown_at.done);
   ahead = rw (old_at.next, new_at.next, shown_at.next) ahead;
 }
 
@@ -121,14 +121,14 @@ whole-at columns index cells cell after at whole within is =
 pub settled-at : (shown_as : Shown) → IsOfFamily shown_as → (columns index : ℕ) (cells : List CellView) (cell : CellView) (after : List CellView) → Split index cells cell after →
     are_whole columns 0 0 cells ≡ true → index ≤ length cells → is_half cell ≡ false →
     (can_begin columns index cell ≡ true) × (are_whole columns (index + 1) (cluster_columns cell.symbol - 1) after ≡ true)
-    × (drop index (settled_cells shown_as [] cells) ≡ first_of cell (settled_cells shown_as cell) ∷ settled_cells shown_as (drop 1 (settled_cells shown_as cell)) after)
+    × (drop index (settled_frame shown_as [] cells) ≡ first_of cell (settled_cells shown_as cell) ∷ settled_frame shown_as (drop 1 (settled_cells shown_as cell)) after)
 settled-at shown_as family columns index cells cell after at whole within is =
     let dropped = settled-drop shown_as family columns index 0 [] cells whole within in
     let from : 0 + index ≡ index = omega arith in
     let here : are_whole columns index (length dropped.0) (cell ∷ after) ≡ true = rw at.here at (subst (λ p. are_whole columns p (length dropped.0) (drop index cells) ≡ true) from dropped.1) in
     let none = first-none columns index dropped.0 cell after is here in
     let unit = whole-unit columns index (length dropped.0) cell after is here in
-    (unit.0, unit.1, dropped.2 ∙ ap (λ first. settled_cells shown_as first (drop index cells)) none ∙ ap (settled_cells shown_as []) at.here)
+    (unit.0, unit.1, dropped.2 ∙ ap (λ first. settled_frame shown_as first (drop index cells)) none ∙ ap (settled_frame shown_as []) at.here)
 
 lengths : (index : ℕ) (old new : List CellView) (o n : CellView) (os ns : List CellView) → Split index old o os → Split index new n ns → length old ≡ length new → length os ≡ length ns
 lengths index old new o n os ns old_at new_at long =
@@ -151,9 +151,9 @@ same-shown (t ∷ ts) o n s os ns ss ahead is whole same like =
 
 -- its cluster is printed
 covered : (shown_as : Shown) (rest : CellView → CellView) → ((cell : CellView) → is_half (rest cell) ≡ false) → (columns index : ℕ) (front left unit : List CellView) (o n s : CellView)
-    (os ns : List CellView) → Ahead left (o ∷ os) (n ∷ ns) (s ∷ settled_cells shown_as (drop 1 unit) ns) → is_half n ≡ false → s ≡ first_of n unit → 0 < length unit →
+    (os ns : List CellView) → Ahead left (o ∷ os) (n ∷ ns) (s ∷ settled_frame shown_as (drop 1 unit) ns) → is_half n ≡ false → s ≡ first_of n unit → 0 < length unit →
     are_whole columns index (length (drop 1 unit)) ns ≡ true → length os ≡ length ns →
-    (ts : List CellView) × (printed rest unit front left ≡ front ++ s ∷ ts) × Ahead ts os ns (settled_cells shown_as (drop 1 unit) ns)
+    (ts : List CellView) × (printed rest unit front left ≡ front ++ s ∷ ts) × Ahead ts os ns (settled_frame shown_as (drop 1 unit) ns)
 covered shown_as rest blank columns index front [] unit o n s os ns ahead is first some whole long = absurd ahead
 covered shown_as rest blank columns index front (t ∷ ts) [] o n s os ns ahead is first some whole long = absurd (omega arith)
 covered shown_as rest blank columns index front (t ∷ ts) (u ∷ us) o n s os ns ahead is first some whole long =
@@ -174,13 +174,13 @@ whole-ahead (t ∷ ts) o n s os ns ss ahead is =
 on-screen : (shown_as : Shown) (index : ℕ) (old new cells : List CellView) (n : CellView) (ns : List CellView) → Split index new n ns → index < length new → length old ≡ length new →
     Between shown_as index old new cells → (index < length cells) × (is_half n ≡ false → begins_half (drop index cells) ≡ false)
 on-screen shown_as index old new cells n ns new_at within long between =
-    let So = Split-any (settled_cells shown_as [] old) index (omega (arith, settled-length shown_as [] old)) in
-    let Sn = Split-any (settled_cells shown_as [] new) index (omega (arith, settled-length shown_as [] new)) in
+    let So = Split-any (settled_frame shown_as [] old) index (omega (arith, settled-length shown_as [] old)) in
+    let Sn = Split-any (settled_frame shown_as [] new) index (omega (arith, settled-length shown_as [] new)) in
     let ahead : Ahead between.rest (So.0 ∷ So.1.0) (n ∷ ns) (Sn.0 ∷ Sn.1.0) = rw (So.1.1.here, new_at.here, Sn.1.1.here) at between.ahead in
     let some = Ahead-some between.rest So.0 n Sn.0 So.1.0 ns Sn.1.0 ahead in
-    let full : length (take index (settled_cells shown_as [] new)) ≡ index = length-take-le index (settled_cells shown_as [] new) (omega (arith, settled-length shown_as [] new)) in
-    let back : drop index cells ≡ between.rest = ap (drop index) between.cells_are ∙ drop_at (take index (settled_cells shown_as [] new)) between.rest index full in (
-      omega (arith, some, full, ap length between.cells_are, length-append (take index (settled_cells shown_as [] new)) between.rest),
+    let full : length (take index (settled_frame shown_as [] new)) ≡ index = length-take-le index (settled_frame shown_as [] new) (omega (arith, settled-length shown_as [] new)) in
+    let back : drop index cells ≡ between.rest = ap (drop index) between.cells_are ∙ drop_at (take index (settled_frame shown_as [] new)) between.rest index full in (
+      omega (arith, some, full, ap length between.cells_are, length-append (take index (settled_frame shown_as [] new)) between.rest),
       λ is. ap begins_half back ∙ whole-ahead between.rest So.0 n Sn.0 So.1.0 ns Sn.1.0 ahead is,
     )
 
@@ -189,8 +189,8 @@ Between-unchanged : (shown_as : Shown) → IsOfFamily shown_as → (columns inde
     are_whole columns 0 0 old ≡ true → are_whole columns 0 0 new ≡ true → length old ≡ length new → index < length new → (is_half n ≡ true) ⊎ (o ≡ n) →
     Between shown_as index old new cells → Between shown_as (index + 1) old new cells
 Between-unchanged shown_as family columns index old new cells o n os ns old_at new_at old_whole new_whole long within same between =
-    let So = Split-any (settled_cells shown_as [] old) index (omega (arith, settled-length shown_as [] old)) in
-    let Sn = Split-any (settled_cells shown_as [] new) index (omega (arith, settled-length shown_as [] new)) in
+    let So = Split-any (settled_frame shown_as [] old) index (omega (arith, settled-length shown_as [] old)) in
+    let Sn = Split-any (settled_frame shown_as [] new) index (omega (arith, settled-length shown_as [] new)) in
     let ahead : Ahead between.rest (So.0 ∷ So.1.0) (n ∷ ns) (Sn.0 ∷ Sn.1.0) = rw (So.1.1.here, new_at.here, Sn.1.1.here) at between.ahead in
     let step : (ts : List CellView) × (between.rest ≡ Sn.0 ∷ ts) × Ahead ts So.1.0 ns Sn.1.0 =
     ⊎_elim
@@ -200,12 +200,12 @@ Between-unchanged shown_as family columns index old new cells o n os ns old_at n
     let old_is : is_half o ≡ false = ap is_half as_old ∙ whole in
     let olds = settled-at shown_as family columns index old o os old_at old_whole (omega arith) old_is in
     let news = settled-at shown_as family columns index new n ns new_at new_whole (omega arith) whole in
-    let o_cells : (So.0 ∷ So.1.0) ≡ first_of o (settled_cells shown_as o) ∷ settled_cells shown_as (drop 1 (settled_cells shown_as o)) os = sym So.1.1.here ∙ olds.2 in
-    let n_cells : (Sn.0 ∷ Sn.1.0) ≡ first_of n (settled_cells shown_as n) ∷ settled_cells shown_as (drop 1 (settled_cells shown_as n)) ns = sym Sn.1.1.here ∙ news.2 in
+    let o_cells : (So.0 ∷ So.1.0) ≡ first_of o (settled_cells shown_as o) ∷ settled_frame shown_as (drop 1 (settled_cells shown_as o)) os = sym So.1.1.here ∙ olds.2 in
+    let n_cells : (Sn.0 ∷ Sn.1.0) ≡ first_of n (settled_cells shown_as n) ∷ settled_frame shown_as (drop 1 (settled_cells shown_as n)) ns = sym Sn.1.1.here ∙ news.2 in
     let o_first = first-same o_cells in
     let n_first = first-same n_cells in
-    let o_rest : So.1.0 ≡ settled_cells shown_as (drop 1 (settled_cells shown_as n)) os =
-    rest-same o_cells ∙ ap (λ (cell : CellView). settled_cells shown_as (drop 1 (settled_cells shown_as cell)) os) as_old in
+    let o_rest : So.1.0 ≡ settled_frame shown_as (drop 1 (settled_cells shown_as n)) os =
+    rest-same o_cells ∙ ap (λ (cell : CellView). settled_frame shown_as (drop 1 (settled_cells shown_as cell)) os) as_old in
     let some = columns-some columns index n news.0 in
     let first_whole : is_half So.0 ≡ false = ap is_half o_first ∙ settled-first shown_as o family (columns-some columns index o olds.0) old_is in
     let alike : So.0 ≡ Sn.0 = o_first ∙ ap (λ (cell : CellView). first_of cell (settled_cells shown_as cell)) as_old ∙ sym n_first in
@@ -217,7 +217,7 @@ Between-unchanged shown_as family columns index old new cells o n os ns old_at n
     (rest-whole shown_as columns (index + 1) n ns family some news.1) (lengths index old new o n os ns old_at new_at long)) in
     same-shown between.rest So.0 n Sn.0 So.1.0 ns Sn.1.0 ahead whole first_whole alike like)
     (cases_Bool (is_half n)) in
-    Between-next shown_as index old new cells step.0 So.0 n Sn.0 So.1.0 ns Sn.1.0 So.1.1 new_at Sn.1.1 (between.cells_are ∙ ap (λ rest. take index (settled_cells shown_as [] new) ++ rest) step.1) step.2
+    Between-next shown_as index old new cells step.0 So.0 n Sn.0 So.1.0 ns Sn.1.0 So.1.1 new_at Sn.1.1 (between.cells_are ∙ ap (λ rest. take index (settled_frame shown_as [] new) ++ rest) step.1) step.2
 
 -- the cells after a cell whose cluster is printed
 Between-changed : (shown_as : Shown) → IsOfFamily shown_as → (columns index : ℕ) (old new cells : List CellView) (o n : CellView) (os ns : List CellView) (rest : CellView → CellView) →
@@ -225,22 +225,22 @@ Between-changed : (shown_as : Shown) → IsOfFamily shown_as → (columns index 
     are_whole columns 0 0 new ≡ true → length old ≡ length new → index < length new → is_half n ≡ false →
     Between shown_as index old new cells → Between shown_as (index + 1) old new (printed rest (settled_cells shown_as n) (take index cells) (drop index cells))
 Between-changed shown_as family columns index old new cells o n os ns rest blank old_at new_at new_whole long within whole between =
-    let So = Split-any (settled_cells shown_as [] old) index (omega (arith, settled-length shown_as [] old)) in
-    let Sn = Split-any (settled_cells shown_as [] new) index (omega (arith, settled-length shown_as [] new)) in
+    let So = Split-any (settled_frame shown_as [] old) index (omega (arith, settled-length shown_as [] old)) in
+    let Sn = Split-any (settled_frame shown_as [] new) index (omega (arith, settled-length shown_as [] new)) in
     let news = settled-at shown_as family columns index new n ns new_at new_whole (omega arith) whole in
-    let n_cells : (Sn.0 ∷ Sn.1.0) ≡ first_of n (settled_cells shown_as n) ∷ settled_cells shown_as (drop 1 (settled_cells shown_as n)) ns = sym Sn.1.1.here ∙ news.2 in
-    let ahead : Ahead between.rest (So.0 ∷ So.1.0) (n ∷ ns) (Sn.0 ∷ settled_cells shown_as (drop 1 (settled_cells shown_as n)) ns) =
+    let n_cells : (Sn.0 ∷ Sn.1.0) ≡ first_of n (settled_cells shown_as n) ∷ settled_frame shown_as (drop 1 (settled_cells shown_as n)) ns = sym Sn.1.1.here ∙ news.2 in
+    let ahead : Ahead between.rest (So.0 ∷ So.1.0) (n ∷ ns) (Sn.0 ∷ settled_frame shown_as (drop 1 (settled_cells shown_as n)) ns) =
     rw (rest-same n_cells) at (rw (So.1.1.here, new_at.here, Sn.1.1.here) at between.ahead) in
     let some = columns-some columns index n news.0 in
     let wide : 0 < length (settled_cells shown_as n) = omega (arith, settled_cells-length shown_as n family some) in
     let old_long : length So.1.0 ≡ length ns =
-    lengths index (settled_cells shown_as [] old) new So.0 n So.1.0 ns So.1.1 new_at (settled-length shown_as [] old ∙ long) in
-    let step = covered shown_as rest blank columns (index + 1) (take index (settled_cells shown_as [] new)) between.rest (settled_cells shown_as n) So.0 n Sn.0 So.1.0 ns ahead whole (first-same n_cells) wide
+    lengths index (settled_frame shown_as [] old) new So.0 n So.1.0 ns So.1.1 new_at (settled-length shown_as [] old ∙ long) in
+    let step = covered shown_as rest blank columns (index + 1) (take index (settled_frame shown_as [] new)) between.rest (settled_cells shown_as n) So.0 n Sn.0 So.1.0 ns ahead whole (first-same n_cells) wide
     (rest-whole shown_as columns (index + 1) n ns family some news.1) old_long in
-    let full : length (take index (settled_cells shown_as [] new)) ≡ index = length-take-le index (settled_cells shown_as [] new) (omega (arith, settled-length shown_as [] new)) in
-    let front : take index cells ≡ take index (settled_cells shown_as [] new) =
-    ap (take index) between.cells_are ∙ take_at (take index (settled_cells shown_as [] new)) between.rest index full in
-    let back : drop index cells ≡ between.rest = ap (drop index) between.cells_are ∙ drop_at (take index (settled_cells shown_as [] new)) between.rest index full in
+    let full : length (take index (settled_frame shown_as [] new)) ≡ index = length-take-le index (settled_frame shown_as [] new) (omega (arith, settled-length shown_as [] new)) in
+    let front : take index cells ≡ take index (settled_frame shown_as [] new) =
+    ap (take index) between.cells_are ∙ take_at (take index (settled_frame shown_as [] new)) between.rest index full in
+    let back : drop index cells ≡ between.rest = ap (drop index) between.cells_are ∙ drop_at (take index (settled_frame shown_as [] new)) between.rest index full in
     Between-next shown_as index old new _ step.0 So.0 n Sn.0 So.1.0 ns Sn.1.0 So.1.1 new_at Sn.1.1 (rw (front, back) step.1)
     (subst (λ (shown : List CellView). Ahead step.0 So.1.0 ns shown) (sym (rest-same n_cells)) step.2)
 

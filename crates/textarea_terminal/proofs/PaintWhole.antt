@@ -9,7 +9,7 @@ use Rattle.textarea_terminal.specs.Control.Control.{Print, MoveTo, SetPen, Chang
 use Rattle.textarea_terminal.specs.Paint.{Wrote, prints_of, HasRuns, HasLooks, AreChanges, Repaints, PaintedFrame, IsCaret, ShowsFrame, HasSize, Paints, MovesTo, Clears, SetsCursor, EndsUpdate, PutsCaret, EndsFrame, PaintsFrame}
 use Rattle.textarea_terminal.specs.PaintCells.{are_whole, cluster_columns}
 use Rattle.textarea_terminal.specs.Pen.{plain_look}
-use Rattle.textarea_terminal.specs.Screen.{Terminal, CountsAlike, first_modes, is_plain, apply_control, run, unknown, printed, print_at, rest_of, cursor_after, cluster_cells, settled_cells}
+use Rattle.textarea_terminal.specs.Screen.{Terminal, CountsAlike, first_modes, is_plain, apply_control, run, unknown, printed, print_at, rest_of, cursor_after, cluster_cells, settled_frame}
 use Rattle.textarea_terminal.specs.declared.output.brush.Brush.{Brush}
 use Rattle.textarea_terminal.proofs.ControlLemmas.{Wrote-then, run-append, prints_of-append, moves_of-append, pens_of-append}
 use Rattle.textarea_terminal.proofs.SettledLemmas.{Shown, settled-length, settled-fresh, settled-exact}
@@ -123,9 +123,9 @@ alike-after (x ∷ xs) terminal = alike-after xs (apply_control x terminal) ∙ 
 
 -- a terminal that counts as we do shows exactly the frame's cells
 exactly : (columns : ℕ) (new : PaintedFrame) (xs : List Control) (terminal : Terminal) → CountsAlike terminal.shown_as → are_whole columns 0 0 new.cells ≡ true →
-    (run xs terminal).cells ≡ settled_cells (run xs terminal).shown_as [] new.cells → (run xs terminal).cells ≡ new.cells
+    (run xs terminal).cells ≡ settled_frame (run xs terminal).shown_as [] new.cells → (run xs terminal).cells ≡ new.cells
 exactly columns new xs terminal alike whole cells =
-    cells ∙ ap (λ (shown_as : Shown). settled_cells shown_as [] new.cells) (alike-after xs terminal) ∙ settled-exact terminal.shown_as alike columns 0 0 new.cells whole
+    cells ∙ ap (λ (shown_as : Shown). settled_frame shown_as [] new.cells) (alike-after xs terminal) ∙ settled-exact terminal.shown_as alike columns 0 0 new.cells whole
 
 -- from a terminal that shows the frame painted last
 pub paints-known : (columns size : ℕ) (old new : PaintedFrame) (xs : List Control) → are_whole columns 0 0 new.cells ≡ true →
@@ -158,8 +158,8 @@ paints-unknown columns size old new xs ys erased whole clears finish =
     let brings : (terminal : Terminal) → HasSize columns size terminal → ShowsFrame columns new (run (xs ++ ys) terminal) = λ terminal visible.
     let one : Terminal = record terminal { cells = replicate (length terminal.cells) fresh_cell; cursor = None; pen = plain_look; is_updating = true; modes = first_modes } in
     let ran : run (xs ++ ys) terminal ≡ run ys one = run-append xs ys terminal ∙ ap (run ys) (clears.1 terminal) in
-    let cells : one.cells ≡ settled_cells one.shown_as [] old =
-    ap (λ n. replicate n fresh_cell) visible.has_size ∙ sym (settled-fresh terminal.shown_as size) ∙ ap (settled_cells terminal.shown_as []) (sym erased) in
+    let cells : one.cells ≡ settled_frame one.shown_as [] old =
+    ap (λ n. replicate n fresh_cell) visible.has_size ∙ sym (settled-fresh terminal.shown_as size) ∙ ap (settled_frame terminal.shown_as []) (sym erased) in
     subst (ShowsFrame columns new) (sym ran)
     (finish.brings one (record { cursor = tt; pen = refl; updating = refl; modes = first-plain; family = visible.family }) tt visible.has_columns cells) in
     record {

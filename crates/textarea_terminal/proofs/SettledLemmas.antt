@@ -7,7 +7,7 @@ use Rattle.textarea_screen.specs.Cell.{CellView, fresh_cell}
 use Rattle.textarea_terminal.specs.Disputed.{is_disputed}
 use Rattle.textarea_terminal.specs.PaintCells.{cluster_columns, half, is_half, is_plain_half, can_begin, are_whole}
 use Rattle.textarea_terminal.specs.Pen.{in_look, look_of}
-use Rattle.textarea_terminal.specs.Screen.{IsOfFamily, CountsAlike, begins_text, text_cell, cluster_cells, first_of, settled_cells, settled_cells}
+use Rattle.textarea_terminal.specs.Screen.{IsOfFamily, CountsAlike, begins_text, text_cell, cluster_cells, first_of, settled_cells, settled_frame}
 use Rattle.textarea_terminal.specs.declared.output.look.Pen.{Pen}
 use Rattle.textarea_terminal.proofs.DisputedBlank.{is_disputed-blank}
 use Rattle.textarea_terminal.proofs.PaintFrames.{begins-whole, half-is, columns-some}
@@ -87,7 +87,7 @@ settled-first shown_as cell family some whole =
 
 -- ---- all cells
 
-pub settled-length : (shown_as : Shown) (first cells : List CellView) → length (settled_cells shown_as first cells) ≡ length cells
+pub settled-length : (shown_as : Shown) (first cells : List CellView) → length (settled_frame shown_as first cells) ≡ length cells
 settled-length shown_as [] [] = refl
 settled-length shown_as (shown ∷ first) [] = refl
 settled-length shown_as [] (cell ∷ cells) = ap suc (settled-length shown_as (drop 1 (settled_cells shown_as cell)) cells)
@@ -105,7 +105,7 @@ rest-whole shown_as columns index cell cells family some whole =
 
 -- the cells from an index on
 pub settled-drop : (shown_as : Shown) → IsOfFamily shown_as → (columns count index : ℕ) (first cells : List CellView) → are_whole columns index (length first) cells ≡ true → count ≤ length cells →
-    (left : List CellView) × (are_whole columns (index + count) (length left) (drop count cells) ≡ true) × (drop count (settled_cells shown_as first cells) ≡ settled_cells shown_as left (drop count cells))
+    (left : List CellView) × (are_whole columns (index + count) (length left) (drop count cells) ≡ true) × (drop count (settled_frame shown_as first cells) ≡ settled_frame shown_as left (drop count cells))
 settled-drop shown_as family columns zero index first cells whole within =
     (first, subst (λ p. are_whole columns p (length first) cells ≡ true) (omega arith) whole, refl)
 settled-drop shown_as family columns (suc count) index first [] whole within = absurd (omega arith)
@@ -128,7 +128,7 @@ fresh-cells shown_as =
     let one = blank-cells shown_as (look_of fresh_cell) in
     rw (one, cluster_columns-blank) refl
 
-pub settled-fresh : (shown_as : Shown) (count : ℕ) → settled_cells shown_as [] (replicate count fresh_cell) ≡ replicate count fresh_cell
+pub settled-fresh : (shown_as : Shown) (count : ℕ) → settled_frame shown_as [] (replicate count fresh_cell) ≡ replicate count fresh_cell
 settled-fresh shown_as zero = refl
 settled-fresh shown_as (suc count) = rw (fresh-cells shown_as) (ap (λ cells. fresh_cell ∷ cells) (settled-fresh shown_as count))
 
@@ -165,7 +165,7 @@ settled_cells-exact shown_as cell alike whole some =
     ∙ append-nil (cluster_cells shown_as (look_of cell) cell.symbol) ∙ cells
 
 pub settled-exact : (shown_as : Shown) → CountsAlike shown_as → (columns index halves : ℕ) (cells : List CellView) → are_whole columns index halves cells ≡ true →
-    settled_cells shown_as (replicate halves half) cells ≡ cells
+    settled_frame shown_as (replicate halves half) cells ≡ cells
 settled-exact shown_as alike columns index zero [] whole = refl
 settled-exact shown_as alike columns index (suc halves) [] whole = refl
 settled-exact shown_as alike columns index zero (cell ∷ cells) whole =

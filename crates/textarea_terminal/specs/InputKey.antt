@@ -4,7 +4,7 @@ use Rattle.std.specs.Int.{is_in_range}
 use Rattle.textarea_data.specs.declared.input.Input.{Input}
 use Rattle.textarea_data.specs.declared.input.Key.{Key}
 use Rattle.textarea_data.specs.declared.input.Key.TheVariants as key
-use Rattle.textarea_data.specs.Input.{unmodified}
+use Rattle.textarea_data.specs.Input.{input_of_key}
 use Rattle.textarea_terminal.specs.InputEvent.{EventValue, input, unknown}
 
 -- ---- inputs
@@ -98,19 +98,19 @@ coded_keys =
 abbrev pub byte_input : ℕ → Input
 byte_input b =
     if b == 0 then ctrl_input 32
-    else (if b == 8 then unmodified key.Backspace
-    else (if b == 9 then unmodified key.Tab
-    else (if b == 13 then unmodified key.Enter
-    else (if b == 127 then unmodified key.Backspace
+    else (if b == 8 then input_of_key key.Backspace
+    else (if b == 9 then input_of_key key.Tab
+    else (if b == 13 then input_of_key key.Enter
+    else (if b == 127 then input_of_key key.Backspace
     else (if nat_lt b 27 then ctrl_input (b + 96)
     else (if nat_lt b 32 then ctrl_input (b + 64)
-    else unmodified (key.Char b)))))))
+    else input_of_key (key.Char b)))))))
 
 -- The byte after ESC O: the letters above, rxvt's arrows with Ctrl, and the keypad's keys; E is its 5 without NumLock.
 abbrev pub single_event : ℕ → EventValue
 single_event letter =
     if is_in_range 97 100 letter then key_event (entry small_letter_keys letter) 5
-    else (if letter == 69 then input (unmodified (key.Char 53))
+    else (if letter == 69 then input (input_of_key (key.Char 53))
     else key_event (or_key (entry letter_keys letter) (entry keypad_keys letter)) 1)
 
 -- ---- keys by the codes of their characters

@@ -8,7 +8,7 @@ use Rattle.textarea_terminal.specs.Control.Control.{Print, MoveTo, SetPen, Chang
 use Rattle.textarea_terminal.specs.PaintCells.{cluster_columns, is_half}
 use Rattle.textarea_terminal.specs.Pen.{look_of, plain_look, pen_count}
 use Rattle.textarea_terminal.specs.Disputed.{is_disputed}
-use Rattle.textarea_terminal.specs.Screen.{Terminal, IsOfFamily, CountsAlike, first_modes, is_plain, run, begins_half, printed, cluster_cells, settled_cells, settled_cells, rest_of, cursor_after}
+use Rattle.textarea_terminal.specs.Screen.{Terminal, IsOfFamily, CountsAlike, first_modes, is_plain, run, begins_half, printed, cluster_cells, settled_cells, settled_frame, rest_of, cursor_after}
 use Rattle.textarea_terminal.specs.declared.output.brush.Brush.{Brush}
 use Rattle.textarea_terminal.specs.declared.output.look.Pen.{Pen}
 
@@ -156,7 +156,7 @@ IsCellStep before after columns index old new controls =
 pub record Shows (brush : Brush) (width : ℕ) (frame : List CellView) (is_caret_visible : Bool) (terminal : Terminal) : Type 0 where
   pub knows : Knows brush terminal
   pub columns : terminal.columns ≡ width
-  pub cells : terminal.cells ≡ settled_cells terminal.shown_as [] frame
+  pub cells : terminal.cells ≡ settled_frame terminal.shown_as [] frame
   pub caret : terminal.has_visible_cursor ≡ is_caret_visible
 
 -- these texts, in order, are those of the new clusters that begin in a changed cell, with the blanks
@@ -219,7 +219,7 @@ pub record ShowsFrame (width : ℕ) (frame : PaintedFrame) (terminal : Terminal)
   pub family : IsOfFamily terminal.shown_as
   pub modes : is_plain terminal.modes ≡ true
   pub columns : terminal.columns ≡ width
-  pub cells : terminal.cells ≡ settled_cells terminal.shown_as [] frame.cells
+  pub cells : terminal.cells ≡ settled_frame terminal.shown_as [] frame.cells
   pub caret : IsCaret frame.caret terminal
   pub updating : terminal.is_updating ≡ false
 
@@ -310,7 +310,7 @@ pub record EndsFrame (brush : Brush) (known : Option Bool) (width : ℕ) (caret 
 -- the cells and then the caret are changed from the known state to the frame
 pub record PaintsFrame (brush : Brush) (known : Option Bool) (width : ℕ) (old : List CellView) (frame : PaintedFrame) (controls : List Control) : Type 0 where
   pub brings : (terminal : Terminal) → Knows brush terminal → IfSome known (λ is_printed. terminal.has_visible_cursor ≡ is_printed) → terminal.columns ≡ width →
-      terminal.cells ≡ settled_cells terminal.shown_as [] old → ShowsFrame width frame (run controls terminal)
+      terminal.cells ≡ settled_frame terminal.shown_as [] old → ShowsFrame width frame (run controls terminal)
   pub prints : AreChanges old frame.cells (prints_of controls)
   pub moves : (runs : ℕ) × (HasRuns width 0 false old frame.cells runs × (moves_of controls ≤ runs + 1))
   pub pens : (looks : ℕ) × (HasLooks brush.pen old frame.cells looks × (pens_of controls ≤ looks))

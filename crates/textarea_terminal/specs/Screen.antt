@@ -181,7 +181,7 @@ settled_cells shown_as cell =
 
 -- The cells of a frame as a terminal of the family shows them, of which the first are these. Only
 -- those of disputed clusters differ.
-abbrev pub settled_cells : (List ℕ → List (List ℕ)) → List CellView → List CellView → List CellView
-settled_cells shown_as first [] = []
-settled_cells shown_as (shown ∷ first) (cell ∷ cells) = shown ∷ settled_cells shown_as first cells
-settled_cells shown_as [] (cell ∷ cells) = first_of cell (settled_cells shown_as cell) ∷ settled_cells shown_as (drop 1 (settled_cells shown_as cell)) cells
+abbrev pub settled_frame : (List ℕ → List (List ℕ)) → List CellView → List CellView → List CellView
+settled_frame shown_as first [] = []
+settled_frame shown_as (shown ∷ first) (cell ∷ cells) = shown ∷ settled_frame shown_as first cells
+settled_frame shown_as [] (cell ∷ cells) = first_of cell (settled_cells shown_as cell) ∷ settled_frame shown_as (drop 1 (settled_cells shown_as cell)) cells
