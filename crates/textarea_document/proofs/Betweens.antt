@@ -35,7 +35,8 @@ pub removal_fits : (text : List Symbol) (from to : Place) → IsPlace text from 
 removal_fits text from to h h' ordered = record { some = between_some text from to h' ordered; is_place = h; allowed = between_occurs text from to h' (omega arith) }
 
 -- an edit of this splice with these ends is well formed
-pub well_formed : (edit : Stored) (splice : Splice) → edit.splice ≡ splice → 0 < length splice.symbols → edit.end ≡ end splice.place splice.symbols → IfSome edit.fragment_lines (λ n. 2 ≤ n) → IsWellFormed edit
+pub well_formed : (edit : Stored) (splice : Splice) → edit.splice ≡ splice → 0 < length splice.symbols → edit.end ≡ end splice.place splice.symbols → IfSome edit.fragment_lines (λ n. 2 ≤ n) →
+    IsWellFormed edit
 well_formed edit splice is some ends fragment_lines = record {
   some = subst (λ (s : Splice). 0 < length s.symbols) (sym is) some;
   fragment_lines = fragment_lines;
@@ -48,7 +49,8 @@ some_lines [] e some = omega (arith, ap length e)
 some_lines (fragment_line ∷ fragment_lines) e some = omega arith
 
 -- the line of a fragment of one line, or of a copy of it
-pub only_text : (fragment_lines copies : List (String Global)) (rest : List (String Global)) (line : String Global) → lines_of copies ≡ lines_of fragment_lines → length fragment_lines ≡ 1 → copies ≡ rest ++ line ∷ [] → characters (characters_of line) ≡ text_of fragment_lines
+pub only_text : (fragment_lines copies : List (String Global)) (rest : List (String Global)) (line : String Global) → lines_of copies ≡ lines_of fragment_lines → length fragment_lines ≡ 1 →
+    copies ≡ rest ++ line ∷ [] → characters (characters_of line) ≡ text_of fragment_lines
 only_text [] copies rest line same one is = absurd (omega (arith, one))
 only_text (first ∷ second ∷ more) copies rest line same one is = absurd (omega (arith, one))
 only_text (first ∷ []) copies rest line same one is =

@@ -159,6 +159,8 @@ sound_duplicated document now h =
       undo = edited.undo;
       redo = edited.redo;
       bounded = edited.bounded;
+      marks = edited.marks;
+      whole = edited.whole;
     }
 
 -- its splice splits no range

@@ -1,5 +1,6 @@
 pub mod SymbolAfters
 pub mod Inserts
+pub mod UndoGroups
 pub mod UndoLaw
 pub mod Orders
 pub mod Betweens

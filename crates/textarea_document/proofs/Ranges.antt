@@ -3,7 +3,9 @@ use Rattle.std.proofs.Common.{◌≡◌, ℕ, ◌+◌, ◌<◌, ◌≤◌, ◌==
 use Rattle.std.proofs.lemmas.Bool.{cases_lt, ne_eqb}
 use Rattle.std.proofs.lemmas.List.{drop_more}
 use Rattle.std.proofs.lemmas.List.Elements.{All-contains}
-use Rattle.textarea_document.specs.Prelude.{size_limit, IfSome, Symbol, Character, Break, lines, Place, IsPlace, IsUpTo, OccursAt, end, index_of, is_same_place, Fits, AtomicRange, AtomicDeleteDirection, SplitsNoRange, anchor_out, unless_empty, IsMovable, IsRangeAtPlace, IsInside, TakesWhole, range_at_place, moved_out, range_start, range_end, AreApart, AreInOrder, AreValid, IsRangeOfLine}
+use Rattle.textarea_document.specs.Prelude.{size_limit, IfSome, Symbol, Character, Break, lines, Place, IsPlace, IsUpTo, OccursAt, end, index_of, is_same_place, Fits, AtomicRange}
+use Rattle.textarea_document.specs.Prelude.{AtomicDeleteDirection, SplitsNoRange, anchor_out, unless_empty, IsMovable, IsRangeAtPlace, IsInside, TakesWhole, range_at_place, moved_out, range_start}
+use Rattle.textarea_document.specs.Prelude.{range_end, AreApart, AreInOrder, AreValid, IsRangeOfLine}
 use Rattle.textarea_text.proofs.Befores.{character_occurs}
 use Rattle.textarea_text.proofs.TextPlaces.{index_within, joined-lines}
 use Rattle.textarea_text.proofs.BetweenLemmas.{up_to_from_index as up_to_in_lines}
@@ -41,7 +43,8 @@ index_from_up_to text from to h h' up =
     ]
 
 -- a removal that is widened still has a symbol
-pub widened_ordered : (text : List Symbol) (from to : Place) (wide : Place × Place) → IsPlace text from → IsPlace text to → IsPlace text wide.0 → IsPlace text wide.1 → IsUpTo wide.0 from → IsUpTo to wide.1 → index_of text from < index_of text to → index_of text wide.0 < index_of text wide.1
+pub widened_ordered : (text : List Symbol) (from to : Place) (wide : Place × Place) → IsPlace text from → IsPlace text to → IsPlace text wide.0 → IsPlace text wide.1 → IsUpTo wide.0 from →
+    IsUpTo to wide.1 → index_of text from < index_of text to → index_of text wide.0 < index_of text wide.1
 widened_ordered text from to wide h h' w w' starts ends ordered =
     omega (arith, index_from_up_to text wide.0 from w h starts, index_from_up_to text to wide.1 h' w' ends)
 
@@ -53,27 +56,33 @@ pub record IsStoredRange (text : List Symbol) (range : AtomicRange) : Type 0 whe
   pub end_is : IsPlace text (range_end range)
   pub ordered : index_of text (range_start range) < index_of text (range_end range)
 
-range_some : (text : List Symbol) (ranges : List AtomicRange) (place : Place) (direction : AtomicDeleteDirection) (found : Option AtomicRange) → AreValid (lines text) ranges → MatchOption found (All (λ range. ¬ IsRangeAtPlace place direction range) ranges) (λ range. Contains ranges range × IsRangeAtPlace place direction range) → IfSome found (IsStoredRange text)
+range_some : (text : List Symbol) (ranges : List AtomicRange) (place : Place) (direction : AtomicDeleteDirection) (found : Option AtomicRange) → AreValid (lines text) ranges →
+    MatchOption found (All (λ range. ¬ IsRangeAtPlace place direction range) ranges) (λ range. Contains ranges range × IsRangeAtPlace place direction range) → IfSome found (IsStoredRange text)
 range_some text ranges place direction None valid h = tt
 range_some text ranges place direction (Some range) valid h =
     let segment : IsRangeOfLine (lines text) range = All-contains (IsRangeOfLine (lines text)) ranges range valid.components h.0 in
     record { start_is = (segment.0, omega arith); end_is = (segment.0, segment.2); ordered = omega arith }
 
-pub range_is_stored : (text : List Symbol) (ranges : List AtomicRange) (place : Place) (direction : AtomicDeleteDirection) → AreValid (lines text) ranges → IfSome (range_at_place ranges place direction) (IsStoredRange text)
+pub range_is_stored : (text : List Symbol) (ranges : List AtomicRange) (place : Place) (direction : AtomicDeleteDirection) → AreValid (lines text) ranges →
+    IfSome (range_at_place ranges place direction) (IsStoredRange text)
 range_is_stored text ranges place direction valid = range_some text ranges place direction (range_at_place ranges place direction) valid (MatchOption-at_place ranges place direction)
 
 -- with a range at the position, backward, the position isn't the text's start
-pub range_starts_before : (text : List Symbol) (ranges : List AtomicRange) (place : Place) (found : Option AtomicRange) → range_at_place ranges place DeleteBackward ≡ found → IfSome found (λ _. (index_of text place == 0) ≡ false)
+pub range_starts_before : (text : List Symbol) (ranges : List AtomicRange) (place : Place) (found : Option AtomicRange) → range_at_place ranges place DeleteBackward ≡ found →
+    IfSome found (λ _. (index_of text place == 0) ≡ false)
 range_starts_before text ranges place None e = tt
 range_starts_before text ranges place (Some range) e =
-    let h : Contains ranges range × IsRangeAtPlace place DeleteBackward range = subst (λ o. MatchOption o (All (λ range. ¬ IsRangeAtPlace place DeleteBackward range) ranges) (λ range. Contains ranges range × IsRangeAtPlace place DeleteBackward range)) e (MatchOption-at_place ranges place DeleteBackward) in
+    let h : Contains ranges range × IsRangeAtPlace place DeleteBackward range =
+    subst (λ o. MatchOption o (All (λ range. ¬ IsRangeAtPlace place DeleteBackward range) ranges) (λ range. Contains ranges range × IsRangeAtPlace place DeleteBackward range)) e (MatchOption-at_place ranges place DeleteBackward) in
     ne_eqb (index_of text place) 0 (λ none. omega (arith, h.1.1))
 
 -- with one forward, it isn't the text's end
-pub range_ends_after : (text : List Symbol) (ranges : List AtomicRange) (place : Place) (found : Option AtomicRange) → AreValid (lines text) ranges → range_at_place ranges place DeleteForward ≡ found → IfSome found (λ _. (index_of text place == length text) ≡ false)
+pub range_ends_after : (text : List Symbol) (ranges : List AtomicRange) (place : Place) (found : Option AtomicRange) → AreValid (lines text) ranges →
+    range_at_place ranges place DeleteForward ≡ found → IfSome found (λ _. (index_of text place == length text) ≡ false)
 range_ends_after text ranges place None valid e = tt
 range_ends_after text ranges place (Some range) valid e =
-    let h : Contains ranges range × IsRangeAtPlace place DeleteForward range = subst (λ o. MatchOption o (All (λ range. ¬ IsRangeAtPlace place DeleteForward range) ranges) (λ range. Contains ranges range × IsRangeAtPlace place DeleteForward range)) e (MatchOption-at_place ranges place DeleteForward) in
+    let h : Contains ranges range × IsRangeAtPlace place DeleteForward range =
+    subst (λ o. MatchOption o (All (λ range. ¬ IsRangeAtPlace place DeleteForward range) ranges) (λ range. Contains ranges range × IsRangeAtPlace place DeleteForward range)) e (MatchOption-at_place ranges place DeleteForward) in
     let stored : IsStoredRange text range = subst (λ o. IfSome o (IsStoredRange text)) e (range_is_stored text ranges place DeleteForward valid) in
     let row : index_of text place ≡ index_of text (range.row, place.1) = ap (λ n. index_of text (n, place.1)) (sym h.1.0) in
     ne_eqb (index_of text place) (length text) (λ at_end. omega (arith, index_within text (range_end range) stored.end_is, h.1.2, row))
@@ -83,8 +92,10 @@ range_ends_after text ranges place (Some range) valid e =
 pub whole_from_ends : (ranges : List AtomicRange) (from to : Place) → All (λ range. ¬ IsInside from range) ranges → All (λ range. ¬ IsInside to range) ranges → TakesWhole ranges from to
 whole_from_ends ranges from to from_out to_out k d within = removed_or_beside from to (get_or ranges k d) (from_out k d within) (to_out k d within)
 
-none_at_place : (ranges : List AtomicRange) (place : Place) (direction : AtomicDeleteDirection) → range_at_place ranges place direction ≡ None → All (λ range. ¬ IsRangeAtPlace place direction range) ranges
-none_at_place ranges place direction e = subst (λ o. MatchOption o (All (λ range. ¬ IsRangeAtPlace place direction range) ranges) (λ range. Contains ranges range × IsRangeAtPlace place direction range)) e (MatchOption-at_place ranges place direction)
+none_at_place : (ranges : List AtomicRange) (place : Place) (direction : AtomicDeleteDirection) → range_at_place ranges place direction ≡ None →
+    All (λ range. ¬ IsRangeAtPlace place direction range) ranges
+none_at_place ranges place direction e =
+    subst (λ o. MatchOption o (All (λ range. ¬ IsRangeAtPlace place direction range) ranges) (λ range. Contains ranges range × IsRangeAtPlace place direction range)) e (MatchOption-at_place ranges place direction)
 
 -- the start and the end of a line are
 pub outside_start : (ranges : List AtomicRange) (place : Place) → place.1 ≡ 0 → All (λ range. ¬ IsInside place range) ranges
@@ -111,7 +122,8 @@ break_at_end text place h occurs =
     not_both symbols c e e' = cc
 
 -- the removal of the symbol before a position, without a range there backward, splits no range
-pub before_by : (text : List Symbol) (ranges : List AtomicRange) (place from : Place) (symbol : Symbol) → AreValid (lines text) ranges → range_at_place ranges place DeleteBackward ≡ None → IsPlace text from → OccursAt text from (symbol ∷ []) → place ≡ end from (symbol ∷ []) → TakesWhole ranges from place
+pub before_by : (text : List Symbol) (ranges : List AtomicRange) (place from : Place) (symbol : Symbol) → AreValid (lines text) ranges → range_at_place ranges place DeleteBackward ≡ None →
+    IsPlace text from → OccursAt text from (symbol ∷ []) → place ≡ end from (symbol ∷ []) → TakesWhole ranges from place
 before_by text ranges place from (Character c) valid none h occurs ends =
     let free = none_at_place ranges place DeleteBackward none in
     let row : place.0 ≡ from.0 = ap (λ (p : Place). p.0) ends in
@@ -144,18 +156,21 @@ unless_empty_place text (Some place) cursor h = by (is_same_place place cursor)
     by true = tt
     by false = h
 
-pub anchor_place : (text : List Symbol) (ranges : List AtomicRange) (anchor : Option Place) (cursor : Place) → AreValid (lines text) ranges → IfSome anchor (IsPlace text) → IfSome (unless_empty (anchor_out ranges anchor) cursor) (IsPlace text)
+pub anchor_place : (text : List Symbol) (ranges : List AtomicRange) (anchor : Option Place) (cursor : Place) → AreValid (lines text) ranges → IfSome anchor (IsPlace text) →
+    IfSome (unless_empty (anchor_out ranges anchor) cursor) (IsPlace text)
 anchor_place text ranges None cursor valid h = tt
 anchor_place text ranges (Some place) cursor valid h =
     unless_empty_place text (Some (moved_out ranges place Backward)) cursor (IsPlaceOf-moved_out (lines text) ranges place Backward valid h)
 
 -- the removal of a break splits no range
-pub whole_break : (text : List Symbol) (ranges : List AtomicRange) (place : Place) → AreValid (lines text) ranges → Fits text (record { place = place; symbols = Break ∷ []; inserts = false }) → SplitsNoRange ranges (record { place = place; symbols = Break ∷ []; inserts = false })
+pub whole_break : (text : List Symbol) (ranges : List AtomicRange) (place : Place) → AreValid (lines text) ranges → Fits text (record { place = place; symbols = Break ∷ []; inserts = false }) →
+    SplitsNoRange ranges (record { place = place; symbols = Break ∷ []; inserts = false })
 whole_break text ranges place valid fits =
     whole_from_ends ranges place (place.0 + 1, 0) (outside_end (lines text) ranges place valid (break_at_end text place fits.is_place fits.allowed)) (outside_start ranges (place.0 + 1, 0) refl)
 
 -- ranges of a text whose positions are small can be moved
-pub movable : (text : List Symbol) (ranges : List AtomicRange) → ((place : Place) → IsPlace text place → (place.0 < size_limit) × (place.1 ≤ size_limit)) → AreValid (lines text) ranges → All IsMovable ranges
+pub movable : (text : List Symbol) (ranges : List AtomicRange) → ((place : Place) → IsPlace text place → (place.0 < size_limit) × (place.1 ≤ size_limit)) → AreValid (lines text) ranges →
+    All IsMovable ranges
 movable text ranges small valid k d within =
     let range = get_or ranges k d in
     let segment = valid.components k d within in

@@ -1,34 +1,34 @@
 -- How the atomic ranges of a document move with its text, over one splice after another.
-use Rattle.std.proofs.Common.{◌≡◌, ℕ, zero, suc, Bool, true, false, List, [], ◌∷◌, ◌++◌, get_or, filter_map, Contains, Option, None, Some, sym, ap, refl, subst, ◌∙◌, arith, inl, inr, ◌⊎◌, suc-le-suc}
+use Rattle.std.proofs.Common.{◌≡◌, ℕ, zero, suc, Bool, true, false, List, [], ◌∷◌, ◌++◌, map, reverse, take, get_or, filter_map, Contains, Option, None, Some, sym, ap, refl, subst, ◌∙◌, arith, inl, inr, ◌⊎◌, suc-le-suc}
+use Rattle.std.proofs.lemmas.Bool.Decides.{nat_tests}
 use Rattle.std.proofs.lemmas.List.Elements.{All-cons, All-contains, All-nil, Contains-get_or}
-use Rattle.textarea_document.specs.Prelude.{cons_option, Symbol, lines, Place, end, CanApply, Fits, Splice, IsTextBefore, applied, applied_all, inverse, newest, next, AtomicRange, IsBeside, IsInside, TakesRange, Overlaps, CoversTheSame, DisturbsBy, moved_range, moved_ranges, AreValid, IsRangeOfLine, HasEffect, EditStep, splice_of_step, stepped, AllStayOrAreDropped, AllStemFrom, SplitNoRange, RangesFollowSplices, RangesStayWhole, IsDroppedBy, StemsFrom, carried_range, ranges_over, SplitsNoRange, SplitsNoRangeBy, after_redo, after_redo_by, after_undo, after_undo_by, IsSound, DocumentState, after_edit}
+use Rattle.textarea_document.specs.Prelude.{IsSoundInside, edit_redone, edit_undone, newest_group, next_group, redo_splices, times, undo_splices, cons_option, Symbol, lines, Place, end, CanApply}
+use Rattle.textarea_document.specs.Prelude.{Fits, Splice, IsTextBefore, applied, applied_all, inverse, newest, next, AtomicRange, IsBeside, IsInside, TakesRange, Overlaps, CoversTheSame, DisturbsBy}
+use Rattle.textarea_document.specs.Prelude.{moved_range, moved_ranges, AreValid, IsRangeOfLine, HasEffect, EditStep, splice_of_step, stepped, AllStayOrAreDropped, AllStemFrom, SplitNoRange}
+use Rattle.textarea_document.specs.Prelude.{RangesFollowSplices, RangesStayWhole, IsDroppedBy, StemsFrom, carried_range, ranges_over, SplitsNoRange, SplitsNoRangeBy, after_redo, after_redo_by}
+use Rattle.textarea_document.specs.Prelude.{after_undo, after_undo_by, IsSound, DocumentState, after_edit}
 use Rattle.textarea_ranges.proofs.Moving.{covers_the_same, dropped, valid_moved}
-use Rattle.textarea_document.proofs.Sounds.{newest_fits, next_fits}
+use Rattle.textarea_history.proofs.LogLaws.{first_split, reverse_last, times-front}
+use Rattle.textarea_document.proofs.Sounds.{inside_redone, inside_undone, newest_fits, next_fits, sound_inside}
+use Rattle.textarea_document.proofs.UndoGroups.{none_redone, none_undone}
 use Rattle.textarea_document.proofs.StepLaw.{step_keeps}
 use Rattle.textarea_ranges.proofs.LookupLemmas.{not_beside}
 
 -- ---- one splice
 
-one : (old : DocumentState) (splice : Splice) (new : DocumentState) → Fits old.text splice → new.text ≡ applied old.text splice → new.ranges ≡ moved_ranges old.ranges splice → RangesFollowSplices old (splice ∷ []) new
+one : (old : DocumentState) (splice : Splice) (new : DocumentState) → Fits old.text splice → new.text ≡ applied old.text splice → new.ranges ≡ moved_ranges old.ranges splice →
+    RangesFollowSplices old (splice ∷ []) new
 one old splice new fits text ranges = record { text = record { can = (fits, tt); leads = sym text }; ranges = ranges }
 
-pub ranges_follow_edit : (document : DocumentState) (splice : Splice) (typed : Bool) (now : ℕ) → Fits document.text splice → SplitsNoRange document.ranges splice → RangesStayWhole document (splice ∷ []) (after_edit document splice typed now)
+pub ranges_follow_edit : (document : DocumentState) (splice : Splice) (typed : Bool) (now : ℕ) → Fits document.text splice →
+    SplitsNoRange document.ranges splice → RangesStayWhole document (splice ∷ []) (after_edit document splice typed now)
 ranges_follow_edit document splice typed now fits whole = (one document splice (after_edit document splice typed now) fits refl refl, (whole, tt))
 
-pub ranges_follow_step : (document : DocumentState) (step : EditStep) (typed : Bool) (now : ℕ) → IsSound document → HasEffect document step → RangesStayWhole document (splice_of_step document step ∷ []) (stepped document step typed now)
+pub ranges_follow_step : (document : DocumentState) (step : EditStep) (typed : Bool) (now : ℕ) → IsSound document → HasEffect document step →
+    RangesStayWhole document (splice_of_step document step ∷ []) (stepped document step typed now)
 ranges_follow_step document step typed now sound made =
     let unchanged = step_keeps document step sound made in
     ranges_follow_edit document (splice_of_step document step) typed now unchanged.0 unchanged.1
-
-pub ranges_follow_undo : (document : DocumentState) (splice : Splice) → IsSound document → newest document.log ≡ Some splice → RangesFollowSplices document (inverse splice ∷ []) (after_undo document)
-ranges_follow_undo document splice sound is =
-    subst (λ (found : Option Splice). RangesFollowSplices document (inverse splice ∷ []) (after_undo_by found document)) (sym is)
-    (one document (inverse splice) (after_undo_by (Some splice) document) (newest_fits document splice sound is) refl refl)
-
-pub ranges_follow_redo : (document : DocumentState) (splice : Splice) → IsSound document → next document.log ≡ Some splice → RangesFollowSplices document (splice ∷ []) (after_redo document)
-ranges_follow_redo document splice sound is =
-    subst (λ (found : Option Splice). RangesFollowSplices document (splice ∷ []) (after_redo_by found document)) (sym is)
-    (one document splice (after_redo_by (Some splice) document) (next_fits document splice sound is) refl refl)
 
 -- ---- one after another
 
@@ -54,7 +54,8 @@ SplitNoRange-append : (ranges : List AtomicRange) (first second : List Splice) �
 SplitNoRange-append ranges [] second h k = k
 SplitNoRange-append ranges (splice ∷ first) second h k = (h.0, SplitNoRange-append (moved_ranges ranges splice) first second h.1 k)
 
-pub ranges_follow_on : (old between new : DocumentState) (first second : List Splice) → RangesFollowSplices old first between → RangesFollowSplices between second new → RangesFollowSplices old (first ++ second) new
+pub ranges_follow_on : (old between new : DocumentState) (first second : List Splice) → RangesFollowSplices old first between → RangesFollowSplices between second new →
+    RangesFollowSplices old (first ++ second) new
 ranges_follow_on old between new first second h k = record {
   text = text_before_joined old.text between.text new.text first second h.text k.text;
   ranges = k.ranges ∙ ap (λ (r : List AtomicRange). ranges_over r second) h.ranges ∙ sym (ranges_over-append old.ranges first second);
@@ -70,6 +71,54 @@ ranges_stay_on old between new first second h k = (
   SplitNoRange-append old.ranges first second h.1 (subst (λ (r : List AtomicRange). SplitNoRange r second) h.0.ranges k.1),
 )
 
+-- ---- undo and redo
+
+undos_follow : (count : ℕ) (document : DocumentState) → IsSoundInside document → RangesFollowSplices document (map inverse (take count (reverse document.log.done))) (times count edit_undone document)
+undos_follow zero document h = (stays document document refl refl).0
+undos_follow (suc count) document h = by (newest document.log) refl (λ d k. undos_follow count d k)
+  where
+    by : (found : Option Splice) → newest document.log ≡ found →
+        ((d : DocumentState) → IsSoundInside d → RangesFollowSplices d (map inverse (take count (reverse d.log.done))) (times count edit_undone d)) →
+        RangesFollowSplices document (map inverse (take (suc count) (reverse document.log.done))) (times (suc count) edit_undone document)
+    by None e later =
+        let same = none_undone (suc count) document e in
+        subst (λ (d : DocumentState). RangesFollowSplices document (map inverse (take (suc count) (reverse document.log.done))) d) (sym same.0)
+        (subst (λ (d : List Splice). RangesFollowSplices document (map inverse (take (suc count) (reverse d))) document) (sym same.1) (stays document document refl refl).0)
+    by (Some splice) e later =
+        let first = after_undo_by (Some splice) document in
+        let is : edit_undone document ≡ first = ap (λ (found : Option Splice). after_undo_by found document) e in
+        let rest = later first (subst IsSoundInside is (inside_undone document h)) in
+        subst (λ (d : List Splice). RangesFollowSplices document (map inverse (take (suc count) d)) (times (suc count) edit_undone document)) (sym (reverse_last document.log.done splice e))
+        (subst (RangesFollowSplices document (inverse splice ∷ map inverse (take count (reverse first.log.done)))) (sym (times-front count edit_undone document ∙ ap (times count edit_undone) is))
+        (ranges_follow_on document first (times count edit_undone first) (inverse splice ∷ []) (map inverse (take count (reverse first.log.done)))
+        (one document (inverse splice) first (newest_fits document splice h.log e) refl refl) rest))
+
+redos_follow : (count : ℕ) (document : DocumentState) → IsSoundInside document → RangesFollowSplices document (take count document.log.undone) (times count edit_redone document)
+redos_follow zero document h = (stays document document refl refl).0
+redos_follow (suc count) document h = by (next document.log) refl (λ d k. redos_follow count d k)
+  where
+    by : (found : Option Splice) → next document.log ≡ found →
+        ((d : DocumentState) → IsSoundInside d → RangesFollowSplices d (take count d.log.undone) (times count edit_redone d)) →
+        RangesFollowSplices document (take (suc count) document.log.undone) (times (suc count) edit_redone document)
+    by None e later =
+        let same = none_redone (suc count) document e in
+        subst (λ (d : DocumentState). RangesFollowSplices document (take (suc count) document.log.undone) d) (sym same.0)
+        (subst (λ (d : List Splice). RangesFollowSplices document (take (suc count) d) document) (sym same.1) (stays document document refl refl).0)
+    by (Some splice) e later =
+        let first = after_redo_by (Some splice) document in
+        let is : edit_redone document ≡ first = ap (λ (found : Option Splice). after_redo_by found document) e in
+        let rest = later first (subst IsSoundInside is (inside_redone document h)) in
+        subst (λ (d : List Splice). RangesFollowSplices document (take (suc count) d) (times (suc count) edit_redone document)) (sym (first_split document.log.undone splice e))
+        (subst (RangesFollowSplices document (splice ∷ take count first.log.undone)) (sym (times-front count edit_redone document ∙ ap (times count edit_redone) is))
+        (ranges_follow_on document first (times count edit_redone first) (splice ∷ []) (take count first.log.undone)
+        (one document splice first (next_fits document splice h.log e) refl refl) rest))
+
+pub ranges_follow_undo : (document : DocumentState) → IsSound document → RangesFollowSplices document (undo_splices document) (after_undo document)
+ranges_follow_undo document h = undos_follow (newest_group document.log) document (sound_inside document h)
+
+pub ranges_follow_redo : (document : DocumentState) → IsSound document → RangesFollowSplices document (redo_splices document) (after_redo document)
+ranges_follow_redo document h = redos_follow (next_group document.log) document (sound_inside document h)
+
 -- ---- each range comes from an old one
 
 record From {X Y : Type 0} (f : X → Option Y) (xs : List X) (y : Y) : Type 0 where
@@ -80,7 +129,8 @@ record From {X Y : Type 0} (f : X → Option Y) (xs : List X) (y : Y) : Type 0 w
 from_rest : {X Y : Type 0} (f : X → Option Y) (first : X) (xs : List X) (y : Y) → From f xs y → From f (first ∷ xs) y
 from_rest f first xs y found = record { x = found.x; stored = (suc found.stored.0, suc-le-suc found.stored.1, found.stored.2); is = found.is }
 
-from_cons : {X Y : Type 0} (f : X → Option Y) (first : X) (xs : List X) (y : Y) (found : Option Y) → f first ≡ found → (Contains (filter_map f xs) y → From f xs y) → Contains (cons_option found (filter_map f xs)) y → From f (first ∷ xs) y
+from_cons : {X Y : Type 0} (f : X → Option Y) (first : X) (xs : List X) (y : Y) (found : Option Y) → f first ≡ found → (Contains (filter_map f xs) y → From f xs y) →
+    Contains (cons_option found (filter_map f xs)) y → From f (first ∷ xs) y
 from_cons f first xs y None e rest h = from_rest f first xs y (rest h)
 from_cons f first xs y (Some z) e rest (zero, within, is) = record { x = first; stored = (zero, omega arith, refl); is = e ∙ ap Some is }
 from_cons f first xs y (Some z) e rest (suc k, within, is) = from_rest f first xs y (rest (k, omega arith, is))
@@ -99,7 +149,8 @@ record Origin (text : List Symbol) (ranges : List AtomicRange) (splices : List S
   carried : carried_range (Some origin) splices ≡ Some range
   covers : CoversTheSame text (applied_all text splices) origin range
 
-origin_over : (text : List Symbol) (ranges : List AtomicRange) (splices : List Splice) (range : AtomicRange) → AreValid (lines text) ranges → CanApply text splices → Contains (ranges_over ranges splices) range → Origin text ranges splices range
+origin_over : (text : List Symbol) (ranges : List AtomicRange) (splices : List Splice) (range : AtomicRange) → AreValid (lines text) ranges → CanApply text splices →
+    Contains (ranges_over ranges splices) range → Origin text ranges splices range
 origin_over text ranges [] range valid can h =
     record { origin = range; stored = h; carried = refl; covers = record { in_line = All-contains (IsRangeOfLine (lines text)) ranges range valid.components h; same = refl } }
 origin_over text ranges (splice ∷ rest) range valid can h =
@@ -114,7 +165,8 @@ origin_over text ranges (splice ∷ rest) range valid can h =
       covers = record { in_line = later.covers.in_line; same = later.covers.same ∙ covers.same };
     }
 
-pub stems_from : (old new : DocumentState) (splices : List Splice) → IsSound old → RangesFollowSplices old splices new → (range : AtomicRange) → Contains new.ranges range → StemsFrom old splices new range
+pub stems_from : (old new : DocumentState) (splices : List Splice) → IsSound old → RangesFollowSplices old splices new → (range : AtomicRange) → Contains new.ranges range →
+    StemsFrom old splices new range
 stems_from old new splices sound h range stored =
     let found = origin_over old.text old.ranges splices range sound.ranges h.text.can (subst (λ (r : List AtomicRange). Contains r range) h.ranges stored) in
     record {
@@ -149,7 +201,8 @@ abbrev StaysOrIsDropped : List AtomicRange → List Splice → AtomicRange → T
 StaysOrIsDropped ranges splices range =
     ((carried : AtomicRange) × (carried_range (Some range) splices ≡ Some carried) × Contains (ranges_over ranges splices) carried) ⊎ IsDroppedBy range splices
 
-over_first : (ranges : List AtomicRange) (splice : Splice) (rest : List Splice) (range : AtomicRange) (found : Option AtomicRange) → Contains ranges range → moved_range splice range ≡ found → ((next : AtomicRange) → Contains (moved_ranges ranges splice) next → StaysOrIsDropped (moved_ranges ranges splice) rest next) → StaysOrIsDropped ranges (splice ∷ rest) range
+over_first : (ranges : List AtomicRange) (splice : Splice) (rest : List Splice) (range : AtomicRange) (found : Option AtomicRange) → Contains ranges range → moved_range splice range ≡ found →
+    ((next : AtomicRange) → Contains (moved_ranges ranges splice) next → StaysOrIsDropped (moved_ranges ranges splice) rest next) → StaysOrIsDropped ranges (splice ∷ rest) range
 over_first ranges splice rest range None h e later = inr (inl ((dropped splice range).0 e))
 over_first ranges splice rest range (Some next) h e later =
     elim (later next (to_moved ranges splice range next h e)) [
@@ -172,7 +225,8 @@ all_stay_or_are_dropped old new splices h k d within =
 
 -- ---- which ranges an edit drops
 
-removed_by : (inserts : Bool) (place to : Place) (range : AtomicRange) → SplitsNoRangeBy inserts (range ∷ []) place to → DisturbsBy inserts place to range → (inserts ≡ false) × TakesRange place to range
+removed_by : (inserts : Bool) (place to : Place) (range : AtomicRange) → SplitsNoRangeBy inserts (range ∷ []) place to → DisturbsBy inserts place to range →
+    (inserts ≡ false) × TakesRange place to range
 removed_by true place to range cuts disturbs = absurd (cuts 0 range (omega arith) disturbs)
 removed_by false place to range cuts disturbs =
     elim (cuts 0 range (omega arith)) [
@@ -180,13 +234,15 @@ removed_by false place to range cuts disturbs =
       | inr beside ↦ absurd (not_beside place to range disturbs beside)
     ]
 
-one_splits : (inserts : Bool) (ranges : List AtomicRange) (place to : Place) (range : AtomicRange) → SplitsNoRangeBy inserts ranges place to → Contains ranges range → SplitsNoRangeBy inserts (range ∷ []) place to
+one_splits : (inserts : Bool) (ranges : List AtomicRange) (place to : Place) (range : AtomicRange) → SplitsNoRangeBy inserts ranges place to → Contains ranges range →
+    SplitsNoRangeBy inserts (range ∷ []) place to
 one_splits true ranges place to range cuts stored =
     All-cons (λ r. ¬ IsInside place r) range [] (All-contains (λ r. ¬ IsInside place r) ranges range cuts stored) (All-nil (λ r. ¬ IsInside place r))
 one_splits false ranges place to range cuts stored =
     All-cons (λ r. TakesRange place to r ⊎ IsBeside place to r) range [] (All-contains (λ r. TakesRange place to r ⊎ IsBeside place to r) ranges range cuts stored) (All-nil (λ r. TakesRange place to r ⊎ IsBeside place to r))
 
-pub only_removed : (ranges : List AtomicRange) (splice : Splice) (range : AtomicRange) → SplitsNoRange ranges splice → Contains ranges range → moved_range splice range ≡ None → (splice.inserts ≡ false) × TakesRange splice.place (end splice.place splice.symbols) range
+pub only_removed : (ranges : List AtomicRange) (splice : Splice) (range : AtomicRange) → SplitsNoRange ranges splice → Contains ranges range → moved_range splice range ≡ None →
+    (splice.inserts ≡ false) × TakesRange splice.place (end splice.place splice.symbols) range
 only_removed ranges splice range cuts stored is =
     let to = end splice.place splice.symbols in
     removed_by splice.inserts splice.place to range (one_splits splice.inserts ranges splice.place to range cuts stored) ((dropped splice range).0 is)

@@ -1,69 +1,166 @@
 -- Each step preserves the invariant of documents.
-use Rattle.std.proofs.Common.{◌≡◌, ℕ, Bool, List, [], length, Option, Some, None, Result, Ok, Err, sym, ap, refl, ◌∙◌, subst, arith}
-use Rattle.textarea_document.specs.Prelude.{OnErr, OnOk, Symbol, lines, Place, IsPlace, Splice, Fits, applied, inverse, place_after, Log, empty_log, redone_log, newest, next, recorded, undone_log, AtomicRange, moved_ranges, LayoutSettings, TextAndLayout, Layout, all_wrapped, applied_to, layout_from_scratch, with_settings, DocumentState, document_of, fresh_document, logged, after_change, after_edit, after_redo_by, after_undo_by, text_and_layout, with_layout_settings, IsSound}
+use Rattle.std.proofs.Common.{◌≡◌, ℕ, zero, suc, Bool, true, false, cond, List, [], length, Option, Some, None, Result, Ok, Err, sym, ap, refl, ◌∙◌, subst, arith}
+use Rattle.textarea_document.specs.Prelude.{group_begun, group_ended, is_open}
+use Rattle.textarea_history.specs.declared.history.groups.Group.TheVariants.{Closed, Empty}
+use Rattle.textarea_document.specs.Prelude.{IfSome, AreInOrder, AreValid, OnErr, OnOk, Symbol, lines, Place, IsPlace, Splice, Fits, applied, inverse, place_after, Log, empty_log, redone_log, newest}
+use Rattle.textarea_document.specs.Prelude.{next, recorded, undone_log, AtomicRange, moved_ranges, LayoutSettings, TextAndLayout, Layout, all_wrapped, applied_to, layout_from_scratch, with_settings}
+use Rattle.textarea_document.specs.Prelude.{wrapping_of, is_same_wrapping, wrapping_for, DocumentState, document_of, fresh_document, logged, after_change, after_edit, after_redo_by, after_undo_by}
+use Rattle.textarea_document.specs.Prelude.{edit_redone, edit_undone, is_grouped, times, text_and_layout, with_layout_settings, IsSound, IsSoundInside}
 use Rattle.textarea_text.proofs.TextPlaces.{IsPlace-end, takes_back}
 use Rattle.textarea_history.specs.HistoryLaw.{IsSoundLog as LogIsSound}
-use Rattle.textarea_history.proofs.LogLaws.{each_fits, newest_back, sound_redone_by, sound_undone_by, sound_edited as log_edited}
+use Rattle.textarea_history.proofs.LogLaws.{each_fits, newest_back, recorded_whole, sound_redone_by, sound_undone_by, sound_edited as log_edited}
 use Rattle.textarea_ranges.proofs.Moving.{in_order_moved, valid_moved}
 use Rattle.textarea_document.proofs.Ranges.{valid_none}
 use Rattle.textarea_lines.proofs.PutSettings.{text_stays}
 
 pub logged_sound : (document : DocumentState) → IsSound document → LogIsSound (logged document)
-logged_sound document h = record { undo = h.undo; redo = h.redo; bounded = h.bounded }
+logged_sound document h = record { undo = h.undo; redo = h.redo; bounded = h.bounded; marks = h.marks }
+
+pub sound_inside : (document : DocumentState) → IsSound document → IsSoundInside document
+sound_inside document h = record { cursor = h.cursor; anchor = h.anchor; ranges = h.ranges; in_order = h.in_order; log = logged_sound document h }
+
+pub sound_whole : (document : DocumentState) → IsSoundInside document → is_grouped document.log.marks (length document.log.done) ≡ false → IsSound document
+sound_whole document h whole = record {
+  cursor = h.cursor;
+  anchor = h.anchor;
+  ranges = h.ranges;
+  in_order = h.in_order;
+  undo = h.log.undo;
+  redo = h.log.redo;
+  bounded = h.log.bounded;
+  marks = h.log.marks;
+  whole = whole;
+}
 
 -- after a splice that fits and leaves this log
-sound_after : (document : DocumentState) (splice : Splice) (log : Log) → IsSound document → Fits document.text splice → LogIsSound (record { text = applied document.text splice; log = log }) → IsSound (after_change document splice log)
-sound_after document splice log sound fits h = record {
+inside_after : (document : DocumentState) (splice : Splice) (log : Log) → IsSoundInside document → Fits document.text splice → LogIsSound (record { text = applied document.text splice; log = log }) →
+    IsSoundInside (after_change document splice log)
+inside_after document splice log sound fits h = record {
   cursor = (takes_back document.text splice fits).is_place;
   anchor = tt;
   ranges = valid_moved document.text splice document.ranges fits sound.ranges;
   in_order = in_order_moved document.text splice document.ranges fits sound.ranges sound.in_order;
-  undo = h.undo;
-  redo = h.redo;
-  bounded = h.bounded;
+  log = h;
 }
 
 pub sound_edited : (document : DocumentState) (splice : Splice) (typed : Bool) (now : ℕ) → IsSound document → Fits document.text splice → IsSound (after_edit document splice typed now)
 sound_edited document splice typed now h fits =
-    sound_after document splice (recorded document.log splice typed now) h fits (log_edited (logged document) splice typed now (logged_sound document h) fits)
+    let after = log_edited (logged document) splice typed now (logged_sound document h) fits in
+    sound_whole (after_edit document splice typed now) (inside_after document splice (recorded document.log splice typed now) (sound_inside document h) fits after)
+    (recorded_whole (logged document) splice typed now (logged_sound document h) fits h.whole)
 
 -- a document's parts after the change of a splice, with this log, make the document after it
-pub changed_is : (text_layout new : TextAndLayout) (cursor ahead : Place) (anchor : Option Place) (ranges stored : List AtomicRange) (log after left : Log) (change splice : Splice) → change ≡ splice → new ≡ applied_to text_layout change → ahead ≡ place_after change → stored ≡ moved_ranges ranges change → after ≡ left → document_of new ahead None stored after ≡ after_change (document_of text_layout cursor anchor ranges log) splice left
+pub changed_is : (text_layout new : TextAndLayout) (cursor ahead : Place) (anchor : Option Place) (ranges stored : List AtomicRange) (log after left : Log) (change splice : Splice) → change ≡ splice →
+    new ≡ applied_to text_layout change → ahead ≡ place_after change → stored ≡ moved_ranges ranges change → after ≡ left →
+    document_of new ahead None stored after ≡ after_change (document_of text_layout cursor anchor ranges log) splice left
 changed_is text_layout new cursor ahead anchor ranges stored log after left change splice is layout_is cursor_is stored_is log_is =
     rw (layout_is, cursor_is, stored_is, log_is, is) refl
 
 -- the layout has no influence on the invariant
 pub resound : (document : DocumentState) (layout : Layout) → IsSound document → IsSound (record document { layout = layout })
-resound document layout h = record { cursor = h.cursor; anchor = h.anchor; ranges = h.ranges; in_order = h.in_order; undo = h.undo; redo = h.redo; bounded = h.bounded }
+resound document layout h = record { cursor = h.cursor; anchor = h.anchor; ranges = h.ranges; in_order = h.in_order; undo = h.undo; redo = h.redo; bounded = h.bounded; marks = h.marks; whole = h.whole }
+
+-- ---- groups
+
+pub sound_begun : (document : DocumentState) → IsSound document → IsSound (record document { log = group_begun document.log })
+sound_begun document h = by (is_open document.log.group)
+  where
+    by : (b : Bool) → IsSound (record document { log = cond b document.log (record document.log { run_open = false; group = Empty }) })
+    by true = record {
+      cursor = h.cursor;
+      anchor = h.anchor;
+      ranges = h.ranges;
+      in_order = h.in_order;
+      undo = h.undo;
+      redo = h.redo;
+      bounded = h.bounded;
+      marks = h.marks;
+      whole = h.whole;
+    }
+    by false = record {
+      cursor = h.cursor;
+      anchor = h.anchor;
+      ranges = h.ranges;
+      in_order = h.in_order;
+      undo = h.undo;
+      redo = h.redo;
+      bounded = h.bounded;
+      marks = h.marks;
+      whole = h.whole;
+    }
+
+pub sound_ended : (document : DocumentState) → IsSound document → IsSound (record document { log = group_ended document.log })
+sound_ended document h = by (is_open document.log.group)
+  where
+    by : (b : Bool) → IsSound (record document { log = cond b (record document.log { run_open = false; group = Closed }) document.log })
+    by true = record {
+      cursor = h.cursor;
+      anchor = h.anchor;
+      ranges = h.ranges;
+      in_order = h.in_order;
+      undo = h.undo;
+      redo = h.redo;
+      bounded = h.bounded;
+      marks = h.marks;
+      whole = h.whole;
+    }
+    by false = record {
+      cursor = h.cursor;
+      anchor = h.anchor;
+      ranges = h.ranges;
+      in_order = h.in_order;
+      undo = h.undo;
+      redo = h.redo;
+      bounded = h.bounded;
+      marks = h.marks;
+      whole = h.whole;
+    }
 
 -- ---- undo and redo
 
 -- the newest edit can be undone, and the one that was undone last redone
-pub newest_fits : (document : DocumentState) (splice : Splice) → IsSound document → newest document.log ≡ Some splice → Fits document.text (inverse splice)
-newest_fits document splice h e = (newest_back (logged document) splice (logged_sound document h) e).0
+pub newest_fits : (document : DocumentState) (splice : Splice) → LogIsSound (logged document) → newest document.log ≡ Some splice → Fits document.text (inverse splice)
+newest_fits document splice h e = (newest_back (logged document) splice h e).0
 
-pub next_fits : (document : DocumentState) (splice : Splice) → IsSound document → next document.log ≡ Some splice → Fits document.text splice
-next_fits document splice h e = (each_fits (logged document) (logged_sound document h)).undone 0 splice e
+pub next_fits : (document : DocumentState) (splice : Splice) → LogIsSound (logged document) → next document.log ≡ Some splice → Fits document.text splice
+next_fits document splice h e = (each_fits (logged document) h).undone 0 splice e
 
-pub sound_undone : (document : DocumentState) (splice : Splice) → IsSound document → newest document.log ≡ Some splice → IsSound (after_undo_by (Some splice) document)
-sound_undone document splice h e =
-    sound_after document (inverse splice) (undone_log document.log splice) h (newest_fits document splice h e) (sound_undone_by (logged document) splice (logged_sound document h) e)
+pub inside_undone : (document : DocumentState) → IsSoundInside document → IsSoundInside (edit_undone document)
+inside_undone document h = by (newest document.log) refl
+  where
+    by : (found : Option Splice) → newest document.log ≡ found → IsSoundInside (after_undo_by found document)
+    by None e = h
+    by (Some splice) e =
+        inside_after document (inverse splice) (undone_log document.log splice) h (newest_fits document splice h.log e) (sound_undone_by (logged document) splice h.log e)
 
-pub sound_redone : (document : DocumentState) (splice : Splice) → IsSound document → next document.log ≡ Some splice → IsSound (after_redo_by (Some splice) document)
-sound_redone document splice h e =
-    sound_after document splice (redone_log document.log splice) h (next_fits document splice h e) (sound_redone_by (logged document) splice (logged_sound document h) e)
+pub inside_redone : (document : DocumentState) → IsSoundInside document → IsSoundInside (edit_redone document)
+inside_redone document h = by (next document.log) refl
+  where
+    by : (found : Option Splice) → next document.log ≡ found → IsSoundInside (after_redo_by found document)
+    by None e = h
+    by (Some splice) e =
+        inside_after document splice (redone_log document.log splice) h (next_fits document splice h.log e) (sound_redone_by (logged document) splice h.log e)
+
+pub inside_times : (step : DocumentState → DocumentState) → ((document : DocumentState) → IsSoundInside document → IsSoundInside (step document)) → (count : ℕ) (document : DocumentState) →
+    IsSoundInside document → IsSoundInside (times count step document)
+inside_times step one zero document h = h
+inside_times step one (suc count) document h = one (times count step document) (inside_times step one count document h)
 
 -- a document without a history
 pub sound_fresh : (text : List Symbol) (settings : LayoutSettings) (count : ℕ) (cursor : Place) (maximum : ℕ) → IsPlace text cursor → IsSound (fresh_document text settings count cursor maximum)
-sound_fresh text settings count cursor maximum h = record { cursor = h; anchor = tt; ranges = valid_none (lines text); in_order = refl; undo = tt; redo = tt; bounded = omega arith }
+sound_fresh text settings count cursor maximum h = record { cursor = h; anchor = tt; ranges = valid_none (lines text); in_order = refl; undo = tt; redo = tt; bounded = omega arith; marks = refl; whole = refl }
 
-pub fresh_is : (text : List Symbol) (settings : LayoutSettings) (count : ℕ) (cursor : Place) (maximum : ℕ) (text_layout : TextAndLayout) (stored : List AtomicRange) (log : Log) → text_layout ≡ layout_from_scratch settings count text → stored ≡ [] → log ≡ empty_log maximum → record { text = text_layout.text; layout = text_layout.layout; cursor = cursor; anchor = None; ranges = stored; log = log } ≡ fresh_document text settings count cursor maximum
+pub fresh_is : (text : List Symbol) (settings : LayoutSettings) (count : ℕ) (cursor : Place) (maximum : ℕ) (text_layout : TextAndLayout) (stored : List AtomicRange) (log : Log) →
+    text_layout ≡ layout_from_scratch settings count text → stored ≡ [] → log ≡ empty_log maximum →
+    record { text = text_layout.text; layout = text_layout.layout; cursor = cursor; anchor = None; ranges = stored; log = log } ≡ fresh_document text settings count cursor maximum
 fresh_is text settings count cursor maximum text_layout stored log layout_is stored_is log_is =
     ap (λ (l : TextAndLayout). record { text = l.text; layout = l.layout; cursor = cursor; anchor = None; ranges = stored; log = log }) layout_is
     ∙ ap (λ (r : List AtomicRange). record { text = text; layout = all_wrapped settings count (length (lines text)); cursor = cursor; anchor = None; ranges = r; log = log }) stored_is
     ∙ ap (λ (l : Log). record { text = text; layout = all_wrapped settings count (length (lines text)); cursor = cursor; anchor = None; ranges = []; log = l }) log_is
 
-pub sound_layout : (text : List Symbol) (settings : LayoutSettings) (count : ℕ) (cursor : Place) (maximum : ℕ) (text_layout : TextAndLayout) (stored : List AtomicRange) (log : Log) → text_layout ≡ layout_from_scratch settings count text → stored ≡ [] → log ≡ empty_log maximum → IsPlace text cursor → IsSound (record { text = text_layout.text; layout = text_layout.layout; cursor = cursor; anchor = None; ranges = stored; log = log })
+pub sound_layout : (text : List Symbol) (settings : LayoutSettings) (count : ℕ) (cursor : Place) (maximum : ℕ) (text_layout : TextAndLayout) (stored : List AtomicRange) (log : Log) →
+    text_layout ≡ layout_from_scratch settings count text → stored ≡ [] → log ≡ empty_log maximum → IsPlace text cursor →
+    IsSound (record { text = text_layout.text; layout = text_layout.layout; cursor = cursor; anchor = None; ranges = stored; log = log })
 sound_layout text settings count cursor maximum text_layout stored log layout_is stored_is log_is h =
     subst IsSound (sym (fresh_is text settings count cursor maximum text_layout stored log layout_is stored_is log_is)) (sound_fresh text settings count cursor maximum h)
 
@@ -72,11 +169,13 @@ start_is_place text = IsPlace-end [] text
 
 -- ---- other settings
 
-text_viewed : {T E : Type 0} (r : Result T E) (text_layout new : TextAndLayout) (settings : LayoutSettings) → OnOk r (new ≡ with_settings text_layout settings) → OnErr r (new ≡ text_layout) → new.text ≡ text_layout.text
+text_viewed : {T E : Type 0} (r : Result T E) (text_layout new : TextAndLayout) (settings : LayoutSettings) → OnOk r (new ≡ with_settings text_layout settings) → OnErr r (new ≡ text_layout) →
+    new.text ≡ text_layout.text
 text_viewed (Ok x) text_layout new settings ok err = ap (λ (l : TextAndLayout). l.text) ok ∙ text_stays text_layout settings
 text_viewed (Err e) text_layout new settings ok err = ap (λ (l : TextAndLayout). l.text) err
 
-pub sound_viewed : {T E : Type 0} (r : Result T E) (text_layout new : TextAndLayout) (settings : LayoutSettings) (cursor : Place) (anchor : Option Place) (ranges : List AtomicRange) (log : Log) → OnOk r (new ≡ with_settings text_layout settings) → OnErr r (new ≡ text_layout) → IsSound (document_of text_layout cursor anchor ranges log) → IsSound (document_of new cursor anchor ranges log)
+pub sound_viewed : {T E : Type 0} (r : Result T E) (text_layout new : TextAndLayout) (settings : LayoutSettings) (cursor : Place) (anchor : Option Place) (ranges : List AtomicRange) (log : Log) →
+    OnOk r (new ≡ with_settings text_layout settings) → OnErr r (new ≡ text_layout) → IsSound (document_of text_layout cursor anchor ranges log) → IsSound (document_of new cursor anchor ranges log)
 sound_viewed r text_layout new settings cursor anchor ranges log ok err h =
     subst (λ (t : List Symbol). IsSound (record { text = t; layout = new.layout; cursor = cursor; anchor = anchor; ranges = ranges; log = log })) (sym (text_viewed r text_layout new settings ok err))
     (resound (document_of text_layout cursor anchor ranges log) new.layout h)
@@ -88,6 +187,7 @@ layout_with_settings document settings =
     ap (λ (t : List Symbol). record { text = t; layout = after.layout }) (text_stays (text_and_layout document) settings)
 
 -- a document whose lines have other settings
-pub settings_put : (text_layout new : TextAndLayout) (settings : LayoutSettings) (cursor : Place) (anchor : Option Place) (ranges : List AtomicRange) (log : Log) → new ≡ with_settings text_layout settings → document_of new cursor anchor ranges log ≡ with_layout_settings (document_of text_layout cursor anchor ranges log) settings
+pub settings_put : (text_layout new : TextAndLayout) (settings : LayoutSettings) (cursor : Place) (anchor : Option Place) (ranges : List AtomicRange) (log : Log) →
+    new ≡ with_settings text_layout settings → document_of new cursor anchor ranges log ≡ with_layout_settings (document_of text_layout cursor anchor ranges log) settings
 settings_put text_layout new settings cursor anchor ranges log is =
     ap (λ (l : TextAndLayout). document_of l cursor anchor ranges log) (is ∙ layout_with_settings (document_of text_layout cursor anchor ranges log) settings)

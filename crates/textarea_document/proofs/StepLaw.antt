@@ -2,7 +2,8 @@
 use Rattle.std.proofs.Common.{◌≡◌, ◌+◌, ◌-◌, ◌<◌, ℕ, List, [], ◌∷◌, length, take, drop, get_or, None, sym, ap, subst, ◌∙◌, arith}
 use Rattle.std.proofs.lemmas.List.{drop_more, length-take-le, take-append-drop}
 use Rattle.std.proofs.Math.Seq.{take-add}
-use Rattle.textarea_document.specs.Prelude.{Symbol, Break, lines, IsPlace, OccursAt, end, index_of, line_end, place_of, Fits, TakesWhole, range_at_place, widened, DocumentState, IsSound, HasEffect, Insert, Remove, RemoveBefore, RemoveAfter, RemoveBreak, EditStep, cursor_index, splice_of_step, symbol_removal, SplitsNoRange}
+use Rattle.textarea_document.specs.Prelude.{Symbol, Break, lines, IsPlace, OccursAt, end, index_of, line_end, place_of, Fits, TakesWhole, range_at_place, widened, DocumentState, IsSound, HasEffect}
+use Rattle.textarea_document.specs.Prelude.{Insert, Remove, RemoveBefore, RemoveAfter, RemoveBreak, EditStep, cursor_index, splice_of_step, symbol_removal, SplitsNoRange}
 use Rattle.textarea_text.proofs.TextPlaces.{IsPlace-end, index_of-end, index_within, place_of-index}
 use Rattle.textarea_text.proofs.Splices.{end-append}
 use Rattle.textarea_data.specs.declared.range.AtomicCursorBias.TheVariants.{Backward, Forward}

@@ -31,7 +31,8 @@ previous_column items place h some =
     (character_occurs rows place.0 column c h.0 start.1 (drop_more (get_or rows place.0 []) column 0 (omega (arith, h.1))))
     (pair_is place place.0 (column + 1) refl (omega arith)))
 
-pub previous_line : {Z : Type 0} (items : List (String Z)) (place : Place) → IsPlaceOf (lines_of items) place → place.1 ≡ 0 → place.0 ≢ 0 → Some (line_end (lines_of items) (place.0 - 1)) ≡ previous_place (text_of items) place
+pub previous_line : {Z : Type 0} (items : List (String Z)) (place : Place) → IsPlaceOf (lines_of items) place → place.1 ≡ 0 → place.0 ≢ 0 →
+    Some (line_end (lines_of items) (place.0 - 1)) ≡ previous_place (text_of items) place
 previous_line items place h none later =
     let rows = lines_of items in
     let row = place.0 - 1 in

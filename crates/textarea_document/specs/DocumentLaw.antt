@@ -1,7 +1,7 @@
 -- The laws of both lists of edits, and of undos and redos one after another.
 use Rattle.std.specs.Prelude.{◌≡◌, ℕ, ◌-◌, ◌<◌, length, drop, reverse, IfSome}
 use Rattle.textarea_text.specs.Splice.{CanApply, CanUndo, IsTextBefore, place_after}
-use Rattle.textarea_history.specs.Log.{newest}
+use Rattle.textarea_history.specs.Log.{done_groups, newest}
 use Rattle.textarea_history.specs.HistoryLaw.{IsSame, times}
 use Rattle.textarea_document.specs.DocumentState.{DocumentState, logged}
 use Rattle.textarea_document.specs.Outcomes.{after_redo, after_undo}
@@ -13,12 +13,13 @@ pub record ListsFit (document : DocumentState) : Type 0 where
   pub done : CanUndo document.text (reverse document.log.done)
   pub undone : CanApply document.text document.log.undone
 
--- after `count` undos the text is the one from which the last `count` done edits lead to the
--- present text; after the same number of redos the text and both lists of edits are restored, and
--- the cursor is where the newest edit leaves it
+-- after `count` undos `count` groups less are done, and the text is the one from which the edits
+-- that were undone lead to the present text; after the same number of redos the text and both lists
+-- of edits are restored, and the cursor is where the newest edit leaves it
 pub record RestoresDocument (document : DocumentState) (count : ℕ) : Type 0 where
+  pub groups : done_groups (times count after_undo document).log ≡ done_groups document.log - count
   pub before : IsTextBefore (times count after_undo document).text document.text
-      (drop (length document.log.done - count) document.log.done)
+      (drop (length (times count after_undo document).log.done) document.log.done)
   pub again : IsSame (logged (times count after_redo (times count after_undo document))) (logged document)
   pub cursor : 0 < count → IfSome (newest document.log)
       (λ splice. (times count after_redo (times count after_undo document)).cursor ≡ place_after splice)

@@ -4,7 +4,8 @@ use Rattle.textarea_text.specs.Text.{lines}
 use Rattle.textarea_lines.specs.TextLayout.{Layout, after_splice}
 use Rattle.textarea_text.specs.Place.{Place}
 use Rattle.textarea_text.specs.Splice.{Splice, applied, inverse, place_after}
-use Rattle.textarea_history.specs.Log.{Log, recorded, newest, next, undone_log, redone_log}
+use Rattle.textarea_history.specs.HistoryLaw.{times}
+use Rattle.textarea_history.specs.Log.{Log, recorded, newest, newest_group, next, next_group, undone_log, redone_log}
 use Rattle.textarea_ranges.specs.Moved.{moved_ranges}
 use Rattle.textarea_document.specs.DocumentState.{DocumentState}
 
@@ -30,23 +31,31 @@ abbrev pub after_edit : DocumentState → Splice → Bool → ℕ → DocumentSt
 after_edit document splice typed now =
     after_change document splice (recorded document.log splice typed now)
 
--- the newest edit is undone, if any: the cursor is after the restored text, or where it removed
--- text
+-- the newest edit is undone, if there is one: the cursor is after the restored text, or where it
+-- removed text
 abbrev pub after_undo_by : Option Splice → DocumentState → DocumentState
 after_undo_by None document = document
 after_undo_by (Some splice) document =
     after_change document (inverse splice) (undone_log document.log splice)
 
+abbrev pub edit_undone : DocumentState → DocumentState
+edit_undone document = after_undo_by (newest document.log) document
+
+-- the edits of the newest group are undone, the newest first
 abbrev pub after_undo : DocumentState → DocumentState
-after_undo document = after_undo_by (newest document.log) document
+after_undo document = times (newest_group document.log) edit_undone document
 
 -- the edit that was undone last is redone, if there is one: the cursor is where it left it
 abbrev pub after_redo_by : Option Splice → DocumentState → DocumentState
 after_redo_by None document = document
 after_redo_by (Some splice) document = after_change document splice (redone_log document.log splice)
 
+abbrev pub edit_redone : DocumentState → DocumentState
+edit_redone document = after_redo_by (next document.log) document
+
+-- the edits of the group that was undone last are redone
 abbrev pub after_redo : DocumentState → DocumentState
-after_redo document = after_redo_by (next document.log) document
+after_redo document = times (next_group document.log) edit_redone document
 
 abbrev pub run_ended : Log → Log
 run_ended log = record log { run_open = false }

@@ -17,8 +17,10 @@ pub use Rattle.textarea_text.specs.Text.{Break, Character, Symbol, characters, c
 pub use Rattle.textarea_text.specs.Words.{next_word_last}
 unfoldable pub use Rattle.textarea_text.specs.Words.{class_of}
 pub use Rattle.textarea_history.specs.Edit.{IsWellFormed, Stored, inserts_of, symbols_of}
+pub use Rattle.textarea_history.specs.Groups.{group_count, grouped_before, grouped_first, is_grouped, is_open}
 pub use Rattle.textarea_history.specs.HistoryLaw.{IsSame, times}
-pub use Rattle.textarea_history.specs.Log.{Log, Logged, done_after, empty_log, grown, is_typed, joins, remaining_done, redone_log, newest, next, recorded, undone_log, with_done}
+pub use Rattle.textarea_history.specs.Log.{Log, Logged, appended_log, done_groups, done_joined, empty_log, group_begun, group_closed, group_ended, group_forgotten, group_opened, grown, is_outgrown}
+pub use Rattle.textarea_history.specs.Log.{joined_log, joins, redone_log, remaining_done, newest, newest_group, next, next_group, recorded, undone_log}
 pub use Rattle.textarea_history.specs.Run.{merged}
 pub use Rattle.textarea_history.specs.declared.edit.EditKind.{EditKind}
 pub use Rattle.textarea_data.specs.declared.cursor.CursorMove.{CursorMove}
@@ -39,16 +41,21 @@ pub use Rattle.textarea_lines.specs.TextRows.{OfRows}
 pub use Rattle.textarea_lines.specs.View.{IsPrepared, IsViewOf}
 pub use Rattle.textarea_lines.specs.Wrappings.{is_same_wrapping, wrapping_for}
 pub use Rattle.textarea_lines.specs.declared.settings.LayoutSettings.{LayoutSettings}
-pub use Rattle.textarea_document.specs.DocumentWraps.{WrapsAll, WrapsBySettings, WrapsByWidth, SplicesBy}
-pub use Rattle.textarea_document.specs.Edits.{Insert, HasEffect, IsSymbolAfter, Remove, RemoveBefore, RemoveAfter, RemoveBreak, EditStep, break_inserted, break_removal, break_removed, character_inserted, cursor_index, range_at_cursor, range_before, range_after, cursor_range_removed, insertion, insertion_place, is_at_end, is_at_start, has_symbols, nothing_inserted, removal, splice_of_step, stepped, symbol_removal, symbol_removed_before, symbol_removed_after, symbols_inserted, removed_symbols}
+pub use Rattle.textarea_document.specs.DocumentWraps.{SplicedBy, WrapsAll, WrapsBySettings, WrapsByWidth, SplicesBy}
+pub use Rattle.textarea_document.specs.Edits.{Insert, HasEffect, IsSymbolAfter, Remove, RemoveBefore, RemoveAfter, RemoveBreak, EditStep, break_inserted, break_removal, break_removed}
+pub use Rattle.textarea_document.specs.Edits.{character_inserted, cursor_index, range_at_cursor, range_before, range_after, cursor_range_removed, insertion, insertion_place, is_at_end, is_at_start}
+pub use Rattle.textarea_document.specs.Edits.{has_symbols, nothing_inserted, removal, splice_of_step, stepped, symbol_removal, symbol_removed_before, symbol_removed_after, symbols_inserted}
+pub use Rattle.textarea_document.specs.Edits.{removed_symbols}
 unfoldable pub use Rattle.textarea_document.specs.Edits.{between_removed, removed_before, removed_after}
 pub use Rattle.textarea_document.specs.RangesOverSplices.{AllStayOrAreDropped, AllStemFrom, SplitNoRange, RangesFollowSplices, RangesStayWhole, IsDroppedBy, StemsFrom, carried_range, ranges_over}
 pub use Rattle.textarea_document.specs.DocumentLaw.{RestoresAll, RestoresDocument, ListsFit}
-pub use Rattle.textarea_document.specs.Outcomes.{after_change, after_edit, after_move, after_redo, after_redo_by, run_ended, unanchored, after_undo, after_undo_by}
+pub use Rattle.textarea_document.specs.Outcomes.{after_change, after_edit, after_move, after_redo, after_redo_by, edit_redone, edit_undone, run_ended, unanchored, after_undo, after_undo_by}
 pub use Rattle.textarea_document.specs.Ranges.{SplitsNoRange, SplitsNoRangeBy, accepted, anchor_out, anchored, with_ranges, normalized, range_removed, ranges_forgotten, unless_empty}
 pub use Rattle.textarea_document.specs.DocumentRows.{text_and_layout, with_inner_width, with_layout_settings}
 unfoldable pub use Rattle.textarea_document.specs.DocumentRows.{HasRowsAt, IsAboveCursor, IsBelowCursor}
 pub use Rattle.textarea_document.specs.Selection.{is_selected, selected_removed, selected_symbols, selection, selection_end, selection_start}
-pub use Rattle.textarea_document.specs.Sound.{IsSound}
+pub use Rattle.textarea_document.specs.Sound.{IsSound, IsSoundInside}
 pub use Rattle.textarea_document.specs.DocumentState.{DocumentState, document_of, fresh_document, logged, new_document}
-pub use Rattle.textarea_document.specs.Target.{IsDocumentTarget, first_word_end, place_or, is_later_word_row, next_head, next_place, next_word_row, paragraph_back, paragraph_forward, previous_end, previous_place, target, word_back, word_end, word_end_after, word_forward, word_start_before}
+pub use Rattle.textarea_document.specs.Target.{IsDocumentTarget, first_word_end, place_or, is_later_word_row, next_head, next_place, next_word_row, paragraph_back, paragraph_forward, previous_end}
+pub use Rattle.textarea_document.specs.Target.{previous_place, target, word_back, word_end, word_end_after, word_forward, word_start_before}
+pub use Rattle.textarea_document.specs.Splices.{redo_splices, undo_splices}

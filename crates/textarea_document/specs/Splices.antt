@@ -1,10 +1,10 @@
 -- The splices by which the edits of a document change its text, as a list: one, or none if nothing
 -- changes. Each is the splice of one of the five steps.
-use Rattle.std.specs.Prelude.{◌==◌, List, [], ◌∷◌, Option, None, Some, if◌then◌else◌}
+use Rattle.std.specs.Prelude.{◌==◌, List, [], ◌∷◌, map, reverse, take, Option, None, Some, if◌then◌else◌}
 use Rattle.textarea_text.specs.Place.{Place}
 use Rattle.textarea_text.specs.Splice.{Splice, inverse}
 use Rattle.textarea_text.specs.Text.{Symbol}
-use Rattle.textarea_history.specs.Log.{newest, next}
+use Rattle.textarea_history.specs.Log.{newest_group, next_group}
 use Rattle.textarea_data.specs.declared.range.AtomicRange.{AtomicRange}
 use Rattle.textarea_data.specs.declared.range.AtomicDeleteDirection.{AtomicDeleteDirection}
 use Rattle.textarea_ranges.specs.Lookup.{range_start, range_end}
@@ -53,18 +53,10 @@ abbrev pub selected_splices : DocumentState → List Splice
 selected_splices document =
     if is_selected document then removal_splices document (selection_start document) (selection_end document) else []
 
--- the inverse of the newest done edit, if there is one
-abbrev pub undo_splices_by : Option Splice → List Splice
-undo_splices_by None = []
-undo_splices_by (Some splice) = inverse splice ∷ []
-
+-- the inverses of the edits of the newest group, the newest first
 abbrev pub undo_splices : DocumentState → List Splice
-undo_splices document = undo_splices_by (newest document.log)
+undo_splices document = map inverse (take (newest_group document.log) (reverse document.log.done))
 
--- the next undone edit, if there is one
-abbrev pub redo_splices_by : Option Splice → List Splice
-redo_splices_by None = []
-redo_splices_by (Some splice) = splice ∷ []
-
+-- the edits of the group that was undone last
 abbrev pub redo_splices : DocumentState → List Splice
-redo_splices document = redo_splices_by (next document.log)
+redo_splices document = take (next_group document.log) document.log.undone

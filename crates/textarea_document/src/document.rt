@@ -1,5 +1,7 @@
 //! The document: lines, a cursor, an anchor, atomic ranges and a history.
+mod draft;
 mod edits;
+mod groups;
 pub mod insertions;
 mod laws;
 mod next_symbol;
@@ -130,36 +132,48 @@ impl Document {
         self.text_layout.is_empty()
     }
 
-    /// Undoes the newest edit, and returns whether there was one. The cursor is then after the
-    /// restored text, or where the removed text began; nothing is selected, and the remaining
-    /// ranges have moved with the text.
+    /// Undoes the newest group of edits, and returns whether there was an edit. The cursor is then
+    /// after the text that was restored last, or where text was removed last; nothing is selected,
+    /// and the remaining ranges have moved with the text. An open group is closed. The edits of a
+    /// group are undone in a copy of the document, so that out of memory changes nothing.
     pub fn undo(&mut self) -> Result<bool, AllocError>
         ensures undone { IfOk result (λ found. found ≡ is_some (newest self.old.log)) }
         ensures ok { OnOk result (self.new ≡ after_undo self.old) }
         ensures err { OnErr result (self.new ≡ self.old) }
         ensures nothing { newest self.old.log ≡ None → IsOk result }
     {
+        let count = self.history.newest_group();
+        if 1 < count {
+            return self.undo_group(count);
+        }
         let Some(edit) = self.history.newest() else {
             return Ok(false);
         };
-        self.cursor = make_change(&mut self.text_layout, &mut self.ranges, edit.inverse())?;
+        let cursor = make_change(&mut self.text_layout, &mut self.ranges, edit.inverse())?;
+        self.cursor = cursor;
         self.history.step_back();
         self.anchor = None;
         Ok(true)
     }
 
-    /// Redoes the edit that was undone last, and returns whether there was one. The cursor is then
-    /// where that edit left it, nothing is selected, and the other ranges have moved with the text.
+    /// Redoes the group of edits that was undone last, and returns whether there was an edit. The
+    /// cursor is then where its last edit left it, nothing is selected, and the other ranges have
+    /// moved with the text. An open group is closed. Out of memory changes nothing, as for `undo`.
     pub fn redo(&mut self) -> Result<bool, AllocError>
         ensures redone { IfOk result (λ found. found ≡ is_some (next self.old.log)) }
         ensures ok { OnOk result (self.new ≡ after_redo self.old) }
         ensures err { OnErr result (self.new ≡ self.old) }
         ensures nothing { next self.old.log ≡ None → IsOk result }
     {
+        let count = self.history.next_group();
         let Some(edit) = self.history.next() else {
             return Ok(false);
         };
-        self.cursor = make_change(&mut self.text_layout, &mut self.ranges, edit.change())?;
+        if 1 < count {
+            return self.redo_group(count);
+        }
+        let cursor = make_change(&mut self.text_layout, &mut self.ranges, edit.change())?;
+        self.cursor = cursor;
         self.history.step_forward();
         self.anchor = None;
         Ok(true)
@@ -175,7 +189,8 @@ impl Document {
         ensures err { OnErr result (self.new ≡ self.old) }
     {
         self.history.reserve()?;
-        self.cursor = make_change(&mut self.text_layout, &mut self.ranges, edit.change())?;
+        let cursor = make_change(&mut self.text_layout, &mut self.ranges, edit.change())?;
+        self.cursor = cursor;
         self.history.put(edit, typed, now);
         self.anchor = None;
         Ok(())
@@ -207,7 +222,8 @@ impl Document {
         self.history.break_run();
     }
 
-    /// Returns the greatest number of edits that are remembered, done and undone together.
+    /// Returns the greatest number of edits that are remembered, done and undone together. A group
+    /// of more edits is forgotten, with all edits before it.
     pub fn max_histories(&self) -> usize
         ensures value { result ≡ self.now.log.maximum }
         ensures bound { length self.now.log.done + length self.now.log.undone ≤ result }
@@ -215,7 +231,7 @@ impl Document {
         self.history.max_items()
     }
 
-    /// Replaces all lines, forgets all edits, and moves the cursor to the nearest position; the
+    /// Replaces all lines, forgets all edits and an open group, and moves the cursor to the nearest position; the
     /// maximum of remembered edits stays.
     pub fn set_lines(
         &mut self,
@@ -247,7 +263,7 @@ impl Document {
         text_layout.into_lines()
     }
 
-    /// Forgets all edits, and remembers at most this number from now on.
+    /// Forgets all edits and an open group, and remembers at most this number of edits from now on.
     pub fn set_max_histories(&mut self, max_histories: usize)
         ensures { self.new ≡ record self.old { log = empty_log max_histories } }
     {
@@ -257,7 +273,7 @@ impl Document {
 
 // Makes a change that fits the text of the lines, moves the ranges with it, and returns the cursor
 // after it. All memory is allocated before the first change.
-fn make_change(
+pub(crate) fn make_change(
     text_layout: &mut TextLayout,
     ranges: &mut Vec<AtomicRange>,
     change: Change<'_>,

@@ -1,6 +1,6 @@
 //! Laws of documents and their visual rows, each the contract of a function that does nothing.
-ghost use Rattle.std.specs.Prelude.{◌≡◌, ℕ, Bool, false, List, [], ◌∷◌, Contains, None, Option, Some};
-ghost use Rattle.textarea_document.specs.Prelude.{newest, next, LayoutSettings, AtomicRange, TakesRange, moved_range, Place, end, Fits, Splice, inverse, Symbol, WrapsAll, WrapsBySettings, WrapsByWidth, SplicesBy, HasEffect, EditStep, splice_of_step, stepped, AllStayOrAreDropped, AllStemFrom, RangesFollowSplices, RangesStayWhole, after_edit, after_redo, after_undo, SplitsNoRange, HasRowsAt, IsAboveCursor, IsBelowCursor, with_inner_width, with_layout_settings, IsSound, DocumentState, fresh_document};
+ghost use Rattle.std.specs.Prelude.{◌≡◌, ℕ, Bool, false, List, [], ◌∷◌, Contains, None, Option};
+ghost use Rattle.textarea_document.specs.Prelude.{redo_splices, undo_splices, LayoutSettings, AtomicRange, TakesRange, moved_range, Place, end, Fits, Splice, Symbol, WrapsAll, WrapsBySettings, WrapsByWidth, SplicedBy, SplicesBy, HasEffect, EditStep, splice_of_step, stepped, AllStayOrAreDropped, AllStemFrom, RangesFollowSplices, RangesStayWhole, after_edit, after_redo, after_undo, SplitsNoRange, HasRowsAt, IsAboveCursor, IsBelowCursor, with_inner_width, with_layout_settings, IsSound, DocumentState, fresh_document};
 
 use textarea_lines::laws::{settings_wrap, splices_wrap};
 use textarea_ranges::laws::ranges_follow_the_text;
@@ -24,8 +24,9 @@ pub fn one_row_count()
     textarea_screen_map::laws::one_row_count();
 }
 
-/// Which lines each edit, undo and redo wraps, and so adds to the wrap counter: the lines that its
-/// splice touches if it keeps the width of the map of visual rows, and otherwise all lines.
+/// Which lines each edit, undo and redo wraps, and so adds to the wrap counter: for each of its
+/// splices the lines that the splice touches, if it keeps the width of the map of visual rows, and
+/// otherwise all lines.
 pub fn edits_wrap()
     ensures edited { (document : DocumentState) (splice : Splice) (typed : Bool) (now : ℕ) →
         Fits document.text splice →
@@ -33,12 +34,10 @@ pub fn edits_wrap()
     ensures stepped { (document : DocumentState) (step : EditStep) (typed : Bool) (now : ℕ) →
         IsSound document → HasEffect document step →
         SplicesBy document (splice_of_step document step) (stepped document step typed now) }
-    ensures undone { (document : DocumentState) (splice : Splice) →
-        IsSound document → newest document.log ≡ Some splice →
-        SplicesBy document (inverse splice) (after_undo document) }
-    ensures redone { (document : DocumentState) (splice : Splice) →
-        IsSound document → next document.log ≡ Some splice →
-        SplicesBy document splice (after_redo document) }
+    ensures undone { (document : DocumentState) →
+        IsSound document → SplicedBy document (undo_splices document) (after_undo document) }
+    ensures redone { (document : DocumentState) →
+        IsSound document → SplicedBy document (redo_splices document) (after_redo document) }
 {
     splices_wrap();
 }
@@ -60,7 +59,7 @@ pub fn layout_changes_wrap()
 }
 
 /// The ranges of a document move with its text: over the splice of an edit that splits no range, as
-/// each of the five steps does, and over that of an undo or a redo. After such splices each range
+/// each of the five steps does, and over those of an undo or a redo. After such splices each range
 /// comes from an old one, and covers the same characters, all in one line; and each old range either
 /// is there, as the splices move it, or is disturbed by one of them: nothing else drops a range.
 pub fn ranges_follow_splices()
@@ -71,12 +70,10 @@ pub fn ranges_follow_splices()
         IsSound document → HasEffect document step →
         RangesStayWhole document (splice_of_step document step ∷ [])
         (stepped document step typed now) }
-    ensures undone { (document : DocumentState) (splice : Splice) →
-        IsSound document → newest document.log ≡ Some splice →
-        RangesFollowSplices document (inverse splice ∷ []) (after_undo document) }
-    ensures redone { (document : DocumentState) (splice : Splice) →
-        IsSound document → next document.log ≡ Some splice →
-        RangesFollowSplices document (splice ∷ []) (after_redo document) }
+    ensures undone { (document : DocumentState) → IsSound document →
+        RangesFollowSplices document (undo_splices document) (after_undo document) }
+    ensures redone { (document : DocumentState) → IsSound document →
+        RangesFollowSplices document (redo_splices document) (after_redo document) }
     ensures stem { (old new : DocumentState) (splices : List Splice) →
         IsSound old → RangesFollowSplices old splices new → AllStemFrom old splices new }
     ensures dropped { (old new : DocumentState) (splices : List Splice) →

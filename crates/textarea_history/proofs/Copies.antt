@@ -1,7 +1,7 @@
 -- Copies of edits, and of a history's list of them.
-use Rattle.std.proofs.Common.{◌≡◌, ◌≤◌, ◌-◌, ℕ, zero, suc, List, [], ◌∷◌, length, map, Option, Some, None, sym, ap, refl, ◌∙◌, arith, subst, slice_get}
+use Rattle.std.proofs.Common.{◌≡◌, ◌≤◌, ◌-◌, ℕ, Bool, zero, suc, List, [], ◌∷◌, length, map, Option, Some, None, sym, ap, refl, ◌∙◌, arith, subst, slice_get}
 use Rattle.std.proofs.lemmas.List.Elements.{AllZip-get_or, length_all_zip}
-use Rattle.textarea_history.specs.Prelude.{AllZip, IfSome, end, Splice, Stored, IsCopyOfEdit, IsWellFormed, edge_of, splice_in, IsRun, IsRunEdge, IsStore}
+use Rattle.textarea_history.specs.Prelude.{AllZip, IfSome, end, Splice, Stored, IsCopyOfEdit, IsWellFormed, edge_of, grouped_in, splice_in, IsRun, IsRunEdge, IsStore}
 
 pub splices_copied : (items copies : List Stored) → AllZip IsCopyOfEdit items copies → map splice_in copies ≡ map splice_in items
 splices_copied [] [] h = refl
@@ -10,6 +10,13 @@ splices_copied (edit ∷ items) [] h = absurd h
 splices_copied (edit ∷ items) (copy ∷ copies) h =
     ap (λ (s : Splice). s ∷ map splice_in copies) h.0.splice ∙ ap (λ (t : List Splice). edit.splice ∷ t) (splices_copied items copies h.1)
 
+pub marks_copied : (items copies : List Stored) → AllZip IsCopyOfEdit items copies → map grouped_in copies ≡ map grouped_in items
+marks_copied [] [] h = refl
+marks_copied [] (copy ∷ copies) h = absurd h
+marks_copied (edit ∷ items) [] h = absurd h
+marks_copied (edit ∷ items) (copy ∷ copies) h =
+    ap (λ (b : Bool). b ∷ map grouped_in copies) h.0.grouped ∙ ap (λ (t : List Bool). edit.grouped ∷ t) (marks_copied items copies h.1)
+
 formed_copied : (edit copy : Stored) → IsCopyOfEdit edit copy → IsWellFormed edit → IsWellFormed copy
 formed_copied edit copy same h = record {
   some = omega (arith, h.some, ap (λ (s : Splice). length s.symbols) same.splice);
@@ -17,7 +24,8 @@ formed_copied edit copy same h = record {
   ends = same.end ∙ h.ends ∙ ap (λ (s : Splice). end s.place s.symbols) (sym same.splice);
 }
 
-run_copied : (edge : ℕ) (items copies : List Stored) (n : ℕ) → AllZip IsCopyOfEdit items copies → IfSome (slice_get items n) (λ edit. IsRun edit edge) → IfSome (slice_get copies n) (λ edit. IsRun edit edge)
+run_copied : (edge : ℕ) (items copies : List Stored) (n : ℕ) → AllZip IsCopyOfEdit items copies → IfSome (slice_get items n) (λ edit. IsRun edit edge) →
+    IfSome (slice_get copies n) (λ edit. IsRun edit edge)
 run_copied edge [] [] n h run = run
 run_copied edge [] (copy ∷ copies) n h run = absurd h
 run_copied edge (edit ∷ items) [] n h run = absurd h

@@ -1,11 +1,15 @@
 -- The laws of a text and the log of its edits.
-use Rattle.std.proofs.Common.{◌≡◌, ◌≢◌, ℕ, zero, suc, ◌+◌, ◌-◌, ◌≤◌, ◌<◌, ◌==◌, Bool, true, false, cond, List, [], ◌∷◌, ◌++◌, length, take, drop, reverse, Option, Some, None, option_map, slice_get, get_or, sym, ap, refl, ◌∙◌, subst, arith, eq-eqb}
+use Rattle.std.proofs.Common.{◌≡◌, ◌≢◌, ℕ, zero, suc, ◌+◌, ◌-◌, ◌≤◌, ◌<◌, ◌==◌, Bool, true, false, cond, List, [], ◌∷◌, ◌++◌, length, take, drop, reverse, Option, Some, None, option_map, slice_get}
+use Rattle.std.proofs.Common.{get_or, sym, ap, refl, ◌∙◌, subst, arith, eq-eqb}
 use Rattle.std.proofs.lemmas.Grind.{common_steps}
 use Rattle.std.proofs.lemmas.Bool.{eqb-true}
 use Rattle.std.proofs.lemmas.List.{reverse-append, length-append, length-drop, length-reverse, length-take-le, take-append-drop, nil_from_length, drop_more, drop_all, drop-append-le}
 use Rattle.std.proofs.lemmas.Option.{get_or_from_slice_get, slice_get_within, slice_get-get_or}
-use Rattle.textarea_history.specs.Prelude.{Symbol, Place, Splice, Fits, applied, inverse, place_after, CanApply, CanUndo, IsTextBefore, merged, Log, Logged, Redoes, Undoes, done_after, grown, is_typed, joins, remaining_done, newest, next, redone, redone_by, undone, undone_by, with_done, EachFits, RestoresText, IsRedone, IsSame, IsSoundLog, edit_recorded, times}
+use Rattle.textarea_history.specs.Prelude.{Symbol, Place, Splice, Fits, applied, inverse, place_after, CanApply, CanUndo, IsTextBefore, merged, Log, Logged, Redoes, Undoes, appended_log, done_joined}
+use Rattle.textarea_history.specs.Prelude.{group_forgotten, grown, is_filled, is_full, is_grouped, is_outgrown, recorded, joined_log, joins, newest, next, oldest_group, redone, redone_by}
+use Rattle.textarea_history.specs.Prelude.{remaining_done, remaining_marks, undone, undone_by, EachFits, RestoresText, IsRedone, IsSame, IsSoundLog, edit_recorded, times}
 use Rattle.textarea_text.proofs.TextPlaces.{takes_back}
+use Rattle.textarea_history.proofs.Groups.{none_grouped, place_length, remaining_same}
 use Rattle.textarea_history.proofs.Joins.{joins_newest}
 use Rattle.textarea_history.proofs.UndoLaws.{CanApply-last, CanUndo-merged, applied_all-last, inverse-inverse}
 
@@ -15,23 +19,27 @@ CanUndo-front : (xs ys : List Splice) (text : List Symbol) → CanUndo text (xs 
 CanUndo-front [] ys text h = tt
 CanUndo-front (x ∷ xs) ys text h = (h.0, CanUndo-front xs ys (applied text (inverse x)) h.1)
 
-can_undo_rest : (full : Bool) (done : List Splice) (text : List Symbol) → CanUndo text (reverse done) → CanUndo text (reverse (cond full (drop 1 done) done))
-can_undo_rest true [] text h = h
-can_undo_rest true (first ∷ done) text h = CanUndo-front (reverse done) (first ∷ []) text (subst (CanUndo text) (reverse-append (first ∷ []) done) h)
-can_undo_rest false done text h = h
-
-stored_length : (full : Bool) (done undone : List Splice) (maximum : ℕ) → (length done + length undone == maximum) ≡ full → length done + length undone ≤ maximum → 0 < maximum → length (cond full (drop 1 done) done) + 1 ≤ maximum
-stored_length true done undone maximum e bounded some = omega (arith, length-drop 1 done)
-stored_length false done undone maximum e bounded some =
-    let apart : length done + length undone ≢ maximum = λ same. cc (e, eq-eqb (length done + length undone) maximum same) in
-    omega arith
+can_undo_rest : (full : Bool) (k : ℕ) (done : List Splice) (text : List Symbol) → CanUndo text (reverse done) → CanUndo text (reverse (cond full (drop k done) done))
+can_undo_rest true k done text h =
+    CanUndo-front (reverse (drop k done)) (reverse (take k done)) text
+    (subst (CanUndo text) (ap reverse (sym (take-append-drop k done)) ∙ reverse-append (take k done) (drop k done)) h)
+can_undo_rest false k done text h = h
 
 -- the newest edit is the last
 pub last_split : (done : List Splice) (splice : Splice) → slice_get done (length done - 1) ≡ Some splice → done ≡ take (length done - 1) done ++ (splice ∷ [])
 last_split done splice e =
     let within : length done - 1 < length done = slice_get_within done (length done - 1) splice e in
     let rest : length done ≤ length done - 1 + 1 = omega arith in
-    grind (arith, common_steps, slice_get_within done (length done - 1) splice e, take-append-drop (length done - 1) done, drop_more done (length done - 1) splice within, get_or_from_slice_get done (length done - 1) splice splice e, drop_all (length done - 1 + 1) done rest)
+    grind (
+      arith,
+      common_steps,
+      slice_get_within done (length done - 1) splice e,
+      take-append-drop (length done - 1) done,
+      drop_more done (length done - 1) splice within,
+      get_or_from_slice_get done
+          (length done - 1) splice splice e,
+      drop_all (length done - 1 + 1) done rest,
+    )
 
 pub reverse_last : (done : List Splice) (splice : Splice) → slice_get done (length done - 1) ≡ Some splice → reverse done ≡ splice ∷ reverse (take (length done - 1) done)
 reverse_last done splice e = ap reverse (last_split done splice e) ∙ reverse-append (take (length done - 1) done) (splice ∷ [])
@@ -47,7 +55,8 @@ newest_some (first ∷ rest) some =
     (get_or done (length done - 1) first, slice_get-get_or done (length done - 1) first (omega arith))
 
 -- the last edits are those before the newest one, and the newest
-pub last_changes : (done : List Splice) (splice : Splice) (count : ℕ) → slice_get done (length done - 1) ≡ Some splice → suc count ≤ length done → drop (length (take (length done - 1) done) - count) (take (length done - 1) done) ++ splice ∷ [] ≡ drop (length done - suc count) done
+pub last_changes : (done : List Splice) (splice : Splice) (count : ℕ) → slice_get done (length done - 1) ≡ Some splice → suc count ≤ length done →
+    drop (length (take (length done - 1) done) - count) (take (length done - 1) done) ++ splice ∷ [] ≡ drop (length done - suc count) done
 last_changes done splice count e within =
     let front = take (length done - 1) done in
     let size : length front ≡ length done - 1 = length-take-le (length done - 1) done (omega arith) in
@@ -58,53 +67,97 @@ last_changes done splice count e within =
 
 -- ---- an edit
 
-recorded_joined : (log : Log) (splice run : Splice) → newest log ≡ Some run → done_after log splice true ≡ take (length log.done - 1) log.done ++ merged run splice ∷ []
-recorded_joined log splice run e = ap (λ (o : Option Splice). take (length log.done - 1) log.done ++ grown o splice ∷ []) e
+-- no edit is recorded if the maximum is 0
+sound_unrecorded : (logged : Logged) (splice : Splice) → IsSoundLog logged → (logged.log.maximum == 0) ≡ true → IsSoundLog (record { text = applied logged.text splice; log = logged.log })
+sound_unrecorded logged splice h e =
+    let log = logged.log in
+    let zero_maximum : log.maximum ≡ 0 = eqb-true log.maximum 0 e in
+    let no_done : log.done ≡ [] = nil_from_length log.done (omega (arith, h.bounded)) in
+    let no_undone : log.undone ≡ [] = nil_from_length log.undone (omega (arith, h.bounded)) in
+    record {
+      undo = subst (λ d. CanUndo (applied logged.text splice) (reverse d)) (sym no_done) tt;
+      redo = subst (CanApply (applied logged.text splice)) (sym no_undone) tt;
+      bounded = h.bounded;
+      marks = h.marks;
+    }
 
--- the done edits after one that joined the newest, or did not
-pub recorded_done : (logged : Logged) (splice : Splice) (typed : Bool) (now : ℕ) → IsSoundLog logged → Fits logged.text splice → 0 < logged.log.maximum → (joined : Bool) → joins logged.log splice typed now ≡ joined → CanUndo (applied logged.text splice) (reverse (done_after logged.log splice joined)) × (length (done_after logged.log splice joined) ≤ logged.log.maximum)
-recorded_done logged splice typed now h fits some true e =
+-- the edit joins the newest one
+sound_joined : (logged : Logged) (splice : Splice) (typed : Bool) (now : ℕ) → IsSoundLog logged → Fits logged.text splice → joins logged.log splice typed now ≡ true →
+    IsSoundLog (record { text = applied logged.text splice; log = joined_log logged.log splice now })
+sound_joined logged splice typed now h fits e =
     let log = logged.log in
     let joining = joins_newest log splice typed now e in
     let front = take (length log.done - 1) log.done in
-    let done_is = recorded_joined log splice joining.run joining.newest_is in
+    let done_is : done_joined log splice ≡ front ++ merged joining.run splice ∷ [] = ap (λ (o : Option Splice). front ++ grown o splice ∷ []) joining.newest_is in
     let within = slice_get_within log.done (length log.done - 1) joining.run joining.newest_is in
-    let before : CanUndo logged.text (joining.run ∷ reverse front) = subst (CanUndo logged.text) (reverse_last log.done joining.run joining.newest_is) h.undo in (
-      subst (λ d. CanUndo (applied logged.text splice) (reverse d)) (sym done_is)
+    let before : CanUndo logged.text (joining.run ∷ reverse front) = subst (CanUndo logged.text) (reverse_last log.done joining.run joining.newest_is) h.undo in
+    let size : length (done_joined log splice) ≡ length log.done =
+    omega (arith, ap length done_is, length-append front (merged joining.run splice ∷ []), length-take-le (length log.done - 1) log.done (omega arith), within) in
+    record {
+      undo = subst (λ d. CanUndo (applied logged.text splice) (reverse d)) (sym done_is)
           (subst (CanUndo (applied logged.text splice)) (sym (reverse-append front (merged joining.run splice ∷ [])))
-          (CanUndo-merged logged.text joining.run splice (reverse front) before fits joining.direction joining.place)),
-      omega (arith, ap length done_is, length-append front (merged joining.run splice ∷ []), length-take-le (length log.done - 1) log.done (omega arith), h.bounded),
-    )
-recorded_done logged splice typed now h fits some false e =
+          (CanUndo-merged logged.text joining.run splice (reverse front) before fits joining.direction joining.place));
+      redo = tt;
+      bounded = omega (arith, size, h.bounded);
+      marks = omega (arith, size, h.marks, ap length joining.none_undone);
+    }
+
+-- the edit is recorded separately
+sound_appended : (logged : Logged) (splice : Splice) (typed : Bool) (now : ℕ) → IsSoundLog logged → Fits logged.text splice → (logged.log.maximum == 0) ≡ false →
+    IsSoundLog (record { text = applied logged.text splice; log = appended_log logged.log splice typed now })
+sound_appended logged splice typed now h fits e =
     let log = logged.log in
+    let some : log.maximum ≢ 0 = λ same. cc (e, eq-eqb log.maximum 0 same) in
     let undone_splice = takes_back logged.text splice fits in
-    let full = length log.done + length log.undone == log.maximum in
-    let rest : CanUndo logged.text (reverse (remaining_done log)) = can_undo_rest full log.done logged.text h.undo in
-    let short : length (remaining_done log) + 1 ≤ log.maximum = stored_length full log.done log.undone log.maximum refl h.bounded some in (
-      subst (CanUndo (applied logged.text splice)) (sym (reverse-append (remaining_done log) (splice ∷ []))) (undone_splice.fits, subst (λ t. CanUndo t (reverse (remaining_done log))) (sym undone_splice.back) rest),
-      omega (arith, length-append (remaining_done log) (splice ∷ [])),
-    )
+    let rest : CanUndo logged.text (reverse (remaining_done log)) = can_undo_rest (is_full log) (oldest_group log) log.done logged.text h.undo in
+    record {
+      undo = subst (CanUndo (applied logged.text splice)) (sym (reverse-append (remaining_done log) (splice ∷ [])))
+          (undone_splice.fits, subst (λ t. CanUndo t (reverse (remaining_done log))) (sym undone_splice.back) rest);
+      redo = tt;
+      bounded = omega (arith, length-append (remaining_done log) (splice ∷ []), place_length log h.bounded (omega (arith, some)));
+      marks = omega (arith, length-append (remaining_done log) (splice ∷ []), length-append (remaining_marks log) (is_filled log.group ∷ []), remaining_same log (omega (arith, h.marks)));
+    }
 
 pub sound_edited : (logged : Logged) (splice : Splice) (typed : Bool) (now : ℕ) → IsSoundLog logged → Fits logged.text splice → IsSoundLog (edit_recorded logged splice typed now)
-sound_edited logged splice typed now h fits = by (logged.log.maximum == 0) refl
+sound_edited logged splice typed now h fits = by (log.maximum == 0) (joins log splice typed now) (is_outgrown log) refl refl
   where
     log : Log
     log = logged.log
 
-    by : (none : Bool) → (log.maximum == 0) ≡ none → IsSoundLog (record { text = applied logged.text splice; log = cond none log (with_done log (done_after log splice (joins log splice typed now)) (is_typed splice typed) now) })
-    by true e =
-        let zero_maximum : log.maximum ≡ 0 = eqb-true log.maximum 0 e in
-        let no_done : log.done ≡ [] = nil_from_length log.done (omega (arith, h.bounded)) in
-        let no_undone : log.undone ≡ [] = nil_from_length log.undone (omega (arith, h.bounded)) in
-        record {
-          undo = subst (λ d. CanUndo (applied logged.text splice) (reverse d)) (sym no_done) tt;
-          redo = subst (CanApply (applied logged.text splice)) (sym no_undone) tt;
-          bounded = h.bounded;
-        }
+    by : (none joined outgrown : Bool) → (log.maximum == 0) ≡ none → joins log splice typed now ≡ joined → IsSoundLog (record {
+      text = applied logged.text splice;
+      log = cond none log (cond joined (joined_log log splice now) (cond outgrown (group_forgotten log) (appended_log log splice typed now)));
+    })
+    by true joined outgrown none joins_it = sound_unrecorded logged splice h none
+    by false true outgrown none joins_it = sound_joined logged splice typed now h fits joins_it
+    by false false true none joins_it = record { undo = tt; redo = tt; bounded = omega arith; marks = refl }
+    by false false false none joins_it = sound_appended logged splice typed now h fits none
+
+-- no group is undone partly after an edit, if none is before
+pub recorded_whole : (logged : Logged) (splice : Splice) (typed : Bool) (now : ℕ) → IsSoundLog logged → Fits logged.text splice → is_grouped logged.log.marks (length logged.log.done) ≡ false →
+    is_grouped (recorded logged.log splice typed now).marks (length (recorded logged.log splice typed now).done) ≡ false
+recorded_whole logged splice typed now h fits whole = by (log.maximum == 0) refl
+  where
+    log : Log
+    log = logged.log
+
+    last : (new : Log) → length new.marks ≡ length new.done + 0 → is_grouped new.marks (length new.done) ≡ false
+    last new size = none_grouped new.marks (length new.done) (omega (arith, size))
+
+    rest : Log
+    rest = cond (joins log splice typed now) (joined_log log splice now) (cond (is_outgrown log) (group_forgotten log) (appended_log log splice typed now))
+
+    none_undone : (joined outgrown : Bool) → (cond joined (joined_log log splice now) (cond outgrown (group_forgotten log) (appended_log log splice typed now))).undone ≡ []
+    none_undone true outgrown = refl
+    none_undone false true = refl
+    none_undone false false = refl
+
+    by : (none : Bool) → (log.maximum == 0) ≡ none → is_grouped (cond none log rest).marks (length (cond none log rest).done) ≡ false
+    by true e = whole
     by false e =
-        let some : log.maximum ≢ 0 = λ same. cc (e, eq-eqb log.maximum 0 same) in
-        let done = recorded_done logged splice typed now h fits (omega arith) (joins log splice typed now) refl in
-        record { undo = done.0; redo = tt; bounded = omega (arith, done.1) }
+        let marks = (sound_edited logged splice typed now h fits).marks in
+        let is : recorded log splice typed now ≡ rest = ap (λ b. cond b log rest) e in
+        last rest (ap (λ (l : Log). length l.marks) (sym is) ∙ marks ∙ ap (λ (l : Log). length l.done + length l.undone) is ∙ ap (λ u. length rest.done + length u) (none_undone (joins log splice typed now) (is_outgrown log)))
 
 -- ---- one undo, and one redo
 
@@ -133,6 +186,7 @@ sound_undone_by logged splice h e =
       undo = back.1;
       redo = (before.fits, subst (λ t. CanApply t logged.log.undone) (sym before.leads) h.redo);
       bounded = omega (arith, h.bounded, length-take-le (length logged.log.done - 1) logged.log.done (omega arith));
+      marks = omega (arith, h.marks, within, length-take-le (length logged.log.done - 1) logged.log.done (omega arith));
     }
 
 pub sound_undone : (logged : Logged) → IsSoundLog logged → IsSoundLog (undone logged)
@@ -151,6 +205,7 @@ sound_redone_by logged splice h e =
       undo = subst (CanUndo (applied logged.text splice)) (sym (reverse-append logged.log.done (splice ∷ []))) (undone_splice.fits, subst (λ t. CanUndo t (reverse logged.log.done)) (sym undone_splice.back) h.undo);
       redo = ahead.1;
       bounded = omega (arith, h.bounded, length-append logged.log.done (splice ∷ []), ap length split);
+      marks = omega (arith, h.marks, length-append logged.log.done (splice ∷ []), ap length split);
     }
 
 pub sound_redone : (logged : Logged) → IsSoundLog logged → IsSoundLog (redone logged)
@@ -239,7 +294,8 @@ redone_undone logged splice h e = record {
   undone = refl;
 }
 
-pub redo_restores : (old back again : Logged) (splice : Splice) (undo_cursor redo_cursor : Option Place) → IsSoundLog old → newest old.log ≡ Some splice → Undoes old back undo_cursor → Redoes back again redo_cursor → IsRedone splice old again redo_cursor
+pub redo_restores : (old back again : Logged) (splice : Splice) (undo_cursor redo_cursor : Option Place) → IsSoundLog old → newest old.log ≡ Some splice → Undoes old back undo_cursor →
+    Redoes back again redo_cursor → IsRedone splice old again redo_cursor
 redo_restores old back again splice undo_cursor redo_cursor h e undoes redoes =
     let back_is : back ≡ undone_by (Some splice) old = undoes.is_undone ∙ undone_is old splice e in (
       subst (λ (l : Logged). IsSame l old) (sym (redoes.is_redone ∙ ap redone back_is)) (redone_undone old splice h e),
@@ -247,7 +303,8 @@ redo_restores old back again splice undo_cursor redo_cursor h e undoes redoes =
     )
 
 -- the newest edit led from the text before it to the present one
-text_before_last : (base : List Symbol) (logged : Logged) (splice : Splice) (changes : List Splice) → IsSoundLog logged → newest logged.log ≡ Some splice → IsTextBefore base (applied logged.text (inverse splice)) changes → IsTextBefore base logged.text (changes ++ splice ∷ [])
+text_before_last : (base : List Symbol) (logged : Logged) (splice : Splice) (changes : List Splice) → IsSoundLog logged → newest logged.log ≡ Some splice →
+    IsTextBefore base (applied logged.text (inverse splice)) changes → IsTextBefore base logged.text (changes ++ splice ∷ [])
 text_before_last base logged splice changes h e was =
     let before = before_newest logged.text splice (newest_back logged splice h e).0 in
     record {
@@ -275,7 +332,8 @@ gives_back (suc count) logged h within =
     }
 
 -- after one undo more than redos, the next edit to redo is the newest one
-pub next_again : (count : ℕ) (logged : Logged) (splice : Splice) → IsSoundLog logged → newest logged.log ≡ Some splice → suc count ≤ length logged.log.done → next (times count redone (times (suc count) undone logged)).log ≡ Some splice
+pub next_again : (count : ℕ) (logged : Logged) (splice : Splice) → IsSoundLog logged → newest logged.log ≡ Some splice → suc count ≤ length logged.log.done →
+    next (times count redone (times (suc count) undone logged)).log ≡ Some splice
 next_again count logged splice h e within =
     let rest = gives_back count (undone_by (Some splice) logged) (sound_undone_by logged splice h e) (omega (arith, within, length-take-le (length logged.log.done - 1) logged.log.done (omega arith))) in
     ap (λ (l : Logged). next (times count redone l).log) (undone_times count logged splice e) ∙ ap (λ (u : List Splice). slice_get u 0) rest.again.undone

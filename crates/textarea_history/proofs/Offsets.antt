@@ -21,7 +21,8 @@ weight_before rows place h =
     ap weight front ∙ weight-append (leading (take place.0 rows)) (characters line) ∙ ap (λ n. weight (leading (take place.0 rows)) + n) (weight-characters line)
 
 -- the byte offset of the end of symbols that end in their row
-pub offset_after : (rows : List (List ℕ)) (place to : Place) (symbols : List Symbol) → IsPlaceOf rows place → IsPlaceOf rows to → place.0 ≡ to.0 → OccursAt (joined rows) place symbols → index_of (joined rows) to ≡ index_of (joined rows) place + length symbols → offset_at rows to ≡ offset_at rows place + weight symbols
+pub offset_after : (rows : List (List ℕ)) (place to : Place) (symbols : List Symbol) → IsPlaceOf rows place → IsPlaceOf rows to → place.0 ≡ to.0 → OccursAt (joined rows) place symbols →
+    index_of (joined rows) to ≡ index_of (joined rows) place + length symbols → offset_at rows to ≡ offset_at rows place + weight symbols
 offset_after rows place to symbols h h' same occurs ends =
     let text = joined rows in
     let at = index_of text place in

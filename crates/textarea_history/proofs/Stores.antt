@@ -1,18 +1,24 @@
 -- A log stored as one list of edits and an index.
-use Rattle.std.proofs.Common.{◌≡◌, ℕ, zero, suc, ◌+◌, ◌-◌, ◌≤◌, ◌<◌, Bool, true, false, cond, ◌&&◌, ◌==◌, nat_lt, List, [], ◌∷◌, ◌++◌, length, take, drop, map, Option, Some, None, is_some, sym, ap, refl, ◌∙◌, arith, get_or, set, subst, slice_get, eqb-true, eq-eqb}
-use Rattle.std.proofs.lemmas.List.{length-take-le, length-map, length-set, length-append, get_or-take, get_or-map, get_or-set_same, get_or_at, map-set, set-get_or, take-take, drop_more, take_all, drop_all, take_more, take-append-drop, take-map, drop-map, drop-take, length-take, length-drop}
+use Rattle.std.proofs.Common.{◌≡◌, ◌≢◌, ℕ, zero, suc, ◌+◌, ◌-◌, ◌≤◌, ◌<◌, Bool, true, false, cond, ◌&&◌, ◌==◌, nat_lt, List, [], ◌∷◌, ◌++◌, length, take, drop, map, Option, Some, None, is_some, sym}
+use Rattle.std.proofs.Common.{ap, refl, ◌∙◌, arith, get_or, set, subst, slice_get, eqb-true, eq-eqb}
+use Rattle.std.proofs.lemmas.List.{length-take-le, length-map, length-set, length-append, get_or-take, get_or-map, get_or-set_same, get_or_at, map-set, set-get_or, take-take, drop_more, take_all}
+use Rattle.std.proofs.lemmas.List.{drop_all, take_more, take-append-drop, take-map, drop-map, drop-take, length-take, length-drop}
 use Rattle.std.proofs.lemmas.List.Elements.{All-set, All-push, All-same}
 use Rattle.std.proofs.lemmas.Grind.{common_steps, take-set_at}
 use Rattle.std.proofs.lemmas.Option.{slice_get_read, get_or_from_slice_get}
 use Rattle.std.proofs.lemmas.Bool.Decides.{nat_tests}
 use Rattle.std.proofs.lemmas.Bool.{cases_lt}
-use Rattle.textarea_history.specs.Prelude.{IfSome, IsSome, All, Symbol, Character, Break, Place, Splice, place_before, place_after, Stored, IsWellFormed, Log, with_done, remaining_done, typed_character, newest, next, undone_log, redone_log, joins, continues, continues_newest, is_same_direction, is_empty, is_typed, done_joined, grown, edge_of, pause, character_of, merged, log_at, splice_in, spare_in, room_at, IsRun, IsRunEdge, IsStore}
+use Rattle.textarea_history.specs.Prelude.{IfSome, IsSome, All, Symbol, Character, Break, Place, Splice, place_before, place_after, Stored, IsWellFormed, Log, joined_log, remaining_done}
+use Rattle.textarea_history.specs.Prelude.{remaining_marks, oldest_group, is_full, typed_character, newest, next, undone_log, redone_log, joins, continues, continues_newest, is_same_direction}
+use Rattle.textarea_history.specs.Prelude.{is_empty, is_typed, done_joined, grown, edge_of, pause, character_of, merged, log_at, log_in, grouped_in, splice_in, spare_in, room_at, IsRun, IsRunEdge}
+use Rattle.textarea_history.specs.Prelude.{IsStore, Group, Closed, with_edit}
 use Rattle.textarea_history.proofs.Joins.{left_of, right_of, same_direction, same_place}
 
 -- ---- the newest edit
 
-pub newest_at : (items : List Stored) (index maximum : ℕ) (run_open : Bool) (last : ℕ) (edit : Stored) → 0 < index → index ≤ length items → edit ≡ get_or items (index - 1) edit → newest (log_at (map splice_in items) index maximum run_open last) ≡ Some edit.splice
-newest_at items index maximum run_open last edit some within e =
+pub newest_at : (items : List Stored) (index maximum : ℕ) (run_open : Bool) (last : ℕ) (group : Group) (edit : Stored) → 0 < index → index ≤ length items → edit ≡ get_or items (index - 1) edit →
+    newest (log_in items index maximum run_open last group) ≡ Some edit.splice
+newest_at items index maximum run_open last group edit some within e =
     let splices = map splice_in items in
     let size : length (take index splices) ≡ index = length-take-le index splices (omega (arith, length-map items splice_in)) in
     let before : index - 1 < index = omega arith in
@@ -22,11 +28,20 @@ newest_at items index maximum run_open last edit some within e =
     ∙ slice_get_read (take index splices) index (index - 1) edit.splice (sym size) before (found ∙ sym (get_or-take index splices (index - 1) edit.splice before))
 
 -- an edit is stored again with the same splice
-pub splices_same : (items : List Stored) (index : ℕ) (edit new : Stored) → index < length items → edit ≡ get_or items index edit → new.splice ≡ edit.splice → map splice_in (set items index new) ≡ map splice_in items
+pub splices_same : (items : List Stored) (index : ℕ) (edit new : Stored) → index < length items → edit ≡ get_or items index edit → new.splice ≡ edit.splice →
+    map splice_in (set items index new) ≡ map splice_in items
 splices_same items index edit new within e same =
     map-set splice_in items index new
     ∙ ap (λ (s : Splice). set (map splice_in items) index s) (same ∙ sym (get_or-map splice_in items index edit edit.splice within ∙ ap splice_in (sym e)))
     ∙ set-get_or (map splice_in items) index edit.splice
+
+-- and with the same mark
+pub marks_same : (items : List Stored) (index : ℕ) (edit new : Stored) → index < length items → edit ≡ get_or items index edit → new.grouped ≡ edit.grouped →
+    map grouped_in (set items index new) ≡ map grouped_in items
+marks_same items index edit new within e same =
+    map-set grouped_in items index new
+    ∙ ap (λ (b : Bool). set (map grouped_in items) index b) (same ∙ sym (get_or-map grouped_in items index edit edit.grouped within ∙ ap grouped_in (sym e)))
+    ∙ set-get_or (map grouped_in items) index edit.grouped
 
 -- ---- an edit that joins
 
@@ -43,18 +58,19 @@ last_read : (items : List Stored) (index : ℕ) (edit : Stored) → index ≡ le
 last_read items index edit whole some e =
     ap (λ n. slice_get items (n - 1)) (sym whole) ∙ slice_get_read items index (index - 1) edit whole (omega arith) e
 
-pub joining : (items : List Stored) (index maximum : ℕ) (run : Option ℕ) (last now : ℕ) (newest_edit : Stored) (edit : Splice) (log : Log) → IsStore items index maximum run → log_at (map splice_in items) index maximum (is_some run) last ≡ log → newest_edit ≡ get_or items (index - 1) newest_edit → joins log edit true now ≡ true → Joining items index run newest_edit edit
-joining items index maximum run last now newest_edit edit log store view read e = by run store.run_is (subst (λ l. joins l edit true now ≡ true) (sym view) e)
+pub joining : (items : List Stored) (index maximum : ℕ) (run : Option ℕ) (last now : ℕ) (group : Group) (newest_edit : Stored) (edit : Splice) (log : Log) → IsStore items index maximum run →
+    log_in items index maximum (is_some run) last group ≡ log → newest_edit ≡ get_or items (index - 1) newest_edit → joins log edit true now ≡ true → Joining items index run newest_edit edit
+joining items index maximum run last now group newest_edit edit log store view read e = by run store.run_is (subst (λ l. joins l edit true now ≡ true) (sym view) e)
   where
-    by : (r : Option ℕ) → IsRunEdge items index r → joins (log_at (map splice_in items) index maximum (is_some r) last) edit true now ≡ true → Joining items index r newest_edit edit
+    by : (r : Option ℕ) → IsRunEdge items index r → joins (log_in items index maximum (is_some r) last group) edit true now ≡ true → Joining items index r newest_edit edit
     by None run_is e = absurd (let open_is : false ≡ true = right_of (is_typed edit true) false (left_of (is_typed edit true && false) _ e) in cc)
     by (Some edge) run_is e =
-        let log = log_at (map splice_in items) index maximum true last in
+        let log = log_in items index maximum true last group in
         let some : 0 < index = omega (arith, run_is.0, run_is.1) in
         let newest_continues : continues_newest (newest log) edit ≡ true =
         right_of (nat_lt (now - last) pause) _ (right_of (is_empty log.undone) _ (right_of (is_typed edit true && true) _ e)) in
         let continues_it : continues newest_edit.splice edit ≡ true =
-        subst (λ (o : Option Splice). continues_newest o edit ≡ true) (newest_at items index maximum true last newest_edit some store.within read) newest_continues in
+        subst (λ (o : Option Splice). continues_newest o edit ≡ true) (newest_at items index maximum true last group newest_edit some store.within read) newest_continues in
         let is_run : IsRun newest_edit edge = subst (λ (o : Option Stored). IfSome o (λ s. IsRun s edge)) (last_read items index newest_edit run_is.0 some read) run_is.2 in
         record {
           edge = edge;
@@ -67,7 +83,8 @@ joining items index maximum run last now newest_edit edit log store view read e 
         }
 
 -- if there is room, the newest edit of an open run can grow
-pub room_to_grow : (items : List Stored) (index : ℕ) (run : Option ℕ) (free : ℕ) (newest_edit : Stored) (edge : ℕ) → run ≡ Some edge → index ≡ length items → 0 < index → newest_edit ≡ get_or items (index - 1) newest_edit → 0 < room_at items run free → 4 ≤ newest_edit.spare
+pub room_to_grow : (items : List Stored) (index : ℕ) (run : Option ℕ) (free : ℕ) (newest_edit : Stored) (edge : ℕ) → run ≡ Some edge → index ≡ length items → 0 < index →
+    newest_edit ≡ get_or items (index - 1) newest_edit → 0 < room_at items run free → 4 ≤ newest_edit.spare
 room_to_grow items index run free newest_edit edge is whole some read room =
     grind (arith, common_steps, nat_tests, last_read items index newest_edit whole some read)
 
@@ -77,18 +94,22 @@ from_character (Break ∷ symbols) c e = cc
 from_character (Character d ∷ []) c e = let same : d ≡ c = cc in ap (λ (n : ℕ). Character n ∷ []) same
 from_character (Character d ∷ second ∷ symbols) c e = cc
 
-edge_merged : (inserts : Bool) (place : Place) (symbols : List Symbol) (edit : Splice) (c : ℕ) → edit.symbols ≡ Character c ∷ [] → edge_of (merged (record { place = place; symbols = symbols; inserts = inserts }) edit) ≡ Some (Character c)
+edge_merged : (inserts : Bool) (place : Place) (symbols : List Symbol) (edit : Splice) (c : ℕ) → edit.symbols ≡ Character c ∷ [] →
+    edge_of (merged (record { place = place; symbols = symbols; inserts = inserts }) edit) ≡ Some (Character c)
 edge_merged true place symbols edit c e =
     let size : length (symbols ++ edit.symbols) - 1 ≡ length symbols = omega (arith, length-append symbols edit.symbols, ap length e) in
     ap (λ n. slice_get (symbols ++ edit.symbols) n) size
     ∙ ap (λ (s : List Symbol). slice_get (symbols ++ s) (length symbols)) e
-    ∙ slice_get_read (symbols ++ Character c ∷ []) (length (symbols ++ Character c ∷ [])) (length symbols) (Character c) refl (omega (arith, length-append symbols (Character c ∷ []))) (sym (get_or_at symbols (Character c) [] (Character c) (length symbols) refl))
+    ∙ slice_get_read (symbols ++ Character c ∷ []) (length (symbols ++ Character c ∷ [])) (length symbols) (Character c) refl (omega (arith, length-append symbols (Character c ∷ [])))
+    (sym (get_or_at symbols (Character c) [] (Character c) (length symbols) refl))
 edge_merged false place symbols edit c e = ap (λ (s : List Symbol). slice_get (s ++ symbols) 0) e
 
 pub edge_of_one : (edit : Splice) (c : ℕ) → edit.symbols ≡ Character c ∷ [] → edge_of edit ≡ Some (Character c)
 edge_of_one edit c e = grind (arith, common_steps)
 
-pub store_joined : (items : List Stored) (index maximum : ℕ) (run : Option ℕ) (newest_edit new : Stored) (edit : Splice) (c : ℕ) → IsStore items index maximum run → Joining items index run newest_edit edit → new.splice ≡ merged newest_edit.splice edit → new.grows ≡ true → IsWellFormed new → edit.symbols ≡ Character c ∷ [] → IsStore (set items (index - 1) new) index maximum (Some c)
+pub store_joined : (items : List Stored) (index maximum : ℕ) (run : Option ℕ) (newest_edit new : Stored) (edit : Splice) (c : ℕ) → IsStore items index maximum run →
+    Joining items index run newest_edit edit → new.splice ≡ merged newest_edit.splice edit → new.grows ≡ true → IsWellFormed new → edit.symbols ≡ Character c ∷ [] →
+    IsStore (set items (index - 1) new) index maximum (Some c)
 store_joined items index maximum run newest_edit new edit c store j is grows formed one =
     let size : length (set items (index - 1) new) ≡ length items = length-set items (index - 1) new in
     let here : index - 1 < length items = omega (arith, j.whole, j.some) in
@@ -108,11 +129,19 @@ store_joined items index maximum run newest_edit new edit c store j is grows for
       );
     }
 
+-- a log of these fields is the one after an edit that joins
+joined_is : (log : Log) (edit : Splice) (now : ℕ) (new : Log) → new.done ≡ done_joined log edit → new.undone ≡ [] → new.marks ≡ log.marks →
+    record log { done = new.done; undone = new.undone; run_open = true; last = now; marks = new.marks; group = with_edit log.group } ≡ joined_log log edit now
+joined_is log edit now new done undone marks =
+    rw (done, undone, marks) refl
+
 -- the log of a store after a typed edit joined the newest one
-pub log_joined : (items : List Stored) (index maximum : ℕ) (run : Option ℕ) (last now : ℕ) (newest_edit new : Stored) (edit : Splice) (log : Log) → IsStore items index maximum run → Joining items index run newest_edit edit → newest_edit ≡ get_or items (index - 1) newest_edit → log_at (map splice_in items) index maximum (is_some run) last ≡ log → new.splice ≡ merged newest_edit.splice edit → log_at (map splice_in (set items (index - 1) new)) index maximum true now ≡ with_done log (done_joined log edit) true now
-log_joined items index maximum run last now newest_edit new edit log store j read view is =
+pub log_joined : (items : List Stored) (index maximum : ℕ) (run : Option ℕ) (last now : ℕ) (group : Group) (newest_edit new : Stored) (edit : Splice) (log : Log) → IsStore items index maximum run →
+    Joining items index run newest_edit edit → newest_edit ≡ get_or items (index - 1) newest_edit → log_in items index maximum (is_some run) last group ≡ log →
+    new.splice ≡ merged newest_edit.splice edit → new.grouped ≡ newest_edit.grouped → log_in (set items (index - 1) new) index maximum true now (with_edit group) ≡ joined_log log edit now
+log_joined items index maximum run last now group newest_edit new edit log store j read view is same =
     let splices = map splice_in items in
-    let old = log_at splices index maximum (is_some run) last in
+    let old = log_in items index maximum (is_some run) last group in
     let many : length splices ≡ length items = length-map items splice_in in
     let size : length (take index splices) ≡ index = length-take-le index splices (omega (arith, store.within)) in
     let changed : map splice_in (set items (index - 1) new) ≡ set splices (index - 1) (merged newest_edit.splice edit) =
@@ -120,7 +149,7 @@ log_joined items index maximum run last now newest_edit new edit log store j rea
     let front : take (index - 1) splices ≡ take (length (take index splices) - 1) (take index splices) =
     sym (ap (λ n. take (n - 1) (take index splices)) size ∙ take-take (index - 1) index splices (omega arith)) in
     let found : grown (newest old) edit ≡ merged newest_edit.splice edit =
-    ap (λ (o : Option Splice). grown o edit) (newest_at items index maximum (is_some run) last newest_edit j.some store.within read) in
+    ap (λ (o : Option Splice). grown o edit) (newest_at items index maximum (is_some run) last group newest_edit j.some store.within read) in
     let done : take index (map splice_in (set items (index - 1) new)) ≡ done_joined old edit =
     ap (take index) changed
     ∙ take-set_at splices (index - 1) index (merged newest_edit.splice edit) (omega (arith, j.some)) (omega (arith, j.some, store.within))
@@ -128,18 +157,20 @@ log_joined items index maximum run last now newest_edit new edit log store j rea
     ∙ ap (λ (s : Splice). take (length (take index splices) - 1) (take index splices) ++ s ∷ []) (sym found) in
     let undone : drop index (map splice_in (set items (index - 1) new)) ≡ [] =
     drop_all index (map splice_in (set items (index - 1) new)) (omega (arith, length-map (set items (index - 1) new) splice_in, length-set items (index - 1) new, j.whole)) in
-    ap (λ (d : List Splice). record { done = d; undone = drop index (map splice_in (set items (index - 1) new)); maximum = maximum; run_open = true; last = now }) done
-    ∙ ap (λ (u : List Splice). record { done = done_joined old edit; undone = u; maximum = maximum; run_open = true; last = now }) undone
-    ∙ ap (λ (l : Log). with_done l (done_joined l edit) true now) view
+    let marks : map grouped_in (set items (index - 1) new) ≡ map grouped_in items = marks_same items (index - 1) newest_edit new (omega (arith, j.some, store.within)) read same in
+    joined_is old edit now (log_in (set items (index - 1) new) index maximum true now (with_edit group)) done undone marks
+    ∙ ap (λ (l : Log). joined_log l edit now) view
 
 -- whether a typed edit joins, if a run is open and the pause was short
-pub joins_is : (items : List Stored) (index maximum : ℕ) (run : Option ℕ) (last now edge c : ℕ) (newest_edit : Stored) (edit : Splice) (coalesce : Bool) (log : Log) → IsStore items index maximum run → run ≡ Some edge → typed_character edit coalesce ≡ Some c → nat_lt (now - last) pause ≡ true → newest_edit ≡ get_or items (index - 1) newest_edit → log_at (map splice_in items) index maximum (is_some run) last ≡ log → continues newest_edit.splice edit ≡ joins log edit coalesce now
-joins_is items index maximum run last now edge c newest_edit edit coalesce log store is typed soon read view =
+pub joins_is : (items : List Stored) (index maximum : ℕ) (run : Option ℕ) (last now edge c : ℕ) (group : Group) (newest_edit : Stored) (edit : Splice) (coalesce : Bool) (log : Log) →
+    IsStore items index maximum run → run ≡ Some edge → typed_character edit coalesce ≡ Some c → nat_lt (now - last) pause ≡ true → newest_edit ≡ get_or items (index - 1) newest_edit →
+    log_in items index maximum (is_some run) last group ≡ log → continues newest_edit.splice edit ≡ joins log edit coalesce now
+joins_is items index maximum run last now edge c group newest_edit edit coalesce log store is typed soon read view =
     let whole = subst (IsRunEdge items index) is store.run_is in
     let splices = map splice_in items in
-    let old = log_at splices index maximum (is_some run) last in
+    let old = log_in items index maximum (is_some run) last group in
     let none : is_empty (drop index splices) ≡ true = ap is_empty (drop_all index splices (omega (arith, length-map items splice_in, whole.0))) in
-    let found = newest_at items index maximum (is_some run) last newest_edit (omega (arith, whole.0, whole.1)) store.within read in
+    let found = newest_at items index maximum (is_some run) last group newest_edit (omega (arith, whole.0, whole.1)) store.within read in
     sym (ap (λ b. (b && is_some run) && (is_empty (drop index splices) && (nat_lt (now - last) pause && continues_newest (newest old) edit))) (ap is_some typed)
     ∙ ap (λ b. (true && b) && (is_empty (drop index splices) && (nat_lt (now - last) pause && continues_newest (newest old) edit))) (ap is_some is)
     ∙ ap (λ b. b && (nat_lt (now - last) pause && continues_newest (newest old) edit)) none
@@ -161,7 +192,8 @@ newest_grows items index None edit run_is is_open read = absurd (let no : false 
 newest_grows items index (Some edge) edit run_is is_open read = (newest_run items index edge edit run_is read).grows
 
 -- it is stored again with the same splice
-run_ready : (items : List Stored) (index : ℕ) (run : Option ℕ) (edit new : Stored) → IsRunEdge items index run → edit ≡ get_or items (index - 1) edit → new.splice ≡ edit.splice → new.grows ≡ true → IsRunEdge (set items (index - 1) new) index run
+run_ready : (items : List Stored) (index : ℕ) (run : Option ℕ) (edit new : Stored) → IsRunEdge items index run → edit ≡ get_or items (index - 1) edit → new.splice ≡ edit.splice → new.grows ≡ true →
+    IsRunEdge (set items (index - 1) new) index run
 run_ready items index None edit new run_is read same grows = tt
 run_ready items index (Some edge) edit new run_is read same grows =
     let size : length (set items (index - 1) new) ≡ length items = length-set items (index - 1) new in
@@ -174,7 +206,8 @@ run_ready items index (Some edge) edit new run_is read same grows =
           (record { grows = grows; edge_is = ap edge_of same ∙ (newest_run items index edge edit run_is read).edge_is }),
     )
 
-pub store_ready : (items : List Stored) (index maximum : ℕ) (run : Option ℕ) (edit new : Stored) → IsStore items index maximum run → edit ≡ get_or items (index - 1) edit → new.splice ≡ edit.splice → new.grows ≡ true → IsWellFormed new → IsStore (set items (index - 1) new) index maximum run
+pub store_ready : (items : List Stored) (index maximum : ℕ) (run : Option ℕ) (edit new : Stored) → IsStore items index maximum run → edit ≡ get_or items (index - 1) edit → new.splice ≡ edit.splice →
+    new.grows ≡ true → IsWellFormed new → IsStore (set items (index - 1) new) index maximum run
 store_ready items index maximum run edit new store read same grows formed =
     let size : length (set items (index - 1) new) ≡ length items = length-set items (index - 1) new in
     record {
@@ -189,7 +222,8 @@ pub store_same : (items now : List Stored) (index maximum : ℕ) (run : Option �
 store_same items now index maximum run same store = subst (λ (t : List Stored). IsStore t index maximum run) (sym same) store
 
 -- there is room once the newest edit can grow
-pub room_ready : (items : List Stored) (index : ℕ) (run : Option ℕ) (free : ℕ) (new : Stored) → index ≡ length items → 0 < length items → 0 < free → 4 ≤ new.spare → 0 < room_at (set items (index - 1) new) run free
+pub room_ready : (items : List Stored) (index : ℕ) (run : Option ℕ) (free : ℕ) (new : Stored) → index ≡ length items → 0 < length items → 0 < free → 4 ≤ new.spare →
+    0 < room_at (set items (index - 1) new) run free
 room_ready items index None free new whole some room ready = room
 room_ready items index (Some edge) free new whole some room ready =
     let size : length (set items (index - 1) new) ≡ length items = length-set items (index - 1) new in
@@ -205,68 +239,66 @@ room_ready items index (Some edge) free new whole some room ready =
 
 -- ---- room for one more edit
 
--- the oldest edit is dropped if the history is full and has a done one
-pub place_made : (items retained_items : List Stored) (index retained_index maximum : ℕ) (run_open : Bool) (last : ℕ) (log : Log) → index ≤ length items → log_at (map splice_in items) index maximum run_open last ≡ log → retained_items ≡ take retained_index (cond (length items == maximum) (drop (index - retained_index) items) items) → retained_index ≡ cond (length items == maximum) (index - 1) index → log_at (map splice_in retained_items) retained_index maximum false last ≡ record log { done = remaining_done log; undone = []; run_open = false }
-place_made items retained_items index retained_index maximum run_open last log within view is at =
+-- the first items are dropped from a part, or the part is taken from what is left
+drop_of_part : {A : Type 0} (k n : ℕ) (xs : List A) → take (n - k) (drop k xs) ≡ drop k (take n xs)
+drop_of_part zero n xs = let whole : n - 0 ≡ n = omega arith in ap (λ m. take m xs) whole
+drop_of_part (suc k) zero xs =
+    let none : 0 - suc k ≡ 0 = omega arith in
+    ap (λ m. take m (drop (suc k) xs)) none ∙ sym (drop_all (suc k) (take 0 xs) (omega (arith, length-take 0 xs)))
+drop_of_part (suc k) (suc n) [] = part_of_none (suc n - suc k)
+  where
+    part_of_none : {A : Type 0} (m : ℕ) → take {A = A} m [] ≡ []
+    part_of_none zero = refl
+    part_of_none (suc m) = refl
+drop_of_part (suc k) (suc n) (x ∷ xs) =
+    let less : suc n - suc k ≡ n - k = omega arith in
+    ap (λ m. take m (drop k xs)) less ∙ drop_of_part k n xs
+
+-- the same of what a function makes of the items
+part_of_map : {A : Type 0} (f : Stored → A) (k index : ℕ) (items : List Stored) → map f (take (index - k) (drop k items)) ≡ drop k (take index (map f items))
+part_of_map f k index items =
+    sym (take-map f (index - k) (drop k items))
+    ∙ ap (take (index - k)) (sym (drop-map f k items))
+    ∙ drop_of_part k index (map f items)
+
+dropped_if : {A : Type 0} (full : Bool) (k oldest : ℕ) (xs : List A) → k ≡ cond full oldest 0 → drop k xs ≡ cond full (drop oldest xs) xs
+dropped_if true k oldest xs e = ap (λ n. drop n xs) e
+dropped_if false k oldest xs e = ap (λ n. drop n xs) e
+
+-- a log of these fields is the one with room for one more edit
+place_is : (log : Log) (new : Log) → new.done ≡ remaining_done log → new.undone ≡ [] → new.marks ≡ remaining_marks log →
+    record log { done = new.done; undone = new.undone; run_open = false; marks = new.marks } ≡ record log { done = remaining_done log; undone = []; run_open = false; marks = remaining_marks log }
+place_is log new done undone marks = rw (done, undone, marks) refl
+
+-- the oldest group is dropped if the history is full
+pub place_made : (items retained_items : List Stored) (index k maximum : ℕ) (run_open : Bool) (last : ℕ) (group : Group) (log : Log) → index ≤ length items →
+    log_in items index maximum run_open last group ≡ log → retained_items ≡ take (index - k) (drop k items) → k ≡ cond (length items == maximum) (oldest_group log) 0 →
+    log_in retained_items (index - k) maximum false last group ≡ record log { done = remaining_done log; undone = []; run_open = false; marks = remaining_marks log }
+place_made items retained_items index k maximum run_open last group log within view is at =
     let splices = map splice_in items in
-    let old = log_at splices index maximum run_open last in
+    let old = log_in items index maximum run_open last group in
+    let new = log_in retained_items (index - k) maximum false last group in
     let many : length splices ≡ length items = length-map items splice_in in
+    let size : length (take index splices) ≡ index = length-take-le index splices (omega arith) in
     let components : length (take index splices) + length (drop index splices) ≡ length items =
     omega (arith, many, length-append (take index splices) (drop index splices), ap length (take-append-drop index splices)) in
-    let short : length retained_items ≤ retained_index = subst (λ (t : List Stored). length t ≤ retained_index) (sym is) (length-take_below retained_index _) in
+    let at_old : k ≡ cond (is_full old) (oldest_group old) 0 =
+    at ∙ ap (λ (l : Log). cond (length items == maximum) (oldest_group l) 0) (sym view) ∙ ap (λ n. cond (n == maximum) (oldest_group old) 0) (sym components) in
+    let short : length retained_items ≤ index - k = subst (λ (t : List Stored). length t ≤ index - k) (sym is) (omega (arith, length-take (index - k) (drop k items))) in
     let mapped : length (map splice_in retained_items) ≡ length retained_items = length-map retained_items splice_in in
-    let done : take retained_index (map splice_in retained_items) ≡ remaining_done old =
-    take_all retained_index (map splice_in retained_items) (omega arith)
+    let done : new.done ≡ remaining_done old =
+    take_all (index - k) (map splice_in retained_items) (omega arith)
     ∙ ap (map splice_in) is
-    ∙ by (length items == maximum) at
-    ∙ ap (λ n. cond (n == maximum) (drop 1 (take index splices)) (take index splices)) (sym components) in
-    let undone : drop retained_index (map splice_in retained_items) ≡ [] = drop_all retained_index (map splice_in retained_items) (omega arith) in
-    ap (λ (d : List Splice). record { done = d; undone = drop retained_index (map splice_in retained_items); maximum = maximum; run_open = false; last = last }) done
-    ∙ ap (λ (u : List Splice). record { done = remaining_done old; undone = u; maximum = maximum; run_open = false; last = last }) undone
-    ∙ ap (λ (l : Log). record l { done = remaining_done l; undone = []; run_open = false }) view
-  where
-    length-take_below : (n : ℕ) (xs : List Stored) → length (take n xs) ≤ n
-    length-take_below n xs = omega (arith, length-take n xs)
-
-    by : (b : Bool) → retained_index ≡ cond b (index - 1) index → map splice_in (take retained_index (cond b (drop (index - retained_index) items) items)) ≡ cond b (drop 1 (take index (map splice_in items))) (take index (map splice_in items))
-    by false e = ap (λ n. map splice_in (take n items)) e ∙ sym (take-map splice_in index items)
-    by true e = first index e
-      where
-        first : (n : ℕ) → retained_index ≡ n - 1 → map splice_in (take retained_index (drop (n - retained_index) items)) ≡ drop 1 (take n (map splice_in items))
-        first zero e = ap (λ k. map splice_in (take k (drop (0 - k) items))) e
-        first (suc m) e =
-            let same : retained_index ≡ m = omega (arith, e) in
-            let one : suc m - m ≡ 1 = omega arith in
-            let more : 1 + m ≡ suc m = omega arith in
-            ap (λ k. map splice_in (take k (drop (suc m - k) items))) same
-            ∙ ap (λ d. map splice_in (take m (drop d items))) one
-            ∙ ap (map splice_in) (sym (drop-take 1 m items))
-            ∙ ap (λ t. map splice_in (drop 1 (take t items))) more
-            ∙ sym (drop-map splice_in 1 (take (suc m) items))
-            ∙ ap (drop 1) (sym (take-map splice_in (suc m) items))
-
-pub place_made_full : (items retained_items : List Stored) (index maximum : ℕ) (run_open : Bool) (last : ℕ) (log : Log) → index ≤ length items → log_at (map splice_in items) index maximum run_open last ≡ log → length items ≡ maximum → 0 < index → retained_items ≡ take (index - 1) (drop 1 items) → log_at (map splice_in retained_items) (index - 1) maximum false last ≡ record log { done = remaining_done log; undone = []; run_open = false }
-place_made_full items retained_items index maximum run_open last log within view full some is =
-    let test : (length items == maximum) ≡ true = eq-eqb (length items) maximum full in
-    let one : 1 ≡ index - (index - 1) = omega arith in
-    place_made items retained_items index (index - 1) maximum run_open last log within view
-    (is ∙ ap (λ n. take (index - 1) (drop n items)) one ∙ ap (λ b. take (index - 1) (cond b (drop (index - (index - 1)) items) items)) (sym test))
-    (ap (λ b. cond b (index - 1) index) (sym test))
-
-pub place_made_rest : (items retained_items : List Stored) (index maximum : ℕ) (run_open : Bool) (last : ℕ) (log : Log) → index ≤ length items → log_at (map splice_in items) index maximum run_open last ≡ log → (length items ≡ maximum → index ≡ 0) → retained_items ≡ take index items → log_at (map splice_in retained_items) index maximum false last ≡ record log { done = remaining_done log; undone = []; run_open = false }
-place_made_rest items retained_items index maximum run_open last log within view free is = by (length items == maximum) refl
-  where
-    by : (b : Bool) → (length items == maximum) ≡ b → log_at (map splice_in retained_items) index maximum false last ≡ record log { done = remaining_done log; undone = []; run_open = false }
-    by false test =
-        place_made items retained_items index index maximum run_open last log within view
-        (is ∙ ap (λ b. take index (cond b (drop (index - index) items) items)) (sym test)) (ap (λ b. cond b (index - 1) index) (sym test))
-    by true test =
-        let none : index ≡ 0 = free (eqb-true (length items) maximum test) in
-        let down : index ≡ index - 1 = omega arith in
-        let start : 0 ≡ index - index = omega arith in
-        place_made items retained_items index index maximum run_open last log within view
-        (is ∙ ap (λ n. take index (drop n items)) start ∙ ap (λ b. take index (cond b (drop (index - index) items) items)) (sym test))
-        (down ∙ ap (λ b. cond b (index - 1) index) (sym test))
+    ∙ part_of_map splice_in k index items
+    ∙ dropped_if (is_full old) k (oldest_group old) (take index splices) at_old in
+    let undone : new.undone ≡ [] = drop_all (index - k) (map splice_in retained_items) (omega arith) in
+    let marks : new.marks ≡ remaining_marks old =
+    ap (map grouped_in) is
+    ∙ part_of_map grouped_in k index items
+    ∙ dropped_if (is_full old) k (oldest_group old) (take index (map grouped_in items)) at_old
+    ∙ ap (λ n. cond (is_full old) (drop (oldest_group old) (take n (map grouped_in items))) (take n (map grouped_in items))) (sym size) in
+    place_is old new done undone marks
+    ∙ ap (λ (l : Log). record l { done = remaining_done l; undone = []; run_open = false; marks = remaining_marks l }) view
 
 -- ---- one more edit
 
@@ -279,7 +311,9 @@ pub free_from_room : (items : List Stored) (run : Option ℕ) (free : ℕ) → 0
 free_from_room items None free h = h
 free_from_room items (Some edge) free h = grind (arith, common_steps, nat_tests)
 
-pub store_appended : (items new_items : List Stored) (index maximum : ℕ) (run typed : Option ℕ) (was : Splice) (edit : Stored) → IsStore items index maximum run → drop index (map splice_in items) ≡ [] → length (take index (map splice_in items)) < maximum → new_items ≡ items ++ edit ∷ [] → edit.splice ≡ was → IsWellFormed edit → IfSome typed (λ c. edit.grows ≡ true) → IfSome typed (λ c. was.symbols ≡ Character c ∷ []) → IsStore new_items (index + 1) maximum typed
+pub store_appended : (items new_items : List Stored) (index maximum : ℕ) (run typed : Option ℕ) (was : Splice) (edit : Stored) → IsStore items index maximum run →
+    drop index (map splice_in items) ≡ [] → length (take index (map splice_in items)) < maximum → new_items ≡ items ++ edit ∷ [] → edit.splice ≡ was → IsWellFormed edit →
+    IfSome typed (λ c. edit.grows ≡ true) → IfSome typed (λ c. was.symbols ≡ Character c ∷ []) → IsStore new_items (index + 1) maximum typed
 store_appended items new_items index maximum run typed was edit store none below is same formed grows one =
     let many : length items ≡ index = omega (arith, store.within, ap length none, length-drop index (map splice_in items), length-map items splice_in) in
     let few : index < maximum = omega (arith, length-take-le index (map splice_in items) (omega (arith, length-map items splice_in))) in
@@ -291,7 +325,8 @@ store_appended items new_items index maximum run typed was edit store none below
     (sym (ap (λ t. get_or t (length items) edit) is ∙ get_or_at items edit [] edit (length items) refl)) in
     record { sound = All-same IsWellFormed new_items (items ++ edit ∷ []) is (All-push IsWellFormed items edit store.sound formed); within = omega arith; bounded = omega arith; run_is = by typed grows one size read }
   where
-    by : (t : Option ℕ) → IfSome t (λ c. edit.grows ≡ true) → IfSome t (λ c. was.symbols ≡ Character c ∷ []) → length new_items ≡ index + 1 → slice_get new_items (length new_items - 1) ≡ Some edit → IsRunEdge new_items (index + 1) t
+    by : (t : Option ℕ) → IfSome t (λ c. edit.grows ≡ true) → IfSome t (λ c. was.symbols ≡ Character c ∷ []) → length new_items ≡ index + 1 → slice_get new_items (length new_items - 1) ≡ Some edit →
+        IsRunEdge new_items (index + 1) t
     by None grows one size read = tt
     by (Some c) grows one size read = (
       sym size,
@@ -299,19 +334,15 @@ store_appended items new_items index maximum run typed was edit store none below
       subst (λ (o : Option Stored). IfSome o (λ s. IsRun s c)) (sym read) (record { grows = grows; edge_is = edge_of_one edit.splice c (ap (λ (s : Splice). s.symbols) same ∙ one) }),
     )
 
--- the same log from equal fields
-pub log_at_same : {P : Log} (splices : List Splice) (index new_index maximum new_maximum last new_last : ℕ) → new_index ≡ index → new_maximum ≡ maximum → new_last ≡ last → log_at splices index maximum false last ≡ P → log_at splices new_index new_maximum false new_last ≡ P
-log_at_same splices index new_index maximum new_maximum last new_last e e' e'' h =
-    ap (λ n. log_at splices n new_maximum false new_last) e ∙ ap (λ n. log_at splices index n false new_last) e' ∙ ap (λ n. log_at splices index maximum false n) e'' ∙ h
-
 -- ---- undo and redo
 
 -- an edit of the store is well formed
 pub formed_at : (items : List Stored) (i : ℕ) (edit : Stored) → All IsWellFormed items → i < length items → edit ≡ get_or items i edit → IsWellFormed edit
 formed_at items i edit sound within e = subst IsWellFormed (sym e) (sound i edit within)
 
-pub next_at : (items : List Stored) (index maximum : ℕ) (run_open : Bool) (last : ℕ) (edit : Stored) (log : Log) → index < length items → edit ≡ get_or items index edit → log_at (map splice_in items) index maximum run_open last ≡ log → next log ≡ Some edit.splice
-next_at items index maximum run_open last edit log within e view =
+pub next_at : (items : List Stored) (index maximum : ℕ) (run_open : Bool) (last : ℕ) (group : Group) (edit : Stored) (log : Log) → index < length items → edit ≡ get_or items index edit →
+    log_in items index maximum run_open last group ≡ log → next log ≡ Some edit.splice
+next_at items index maximum run_open last group edit log within e view =
     let splices = map splice_in items in
     let read : edit.splice ≡ get_or splices index edit.splice = sym (get_or-map splice_in items index edit edit.splice within ∙ ap splice_in (sym e)) in
     ap next (sym view)
@@ -319,25 +350,28 @@ next_at items index maximum run_open last edit log within e view =
     ∙ ap (λ (s : Splice). Some s) (sym read)
 
 -- no edit is undone if the index is at the end
-pub next_none : (items : List Stored) (index maximum : ℕ) (run_open : Bool) (last : ℕ) → index ≡ length items → next (log_at (map splice_in items) index maximum run_open last) ≡ None
-next_none items index maximum run_open last e =
+pub next_none : (items : List Stored) (index maximum : ℕ) (run_open : Bool) (last : ℕ) (group : Group) → index ≡ length items → next (log_in items index maximum run_open last group) ≡ None
+next_none items index maximum run_open last group e =
     ap (λ (t : List Splice). slice_get t 0) (drop_all index (map splice_in items) (omega (arith, length-map items splice_in)))
 
 -- a log with a newest edit has one before the index
-pub newest_within : (items : List Stored) (index maximum : ℕ) (run_open : Bool) (last : ℕ) (log : Log) → log_at (map splice_in items) index maximum run_open last ≡ log → IsSome (newest log) → 0 < index
-newest_within items zero maximum run_open last log view some = let no : false ≡ true = subst (λ (l : Log). IsSome (newest l)) (sym view) some in cc
-newest_within items (suc index) maximum run_open last log view some = omega arith
+pub newest_within : (items : List Stored) (index maximum : ℕ) (run_open : Bool) (last : ℕ) (group : Group) (log : Log) → log_in items index maximum run_open last group ≡ log → IsSome (newest log) →
+    0 < index
+newest_within items zero maximum run_open last group log view some = let no : false ≡ true = subst (λ (l : Log). IsSome (newest l)) (sym view) some in cc
+newest_within items (suc index) maximum run_open last group log view some = omega arith
 
 -- a log with a next edit has one at the index
-pub next_within : (items : List Stored) (index maximum : ℕ) (run_open : Bool) (last : ℕ) (log : Log) → index ≤ length items → log_at (map splice_in items) index maximum run_open last ≡ log → IsSome (next log) → index < length items
-next_within items index maximum run_open last log within view some =
-    grind (arith, common_steps, next_none items index maximum run_open last, cases_lt index (length items))
+pub next_within : (items : List Stored) (index maximum : ℕ) (run_open : Bool) (last : ℕ) (group : Group) (log : Log) → index ≤ length items → log_in items index maximum run_open last group ≡ log →
+    IsSome (next log) → index < length items
+next_within items index maximum run_open last group log within view some =
+    grind (arith, common_steps, next_none items index maximum run_open last group, cases_lt index (length items))
 
 -- the newest edit is undone
-pub stepped_back : (items : List Stored) (index maximum : ℕ) (run_open : Bool) (last : ℕ) (log : Log) → index ≤ length items → log_at (map splice_in items) index maximum run_open last ≡ log → 0 < index → (splice : Splice) → newest log ≡ Some splice → log_at (map splice_in items) (index - 1) maximum false last ≡ undone_log log splice
-stepped_back items index maximum run_open last log within view some splice e =
+pub stepped_back : (items : List Stored) (index maximum : ℕ) (run_open : Bool) (last : ℕ) (group : Group) (log : Log) → index ≤ length items → log_in items index maximum run_open last group ≡ log →
+    0 < index → (splice : Splice) → newest log ≡ Some splice → log_in items (index - 1) maximum false last Closed ≡ undone_log log splice
+stepped_back items index maximum run_open last group log within view some splice e =
     let splices = map splice_in items in
-    let old = log_at splices index maximum run_open last in
+    let old = log_in items index maximum run_open last group in
     let size : length (take index splices) ≡ index = length-take-le index splices (omega (arith, length-map items splice_in)) in
     let back : index - 1 + 1 ≡ index = omega arith in
     let found : slice_get (take index splices) (index - 1) ≡ Some splice = sym (ap (λ n. slice_get (take index splices) (n - 1)) size) ∙ ap newest view ∙ e in
@@ -347,13 +381,13 @@ stepped_back items index maximum run_open last log within view some splice e =
     sym (ap (λ n. take (n - 1) (take index splices)) size ∙ take-take (index - 1) index splices (omega arith)) in
     let undone : drop (index - 1) splices ≡ splice ∷ drop index splices =
     drop_more splices (index - 1) splice (omega (arith, length-map items splice_in)) ∙ ap (λ (s : Splice). s ∷ drop (index - 1 + 1) splices) (sym read) ∙ ap (λ n. splice ∷ drop n splices) back in
-    ap (λ (d : List Splice). record { done = d; undone = drop (index - 1) splices; maximum = maximum; run_open = false; last = last }) done
-    ∙ ap (λ (u : List Splice). record { done = take (length (take index splices) - 1) (take index splices); undone = u; maximum = maximum; run_open = false; last = last }) undone
+    rw (done, undone) refl
     ∙ ap (λ (l : Log). undone_log l splice) view
 
 -- the edit that was undone last is redone
-pub stepped_forward : (items : List Stored) (index maximum : ℕ) (run_open : Bool) (last : ℕ) (log : Log) → index < length items → log_at (map splice_in items) index maximum run_open last ≡ log → (splice : Splice) → next log ≡ Some splice → log_at (map splice_in items) (index + 1) maximum false last ≡ redone_log log splice
-stepped_forward items index maximum run_open last log within view splice e =
+pub stepped_forward : (items : List Stored) (index maximum : ℕ) (run_open : Bool) (last : ℕ) (group : Group) (log : Log) → index < length items → log_in items index maximum run_open last group ≡ log →
+    (splice : Splice) → next log ≡ Some splice → log_in items (index + 1) maximum false last Closed ≡ redone_log log splice
+stepped_forward items index maximum run_open last group log within view splice e =
     let splices = map splice_in items in
     let here : index < length splices = omega (arith, length-map items splice_in) in
     let found : slice_get (drop index splices) 0 ≡ Some splice = ap next view ∙ e in
@@ -362,6 +396,5 @@ stepped_forward items index maximum run_open last log within view splice e =
     let done : take (index + 1) splices ≡ take index splices ++ splice ∷ [] =
     take_more splices index splice here ∙ ap (λ (s : Splice). take index splices ++ s ∷ []) (sym read) in
     let undone : drop (index + 1) splices ≡ drop 1 (drop index splices) = ap (drop 1) (sym first) in
-    ap (λ (d : List Splice). record { done = d; undone = drop (index + 1) splices; maximum = maximum; run_open = false; last = last }) done
-    ∙ ap (λ (u : List Splice). record { done = take index splices ++ splice ∷ []; undone = u; maximum = maximum; run_open = false; last = last }) undone
+    rw (done, undone) refl
     ∙ ap (λ (l : Log). redone_log l splice) view

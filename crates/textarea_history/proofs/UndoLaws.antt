@@ -47,7 +47,8 @@ split_at_symbols text place symbols h occurs =
 after : (front symbols : List Symbol) (place to : Place) → end (0, 0) front ≡ place → end place symbols ≡ to → end (0, 0) (front ++ symbols) ≡ to
 after front symbols place to e e' = end-append (0, 0) front symbols ∙ ap (λ (p : Place). end p symbols) e ∙ e'
 
-merges_inserted : (text : List Symbol) (p q : Place) (s c : List Symbol) → 0 < length s → IsPlace text p → OccursAt text p s → end p s ≡ q → Merges text (record { place = p; symbols = s; inserts = true }) (record { place = q; symbols = c; inserts = true })
+merges_inserted : (text : List Symbol) (p q : Place) (s c : List Symbol) → 0 < length s → IsPlace text p → OccursAt text p s → end p s ≡ q →
+    Merges text (record { place = p; symbols = s; inserts = true }) (record { place = q; symbols = c; inserts = true })
 merges_inserted text p q s c some h occurs e =
     let components = split_at_symbols text p s h occurs in
     let f = components.front in
@@ -66,7 +67,8 @@ merges_inserted text p q s c some h occurs e =
           ∙ sym (ap (λ t. removed t p s) components.is ∙ removed_at f r s p (index_parted p f (s ++ r) components.ends));
     }
 
-merges_removed : (text : List Symbol) (p q : Place) (s c : List Symbol) → 0 < length s → IsPlace text q → OccursAt text q c → end q c ≡ p → Merges text (record { place = p; symbols = s; inserts = false }) (record { place = q; symbols = c; inserts = false })
+merges_removed : (text : List Symbol) (p q : Place) (s c : List Symbol) → 0 < length s → IsPlace text q → OccursAt text q c → end q c ≡ p →
+    Merges text (record { place = p; symbols = s; inserts = false }) (record { place = q; symbols = c; inserts = false })
 merges_removed text p q s c some h occurs e =
     let components = split_at_symbols text q c h occurs in
     let g = components.front in
@@ -82,14 +84,17 @@ merges_removed text p q s c some h occurs e =
 pub merges : (text : List Symbol) (run edit : Splice) → Fits text (inverse run) → Fits text edit → edit.inserts ≡ run.inserts → place_after run ≡ place_before edit → Merges text run edit
 merges text run edit back fits same meets = by run.inserts edit.inserts same run.place edit.place run.symbols edit.symbols back fits meets
   where
-    by : (b b' : Bool) → b' ≡ b → (p q : Place) (s c : List Symbol) → Fits text (inverse (record { place = p; symbols = s; inserts = b })) → Fits text (record { place = q; symbols = c; inserts = b' }) → place_after (record { place = p; symbols = s; inserts = b }) ≡ place_before (record { place = q; symbols = c; inserts = b' }) → Merges text (record { place = p; symbols = s; inserts = b }) (record { place = q; symbols = c; inserts = b' })
+    by : (b b' : Bool) → b' ≡ b → (p q : Place) (s c : List Symbol) → Fits text (inverse (record { place = p; symbols = s; inserts = b })) →
+        Fits text (record { place = q; symbols = c; inserts = b' }) → place_after (record { place = p; symbols = s; inserts = b }) ≡ place_before (record { place = q; symbols = c; inserts = b' }) →
+        Merges text (record { place = p; symbols = s; inserts = b }) (record { place = q; symbols = c; inserts = b' })
     by true true same p q s c back fits meets = merges_inserted text p q s c back.some back.is_place back.allowed meets
     by false false same p q s c back fits meets = merges_removed text p q s c back.some fits.is_place fits.allowed (sym meets)
     by true false same p q s c back fits meets = absurd cc
     by false true same p q s c back fits meets = absurd cc
 
 -- so if the edits of a log can be undone, they can be after an edit joins the newest one
-pub CanUndo-merged : (text : List Symbol) (run edit : Splice) (rest : List Splice) → CanUndo text (run ∷ rest) → Fits text edit → edit.inserts ≡ run.inserts → place_after run ≡ place_before edit → CanUndo (applied text edit) (merged run edit ∷ rest)
+pub CanUndo-merged : (text : List Symbol) (run edit : Splice) (rest : List Splice) → CanUndo text (run ∷ rest) → Fits text edit → edit.inserts ≡ run.inserts → place_after run ≡ place_before edit →
+    CanUndo (applied text edit) (merged run edit ∷ rest)
 CanUndo-merged text run edit rest can fits same meets =
     let m = merges text run edit can.0 fits same meets in
     (m.fits, subst (λ t. CanUndo t rest) (sym m.back) can.1)

@@ -5,7 +5,8 @@ use Rattle.textarea_history.specs.Prelude.{characters, characters_of, text_of, s
 use Rattle.textarea_text.proofs.Sizes.{weight_of_line, weight_of_text, weight-reverse}
 
 -- the lines of a fragment without the first
-pub fragment_weight : {Z : Type 0} (fragment_lines : List (String Z)) (first : String Z) → 0 < length fragment_lines → first ≡ get_or fragment_lines 0 first → weight (text_of fragment_lines) ≡ string_len first + size_of (take (length fragment_lines - 1) (drop 1 fragment_lines))
+pub fragment_weight : {Z : Type 0} (fragment_lines : List (String Z)) (first : String Z) → 0 < length fragment_lines → first ≡ get_or fragment_lines 0 first →
+    weight (text_of fragment_lines) ≡ string_len first + size_of (take (length fragment_lines - 1) (drop 1 fragment_lines))
 fragment_weight [] first some e = absurd (omega arith)
 fragment_weight (fragment_line ∷ rest) first some e =
     weight_of_text fragment_line rest

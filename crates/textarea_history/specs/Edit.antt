@@ -64,13 +64,15 @@ abbrev pub end_of_kind : EditKind → Place → Place → Place
 end_of_kind kind before after = cond (inserts_of kind) after before
 
 -- an edit as others see it: its splice, the position passed as the end of its symbols, the number
--- of lines of a fragment, and how a run of typing can grow in it
+-- of lines of a fragment, how a run of typing can grow in it, and, in a history, whether it is in
+-- one group with the edit before it
 pub record Stored : Type 0 where
   pub splice : Splice
   pub end : Place
   pub fragment_lines : Option ℕ
   pub grows : Bool
   pub spare : ℕ
+  pub grouped : Bool
 
 -- an edit is well formed if it has symbols, if a fragment has at least two lines (and so a break),
 -- and if the positions passed are the two ends of its symbols
@@ -96,6 +98,7 @@ pub record IsCopyOfEdit (edit copy : Stored) : Type 0 where
   pub end : copy.end ≡ edit.end
   pub fragment_lines : copy.fragment_lines ≡ edit.fragment_lines
   pub grows : copy.grows ≡ edit.grows
+  pub grouped : copy.grouped ≡ edit.grouped
 
 -- ---- as an `Edit` stores it
 
@@ -124,13 +127,14 @@ abbrev pub spare_of : Content → ℕ
 spare_of (content.Typed s) = string_capacity s - string_len s
 spare_of other = 0
 
-abbrev pub stored_of : Content → Bool → Place → Place → Stored
-stored_of stored_content inserts start to = record {
+abbrev pub stored_of : Content → Bool → Place → Place → Bool → Stored
+stored_of stored_content inserts start to grouped = record {
   splice = record { place = start; symbols = symbols_in inserts stored_content; inserts = inserts };
   end = to;
   fragment_lines = line_count_in stored_content;
   grows = grows_of stored_content;
   spare = spare_of stored_content;
+  grouped = grouped;
 }
 
 -- a copy of a content has the same symbols in either direction

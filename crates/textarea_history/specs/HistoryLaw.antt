@@ -17,11 +17,12 @@ edit_recorded logged splice coalesce now = record {
 }
 
 -- the done edits can be undone from the text, the newest first; the undone ones can be redone, the
--- next one first; together they are at most the maximum
+-- next one first; together they are at most the maximum, and each has a mark
 pub record IsSoundLog (logged : Logged) : Type 0 where
   pub undo : CanUndo logged.text (reverse logged.log.done)
   pub redo : CanApply logged.text logged.log.undone
   pub bounded : length logged.log.done + length logged.log.undone ≤ logged.log.maximum
+  pub marks : length logged.log.marks ≡ length logged.log.done + length logged.log.undone
 
 -- the same text, and the same edits done and undone
 pub record IsSame (first second : Logged) : Type 0 where

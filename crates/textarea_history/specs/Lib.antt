@@ -3,6 +3,7 @@ pub mod Edit
 pub mod Run
 pub mod EditLaw
 pub mod HistoryLaw
+pub mod Groups
 pub mod Log
 pub mod Store
 pub mod Prelude

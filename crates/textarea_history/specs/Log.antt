@@ -1,23 +1,71 @@
 -- What a history holds, independent of how it is stored.
-use Rattle.std.specs.Prelude.{◌≡◌, Some, None, ℕ, ◌+◌, ◌-◌, ◌*◌, ◌==◌, ◌&&◌, ◌||◌, nat_lt, Bool, true, false, if◌then◌else◌, List, [], ◌∷◌, ◌++◌, length, take, drop, Option, option_map, is_some, slice_get, String}
+use Rattle.std.specs.Prelude.{◌≡◌, Some, None, ℕ, suc, ◌+◌, ◌-◌, ◌*◌, ◌==◌, ◌&&◌, ◌||◌, nat_lt, Bool, true, false, if◌then◌else◌, List, [], ◌∷◌, ◌++◌, length, take, drop, Option, option_map, is_some, slice_get, String}
 use Rattle.std.specs.Char.{is_whitespace}
 use Rattle.textarea_text.specs.Text.{Symbol, Character, Break, text_of}
 use Rattle.textarea_text.specs.Place.{Place}
 use Rattle.textarea_text.specs.Splice.{Splice, applied, inverse, place_before, place_after}
 use Rattle.textarea_text.specs.Words.{class_of, is_same_class}
 use Rattle.textarea_history.specs.Run.{character_of, merged}
+use Rattle.textarea_history.specs.Groups.{group_count, is_filled, is_forgotten, is_open, grouped_before, grouped_first, opened, with_edit}
+use Rattle.textarea_history.specs.declared.history.groups.Group.{Group}
+use Rattle.textarea_history.specs.declared.history.groups.Group.TheVariants.{Closed, Empty, Forgotten}
 
 -- the done edits, the newest last; the undone ones, the next to redo first; their greatest number;
--- whether the newest edit is an open run of typing; and the time of the last edit, in nanoseconds
+-- whether the newest edit is an open run of typing; the time of the last edit, in nanoseconds; for
+-- each edit, the done ones first, whether it is in one group with the one before it; and the open group
 pub record Log : Type 0 where
   pub done : List Splice
   pub undone : List Splice
   pub maximum : ℕ
   pub run_open : Bool
   pub last : ℕ
+  pub marks : List Bool
+  pub group : Group
 
 abbrev pub empty_log : ℕ → Log
-empty_log maximum = record { done = []; undone = []; maximum = maximum; run_open = false; last = 0 }
+empty_log maximum = record {
+  done = [];
+  undone = [];
+  maximum = maximum;
+  run_open = false;
+  last = 0;
+  marks = [];
+  group = Closed;
+}
+
+-- ---- groups
+
+-- the number of edits of the newest done group, which an undo undoes
+abbrev pub newest_group : Log → ℕ
+newest_group log = suc (grouped_before log.marks (length log.done - 1))
+
+-- the number of done groups; where no edit is in one group with another, that of the done edits
+abbrev pub done_groups : Log → ℕ
+done_groups log = group_count log.marks (length log.done)
+
+-- the number of edits of the group that was undone last, which a redo redoes
+abbrev pub next_group : Log → ℕ
+next_group log = suc (grouped_first (drop (length log.done + 1) log.marks))
+
+-- the number of edits of the oldest group
+abbrev pub oldest_group : Log → ℕ
+oldest_group log = suc (grouped_first (drop 1 log.marks))
+
+-- the log once a group is opened, if none is open; a run of typing goes on
+abbrev pub group_opened : Log → Log
+group_opened log = record log { group = opened log.group }
+
+-- the log once the open group is closed, if one is open; a run of typing goes on
+abbrev pub group_closed : Log → Log
+group_closed log = record log { group = Closed }
+
+-- a group begins, if none is open: a run of typing ends
+abbrev pub group_begun : Log → Log
+group_begun log = if is_open log.group then log else record log { run_open = false; group = Empty }
+
+-- the open group ends, if one is open: a run of typing ends
+abbrev pub group_ended : Log → Log
+group_ended log = if is_open log.group then record log { run_open = false; group = Closed } else log
 
 -- ---- a run of typing
 
@@ -82,9 +130,29 @@ abbrev pub grown : Option Splice → Splice → Splice
 grown None edit = edit
 grown (Some run) edit = merged run edit
 
--- the done edits that stay when one more is recorded
+-- the done and undone edits are as many as the maximum
+abbrev pub is_full : Log → Bool
+is_full log = length log.done + length log.undone == log.maximum
+
+-- the done edits that stay when one more is recorded: all, or all but the oldest group
 abbrev pub remaining_done : Log → List Splice
-remaining_done log = if length log.done + length log.undone == log.maximum then drop 1 log.done else log.done
+remaining_done log = if is_full log then drop (oldest_group log) log.done else log.done
+
+-- their marks
+abbrev pub remaining_marks : Log → List Bool
+remaining_marks log =
+    let marks = take (length log.done) log.marks in
+    if is_full log then drop (oldest_group log) marks else marks
+
+-- the edit would be one more of a group of as many edits as the maximum, or to one with more
+abbrev pub is_outgrown : Log → Bool
+is_outgrown log =
+    is_forgotten log.group || (is_filled log.group && (is_full log && is_empty (remaining_done log)))
+
+-- the log of a group that has more edits than the maximum: it holds none of them, and none before
+abbrev pub group_forgotten : Log → Log
+group_forgotten log =
+    record log { done = []; undone = []; run_open = false; marks = []; group = Forgotten }
 
 abbrev pub done_joined : Log → Splice → List Splice
 done_joined log edit = take (length log.done - 1) log.done ++ grown (newest log) edit ∷ []
@@ -92,30 +160,60 @@ done_joined log edit = take (length log.done - 1) log.done ++ grown (newest log)
 abbrev pub done_appended : Log → Splice → List Splice
 done_appended log edit = remaining_done log ++ edit ∷ []
 
-abbrev pub done_after : Log → Splice → Bool → List Splice
-done_after log edit joined = if joined then done_joined log edit else done_appended log edit
+-- the marks with that of one more edit
+abbrev pub marks_appended : Log → List Bool
+marks_appended log = remaining_marks log ++ is_filled log.group ∷ []
 
--- the log with these done edits, after one is recorded at the time `now`
-abbrev pub with_done : Log → List Splice → Bool → ℕ → Log
-with_done log done run_open now = record { done = done; undone = []; maximum = log.maximum; run_open = run_open; last = now }
+-- the log with these done edits and marks, after one is recorded at the time `now`
+abbrev pub with_done : Log → List Splice → List Bool → Bool → ℕ → Log
+with_done log done marks run_open now = record {
+  done = done;
+  undone = [];
+  maximum = log.maximum;
+  run_open = run_open;
+  last = now;
+  marks = marks;
+  group = with_edit log.group;
+}
+
+-- the log after an edit that joins the newest one
+abbrev pub joined_log : Log → Splice → ℕ → Log
+joined_log log edit now = with_done log (done_joined log edit) log.marks true now
+
+-- the log after an edit that is recorded separately
+abbrev pub appended_log : Log → Splice → Bool → ℕ → Log
+appended_log log edit coalesce now =
+    with_done log (done_appended log edit) (marks_appended log) (is_typed edit coalesce) now
 
 abbrev pub recorded : Log → Splice → Bool → ℕ → Log
 recorded log edit coalesce now =
     if log.maximum == 0 then log
-    else with_done log (done_after log edit (joins log edit coalesce now)) (is_typed edit coalesce) now
+    else if joins log edit coalesce now then joined_log log edit now
+    else if is_outgrown log then group_forgotten log
+    else appended_log log edit coalesce now
 
 -- ---- undo and redo
 
--- the log after the newest edit is undone
+-- the log after the newest edit is undone; an open group is closed
 abbrev pub undone_log : Log → Splice → Log
-undone_log log splice = record log { done = take (length log.done - 1) log.done; undone = splice ∷ log.undone; run_open = false }
+undone_log log splice = record log {
+  done = take (length log.done - 1) log.done;
+  undone = splice ∷ log.undone;
+  run_open = false;
+  group = Closed;
+}
 
 -- the edit to redo next, and the log after that
 abbrev pub next : Log → Option Splice
 next log = slice_get log.undone 0
 
 abbrev pub redone_log : Log → Splice → Log
-redone_log log splice = record log { done = log.done ++ splice ∷ []; undone = drop 1 log.undone; run_open = false }
+redone_log log splice = record log {
+  done = log.done ++ splice ∷ [];
+  undone = drop 1 log.undone;
+  run_open = false;
+  group = Closed;
+}
 
 -- what a history holds, and the number of edits that it can record without allocating
 pub record StoredLog : Type 0 where

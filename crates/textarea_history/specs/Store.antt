@@ -1,21 +1,32 @@
 -- How a history stores its log: one list of edits, an index, and the edge of an open run.
-use Rattle.std.specs.Prelude.{◌≡◌, ◌<◌, ◌≤◌, ◌-◌, ℕ, Bool, true, cond, nat_lt, List, length, take, drop, Option, Some, None, slice_get, IfSome, All}
+use Rattle.std.specs.Prelude.{◌≡◌, ◌<◌, ◌≤◌, ◌-◌, ℕ, Bool, true, cond, nat_lt, List, length, take, drop, map, Option, Some, None, slice_get, IfSome, All}
 use Rattle.textarea_text.specs.Text.{Character}
 use Rattle.textarea_text.specs.Splice.{Splice}
 use Rattle.textarea_history.specs.Edit.{Stored, IsWellFormed}
 use Rattle.textarea_history.specs.Log.{Log, edge_of}
+use Rattle.textarea_history.specs.declared.history.groups.Group.{Group}
 
 abbrev pub splice_in : Stored → Splice
 splice_in edit = edit.splice
 
-abbrev pub log_at : List Splice → ℕ → ℕ → Bool → ℕ → Log
-log_at splices index maximum run_open last = record {
+abbrev pub grouped_in : Stored → Bool
+grouped_in edit = edit.grouped
+
+abbrev pub log_at : List Splice → List Bool → ℕ → ℕ → Bool → ℕ → Group → Log
+log_at splices marks index maximum run_open last group = record {
   done = take index splices;
   undone = drop index splices;
   maximum = maximum;
   run_open = run_open;
   last = last;
+  marks = marks;
+  group = group;
 }
+
+-- the log of these edits
+abbrev pub log_in : List Stored → ℕ → ℕ → Bool → ℕ → Group → Log
+log_in items index maximum run_open last group =
+    log_at (map splice_in items) (map grouped_in items) index maximum run_open last group
 
 abbrev pub spare_in : Option Stored → ℕ
 spare_in None = 0

@@ -1,6 +1,7 @@
 //! Edits of lines, each between two positions, and the changes that make or undo them.
 mod change;
 mod fragment;
+mod grouped;
 mod run;
 
 ghost use Rattle.std.specs.Prelude.{◌≡◌, ◌<◌, ◌∷◌, [], IsOk, None, OnOk, OnErr, vec_len, true, false};
@@ -107,12 +108,14 @@ fn content_of(kind: EditKind) -> (Content, bool)
 }
 
 /// One edit. Its content is between the start and the end, after an insertion or before a removal.
+/// In a history, `grouped` marks an edit that is in one group with the edit before it.
 #[derive(Drop)]
 pub struct Edit {
     content: Content,
     inserts: bool,
     start: (usize, usize),
     end: (usize, usize),
+    grouped: bool,
 }
 
 impl Model for Edit {
@@ -122,7 +125,8 @@ impl Model for Edit {
 
     ghost use Rattle.textarea_history.specs.Edit.{stored_of};
 
-    ghost view = { λ edit. stored_of edit.content edit.inserts edit.start edit.end };
+    ghost view = { λ edit.
+        stored_of edit.content edit.inserts edit.start edit.end edit.grouped };
 }
 
 impl Clone for Edit {
@@ -137,6 +141,7 @@ impl Clone for Edit {
             inserts: self.inserts,
             start: self.start,
             end: self.end,
+            grouped: self.grouped,
         })
     }
 }
@@ -172,6 +177,7 @@ impl Edit {
             inserts,
             start,
             end,
+            grouped: false,
         }
     }
 

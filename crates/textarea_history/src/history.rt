@@ -1,10 +1,13 @@
-//! The done and undone edits, up to a greatest number, and runs of typing that grow in place.
+//! The done and undone edits, up to a greatest number, with runs of typing that grow in place, and
+//! groups of edits that are undone together.
+mod groups;
 pub mod laws;
 
 ghost use Rattle.std.specs.Prelude.{drop, ◌≡◌, ◌<◌, ◌≤◌, ◌+◌, length, OnOk, OnErr, IfOk, IfSome, IsSome, IsOk, MatchOption, Some, ◌∷◌, [], vec_len, true, false};
-ghost use Rattle.textarea_history.specs.Prelude.{deque_capacity, as_nanos, Character, Splice, inverse, FitsLines, IsWellFormed, continues, edge_of, empty_log, recorded, joins, typed_character, with_done, done_joined, done_appended, is_typed, remaining_done, logged_of, Undoes, Redoes, newest, next, undone_log, redone_log};
+ghost use Rattle.textarea_history.specs.Prelude.{deque_capacity, as_nanos, Character, Splice, inverse, FitsLines, IsWellFormed, continues, edge_of, empty_log, recorded, joins, typed_character, appended_log, joined_log, remaining_done, remaining_marks, logged_of, Undoes, Redoes, newest, next, undone_log, redone_log};
 
 pub use crate::edit::{Edit, EditKind};
+pub use groups::Group;
 use std::alloc::{AllocError, Global};
 use std::collections::VecDeque;
 use std::marker::Model;
@@ -15,7 +18,8 @@ use textarea_text::word::CharKind;
 const PAUSE: u128 = 500_000_000;
 
 /// All edits are in one queue: the done ones before the index, the undone ones from it on. While a
-/// run is open, `run` is the character by which the newest edit last grew.
+/// run is open, `run` is the character by which the newest edit last grew. Each edit has a mark,
+/// whether it is in one group with the edit before it.
 #[derive(Drop)]
 pub struct History {
     items: VecDeque<Edit>,
@@ -23,21 +27,21 @@ pub struct History {
     max_items: usize,
     run: Option<char>,
     last: Duration,
+    group: Group,
 }
 
 impl Model for History {
-    ghost use Rattle.std.specs.Prelude.{◌-◌, map, is_some};
+    ghost use Rattle.std.specs.Prelude.{◌-◌, is_some};
     ghost use Rattle.std.specs.VecDeque.{deque_len, deque_capacity};
     ghost use Rattle.std.specs.Duration.{as_nanos};
     ghost use Rattle.textarea_history.specs.Log.{StoredLog};
 
     ghost Value = { StoredLog };
 
-    ghost use Rattle.textarea_history.specs.Store.{IsStore, log_at, room_at, splice_in};
+    ghost use Rattle.textarea_history.specs.Store.{IsStore, log_in, room_at};
 
     ghost view = { λ h. record {
-      log = log_at (map splice_in h.items.items) h.index h.max_items (is_some h.run)
-          (as_nanos h.last);
+      log = log_in h.items.items h.index h.max_items (is_some h.run) (as_nanos h.last) h.group;
       room = room_at h.items.items h.run (deque_capacity h.items - deque_len h.items);
     } };
 
@@ -47,7 +51,8 @@ impl Model for History {
 impl Clone for History {
     ghost is_clone = { λ history copy. copy.log ≡ history.log };
 
-    /// Returns a history with the same edits, done and undone, or out of memory.
+    /// Returns a history with the same edits, done and undone, and the same open group, or out of
+    /// memory.
     fn clone(&self) -> Result<History, AllocError> {
         Ok(History {
             items: self.items.clone()?,
@@ -55,6 +60,7 @@ impl Clone for History {
             max_items: self.max_items,
             run: self.run,
             last: self.last,
+            group: self.group,
         })
     }
 }
@@ -70,6 +76,7 @@ impl History {
             max_items,
             run: None,
             last: Duration::ZERO,
+            group: Group::Closed,
         }
     }
 
@@ -126,6 +133,8 @@ impl History {
         }
         if self.joins(&edit, coalesce, now) {
             self.join(&edit, now);
+        } else if self.is_outgrown() {
+            self.forget();
         } else {
             self.append(edit, coalesce, now);
         }
@@ -148,14 +157,14 @@ impl History {
         requires well_formed { IsWellFormed edit.now }
         requires room { 0 < self.old.room }
         requires joins { joins self.old.log edit.now.splice true (as_nanos now) ≡ true }
-        ensures { self.new.log ≡ with_done self.old.log
-            (done_joined self.old.log edit.now.splice) true (as_nanos now) }
+        ensures { self.new.log ≡ joined_log self.old.log edit.now.splice (as_nanos now) }
     {
         if let Some(c) = typed_character(edit, true) {
             let newest = &mut self.items[self.index - 1];
             newest.grow(edit, c);
             self.run = Some(c);
             self.last = now;
+            self.group = self.group.with_edit();
         }
     }
 
@@ -164,32 +173,37 @@ impl History {
         requires well_formed { IsWellFormed edit }
         requires room { 0 < self.old.room }
         requires some { 0 < self.old.log.maximum }
-        ensures { self.new.log ≡ with_done self.old.log
-            (done_appended self.old.log edit.splice) (is_typed edit.splice coalesce)
-            (as_nanos now) }
+        ensures { self.new.log ≡ appended_log self.old.log edit.splice coalesce (as_nanos now) }
     {
         self.drop_excess();
         let typed = typed_character(&edit, coalesce);
         edit.start_run(typed);
+        edit.set_grouped(self.group.is_filled());
         let _ = self.items.push_back(edit);
         self.index += 1;
         self.run = typed;
         self.last = now;
+        self.group = self.group.with_edit();
     }
 
-    /// Drops the undone edits, and also the oldest done one if the history is full.
+    /// Drops the undone edits, and also the oldest group of done ones if the history is full.
     fn drop_excess(&mut self)
         requires room { 0 < self.old.room }
         requires some { 0 < self.old.log.maximum }
         ensures log { self.new.log
-            ≡ record self.old.log
-            { done = remaining_done self.old.log; undone = []; run_open = false } }
+            ≡ record self.old.log {
+              done = remaining_done self.old.log;
+              undone = [];
+              run_open = false;
+              marks = remaining_marks self.old.log;
+            } }
         ensures place { length self.new.log.done < self.new.log.maximum }
         ensures room { 0 < self.new.room }
     {
-        if self.items.len() == self.max_items && 0 < self.index {
-            drop_oldest(&mut self.items);
-            self.index -= 1;
+        if self.items.len() == self.max_items {
+            let count = self.oldest_group();
+            drop_oldest(&mut self.items, count);
+            self.index = self.index.saturating_sub(count);
         }
         self.items.truncate(self.index);
         self.run = None;
@@ -213,7 +227,8 @@ impl History {
         self.items.get(self.index)
     }
 
-    /// Moves the newest done edit, which was undone, to the undone ones, and ends the run.
+    /// Moves the newest done edit, which was undone, to the undone ones. The run and an
+    /// open group end.
     pub fn step_back(&mut self)
         requires { IsSome (newest self.old.log) }
         ensures { (splice : Splice) → newest self.old.log ≡ Some splice →
@@ -221,9 +236,11 @@ impl History {
     {
         self.index -= 1;
         self.run = None;
+        self.group = Group::Closed;
     }
 
-    /// Moves the edit that was undone last, and was redone, to the done ones, and ends the run.
+    /// Moves the edit that was undone last, and was redone, to the done ones. The
+    /// run and an open group end.
     pub fn step_forward(&mut self)
         requires { IsSome (next self.old.log) }
         ensures { (splice : Splice) → next self.old.log ≡ Some splice →
@@ -231,6 +248,7 @@ impl History {
     {
         self.index += 1;
         self.run = None;
+        self.group = Group::Closed;
     }
 
     /// Undoes the newest edit, if there is one, and returns the cursor. Out of memory changes
@@ -277,11 +295,13 @@ impl History {
     }
 }
 
-fn drop_oldest(items: &mut VecDeque<Edit>)
-    ensures items { items.new.items ≡ drop 1 items.old.items }
+fn drop_oldest(items: &mut VecDeque<Edit>, count: usize)
+    ensures items { items.new.items ≡ drop count items.old.items }
     ensures capacity { deque_capacity items.new ≡ deque_capacity items.old }
 {
-    items.pop_front();
+    for _ in 0..count {
+        items.pop_front();
+    }
 }
 
 // The character of an edit that counts as typed: with `coalesce`, and of just one character.

@@ -40,7 +40,8 @@ use Rattle.tui_textarea.specs.Search.{after_search, next_match, previous_match}
 use Rattle.tui_textarea.specs.Selection.{IsInsertOutOfMemory, unselected}
 use Rattle.tui_textarea.specs.State.{State}
 use Rattle.tui_textarea.proofs.FoundPlaces.{match_is_place}
-use Rattle.tui_textarea.proofs.SoundStates.{sound_at, sound_cursor, sound_from, sound_goes, sound_ranges, sound_redo, sound_search, sound_settings, sound_unanchored, sound_undo}
+use Rattle.tui_textarea.proofs.SoundStates.{sound_at, sound_cursor, sound_from, sound_goes, sound_ranges, sound_search, sound_settings, sound_unanchored}
+use Rattle.textarea_document.proofs.UndoGroups.{sound_redo, sound_undo}
 use Rattle.tui_textarea.proofs.Stepping.{Reckoning, after_by, ahead_by, before_by, break_by, char_by, cleared_by, copied_by, cursor_range_by, cut_by, edited, kept, moved}
 use Rattle.tui_textarea.proofs.Stepping.{layout_and_ranges, line_end_by, line_head_by, moves_unchanged, newline_by, selected_by, str_by, tab_by, unselected_by}
 use Rattle.tui_textarea.proofs.Stepping.{word_after_by, word_before_by}
@@ -147,8 +148,8 @@ module _ (By Own : Fact) (by : Reckoning By) (past : Past Own) where
   by_state old call.Clear h = given _ (cleared_by By by old h)
   by_state old call.Cut h = given _ (cut_by By by old h)
   by_state old (call.DeleteAtomicRangeAtCursor direction) h = given _ (cursor_range_by By by old direction h)
-  by_state old call.Undo h = (past.undos old.document h, λ can. sound_undo old.document (newest old.document.log) h refl)
-  by_state old call.Redo h = (past.redos old.document h, λ can. sound_redo old.document (next old.document.log) h refl)
+  by_state old call.Undo h = (past.undos old.document h, λ can. sound_undo old.document h)
+  by_state old call.Redo h = (past.redos old.document h, λ can. sound_redo old.document h)
   by_state old call.Copy h = given _ (copied_by By by old h)
   by_state old (call.GoTo place) h =
       let rows = lines old.document.text in
@@ -174,10 +175,10 @@ module _ (By Own : Fact) (by : Reckoning By) (past : Past Own) where
       given _ (kept By by old.document (state_after old (call.NormalizeCursorAroundAtomicRanges bias)).document refl (sound_cursor old.document bias h))
   by_state old (call.SetMaxHistories maximum) h =
       given _ (kept By by old.document (state_after old (call.SetMaxHistories maximum)).document refl
-      (record { cursor = h.cursor; anchor = h.anchor; ranges = h.ranges; in_order = h.in_order; undo = tt; redo = tt; bounded = omega arith }))
+      (record { cursor = h.cursor; anchor = h.anchor; ranges = h.ranges; in_order = h.in_order; undo = tt; redo = tt; bounded = omega arith; marks = refl; whole = refl }))
   by_state old (call.SetUndoCoalescing joins) h =
       given _ (kept By by old.document (state_after old (call.SetUndoCoalescing joins)).document refl
-      (record { cursor = h.cursor; anchor = h.anchor; ranges = h.ranges; in_order = h.in_order; undo = h.undo; redo = h.redo; bounded = h.bounded }))
+      (record { cursor = h.cursor; anchor = h.anchor; ranges = h.ranges; in_order = h.in_order; undo = h.undo; redo = h.redo; bounded = h.bounded; marks = h.marks; whole = h.whole }))
   by_state old (call.Input input) h = (tt, λ can. h)
   by_state old (call.InputWithoutShortcuts input) h = (tt, λ can. h)
   by_state old (call.SetLines items cursor) h =
@@ -193,7 +194,7 @@ module _ (By Own : Fact) (by : Reckoning By) (past : Past Own) where
   by_state old (call.SetAlignment alignment) h = (tt, λ can. sound_settings old.document (alignment_set old alignment) h)
   by_state old (call.TrySetAtomicRanges ranges) h = (tt, λ can. sound_ranges (rejected_ranges old ranges.now) old ranges.now h refl)
   by_state old call.ClearAtomicRanges h =
-      (tt, λ can. record { cursor = h.cursor; anchor = h.anchor; ranges = valid_none (lines old.document.text); in_order = refl; undo = h.undo; redo = h.redo; bounded = h.bounded })
+      (tt, λ can. record { cursor = h.cursor; anchor = h.anchor; ranges = valid_none (lines old.document.text); in_order = refl; undo = h.undo; redo = h.redo; bounded = h.bounded; marks = h.marks; whole = h.whole })
   by_state old (call.Render area) h = (tt, λ can. h)
   by_state old made h = given _ (kept By by old.document (state_after old made).document refl h)
 

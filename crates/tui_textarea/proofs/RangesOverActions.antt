@@ -1,13 +1,12 @@
 -- How the atomic ranges move with the text, over each edit.
-use Rattle.std.proofs.Common.{◌≡◌, ℕ, Bool, List, [], ◌∷◌, Option, None, Some, ap, refl, sym, subst, ◌∙◌}
-use Rattle.textarea_history.specs.Log.{newest, next}
+use Rattle.std.proofs.Common.{◌≡◌, ℕ, Bool, List, [], ◌∷◌, ap, sym, subst, ◌∙◌}
 use Rattle.textarea_screen.specs.declared.screen.rect.Rect.{Rect}
-use Rattle.textarea_text.specs.Splice.{Fits, Splice, IsTextBefore, inverse}
+use Rattle.textarea_text.specs.Splice.{Fits, Splice, IsTextBefore}
 use Rattle.textarea_document.specs.RangesOverSplices.{RangesFollowSplices, RangesStayWhole}
 use Rattle.textarea_document.specs.Ranges.{SplitsNoRange}
-use Rattle.textarea_document.specs.Outcomes.{after_edit, after_redo, after_redo_by, after_undo, after_undo_by}
+use Rattle.textarea_document.specs.Outcomes.{after_edit, after_redo, after_undo}
 use Rattle.textarea_document.specs.Sound.{IsSound}
-use Rattle.textarea_document.specs.Splices.{redo_splices_by, undo_splices_by}
+use Rattle.textarea_document.specs.Splices.{redo_splices, undo_splices}
 use Rattle.textarea_document.specs.DocumentState.{DocumentState}
 use Rattle.textarea_document.proofs.RangesOverSplices.{ranges_stay_on, stays}
 use Rattle.tui_textarea.specs.Drawing.{IsRendered}
@@ -22,10 +21,10 @@ EditsGo = (document : DocumentState) (splice : Splice) (typed : Bool) (now : ℕ
     → RangesStayWhole document (splice ∷ []) (after_edit document splice typed now)
 
 abbrev pub UndosGo : Type 0
-UndosGo = (document : DocumentState) (splice : Splice) → IsSound document → newest document.log ≡ Some splice → RangesFollowSplices document (inverse splice ∷ []) (after_undo document)
+UndosGo = (document : DocumentState) → IsSound document → RangesFollowSplices document (undo_splices document) (after_undo document)
 
 abbrev pub RedosGo : Type 0
-RedosGo = (document : DocumentState) (splice : Splice) → IsSound document → next document.log ≡ Some splice → RangesFollowSplices document (splice ∷ []) (after_redo document)
+RedosGo = (document : DocumentState) → IsSound document → RangesFollowSplices document (redo_splices document) (after_redo document)
 
 still : (old new : DocumentState) → layout_and_ranges new ≡ layout_and_ranges old → RangesStayWhole old [] new
 still old new same = stays old new (ap (λ (s : LayoutAndRanges). s.0.text) same) (ap (λ (s : LayoutAndRanges). s.1) same)
@@ -43,20 +42,6 @@ follows_as old new other splices same h = (
 pub reckoning_of : EditsGo → Reckoning RangesStayWhole
 reckoning_of edits = record { none = still; same = follows_as; two = ranges_stay_on; one = edits }
 
--- ---- undo and redo
-
-ranges_follow_undo : UndosGo → (document : DocumentState) (found : Option Splice) → IsSound document → newest document.log ≡ found → RangesFollowSplices document (undo_splices_by found) (after_undo document)
-ranges_follow_undo law document None h is =
-    let same : after_undo document ≡ document = ap (λ (f : Option Splice). after_undo_by f document) is in
-    (still document (after_undo document) (ap layout_and_ranges same)).0
-ranges_follow_undo law document (Some splice) h is = law document splice h is
-
-ranges_follow_redo : RedosGo → (document : DocumentState) (found : Option Splice) → IsSound document → next document.log ≡ found → RangesFollowSplices document (redo_splices_by found) (after_redo document)
-ranges_follow_redo law document None h is =
-    let same : after_redo document ≡ document = ap (λ (f : Option Splice). after_redo_by f document) is in
-    (still document (after_redo document) (ap layout_and_ranges same)).0
-ranges_follow_redo law document (Some splice) h is = law document splice h is
-
 -- ---- what leaves text and ranges unchanged
 
 pub ranges_stay_in_drawing : (old new : State) (area : Rect) → IsRendered old area new → RangesStayWhole old.document [] new.document
@@ -67,7 +52,4 @@ ranges_stay_in_drawing old new area h =
 -- ---- calls
 
 pub past_follows : UndosGo → RedosGo → Past RangesFollowSplices
-past_follows undos redos = record {
-  undos = λ document sound. ranges_follow_undo undos document (newest document.log) sound refl;
-  redos = λ document sound. ranges_follow_redo redos document (next document.log) sound refl;
-}
+past_follows undos redos = record { undos = undos; redos = redos }

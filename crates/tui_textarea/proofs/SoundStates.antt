@@ -1,8 +1,7 @@
 -- Documents are sound after moves, undo and redo, and after other ranges and settings.
-use Rattle.std.proofs.Common.{◌≡◌, ◌<◌, Bool, true, false, List, [], ◌∷◌, length, Option, None, Some, option_map, unwrap_or, IfSome, ap, subst, sym}
+use Rattle.std.proofs.Common.{◌≡◌, ◌<◌, Bool, true, false, List, [], ◌∷◌, length, Option, None, Some, option_map, unwrap_or, IfSome}
 use Rattle.textarea_text.specs.Between.{clip}
 use Rattle.textarea_text.specs.Place.{Place, IsPlace}
-use Rattle.textarea_text.specs.Splice.{Splice}
 use Rattle.textarea_text.specs.Text.{Symbol, lines}
 use Rattle.textarea_data.specs.declared.cursor.CursorMove.{CursorMove}
 use Rattle.textarea_data.specs.declared.range.AtomicCursorBias.{AtomicCursorBias}
@@ -15,14 +14,13 @@ use Rattle.textarea_ranges.specs.Valid.{AreValid}
 use Rattle.textarea_ranges.proofs.LookupLemmas.{IsPlaceOf-moved_out}
 use Rattle.textarea_ranges.proofs.OrderLemmas.{AreInOrder-in_order}
 use Rattle.textarea_ranges.proofs.RejectedLemmas.{valid-none_rejected}
-use Rattle.textarea_history.specs.Log.{newest, next}
 use Rattle.textarea_lines.specs.declared.settings.LayoutSettings.{LayoutSettings}
 use Rattle.textarea_document.specs.DocumentRows.{with_layout_settings}
 use Rattle.textarea_document.specs.DocumentState.{DocumentState}
-use Rattle.textarea_document.specs.Outcomes.{after_move, after_redo, after_redo_by, after_undo, after_undo_by, unanchored}
+use Rattle.textarea_document.specs.Outcomes.{after_move, unanchored}
 use Rattle.textarea_document.specs.Sound.{IsSound}
 use Rattle.textarea_document.proofs.Ranges.{anchor_place}
-use Rattle.textarea_document.proofs.Sounds.{resound, sound_redone, sound_undone}
+use Rattle.textarea_document.proofs.Sounds.{resound}
 use Rattle.tui_textarea.specs.Calls.{rejected_ranges, with_ranges_if}
 use Rattle.tui_textarea.specs.Moves.{after_move_by, anchor_with, bias_of, pushed}
 use Rattle.tui_textarea.specs.Search.{after_search}
@@ -39,6 +37,8 @@ sound_at document cursor anchor h at from = record {
   undo = h.undo;
   redo = h.redo;
   bounded = h.bounded;
+  marks = h.marks;
+  whole = h.whole;
 }
 
 pub sound_from : (document : DocumentState) (anchor : Option Place) → IsSound document → IfSome anchor (IsPlace document.text)
@@ -51,6 +51,8 @@ sound_from document anchor h from = record {
   undo = h.undo;
   redo = h.redo;
   bounded = h.bounded;
+  marks = h.marks;
+  whole = h.whole;
 }
 
 pub sound_unanchored : (document : DocumentState) → IsSound document → IsSound (unanchored document)
@@ -66,6 +68,8 @@ sound_cursor document bias h = record {
   undo = h.undo;
   redo = h.redo;
   bounded = h.bounded;
+  marks = h.marks;
+  whole = h.whole;
 }
 
 pub clipped : (text : List Symbol) (anchor : Option Place) → 0 < length (lines text) → IfSome (option_map (clip (lines text)) anchor) (IsPlace text)
@@ -97,16 +101,6 @@ pub sound_search : (state : State) (found : Option Place) → IsSound state.docu
 sound_search state None h at = h
 sound_search state (Some place) h at = sound_at state.document place state.document.anchor h at h.anchor
 
--- ---- undo and redo
-
-pub sound_undo : (document : DocumentState) (found : Option Splice) → IsSound document → newest document.log ≡ found → IsSound (after_undo document)
-sound_undo document None h is = subst IsSound (sym (ap (λ (f : Option Splice). after_undo_by f document) is)) h
-sound_undo document (Some splice) h is = subst IsSound (sym (ap (λ (f : Option Splice). after_undo_by f document) is)) (sound_undone document splice h is)
-
-pub sound_redo : (document : DocumentState) (found : Option Splice) → IsSound document → next document.log ≡ found → IsSound (after_redo document)
-sound_redo document None h is = subst IsSound (sym (ap (λ (f : Option Splice). after_redo_by f document) is)) h
-sound_redo document (Some splice) h is = subst IsSound (sym (ap (λ (f : Option Splice). after_redo_by f document) is)) (sound_redone document splice h is)
-
 -- ---- ranges and settings
 
 pub sound_ranges : (rejected : List RejectedAtomicRange) (state : State) (ranges : List AtomicRange)
@@ -123,6 +117,8 @@ sound_ranges [] state ranges h none =
       undo = h.undo;
       redo = h.redo;
       bounded = h.bounded;
+      marks = h.marks;
+      whole = h.whole;
     }
 sound_ranges (range ∷ rejected) state ranges h some = h
 

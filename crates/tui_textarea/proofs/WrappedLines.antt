@@ -1,14 +1,13 @@
 -- The lines that an edit wraps are those that its splices wrap.
-use Rattle.std.proofs.Common.{◌≡◌, ℕ, Bool, List, [], ◌∷◌, ◌++◌, Option, None, Some, ap, refl, sym, subst}
-use Rattle.textarea_history.specs.Log.{newest, next}
+use Rattle.std.proofs.Common.{◌≡◌, ℕ, Bool, List, [], ◌∷◌, ◌++◌, ap, refl, sym, subst}
 use Rattle.textarea_lines.specs.LineWraps.{WrapsForSplices}
 use Rattle.textarea_lines.specs.TextLayout.{TextAndLayout}
-use Rattle.textarea_text.specs.Splice.{Fits, Splice, inverse}
+use Rattle.textarea_text.specs.Splice.{Fits, Splice}
 use Rattle.textarea_document.specs.DocumentWraps.{SplicedBy, SplicesBy}
-use Rattle.textarea_document.specs.Outcomes.{after_edit, after_redo, after_redo_by, after_undo, after_undo_by}
+use Rattle.textarea_document.specs.Outcomes.{after_edit, after_redo, after_undo}
 use Rattle.textarea_document.specs.DocumentRows.{text_and_layout}
 use Rattle.textarea_document.specs.Sound.{IsSound}
-use Rattle.textarea_document.specs.Splices.{redo_splices_by, undo_splices_by}
+use Rattle.textarea_document.specs.Splices.{redo_splices, undo_splices}
 use Rattle.textarea_document.specs.DocumentState.{DocumentState}
 use Rattle.tui_textarea.proofs.Acting.{Past}
 use Rattle.tui_textarea.proofs.Stepping.{Reckoning, LayoutAndRanges}
@@ -19,10 +18,10 @@ EditsWrap = (document : DocumentState) (splice : Splice) (typed : Bool) (now : �
     → SplicesBy document splice (after_edit document splice typed now)
 
 abbrev pub UndosWrap : Type 0
-UndosWrap = (document : DocumentState) (splice : Splice) → IsSound document → newest document.log ≡ Some splice → SplicesBy document (inverse splice) (after_undo document)
+UndosWrap = (document : DocumentState) → IsSound document → SplicedBy document (undo_splices document) (after_undo document)
 
 abbrev pub RedosWrap : Type 0
-RedosWrap = (document : DocumentState) (splice : Splice) → IsSound document → next document.log ≡ Some splice → SplicesBy document splice (after_redo document)
+RedosWrap = (document : DocumentState) → IsSound document → SplicedBy document (redo_splices document) (after_redo document)
 
 -- ---- splices, one after another
 
@@ -39,20 +38,7 @@ reckoned cut = record {
   one = λ document splice typed now fits whole. (text_and_layout (after_edit document splice typed now), cut document splice typed now fits, refl);
 }
 
--- ---- undo and redo
-
-undone_by_splices : UndosWrap → (document : DocumentState) (found : Option Splice) → IsSound document → newest document.log ≡ found → SplicedBy document (undo_splices_by found) (after_undo document)
-undone_by_splices cut document None h is = ap (λ (f : Option Splice). text_and_layout (after_undo_by f document)) is
-undone_by_splices cut document (Some splice) h is = (text_and_layout (after_undo document), cut document splice h is, refl)
-
-redone_by_splices : RedosWrap → (document : DocumentState) (found : Option Splice) → IsSound document → next document.log ≡ found → SplicedBy document (redo_splices_by found) (after_redo document)
-redone_by_splices cut document None h is = ap (λ (f : Option Splice). text_and_layout (after_redo_by f document)) is
-redone_by_splices cut document (Some splice) h is = (text_and_layout (after_redo document), cut document splice h is, refl)
-
 -- ---- calls
 
 pub past_wraps : UndosWrap → RedosWrap → Past SplicedBy
-past_wraps undos redos = record {
-  undos = λ document sound. undone_by_splices undos document (newest document.log) sound refl;
-  redos = λ document sound. redone_by_splices redos document (next document.log) sound refl;
-}
+past_wraps undos redos = record { undos = undos; redos = redos }

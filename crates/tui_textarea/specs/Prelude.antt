@@ -6,7 +6,7 @@ pub use Rattle.textarea_text.specs.Place.{IsPlace, Place, index_of, place_of}
 pub use Rattle.textarea_text.specs.Size.{size_of, weight}
 pub use Rattle.textarea_text.specs.Splice.{CanApply, Fits, Splice}
 pub use Rattle.textarea_text.specs.Text.{Character, lines, lines_of, text_of}
-pub use Rattle.textarea_history.specs.Log.{empty_log, newest, next}
+pub use Rattle.textarea_history.specs.Log.{done_groups, empty_log, newest, next}
 pub use Rattle.textarea_data.specs.declared.cursor.CursorMove.{CursorMove}
 pub use Rattle.textarea_data.specs.declared.cursor.CursorMove.TheVariants.{Down}
 pub use Rattle.textarea_data.specs.declared.scroll.Scrolling.{Scrolling}

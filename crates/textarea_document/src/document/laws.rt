@@ -1,21 +1,22 @@
 //! Laws of documents, each the contract of a function that only reads.
-ghost use Rattle.std.specs.Prelude.{◌≡◌, ◌≤◌, ◌<◌, ℕ, Bool, length};
-ghost use Rattle.textarea_document.specs.Prelude.{Fits, Splice, HasEffect, EditStep, splice_of_step, RestoresAll, RestoresDocument, ListsFit, after_edit, SplitsNoRange, IsSound};
+ghost use Rattle.std.specs.Prelude.{◌≡◌, ◌≤◌, ◌<◌, ℕ, Bool};
+ghost use Rattle.textarea_document.specs.Prelude.{Fits, Splice, done_groups, HasEffect, EditStep, splice_of_step, RestoresAll, RestoresDocument, ListsFit, after_edit, SplitsNoRange, IsSound};
 
 use crate::document::Document;
 
 impl Document {
-    /// The law of undo, for every document: `count` undos, at most one for each done edit, give the
-    /// text before the last `count` edits; then `count` redos restore the text and both lists of
-    /// edits, and leave the cursor where the newest edit leaves it.
+    /// The law of undo, for every document: `count` undos, at most one for each done group, give the
+    /// text before the edits of the last `count` groups; then `count` redos restore the text and
+    /// both lists of edits, and leave the cursor where the newest edit leaves it. An edit that is in
+    /// no group with another counts as a group.
     pub fn undos_restore(&self)
-        ensures { (count : ℕ) → count ≤ length self.now.log.done → RestoresDocument self.now count }
+        ensures { (count : ℕ) → count ≤ done_groups self.now.log → RestoresDocument self.now count }
     {
         let _ = &self.history; // by the invariant each edit can be undone
     }
 
     /// The law of one edit, for every document that remembers edits: after each edit that fits the
-    /// text, an undo and a redo restore the text, both lists of edits, and the cursor.
+    /// text, an undo of its group and a redo restore the text, both lists of edits, and the cursor.
     pub fn redo_restores_all(&self)
         ensures { (splice : Splice) (typed : Bool) (now : ℕ) →
             Fits self.now.text splice → 0 < self.now.log.maximum →
@@ -34,8 +35,8 @@ impl Document {
     }
 
     /// In every document the cursor and the anchor are positions of the text, the ranges are valid
-    /// for it and sorted, the done edits can be undone and the undone ones redone, and both lists
-    /// together are at most the maximum.
+    /// for it and sorted, the done edits can be undone and the undone ones redone, both lists
+    /// together are at most the maximum, and no group is undone partly.
     pub fn is_sound(&self)
         ensures { IsSound self.now }
     {

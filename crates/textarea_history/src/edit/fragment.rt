@@ -30,6 +30,7 @@ impl Edit {
             inserts,
             start,
             end,
+            grouped: false,
         }
     }
 
@@ -42,6 +43,7 @@ impl Edit {
             inserts,
             start,
             end,
+            grouped,
         } = self;
         match content {
             Content::Lines(lines) => Ok(Edit {
@@ -49,12 +51,14 @@ impl Edit {
                 inserts,
                 start,
                 end,
+                grouped,
             }),
             content => Ok(Edit {
                 content,
                 inserts,
                 start,
                 end,
+                grouped,
             }),
         }
     }

@@ -30,6 +30,7 @@ impl Edit {
         ensures splice { self.new.splice ≡ self.old.splice }
         ensures well_formed { IsWellFormed self.new }
         ensures grows { IfSome typed (λ c. self.new.grows ≡ true) }
+        ensures grouped { self.new.grouped ≡ self.old.grouped }
     {
         if let Some(c) = typed {
             self.content = Content::Character(c);
@@ -43,6 +44,7 @@ impl Edit {
         ensures splice { self.new.splice ≡ self.old.splice }
         ensures well_formed { IsWellFormed self.new }
         ensures grows { self.new.grows ≡ true }
+        ensures grouped { self.new.grouped ≡ self.old.grouped }
         ensures ok { OnOk result (4 ≤ self.new.spare) }
     {
         match &mut self.content {
@@ -69,6 +71,7 @@ impl Edit {
         ensures splice { self.new.splice ≡ merged self.old.splice edit.now.splice }
         ensures well_formed { IsWellFormed self.new }
         ensures grows { self.new.grows ≡ true }
+        ensures grouped { self.new.grouped ≡ self.old.grouped }
     {
         if let Content::Typed(text) = &mut self.content {
             let _ = text.push(c);

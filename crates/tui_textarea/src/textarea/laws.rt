@@ -1,23 +1,24 @@
 //! Laws of text areas, each the contract of a function that does nothing.
-ghost use Rattle.std.specs.Prelude.{ℕ, ◌≡◌, ◌<◌, ◌≤◌, Bool, length, true, IfSome};
-ghost use Rattle.tui_textarea.specs.Prelude.{IsPlace, Fits, Splice, RestoresAll, RestoresDocument, ListsFit, after_edit, is_selected, IsSound, HasRowsFromScratch, PastesCopy};
+ghost use Rattle.std.specs.Prelude.{ℕ, ◌≡◌, ◌<◌, ◌≤◌, Bool, true, IfSome};
+ghost use Rattle.tui_textarea.specs.Prelude.{IsPlace, Fits, Splice, done_groups, RestoresAll, RestoresDocument, ListsFit, after_edit, is_selected, IsSound, HasRowsFromScratch, PastesCopy};
 
 use crate::textarea::TextArea;
 use textarea_lines::laws::one_list_of_rows;
 use textarea_wrap::laws::one_wrapping;
 
-/// The law of undo, for every text area: `count` undos, at most one for each done edit, give the
-/// text before the last `count` edits; then `count` redos restore the text and both lists of edits,
-/// and leave the cursor where the newest edit leaves it.
+/// The law of undo, for every text area: `count` undos, at most one for each done group, give the
+/// text before the edits of the last `count` groups; then `count` redos restore the text and both
+/// lists of edits, and leave the cursor where the newest edit leaves it. An edit that is in no group
+/// with another counts as a group.
 pub fn undos_restore(area: &TextArea<'_>)
-    ensures { (count : ℕ) → count ≤ length area.now.document.log.done
+    ensures { (count : ℕ) → count ≤ done_groups area.now.document.log
         → RestoresDocument area.now.document count }
 {
     area.document.undos_restore();
 }
 
 /// The law of one edit, for every text area that remembers edits: after each edit that fits the
-/// text, an undo and a redo restore the text, both lists of edits, and the cursor.
+/// text, an undo of its group and a redo restore the text, both lists of edits, and the cursor.
 pub fn redo_restores_all(area: &TextArea<'_>)
     ensures { (splice : Splice) (typed : Bool) (now : ℕ) →
         Fits area.now.document.text splice → 0 < area.now.document.log.maximum
@@ -45,8 +46,8 @@ pub fn copy_then_paste(area: &TextArea<'_>)
 }
 
 /// In every text area the cursor and the anchor are positions of the text, the ranges are valid for
-/// it and sorted, the done edits can be undone and the undone ones redone, and together they are at
-/// most the maximum.
+/// it and sorted, the done edits can be undone and the undone ones redone, together they are at most
+/// the maximum, and no group is undone partly.
 pub fn is_sound(area: &TextArea<'_>)
     ensures { IsSound area.now.document }
 {

@@ -5,12 +5,15 @@ use Rattle.textarea_document.proofs.document.Document.edit.Goals as goal
 use Rattle.textarea_document.proofs.document.Document.edit.Goals.{After-put}
 
 -- the resulting document is the one after the edit
-left : (c : After-put) → document_of c.make_change.new.text_layout c.in_ok-self-inside.field-0 None c.make_change.new.ranges.items c.put.new.self.log ≡ after_edit (document_of c.self.inside.text_layout c.self.inside.cursor c.self.inside.anchor c.self.inside.ranges.items c.self.inside.history.log) c.args.edit.splice c.args.typed (as_nanos c.args.now)
+left : (c : After-put) →
+    document_of c.make_change.new.text_layout c.in_ok-cursor.cursor None c.make_change.new.ranges.items c.put.new.self.log ≡ after_edit
+    (document_of c.self.inside.text_layout c.self.inside.cursor c.self.inside.anchor c.self.inside.ranges.items c.self.inside.history.log) c.args.edit.splice c.args.typed (as_nanos c.args.now)
 left c =
     let inside = c.self.inside in
     let splice = c.args.edit.splice in
-    let is = c.in_ok-self-inside.ensures in
-    changed_is inside.text_layout c.make_change.new.text_layout inside.cursor c.in_ok-self-inside.field-0 inside.anchor inside.ranges.items c.make_change.new.ranges.items inside.history.log c.put.new.self.log (recorded inside.history.log splice c.args.typed (as_nanos c.args.now)) _ splice c.change.ensures is.text_layout is.cursor is.ranges
+    let is = c.in_ok-cursor.ensures in
+    changed_is inside.text_layout c.make_change.new.text_layout inside.cursor c.in_ok-cursor.cursor inside.anchor inside.ranges.items c.make_change.new.ranges.items inside.history.log
+    c.put.new.self.log (recorded inside.history.log splice c.args.typed (as_nanos c.args.now)) _ splice c.change.ensures is.text_layout is.cursor is.ranges
     (c.put.ensures ∙ ap (λ (l : Log). recorded l splice c.args.typed (as_nanos c.args.now)) c.reserve.ensures.same)
 
 pub invariant_of-self-2 : goal.invariant_of-self-2

@@ -26,4 +26,5 @@ returns-clause-before c = λ backward.
 
 pub returns-clause-after : goal.returns-clause-after
 returns-clause-after c = λ forward.
-    range_ends_after c.args.self.now.text c.args.self.now.ranges c.args.self.now.cursor c.range_at_place.result (subst (AreValid (lines c.args.self.now.text)) c.ranges-2.ensures.value c.ranges-2.ensures.valid) (sym (range_is c ∙ ap (range_at_place c.args.self.now.ranges c.args.self.now.cursor) forward))
+    range_ends_after c.args.self.now.text c.args.self.now.ranges c.args.self.now.cursor c.range_at_place.result
+    (subst (AreValid (lines c.args.self.now.text)) c.ranges-2.ensures.value c.ranges-2.ensures.valid) (sym (range_is c ∙ ap (range_at_place c.args.self.now.ranges c.args.self.now.cursor) forward))

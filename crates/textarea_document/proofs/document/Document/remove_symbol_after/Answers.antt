@@ -7,14 +7,17 @@ use Rattle.textarea_document.proofs.document.Document.remove_symbol_after.Goals.
 
 -- the splice of the edit is the symbol's removal
 removes : (c : After-between) → c.between.result.splice ≡ record { place = c.args.self.now.cursor; symbols = symbol_in c.in-Some.after.character ∷ []; inserts = false }
-removes c = rw (← c.cursor-cursor.ensures.value) (c.between.ensures.splice ∙ removal_of_kind c.deletion_of-kind.result c.in-Some.after.end c.cursor-cursor.result (symbol_in c.in-Some.after.character ∷ []) c.deletion_of-kind.ensures.inserts c.deletion_of-kind.ensures.symbols)
+removes c =
+    rw (← c.cursor-cursor.ensures.value)
+    (c.between.ensures.splice ∙ removal_of_kind c.deletion_of-kind.result c.in-Some.after.end c.cursor-cursor.result (symbol_in c.in-Some.after.character ∷ []) c.deletion_of-kind.ensures.inserts c.deletion_of-kind.ensures.symbols)
 
 pub edit-requires-clause-splits_none : goal.edit-requires-clause-splits_none
 edit-requires-clause-splits_none c =
     let document = c.args.self.now in
     let found = c.in-Some.after in
     let ends = c.in-Some.ensures.symbol.ends in
-    rw (removes (goal.at.edit-requires-clause-splits_none c).After-between) (subst (TakesWhole document.ranges document.cursor) ends (whole_after document.ranges document.cursor found.end (symbol_in found.character) c.requires.none_at_place ends))
+    rw (removes (goal.at.edit-requires-clause-splits_none c).After-between)
+    (subst (TakesWhole document.ranges document.cursor) ends (whole_after document.ranges document.cursor found.end (symbol_in found.character) c.requires.none_at_place ends))
 
 pub returns-clause-ok : goal.returns-clause-ok
 returns-clause-ok c =

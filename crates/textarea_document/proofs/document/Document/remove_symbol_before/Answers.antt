@@ -20,4 +20,6 @@ edit-requires-clause-splits_none c =
     let before = c.in-Some.before in
     let made = (goal.at.edit-requires-clause-splits_none c).After-between in
     let known = occurs made in
-    rw (removes made) (subst (TakesWhole document.ranges before.start) known.ends (before_by document.text document.ranges document.cursor before.start (symbol_in before.character) c.lines.ensures.ranges c.requires.none_at_place known.is_place known.occurs known.ends))
+    rw (removes made)
+    (subst (TakesWhole document.ranges before.start) known.ends
+    (before_by document.text document.ranges document.cursor before.start (symbol_in before.character) c.lines.ensures.ranges c.requires.none_at_place known.is_place known.occurs known.ends))

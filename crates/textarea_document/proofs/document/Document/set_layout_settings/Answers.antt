@@ -4,4 +4,5 @@ use Rattle.textarea_document.proofs.document.Document.set_layout_settings.Goals 
 pub invariant_of-self : goal.invariant_of-self
 invariant_of-self c =
     let inside = c.self.inside in
-    sound_viewed c.set_layout_settings.result inside.text_layout c.set_layout_settings.new.self c.args.settings inside.cursor inside.anchor inside.ranges.items inside.history.log c.set_layout_settings.ensures.ok c.set_layout_settings.ensures.err c.self.invariant
+    sound_viewed c.set_layout_settings.result inside.text_layout c.set_layout_settings.new.self c.args.settings inside.cursor inside.anchor inside.ranges.items inside.history.log
+    c.set_layout_settings.ensures.ok c.set_layout_settings.ensures.err c.self.invariant

@@ -8,4 +8,5 @@ pub invariant_of-self-2 : goal.invariant_of-self-2
 invariant_of-self-2 c =
     let items = c.args.lines.items in
     let cursor = c.clip-place.result in
-    sound_layout (text_of items) c.self.inside.text_layout.layout.settings c.self.inside.text_layout.layout.count cursor c.max_items.result c.set_lines.new.self c.clear.new.self.items c.new-history.result.log c.in_ok-set_lines.ensures.ok c.clear.ensures.items c.new-history.ensures (text_place items cursor (subst (λ t. IsPlaceOf (lines_of t) cursor) c.as_slice.ensures.value c.clip-place.ensures.is_place))
+    sound_layout (text_of items) c.self.inside.text_layout.layout.settings c.self.inside.text_layout.layout.count cursor c.max_items.result c.set_lines.new.self c.clear.new.self.items
+    c.new-history.result.log c.in_ok-set_lines.ensures.ok c.clear.ensures.items c.new-history.ensures (text_place items cursor (subst (λ t. IsPlaceOf (lines_of t) cursor) c.as_slice.ensures.value c.clip-place.ensures.is_place))

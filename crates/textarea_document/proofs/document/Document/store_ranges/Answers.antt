@@ -20,6 +20,8 @@ invariant_of-self c =
       undo = old.undo;
       redo = old.redo;
       bounded = old.bounded;
+      marks = old.marks;
+      whole = old.whole;
     }
 
 pub move_out-cursor-requires : goal.move_out-cursor-requires

@@ -16,4 +16,5 @@ returns-then-row-lines c =
 
 pub returns : goal.returns
 returns c =
-    break_is_after (lines_of c.args.lines.now) c.args.place.0 c.args.place.1 (omega (arith, c.if-row-lines.false, c.requires.place.0, length-map c.args.lines.now characters_of)) (c.in_default.ensures ∙ ap length c.line_of.ensures.characters)
+    break_is_after (lines_of c.args.lines.now) c.args.place.0 c.args.place.1 (omega (arith, c.if-row-lines.false, c.requires.place.0, length-map c.args.lines.now characters_of))
+    (c.in_default.ensures ∙ ap length c.line_of.ensures.characters)

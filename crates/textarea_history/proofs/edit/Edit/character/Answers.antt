@@ -12,10 +12,12 @@ returns-in-Typed c =
 
 pub returns-in-Lines : goal.returns-in-Lines
 returns-in-Lines c =
-    only_lines (lines_of c.in-Lines.field-0.items) (omega (arith, line_count_as c.in-Lines.is (subst (λ (s : Stored). IfSome s.fragment_lines (λ n. 2 ≤ n)) (sym c.self.view_is) c.requires.fragment_lines), length-map c.in-Lines.field-0.items characters_of))
+    only_lines (lines_of c.in-Lines.field-0.items)
+    (omega (arith, line_count_as c.in-Lines.is (subst (λ (s : Stored). IfSome s.fragment_lines (λ n. 2 ≤ n)) (sym c.self.view_is) c.requires.fragment_lines), length-map c.in-Lines.field-0.items characters_of))
     ∙ ap character_of (symbols_as c.self.inside.start c.self.inside.end c.self.view_is c.in-Lines.is)
 
 pub returns-in-Shared : goal.returns-in-Shared
 returns-in-Shared c =
-    only_lines (lines_of c.in-Shared.field-0.value.items) (omega (arith, line_count_as c.in-Shared.is (subst (λ (s : Stored). IfSome s.fragment_lines (λ n. 2 ≤ n)) (sym c.self.view_is) c.requires.fragment_lines), length-map c.in-Shared.field-0.value.items characters_of))
+    only_lines (lines_of c.in-Shared.field-0.value.items)
+    (omega (arith, line_count_as c.in-Shared.is (subst (λ (s : Stored). IfSome s.fragment_lines (λ n. 2 ≤ n)) (sym c.self.view_is) c.requires.fragment_lines), length-map c.in-Shared.field-0.value.items characters_of))
     ∙ ap character_of (symbols_as c.self.inside.start c.self.inside.end c.self.view_is c.in-Shared.is)

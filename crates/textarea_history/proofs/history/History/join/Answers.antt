@@ -5,7 +5,8 @@ use Rattle.textarea_history.proofs.history.History.join.Goals as goal
 
 joining_here : (c : goal.After-index_mut-newest) → Joining c.self.inside.items.items c.self.inside.index c.self.inside.run c.index_mut-newest.result.now c.args.edit.now.splice
 joining_here c =
-    joining c.self.inside.items.items c.self.inside.index c.self.inside.max_items c.self.inside.run (as_nanos c.self.inside.last) (as_nanos c.args.now) c.index_mut-newest.result.now c.args.edit.now.splice c.args.self.now.log c.self.invariant (ap (λ (k : StoredLog). k.log) c.self.view_is) c.index_mut-newest.ensures.value c.requires.joins
+    joining c.self.inside.items.items c.self.inside.index c.self.inside.max_items c.self.inside.run (as_nanos c.self.inside.last) (as_nanos c.args.now) c.self.inside.group
+    c.index_mut-newest.result.now c.args.edit.now.splice c.args.self.now.log c.self.invariant (ap (λ (k : StoredLog). k.log) c.self.view_is) c.index_mut-newest.ensures.value c.requires.joins
 
 pub grow-requires-clause-room : goal.grow-requires-clause-room
 grow-requires-clause-room c =
@@ -21,13 +22,20 @@ grow-requires-clause-place c = (joining_here c).place
 
 pub invariant_of-self : goal.invariant_of-self
 invariant_of-self c =
-    let j = joining c.self.inside.items.items c.self.inside.index c.self.inside.max_items c.self.inside.run (as_nanos c.self.inside.last) (as_nanos c.args.now) c.index_mut-newest.result.now c.args.edit.now.splice c.args.self.now.log c.self.invariant (ap (λ (k : StoredLog). k.log) c.self.view_is) c.index_mut-newest.ensures.value c.requires.joins in
-    store_joined c.self.inside.items.items c.self.inside.index c.self.inside.max_items c.self.inside.run c.index_mut-newest.result.now c.grow.new.self c.args.edit.now.splice c.in-Some.c c.self.invariant j c.grow.ensures.splice c.grow.ensures.grows c.grow.ensures.well_formed (from_character c.args.edit.now.splice.symbols c.in-Some.c (sym c.typed_character.ensures ∙ c.in-Some.is))
+    let j =
+    joining c.self.inside.items.items c.self.inside.index c.self.inside.max_items c.self.inside.run (as_nanos c.self.inside.last) (as_nanos c.args.now) c.self.inside.group
+    c.index_mut-newest.result.now c.args.edit.now.splice c.args.self.now.log c.self.invariant (ap (λ (k : StoredLog). k.log) c.self.view_is) c.index_mut-newest.ensures.value c.requires.joins in
+    store_joined c.self.inside.items.items c.self.inside.index c.self.inside.max_items c.self.inside.run c.index_mut-newest.result.now c.grow.new.self c.args.edit.now.splice c.in-Some.c
+    c.self.invariant j c.grow.ensures.splice c.grow.ensures.grows c.grow.ensures.well_formed (from_character c.args.edit.now.splice.symbols c.in-Some.c (sym c.typed_character.ensures ∙ c.in-Some.is))
 
 pub returns-in-Some : goal.returns-in-Some
 returns-in-Some c =
-    let j = joining c.self.inside.items.items c.self.inside.index c.self.inside.max_items c.self.inside.run (as_nanos c.self.inside.last) (as_nanos c.args.now) c.index_mut-newest.result.now c.args.edit.now.splice c.args.self.now.log c.self.invariant (ap (λ (k : StoredLog). k.log) c.self.view_is) c.index_mut-newest.ensures.value c.requires.joins in
-    log_joined c.self.inside.items.items c.self.inside.index c.self.inside.max_items c.self.inside.run (as_nanos c.self.inside.last) (as_nanos c.args.now) c.index_mut-newest.result.now c.grow.new.self c.args.edit.now.splice c.args.self.now.log c.self.invariant j c.index_mut-newest.ensures.value (ap (λ (k : StoredLog). k.log) c.self.view_is) c.grow.ensures.splice
+    let j =
+    joining c.self.inside.items.items c.self.inside.index c.self.inside.max_items c.self.inside.run (as_nanos c.self.inside.last) (as_nanos c.args.now) c.self.inside.group
+    c.index_mut-newest.result.now c.args.edit.now.splice c.args.self.now.log c.self.invariant (ap (λ (k : StoredLog). k.log) c.self.view_is) c.index_mut-newest.ensures.value c.requires.joins in
+    rw c.with_edit-self-inside.ensures
+    (log_joined c.self.inside.items.items c.self.inside.index c.self.inside.max_items c.self.inside.run (as_nanos c.self.inside.last) (as_nanos c.args.now) c.self.inside.group
+    c.index_mut-newest.result.now c.grow.new.self c.args.edit.now.splice c.args.self.now.log c.self.invariant j c.index_mut-newest.ensures.value (ap (λ (k : StoredLog). k.log) c.self.view_is) c.grow.ensures.splice c.grow.ensures.grouped)
 
 pub grow-requires-clause-well_formed : goal.grow-requires-clause-well_formed
 grow-requires-clause-well_formed c =

@@ -14,4 +14,5 @@ returns-then-as_nanos-lt-PAUSE c =
     let soon : nat_lt (as_nanos c.args.now - as_nanos c.self.inside.last) pause ≡ true = grind (arith, nat_tests) in
     let both = c.in-Some-Some in
     c.continues.ensures
-    ∙ joins_is c.self.inside.items.items c.self.inside.index c.self.inside.max_items c.self.inside.run (as_nanos c.self.inside.last) (as_nanos c.args.now) both.edge both.c c.index-newest.result.now c.args.edit.now.splice c.args.coalesce c.args.self.now.log c.self.invariant both.is-1 (sym c.typed_character.ensures ∙ both.is-0) soon c.index-newest.ensures (ap (λ (k : StoredLog). k.log) c.self.view_is)
+    ∙ joins_is c.self.inside.items.items c.self.inside.index c.self.inside.max_items c.self.inside.run (as_nanos c.self.inside.last) (as_nanos c.args.now) both.edge both.c c.self.inside.group
+    c.index-newest.result.now c.args.edit.now.splice c.args.coalesce c.args.self.now.log c.self.invariant both.is-1 (sym c.typed_character.ensures ∙ both.is-0) soon c.index-newest.ensures (ap (λ (k : StoredLog). k.log) c.self.view_is)

@@ -9,4 +9,11 @@ returns-clause-edit c =
     let inside = c.self.inside in
     let items = inside.items.items in
     let log_is = ap (λ (k : StoredLog). k.log) c.self.view_is in
-    grind (arith, common_steps, log_is, next_none items inside.index inside.max_items (is_some inside.run) (as_nanos inside.last), λ (edit : Stored). next_at items inside.index inside.max_items (is_some inside.run) (as_nanos inside.last) edit c.args.self.now.log)
+    grind (
+      arith,
+      common_steps,
+      log_is,
+      next_none items inside.index inside.max_items (is_some inside.run) (as_nanos inside.last) inside.group,
+      λ (edit : Stored). next_at items inside.index
+          inside.max_items (is_some inside.run) (as_nanos inside.last) inside.group edit c.args.self.now.log,
+    )

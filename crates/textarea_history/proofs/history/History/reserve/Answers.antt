@@ -1,7 +1,7 @@
-use Rattle.std.proofs.Common.{◌∙◌, ◌-◌, sym, ap, arith, is_some, map, length}
+use Rattle.std.proofs.Common.{◌∙◌, ◌-◌, ◌<◌, sym, ap, arith, length}
 use Rattle.std.proofs.lemmas.Result.{on_ok_weaker}
-use Rattle.textarea_history.specs.Prelude.{as_nanos, StoredLog, log_at, splice_in}
-use Rattle.textarea_history.proofs.Stores.{formed_at, newest_grows, room_ready, run_some, splices_same, store_ready, store_same}
+use Rattle.textarea_history.specs.Prelude.{StoredLog}
+use Rattle.textarea_history.proofs.Stores.{formed_at, marks_same, newest_grows, room_ready, run_some, splices_same, store_ready, store_same}
 use Rattle.textarea_history.proofs.history.History.reserve.Goals as goal
 
 pub invariant_of-self : goal.invariant_of-self
@@ -39,10 +39,15 @@ pub returns-then-is_some-clause-same : goal.returns-then-is_some-clause-same
 returns-then-is_some-clause-same c =
     let inside = c.self.inside in
     let run = run_some inside.items.items inside.index inside.run c.self.invariant.run_is (sym c.is_some.ensures ∙ c.if-is_some.true) in
-    ap (λ s. log_at s inside.index inside.max_items (is_some inside.run) (as_nanos inside.last))
-    (splices_same c.reserve.new.self.items (inside.index - 1) c.index_mut.result.now c.reserve-then-is_some.new.self (omega (arith, run.0, run.1, ap length c.reserve.ensures.items)) c.index_mut.ensures.value c.reserve-then-is_some.ensures.splice
-    ∙ ap (map splice_in) c.reserve.ensures.items)
-    ∙ ap (λ (k : StoredLog). k.log) c.self.view_is
+    let now = c.reserve.new.self.items in
+    let edit = c.reserve-then-is_some in
+    let here : inside.index - 1 < length now = omega (arith, run.0, run.1, ap length c.reserve.ensures.items) in
+    rw (
+      splices_same now (inside.index - 1) c.index_mut.result.now edit.new.self here c.index_mut.ensures.value edit.ensures.splice,
+      marks_same now (inside.index - 1) c.index_mut.result.now edit.new.self here c.index_mut.ensures.value edit.ensures.grouped,
+      c.reserve.ensures.items,
+    )
+    (ap (λ (k : StoredLog). k.log) c.self.view_is)
 
 pub returns-then-is_some-clause-ok : goal.returns-then-is_some-clause-ok
 returns-then-is_some-clause-ok c =
@@ -50,5 +55,6 @@ returns-then-is_some-clause-ok c =
     let now = c.reserve.new.self.items in
     let run = run_some inside.items.items inside.index inside.run c.self.invariant.run_is (sym c.is_some.ensures ∙ c.if-is_some.true) in
     on_ok_weaker c.reserve-then-is_some.result
-    (λ spare. room_ready now inside.index inside.run _ c.reserve-then-is_some.new.self (omega (arith, run.0, ap length c.reserve.ensures.items)) (omega (arith, run.1, ap length c.reserve.ensures.items)) (omega (arith, c.in_ok-reserve.ensures.ok)) spare)
+    (λ spare. room_ready now inside.index inside.run _ c.reserve-then-is_some.new.self (omega (arith, run.0, ap length c.reserve.ensures.items))
+    (omega (arith, run.1, ap length c.reserve.ensures.items)) (omega (arith, c.in_ok-reserve.ensures.ok)) spare)
     c.reserve-then-is_some.ensures.ok

@@ -22,5 +22,6 @@ byte_offset-offset-requires c =
 pub apply_inside-requires-clause-offset : goal.apply_inside-requires-clause-offset
 apply_inside-requires-clause-offset c =
     let items = c.args.lines.now.items in
-    offset_read items c.start-row.result c.index.result.now c.as_str.result.now c.byte_offset-offset.result (there (goal.at.apply_inside-requires-clause-offset c).After-start-row) c.index.ensures c.as_str.ensures.value c.byte_offset-offset.ensures
+    offset_read items c.start-row.result c.index.result.now c.as_str.result.now c.byte_offset-offset.result (there (goal.at.apply_inside-requires-clause-offset c).After-start-row) c.index.ensures
+    c.as_str.ensures.value c.byte_offset-offset.ensures
     ∙ ap (offset_at (lines_of items)) c.start-row.ensures

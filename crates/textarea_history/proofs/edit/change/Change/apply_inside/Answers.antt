@@ -55,7 +55,8 @@ returns-then-not-self-clause-ok c =
     let start = c.start-start.result in
     let to = c.end-end.result in
     let ends = ends_inside splice start to c.requires.inside c.start-start.ensures c.end-end.ensures in
-    let gone = removing c.args.lines.now.items splice start (start.0, to.1) (omega (arith, c.requires.nonempty, c.args.lines.now.ok.0)) c.requires.fits (removes (goal.at.returns-then-not-self-clause-ok c).After-weight) c.start-start.ensures ends.0 in
+    let gone =
+    removing c.args.lines.now.items splice start (start.0, to.1) (omega (arith, c.requires.nonempty, c.args.lines.now.ok.0)) c.requires.fits (removes (goal.at.returns-then-not-self-clause-ok c).After-weight) c.start-start.ensures ends.0 in
     c.remove_inside.ensures.text ∙ gone.text [] refl
 
 -- ---- an insertion

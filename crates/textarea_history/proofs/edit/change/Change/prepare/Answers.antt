@@ -26,7 +26,8 @@ prepare_replacement-requires-clause-ordered c = (known (goal.at.prepare_replacem
 pub returns-then-not-self : goal.returns-then-not-self
 returns-then-not-self c =
     IfOk-weaker c.prepare_replacement.result _ _
-    (λ r. removed_by c.args.lines.now c.args.self.now c.start-start.result c.end.result (characters (chars []) ++ []) r c.requires.nonempty c.requires.fits (removes (goal.at.returns-then-not-self c).After-end) c.start-start.ensures c.end.ensures (ap (λ t. characters t ++ []) chars-nil))
+    (λ r. removed_by c.args.lines.now c.args.self.now c.start-start.result c.end.result (characters (chars []) ++ []) r c.requires.nonempty c.requires.fits
+    (removes (goal.at.returns-then-not-self c).After-end) c.start-start.ensures c.end.ensures (ap (λ t. characters t ++ []) chars-nil))
     c.prepare_replacement.ensures
 
 -- ---- an insertion

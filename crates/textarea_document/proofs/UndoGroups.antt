@@ -1,0 +1,229 @@
+-- Undos and redos of groups are undos and redos of their edits.
+use Rattle.std.proofs.Common.{◌≡◌, ◌∙◌, ℕ, zero, suc, ◌+◌, ◌-◌, ◌≤◌, ◌<◌, Bool, false, List, [], ◌∷◌, ◌++◌, length, take, drop, get_or, Option, Some, None, slice_get, is_some, true, sym, ap, refl, subst, arith}
+use Rattle.std.proofs.lemmas.List.{length-append, length-drop, length-take-le, nil_from_length}
+use Rattle.std.proofs.lemmas.Option.{slice_get_within}
+use Rattle.textarea_document.specs.Prelude.{Splice, DocumentState, after_redo, after_redo_by, after_undo, after_undo_by, edit_redone, edit_undone, group_count, grouped_before, grouped_first}
+use Rattle.textarea_document.specs.Prelude.{is_grouped, newest, newest_group, next, next_group, times, IsSound}
+use Rattle.textarea_history.proofs.Groups.{before_within, first_ends, first_none, first_within, group_again, group_begins, group_less}
+use Rattle.textarea_history.proofs.LogLaws.{newest_some, times-front}
+use Rattle.textarea_document.proofs.Sounds.{inside_redone, inside_times, inside_undone, sound_inside, sound_whole}
+
+-- ---- no edits
+
+done_none : (done : List Splice) → slice_get done (length done - 1) ≡ None → done ≡ []
+done_none [] e = refl
+done_none (splice ∷ done) e =
+    let found = newest_some (splice ∷ done) (omega arith) in
+    let no : Some found.0 ≡ None = sym found.1 ∙ e in
+    absurd cc
+
+undone_none : (undone : List Splice) → slice_get undone 0 ≡ None → undone ≡ []
+undone_none [] e = refl
+undone_none (splice ∷ undone) e = absurd cc
+
+-- a step that changes nothing, made several times
+times-same : {A : Type 0} (step : A → A) (start : A) → step start ≡ start → (count : ℕ) → times count step start ≡ start
+times-same step start same zero = refl
+times-same step start same (suc count) = ap step (times-same step start same count) ∙ same
+
+pub none_undone : (count : ℕ) (document : DocumentState) → newest document.log ≡ None → (times count edit_undone document ≡ document) × (document.log.done ≡ [])
+none_undone count document e = (times-same edit_undone document (ap (λ (found : Option Splice). after_undo_by found document) e) count, done_none document.log.done e)
+
+pub none_redone : (count : ℕ) (document : DocumentState) → next document.log ≡ None → (times count edit_redone document ≡ document) × (document.log.undone ≡ [])
+none_redone count document e = (times-same edit_redone document (ap (λ (found : Option Splice). after_redo_by found document) e) count, undone_none document.log.undone e)
+
+-- ---- several edits
+
+pub times-add : {A : Type 0} (first second : ℕ) (step : A → A) (start : A) → times first step (times second step start) ≡ times (first + second) step start
+times-add zero second step start = let same : second ≡ 0 + second = omega arith in ap (λ n. times n step start) same
+times-add (suc first) second step start =
+    let same : suc (first + second) ≡ suc first + second = omega arith in
+    ap step (times-add first second step start) ∙ ap (λ n. times n step start) same
+
+-- what undos of this number of edits leave
+pub record AreUndone (count : ℕ) (old new : DocumentState) : Type 0 where
+  pub done : length new.log.done + count ≡ length old.log.done
+  pub undone : length new.log.undone ≡ length old.log.undone + count
+  pub marks : new.log.marks ≡ old.log.marks
+
+pub are_undone : (count : ℕ) (document : DocumentState) → count ≤ length document.log.done → AreUndone count document (times count edit_undone document)
+are_undone zero document within = record { done = omega arith; undone = omega arith; marks = refl }
+are_undone (suc count) document within =
+    let old = times count edit_undone document in
+    let rest = are_undone count document (omega (arith, within)) in
+    let found = newest_some old.log.done (omega (arith, within, rest.done)) in
+    subst (λ (o : Option Splice). AreUndone (suc count) document (after_undo_by o old)) (sym found.1)
+    (record {
+      done = omega (arith, within, rest.done, length-take-le (length old.log.done - 1) old.log.done (omega arith));
+      undone = omega (arith, rest.undone);
+      marks = rest.marks;
+    })
+
+pub record AreRedone (count : ℕ) (old new : DocumentState) : Type 0 where
+  pub done : length new.log.done ≡ length old.log.done + count
+  pub undone : length new.log.undone + count ≡ length old.log.undone
+  pub marks : new.log.marks ≡ old.log.marks
+
+next_some : (undone : List Splice) → 0 < length undone → (splice : Splice) × (slice_get undone 0 ≡ Some splice) × (length (drop 1 undone) + 1 ≡ length undone)
+next_some [] some = absurd (omega arith)
+next_some (splice ∷ undone) some = (splice, refl, omega arith)
+
+pub are_redone : (count : ℕ) (document : DocumentState) → count ≤ length document.log.undone → AreRedone count document (times count edit_redone document)
+are_redone zero document within = record { done = omega arith; undone = omega arith; marks = refl }
+are_redone (suc count) document within =
+    let old = times count edit_redone document in
+    let rest = are_redone count document (omega (arith, within)) in
+    let found = next_some old.log.undone (omega (arith, within, rest.undone)) in
+    subst (λ (o : Option Splice). AreRedone (suc count) document (after_redo_by o old)) (sym found.1)
+    (record {
+      done = omega (arith, rest.done, length-append old.log.done (found.0 ∷ []));
+      undone = omega (arith, rest.undone, found.2);
+      marks = rest.marks;
+    })
+
+-- ---- groups
+
+-- `count` undos of groups are undos of so many edits, and the same redos redo them
+pub record GroupsUndone (count : ℕ) (document : DocumentState) : Type 0 where
+  pub edits : ℕ
+  pub within : edits ≤ length document.log.done
+  pub some : count ≤ edits
+  pub undone : times count after_undo document ≡ times edits edit_undone document
+  pub groups : group_count document.log.marks (length document.log.done - edits) + count ≡ group_count document.log.marks (length document.log.done)
+  pub redone : (left : DocumentState) → left.log.marks ≡ document.log.marks → length left.log.done ≡ length document.log.done - edits → edits ≤ length left.log.undone → times count after_redo left ≡ times edits edit_redone left
+
+-- the group of a document whose last done edit has the index `last`
+pub record NewestUndone (last : ℕ) (document : DocumentState) : Type 0 where
+  pub sizes : AreUndone (suc (grouped_before document.log.marks last)) document (after_undo document)
+  pub start : length (after_undo document).log.done ≡ last - grouped_before document.log.marks last
+  pub is : after_undo document ≡ times (suc (grouped_before document.log.marks last)) edit_undone document
+
+pub newest_undone : (last : ℕ) (document : DocumentState) → length document.log.done ≡ suc last → NewestUndone last document
+newest_undone last document e =
+    let marks = document.log.marks in
+    let at : length document.log.done - 1 ≡ last = omega (arith, e) in
+    let is : after_undo document ≡ times (suc (grouped_before marks last)) edit_undone document = ap (λ i. times (suc (grouped_before marks i)) edit_undone document) at in
+    let inner = before_within marks last in
+    let sizes = subst (AreUndone (suc (grouped_before marks last)) document) (sym is) (are_undone (suc (grouped_before marks last)) document (omega (arith, e, inner))) in
+    record { sizes = sizes; start = omega (arith, sizes.done, e, inner); is = is }
+
+-- the group that is redone after it
+pub next_is : (last : ℕ) (document left : DocumentState) → is_grouped document.log.marks (suc last) ≡ false → left.log.marks ≡ document.log.marks →
+    length left.log.done ≡ last - grouped_before document.log.marks last → next_group left.log ≡ suc (grouped_before document.log.marks last)
+next_is last document left whole marks start =
+    let same = document.log.marks in
+    let at : length left.log.done + 1 ≡ suc (last - grouped_before same last) = omega (arith, start) in
+    ap (λ m. suc (grouped_first (drop (length left.log.done + 1) m))) marks
+    ∙ ap (λ n. suc (grouped_first (drop n same))) at
+    ∙ omega (arith, group_again same last, first_none same (suc last) whole)
+
+pub groups_undone : (count : ℕ) (document : DocumentState) → is_grouped document.log.marks (length document.log.done) ≡ false → count ≤ group_count document.log.marks (length document.log.done) →
+    GroupsUndone count document
+groups_undone zero document whole within = record {
+  edits = 0;
+  within = omega arith;
+  some = omega arith;
+  undone = refl;
+  groups = let all : length document.log.done - 0 ≡ length document.log.done = omega arith in omega (arith, ap (group_count document.log.marks) all);
+  redone = λ left marks done few. refl;
+}
+groups_undone (suc count) document whole within = by (length document.log.done) refl (λ d w k. groups_undone count d w k)
+  where
+    marks : List Bool
+    marks = document.log.marks
+
+    by : (n : ℕ) → length document.log.done ≡ n →
+        ((d : DocumentState) → is_grouped d.log.marks (length d.log.done) ≡ false → count ≤ group_count d.log.marks (length d.log.done) → GroupsUndone count d) →
+        GroupsUndone (suc count) document
+    by zero e later = absurd (omega (arith, within, ap (group_count marks) e))
+    by (suc last) e later =
+        let first = after_undo document in
+        let newest = newest_undone last document e in
+        let before = grouped_before marks last in
+        let whole_last : is_grouped marks (suc last) ≡ false = ap (is_grouped marks) (sym e) ∙ whole in
+        let begins : is_grouped first.log.marks (length first.log.done) ≡ false =
+        ap (λ (m : List Bool). is_grouped m (length first.log.done)) newest.sizes.marks ∙ ap (is_grouped marks) newest.start ∙ group_begins marks last in
+        let counted : group_count first.log.marks (length first.log.done) ≡ group_count marks (last - before) =
+        ap (λ (m : List Bool). group_count m (length first.log.done)) newest.sizes.marks ∙ ap (group_count marks) newest.start in
+        let less : suc (group_count marks (last - before)) ≡ group_count marks (length document.log.done) = group_less marks last ∙ ap (group_count marks) (sym e) in
+        let rest = later first begins (omega (arith, within, counted, less)) in
+        let edits = rest.edits + suc before in
+        let sized : edits ≤ length document.log.done = omega (arith, rest.within, newest.sizes.done) in
+        let left_at : length first.log.done - rest.edits ≡ length document.log.done - edits = omega (arith, newest.sizes.done) in
+        record {
+          edits = edits;
+          within = sized;
+          some = omega (arith, rest.some);
+          undone = times-front count after_undo document ∙ rest.undone ∙ ap (times rest.edits edit_undone) newest.is ∙ times-add rest.edits (suc before) edit_undone document;
+          groups = omega (arith, counted, less, rest.groups, ap (λ (m : List Bool). group_count m (length first.log.done - rest.edits)) newest.sizes.marks, ap (group_count marks) left_at);
+          redone = λ left same done few.
+              let behind = times rest.edits edit_redone left in
+              let sizes = are_redone rest.edits left (omega (arith, few)) in
+              let earlier : times count after_redo left ≡ behind = rest.redone left (same ∙ sym newest.sizes.marks) (done ∙ sym left_at) (omega (arith, few)) in
+              let group = next_is last document behind whole_last (sizes.marks ∙ same) (omega (arith, sizes.done, done, sized, newest.sizes.done, newest.start)) in
+              let order : suc before + rest.edits ≡ edits = omega arith in
+              ap after_redo earlier ∙ ap (λ n. times n edit_redone behind) group ∙ times-add (suc before) rest.edits edit_redone left ∙ ap (λ n. times n edit_redone left) order;
+        }
+
+-- ---- the invariant
+
+pub undo_whole : (document : DocumentState) → IsSound document → is_grouped (after_undo document).log.marks (length (after_undo document).log.done) ≡ false
+undo_whole document h = by (length document.log.done) refl
+  where
+    by : (n : ℕ) → length document.log.done ≡ n → is_grouped (after_undo document).log.marks (length (after_undo document).log.done) ≡ false
+    by zero e =
+        let none : newest document.log ≡ None = ap (λ (d : List Splice). slice_get d (length d - 1)) (nil_from_length document.log.done e) in
+        let same = (none_undone (newest_group document.log) document none).0 in
+        subst (λ (d : DocumentState). is_grouped d.log.marks (length d.log.done) ≡ false) (sym same) h.whole
+    by (suc last) e =
+        let group = newest_undone last document e in
+        ap (λ (m : List Bool). is_grouped m (length (after_undo document).log.done)) group.sizes.marks
+        ∙ ap (is_grouped document.log.marks) group.start
+        ∙ group_begins document.log.marks last
+
+pub redo_whole : (document : DocumentState) → IsSound document → is_grouped (after_redo document).log.marks (length (after_redo document).log.done) ≡ false
+redo_whole document h = by (length document.log.undone) refl
+  where
+    by : (n : ℕ) → length document.log.undone ≡ n → is_grouped (after_redo document).log.marks (length (after_redo document).log.done) ≡ false
+    by zero e =
+        let none : next document.log ≡ None = ap (λ (u : List Splice). slice_get u 0) (nil_from_length document.log.undone e) in
+        let same = (none_redone (next_group document.log) document none).0 in
+        subst (λ (d : DocumentState). is_grouped d.log.marks (length d.log.done) ≡ false) (sym same) h.whole
+    by (suc n) e =
+        let marks = document.log.marks in
+        let from = length document.log.done + 1 in
+        let within = first_within (drop from marks) in
+        let left = length-drop from marks in
+        let sizes = are_redone (next_group document.log) document (omega (arith, within, left, h.marks, e)) in
+        let at : length (after_redo document).log.done ≡ suc (length document.log.done + grouped_first (drop from marks)) = omega (arith, sizes.done) in
+        let on : from + grouped_first (drop from marks) ≡ suc (length document.log.done + grouped_first (drop from marks)) = omega arith in
+        ap (λ (m : List Bool). is_grouped m (length (after_redo document).log.done)) sizes.marks
+        ∙ ap (is_grouped marks) at
+        ∙ ap (λ k. get_or marks k false) (sym on)
+        ∙ first_ends marks from
+
+pub sound_undo : (document : DocumentState) → IsSound document → IsSound (after_undo document)
+sound_undo document h =
+    sound_whole (after_undo document) (inside_times edit_undone inside_undone (newest_group document.log) document (sound_inside document h)) (undo_whole document h)
+
+pub sound_redo : (document : DocumentState) → IsSound document → IsSound (after_redo document)
+sound_redo document h =
+    sound_whole (after_redo document) (inside_times edit_redone inside_redone (next_group document.log) document (sound_inside document h)) (redo_whole document h)
+
+-- ---- a group of one edit
+
+pub undo_of_one : (document : DocumentState) (splice : Splice) → newest_group document.log ≡ 1 → newest document.log ≡ Some splice → after_undo document ≡ after_undo_by (Some splice) document
+undo_of_one document splice one e = ap (λ n. times n edit_undone document) one ∙ ap (λ (o : Option Splice). after_undo_by o document) e
+
+pub redo_of_one : (document : DocumentState) (splice : Splice) → next_group document.log ≡ 1 → next document.log ≡ Some splice → after_redo document ≡ after_redo_by (Some splice) document
+redo_of_one document splice one e = ap (λ n. times n edit_redone document) one ∙ ap (λ (o : Option Splice). after_redo_by o document) e
+
+-- a group of several edits has one
+pub newest_of_several : (document : DocumentState) → 1 < newest_group document.log → is_some (newest document.log) ≡ true
+newest_of_several document several = by (length document.log.done) refl
+  where
+    by : (n : ℕ) → length document.log.done ≡ n → is_some (newest document.log) ≡ true
+    by zero e =
+        let at : length document.log.done - 1 ≡ 0 = omega (arith, e) in
+        absurd (omega (arith, several, ap (grouped_before document.log.marks) at))
+    by (suc last) e = ap is_some (newest_some document.log.done (omega (arith, e))).1

@@ -1,0 +1,88 @@
+//! A copy of a document, in which the edits of a group are undone or redone one after another.
+ghost use Rattle.std.specs.Prelude.{◌≡◌, OnOk, OnErr};
+ghost use Rattle.textarea_document.specs.Prelude.{edit_redone, edit_undone, times};
+
+use crate::document::make_change;
+use std::alloc::AllocError;
+use std::marker::Model;
+use textarea_data::range::AtomicRange;
+use textarea_history::history::History;
+use textarea_lines::text_layout::TextLayout;
+
+/// What a document consists of. Unlike in a document, a group may be undone partly.
+#[derive(Drop)]
+pub(crate) struct Draft {
+    pub(crate) text_layout: TextLayout,
+    pub(crate) cursor: (usize, usize),
+    pub(crate) anchor: Option<(usize, usize)>,
+    pub(crate) ranges: Vec<AtomicRange>,
+    pub(crate) history: History,
+}
+
+impl Model for Draft {
+    ghost use Rattle.textarea_document.specs.DocumentState.{DocumentState, document_of};
+
+    ghost Value = { DocumentState };
+
+    ghost use Rattle.textarea_document.specs.Sound.{IsSoundInside};
+
+    ghost view = { λ draft.
+        document_of draft.text_layout draft.cursor draft.anchor draft.ranges.items
+        draft.history.log };
+
+    ghost invariant = { λ draft. IsSoundInside
+        (document_of draft.text_layout draft.cursor draft.anchor draft.ranges.items
+        draft.history.log) };
+}
+
+impl Draft {
+    /// Undoes the newest edits, `count` in number, or all if they are fewer.
+    pub(crate) fn undo_edits(&mut self, count: usize) -> Result<(), AllocError>
+        ensures { OnOk result (self.new ≡ times count edit_undone self.old) }
+    {
+        for _ in 0..count {
+            self.undo_edit()?;
+        }
+        Ok(())
+    }
+
+    /// Redoes the edits that were undone last, `count` in number, or all if they are fewer.
+    pub(crate) fn redo_edits(&mut self, count: usize) -> Result<(), AllocError>
+        ensures { OnOk result (self.new ≡ times count edit_redone self.old) }
+    {
+        for _ in 0..count {
+            self.redo_edit()?;
+        }
+        Ok(())
+    }
+
+    // Undoes the newest edit, if there is one.
+    fn undo_edit(&mut self) -> Result<(), AllocError>
+        ensures ok { OnOk result (self.new ≡ edit_undone self.old) }
+        ensures err { OnErr result (self.new ≡ self.old) }
+    {
+        let Some(edit) = self.history.newest() else {
+            return Ok(());
+        };
+        let cursor = make_change(&mut self.text_layout, &mut self.ranges, edit.inverse())?;
+        self.cursor = cursor;
+        self.history.step_back();
+        self.anchor = None;
+        Ok(())
+    }
+
+    // Redoes the edit that was undone last, if there is one.
+    fn redo_edit(&mut self) -> Result<(), AllocError>
+        ensures ok { OnOk result (self.new ≡ edit_redone self.old) }
+        ensures err { OnErr result (self.new ≡ self.old) }
+    {
+        let Some(edit) = self.history.next() else {
+            return Ok(());
+        };
+        let cursor = make_change(&mut self.text_layout, &mut self.ranges, edit.change())?;
+        self.cursor = cursor;
+        self.history.step_forward();
+        self.anchor = None;
+        Ok(())
+    }
+}

@@ -1,0 +1,109 @@
+//! Groups of edits, which are undone and redone together.
+ghost use Rattle.std.specs.Prelude.{◌≡◌, ◌<◌, length, OnOk, OnErr, IfOk, is_some, true, false};
+ghost use Rattle.textarea_document.specs.Prelude.{after_redo, after_undo, group_begun, group_closed, group_ended, group_opened, is_grouped, is_open, newest, newest_group, next, next_group};
+
+use crate::document::Document;
+use crate::document::draft::Draft;
+use std::alloc::AllocError;
+
+impl Document {
+    /// Returns whether a group of edits is open.
+    pub fn has_open_group(&self) -> bool
+        ensures { result ≡ is_open self.now.log.group }
+    {
+        self.history.has_open_group()
+    }
+
+    /// Begins a group, if none is open, and ends a run of typing. The edits until `end_group` are
+    /// undone and redone together. An undo, a redo and new lines close the group too. A group
+    /// without edits leaves none. If a group has more edits than are remembered, none of them is
+    /// remembered, and no edit from before.
+    pub fn begin_group(&mut self)
+        ensures { self.new ≡ record self.old { log = group_begun self.old.log } }
+    {
+        self.history.begin_group();
+    }
+
+    /// Ends the open group, if one is open, and a run of typing.
+    pub fn end_group(&mut self)
+        ensures { self.new ≡ record self.old { log = group_ended self.old.log } }
+    {
+        self.history.end_group();
+    }
+
+    /// Opens a group, if none is open. Unlike at `begin_group`, a run of typing goes on.
+    pub fn open_group(&mut self)
+        ensures { self.new ≡ record self.old { log = group_opened self.old.log } }
+    {
+        self.history.open_group();
+    }
+
+    /// Closes the open group, if one is open. Unlike at `end_group`, a run of typing goes on.
+    pub fn close_group(&mut self)
+        ensures { self.new ≡ record self.old { log = group_closed self.old.log } }
+    {
+        self.history.close_group();
+    }
+
+    // Undoes the newest group, which has several edits.
+    pub(super) fn undo_group(&mut self, count: usize) -> Result<bool, AllocError>
+        requires count { count ≡ newest_group self.old.log }
+        requires several { 1 < count }
+        ensures undone { IfOk result (λ found. found ≡ is_some (newest self.old.log)) }
+        ensures ok { OnOk result (self.new ≡ after_undo self.old) }
+        ensures err { OnErr result (self.new ≡ self.old) }
+    {
+        self.is_sound();
+        let mut draft = self.draft()?;
+        draft.undo_edits(count)?;
+        self.put(draft);
+        Ok(true)
+    }
+
+    // Redoes the group that was undone last, which has several edits.
+    pub(super) fn redo_group(&mut self, count: usize) -> Result<bool, AllocError>
+        requires count { count ≡ next_group self.old.log }
+        requires some { is_some (next self.old.log) ≡ true }
+        ensures redone { IfOk result (λ found. found ≡ is_some (next self.old.log)) }
+        ensures ok { OnOk result (self.new ≡ after_redo self.old) }
+        ensures err { OnErr result (self.new ≡ self.old) }
+    {
+        self.is_sound();
+        let mut draft = self.draft()?;
+        draft.redo_edits(count)?;
+        self.put(draft);
+        Ok(true)
+    }
+
+    // A copy in which edits can be undone and redone one by one.
+    fn draft(&self) -> Result<Draft, AllocError>
+        ensures { IfOk result (λ draft. draft ≡ self.now) }
+    {
+        Ok(Draft {
+            text_layout: self.text_layout.clone()?,
+            cursor: self.cursor,
+            anchor: self.anchor,
+            ranges: self.ranges.clone()?,
+            history: self.history.clone()?,
+        })
+    }
+
+    // Replaces the document by the draft, in which no group is undone partly.
+    fn put(&mut self, draft: Draft)
+        requires { is_grouped draft.log.marks (length draft.log.done) ≡ false }
+        ensures { self.new ≡ draft }
+    {
+        let Draft {
+            text_layout,
+            cursor,
+            anchor,
+            ranges,
+            history,
+        } = draft;
+        self.text_layout = text_layout;
+        self.cursor = cursor;
+        self.anchor = anchor;
+        self.ranges = ranges;
+        self.history = history;
+    }
+}
