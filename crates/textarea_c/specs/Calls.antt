@@ -59,8 +59,8 @@ abbrev pub GoesBy : {A : Type 0} → Option A → (A → State → Type 0) → �
 GoesBy argument P status a b = MatchOption argument ((status ≡ 6) × (b ≡ a)) (λ x. Goes (P x) status a b)
 
 -- a call without a result that may run out of memory
-abbrev pub Changes : State → ℕ → Editor → Editor → Type 0
-Changes area status a b = (status ≡ 0 → b ≡ with_area a area) × (status ≢ 0 → (status ≡ 2) × (b ≡ a))
+abbrev pub ChangesArea : State → ℕ → Editor → Editor → Type 0
+ChangesArea area status a b = (status ≡ 0 → b ≡ with_area a area) × (status ≢ 0 → (status ≡ 2) × (b ≡ a))
 
 -- a call with an argument that may be invalid
 abbrev pub Given : {A B : Type 0} → Option A → (A → ℕ → B → B → Type 0) → ℕ → B → B → Type 0
@@ -72,7 +72,7 @@ Copies status a b = (b ≡ a) × (status ≢ 0 → status ≡ 2)
 
 -- the same with an argument that may be invalid
 abbrev pub ChangesBy : {A : Type 0} → Option A → (A → State) → ℕ → Editor → Editor → Type 0
-ChangesBy argument area status a b = MatchOption argument ((status ≡ 6) × (b ≡ a)) (λ x. Changes (area x) status a b)
+ChangesBy argument area status a b = MatchOption argument ((status ≡ 6) × (b ≡ a)) (λ x. ChangesArea (area x) status a b)
 
 -- a call that needs memory to read its argument, which may be invalid
 abbrev pub ChangesIf : {A : Type 0} → Option A → (A → State) → ℕ → Editor → Editor → Type 0
@@ -105,7 +105,7 @@ abbrev pub MakesAttempt : Call → ℕ → Editor → Editor → Type 0
 MakesAttempt call status a b = Tries (flag_of (result_of_call a.area call)) (state_after a.area call) status a b
 
 abbrev pub MakesChange : Call → ℕ → Editor → Editor → Type 0
-MakesChange call status a b = Changes (state_after a.area call) status a b × (status ≡ 2 → NeedsMemory a.area call)
+MakesChange call status a b = ChangesArea (state_after a.area call) status a b × (status ≡ 2 → NeedsMemory a.area call)
 
 abbrev pub MakesSetting : Call → ℕ → Editor → Editor → Type 0
 MakesSetting call status a b = Sets (state_after a.area call) status a b
@@ -159,8 +159,8 @@ SetsValidRanges ranges status a b =
     × (status ≢ 0 → status ≢ 4 → (status ≡ 2) × (b ≡ a))
 
 -- a call that changes the screen only
-abbrev pub Paints : (Editor → Editor → Type 0) → ℕ → Editor → Editor → Type 0
-Paints P status a b = (b ≡ record a { screen = b.screen }) × (status ≡ 0 → P a b) × (status ≢ 0 → (status ≡ 2) × (b ≡ a))
+abbrev pub ChangesScreen : (Editor → Editor → Type 0) → ℕ → Editor → Editor → Type 0
+ChangesScreen P status a b = (b ≡ record a { screen = b.screen }) × (status ≡ 0 → P a b) × (status ≢ 0 → (status ≡ 2) × (b ≡ a))
 
 -- one that needs no memory
 abbrev pub Restyles : (Editor → Editor → Type 0) → ℕ → Editor → Editor → Type 0

@@ -4,7 +4,7 @@ use Rattle.std.specs.Str.{chars}
 use Rattle.textarea_screen.specs.Buffer.{area_of}
 use Rattle.textarea_text.specs.Fragment.{fragment_symbols, without_last_break}
 use Rattle.tui_textarea.specs.State.{State, new_state}
-use Rattle.textarea_c.specs.Made.{Makes}
+use Rattle.textarea_c.specs.Made.{MakesBehind}
 use Rattle.textarea_c.specs.declared.editor.Editor.{Editor}
 
 -- this text area, with a screen that has no cells, and nothing rejected
@@ -22,4 +22,4 @@ state_of_file text = new_state (without_last_break (fragment_symbols (chars text
 -- an editor with this text is made behind the handle
 abbrev pub Loads : Option (List ℕ) → Option Editor → ℕ → Option Editor → Type 0
 Loads text before status after =
-    MatchOption text ((status ≡ 6) × (after ≡ before)) (λ t. Makes (IsEditorOf (state_of_file t)) before status after)
+    MatchOption text ((status ≡ 6) × (after ≡ before)) (λ t. MakesBehind (IsEditorOf (state_of_file t)) before status after)

@@ -25,7 +25,7 @@ frame_for s buffer caret = frame_in s.colors s.area buffer caret
 
 -- the frame is painted: the bytes are those of controls that paint it, and none if it is shown
 -- already
-pub record IsPainted (old : OutgoingState) (buffer : Buffer) (caret : Option Position) (new : OutgoingState) : Type 0 where
+pub record IsFramePainted (old : OutgoingState) (buffer : Buffer) (caret : Option Position) (new : OutgoingState) : Type 0 where
   pub rest : new ≡ record old { painted = Some (frame_for old buffer caret); bytes = new.bytes }
   pub wrote : Wrote [] new.bytes (Paints old.area.width (cell_count old.area) old.painted (frame_for old buffer caret))
   pub unchanged : old.painted ≡ Some (frame_for old buffer caret) → new.bytes ≡ []

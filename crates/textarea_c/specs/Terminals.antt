@@ -10,7 +10,7 @@ use Rattle.textarea_c_data.specs.Areas.{IsArea}
 use Rattle.textarea_c_data.specs.declared.area.Area.{Area}
 use Rattle.textarea_c_data.specs.declared.event.CEvent.{CEvent}
 use Rattle.textarea_c.specs.Incoming.{IncomingState, after_decoding, event_taken, new_incoming, rest_taken, with_expected_in}
-use Rattle.textarea_c.specs.Outgoing.{IsPainted, OutgoingState, new_outgoing, resized, unpainted, with_colors}
+use Rattle.textarea_c.specs.Outgoing.{IsFramePainted, OutgoingState, new_outgoing, resized, unpainted, with_colors}
 use Rattle.textarea_c.specs.declared.terminal.Terminal.{Terminal}
 
 abbrev pub with_incoming : Terminal → IncomingState → Terminal
@@ -46,7 +46,7 @@ passed_caret has_caret x y = if has_caret then Some (record { x = x; y = y }) el
 -- the frame of a screen and a caret is painted, unless memory runs out
 abbrev pub PaintsScreen : Buffer → Option Position → ℕ → Terminal → Terminal → Type 0
 PaintsScreen screen caret status a b =
-    (b ≡ with_outgoing a b.outgoing) × (status ≡ 0 → IsPainted a.outgoing screen caret b.outgoing) × (status ≢ 0 → (status ≡ 2) × (b ≡ a))
+    (b ≡ with_outgoing a b.outgoing) × (status ≡ 0 → IsFramePainted a.outgoing screen caret b.outgoing) × (status ≢ 0 → (status ≡ 2) × (b ≡ a))
 
 -- what the terminal shows is unknown; the same with other colours
 abbrev pub IsUnpainted : ℕ → Terminal → Terminal → Type 0

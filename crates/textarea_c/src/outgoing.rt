@@ -29,7 +29,7 @@ impl Model for Outgoing {
 
 impl Outgoing {
     ghost use Rattle.std.specs.Prelude.{◌≡◌, IfOk, OnOk, OnErr};
-    ghost use Rattle.textarea_c.specs.Outgoing.{IsPainted, new_outgoing, resized, unpainted, with_colors};
+    ghost use Rattle.textarea_c.specs.Outgoing.{IsFramePainted, new_outgoing, resized, unpainted, with_colors};
 
     /// Returns a painter for a terminal whose content is unknown, with no bytes.
     pub fn new(alloc: Global, area: Rect) -> Result<Outgoing, AllocError>
@@ -44,7 +44,7 @@ impl Outgoing {
     /// Replaces the bytes by those that make the terminal show a buffer and a caret, after the frame
     /// before. Out of memory, nothing changes.
     pub fn paint(&mut self, buffer: &Buffer, caret: Option<Position>) -> Result<(), AllocError>
-        ensures ok { OnOk result (IsPainted self.old buffer.now caret self.new) }
+        ensures ok { OnOk result (IsFramePainted self.old buffer.now caret self.new) }
         ensures err { OnErr result (self.new ≡ self.old) }
     {
         let before = self.bytes.len();

@@ -4,7 +4,7 @@ use Rattle.std.proofs.lemmas.Bool.{eq-eqb}
 use Rattle.std.proofs.lemmas.Slice.Eq.{bytes_eq-Decides}
 use Rattle.std.specs.List.{AllByRecursion}
 use Rattle.std.specs.Str.{bytes_eq}
-use Rattle.textarea_disk.specs.Disk.{Content, File, Entries, Disk, IsLeftByEntry, IsLeftByOne, MayLeave, Leaves, content_of, seen, with_entries, with_file, IsBelow}
+use Rattle.textarea_disk.specs.Disk.{Content, File, Entries, Disk, IsLeftByEntry, IsLeftByOne, MayLeave, Leaves, content_of, seen, with_entries, with_file, IsNumbered}
 use Rattle.std.proofs.lemmas.Bool.{false_from_ne_true}
 use borrow.Author.Tests.{ne_eqb}
 
@@ -54,11 +54,11 @@ apart_agree old new m h (None ∷ entries) a = apart_agree old new m h entries a
 apart_agree old new m h (Some n ∷ entries) a = (h n (λ e. a.0 (ap Some e)), apart_agree old new m h entries a.1)
 
 -- an entry of a disk is not the next file
-below_apart : (count : ℕ) (entry : Option ℕ) → IsBelow count entry → entry ≢ Some count
+below_apart : (count : ℕ) (entry : Option ℕ) → IsNumbered count entry → entry ≢ Some count
 below_apart count None below e = cc
 below_apart count (Some n) below e = let same : n ≡ count = cc in absurd (omega arith)
 
-pub made_apart : (count : ℕ) (entries : List (Option ℕ)) → AllByRecursion (IsBelow count) entries → Apart count entries
+pub made_apart : (count : ℕ) (entries : List (Option ℕ)) → AllByRecursion (IsNumbered count) entries → Apart count entries
 made_apart count [] below = refl
 made_apart count (entry ∷ entries) below = (below_apart count entry below.0, made_apart count entries below.1)
 

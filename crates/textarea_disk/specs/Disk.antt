@@ -85,10 +85,10 @@ changed_file disk name change = changed_at (disk.names name).now disk change
 
 -- ---- which disks there are
 
-abbrev pub IsBelow : ℕ → Option ℕ → Type 0
-IsBelow count None = Unit {0}
-IsBelow count (Some n) = n < count
+abbrev pub IsNumbered : ℕ → Option ℕ → Type 0
+IsNumbered count None = Unit {0}
+IsNumbered count (Some n) = n < count
 
 -- each entry is the number of a file that was made
 pub record IsDisk (disk : Disk) : Type 0 where
-  pub made : (name : List ℕ) → AllByRecursion (IsBelow disk.count) ((disk.names name).now ∷ (disk.names name).before)
+  pub made : (name : List ℕ) → AllByRecursion (IsNumbered disk.count) ((disk.names name).now ∷ (disk.names name).before)

@@ -19,7 +19,7 @@ use Rattle.textarea_editor.specs.declared.focus.PromptKey.{PromptKey}
 use Rattle.textarea_editor.specs.declared.focus.PromptKey.TheVariants as prompt
 use Rattle.textarea_editor.specs.declared.focus.Question.{Question}
 use Rattle.textarea_editor.specs.declared.focus.Question.TheVariants.{Overwrite, SaveFirst}
-use Rattle.textarea_editor.specs.declared.focus.Reply.{Reply}
+use Rattle.textarea_editor.specs.declared.focus.Reply.{KeyReply}
 use Rattle.textarea_editor.specs.declared.focus.Reply.TheVariants as reply
 use Rattle.textarea_editor.specs.declared.keys.KeyCommand.{KeyCommand}
 use Rattle.textarea_editor.specs.declared.keys.KeyCommand.TheVariants as command
@@ -116,7 +116,7 @@ IsAfterPromptKey other asked controls changed field new = new ≡ controls
 -- ---- keys that answer a question, and keys in the help
 
 -- whoever won't overwrite a file gives another name
-abbrev pub after_reply : Question → Reply → Controls → Bool → Place → Controls
+abbrev pub after_reply : Question → KeyReply → Controls → Bool → Place → Controls
 after_reply SaveFirst reply.Yes controls named cursor = record (save_asked controls named cursor) { ends_when_saved = true }
 after_reply SaveFirst reply.No controls named cursor = controls
 after_reply Overwrite reply.Yes controls named cursor = save_asked controls named cursor

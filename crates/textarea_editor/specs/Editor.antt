@@ -38,8 +38,8 @@ abbrev pub numbers_of : Editor → Bool
 numbers_of editor = editor.controls.numbers
 
 -- the size of the screen
-abbrev pub columns_of : Editor → ℕ
-columns_of editor = editor.columns
+abbrev pub screen_columns_of : Editor → ℕ
+screen_columns_of editor = editor.columns
 
 abbrev pub screen_rows_of : Editor → ℕ
 screen_rows_of editor = editor.rows

@@ -10,7 +10,7 @@ use Rattle.textarea_editor.specs.declared.effect.SaveEnd.TheVariants as save_end
 use Rattle.textarea_editor.specs.declared.file_text.LineEnds.{LineEnds}
 use Rattle.textarea_editor.specs.declared.focus.Question.{Question}
 use Rattle.textarea_editor.specs.declared.focus.Question.TheVariants.{Overwrite, SaveFirst}
-use Rattle.textarea_editor.specs.declared.focus.Reply.{Reply}
+use Rattle.textarea_editor.specs.declared.focus.Reply.{KeyReply}
 use Rattle.textarea_editor.specs.declared.focus.Reply.TheVariants as reply
 use Rattle.textarea_text.specs.Fragment.{fragment_text}
 use Rattle.textarea_text.specs.Text.{lines, lines_of}
@@ -35,7 +35,7 @@ IsSaveAsked true overwrites effect = ⊥
 IsSaveAsked false overwrites effect = effect ≡ Nothing
 
 -- what the program does after a reply to a question; only `n` to the first one ends it
-abbrev pub IsAnswered : Question → Reply → Bool → Effect → Type 0
+abbrev pub IsAnswered : Question → KeyReply → Bool → Effect → Type 0
 IsAnswered SaveFirst reply.Yes named effect = IsSaveAsked named false effect
 IsAnswered SaveFirst reply.No named effect = effect ≡ Quit
 IsAnswered Overwrite reply.Yes named effect = IsSaveAsked named true effect

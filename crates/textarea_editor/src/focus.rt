@@ -32,7 +32,7 @@ pub enum Question {
 
 /// What a key answers to a question.
 #[derive(Clone, Copy, Debug, PartialEq, Eq)]
-pub enum Reply {
+pub enum KeyReply {
     /// Yes.
     Yes,
     /// No.
@@ -167,24 +167,24 @@ fn naming_key(key: Key) -> PromptKey
 }
 
 /// Returns what an input answers to a question: with Ctrl or Alt a letter answers nothing.
-pub fn reply_of(input: &Input) -> Reply
+pub fn reply_of(input: &Input) -> KeyReply
     ensures { result ≡ reply_of input.now }
 {
     if input.ctrl || input.alt {
-        Reply::Other
+        KeyReply::Other
     } else {
         key_reply(input.key)
     }
 }
 
-fn key_reply(key: Key) -> Reply
+fn key_reply(key: Key) -> KeyReply
     ensures { result ≡ key_reply key }
 {
     match key {
-        Key::Char('y' | 'Y') => Reply::Yes,
-        Key::Char('n' | 'N') => Reply::No,
-        Key::Esc => Reply::Back,
-        _ => Reply::Other,
+        Key::Char('y' | 'Y') => KeyReply::Yes,
+        Key::Char('n' | 'N') => KeyReply::No,
+        Key::Esc => KeyReply::Back,
+        _ => KeyReply::Other,
     }
 }
 

@@ -2,7 +2,7 @@
 use Rattle.std.proofs.Common.{◌≡◌, ℕ, ◌+◌, ◌*◌, ◌<◌, ◌≤◌, Bool, true, false, cond, ltb, refl, sym, ap, ◌∙◌, arith, add-one}
 use Rattle.std.proofs.lemmas.Bool.{cond-true, cond-false, lt-ltb}
 use Rattle.std.proofs.lemmas.Bool.Decides.{nat_tests}
-use Rattle.textarea_terminal.specs.PaintColors.{distance_between, least_below, level_of, gray_of, cube_parts, gray_parts, nearest_indexed}
+use Rattle.textarea_terminal.specs.PaintColors.{distance_between, least_distant, level_of, gray_of, cube_parts, gray_parts, nearest_indexed}
 use Rattle.textarea_terminal.specs.declared.output.colors.ColorParts.{ColorParts}
 
 same-both : (b : Bool) (n : ℕ) → cond b n n ≡ n
@@ -11,26 +11,26 @@ same-both false n = refl
 
 -- ---- of those below a number
 
-pub least-first : (distance : ℕ → ℕ) → least_below distance 1 ≡ 0
-unfolding least_below
+pub least-first : (distance : ℕ → ℕ) → least_distant distance 1 ≡ 0
+unfolding least_distant
 least-first distance = same-both (ltb (distance 0) (distance 0)) 0
 
-pub least-nearer : (distance : ℕ → ℕ) (count nearest least new : ℕ) → nearest ≡ least_below distance count → least ≡ distance nearest → new ≡ distance count → new < least →
-    count ≡ least_below distance (count + 1)
-unfolding least_below
+pub least-nearer : (distance : ℕ → ℕ) (count nearest least new : ℕ) → nearest ≡ least_distant distance count → least ≡ distance nearest → new ≡ distance count → new < least →
+    count ≡ least_distant distance (count + 1)
+unfolding least_distant
 least-nearer distance count nearest least new is least_is new_is less =
-    let less' : distance count < distance (least_below distance count) = omega (arith, new_is, least_is ∙ ap distance is) in
-    sym (ap (least_below distance) (add-one count)
-    ∙ cond-true (ltb (distance count) (distance (least_below distance count))) count (least_below distance count) (lt-ltb _ _ less'))
+    let less' : distance count < distance (least_distant distance count) = omega (arith, new_is, least_is ∙ ap distance is) in
+    sym (ap (least_distant distance) (add-one count)
+    ∙ cond-true (ltb (distance count) (distance (least_distant distance count))) count (least_distant distance count) (lt-ltb _ _ less'))
 
-pub least-same : (distance : ℕ → ℕ) (count nearest least new : ℕ) → nearest ≡ least_below distance count → least ≡ distance nearest → new ≡ distance count → least ≤ new →
-    nearest ≡ least_below distance (count + 1)
-unfolding least_below
+pub least-same : (distance : ℕ → ℕ) (count nearest least new : ℕ) → nearest ≡ least_distant distance count → least ≡ distance nearest → new ≡ distance count → least ≤ new →
+    nearest ≡ least_distant distance (count + 1)
+unfolding least_distant
 least-same distance count nearest least new is least_is new_is most =
-    let most' : distance (least_below distance count) ≤ distance count = omega (arith, new_is, least_is ∙ ap distance is) in
-    let test : ltb (distance count) (distance (least_below distance count)) ≡ false = grind (arith, nat_tests, most') in
-    sym (ap (least_below distance) (add-one count)
-    ∙ cond-false (ltb (distance count) (distance (least_below distance count))) count (least_below distance count) test ∙ sym is)
+    let most' : distance (least_distant distance count) ≤ distance count = omega (arith, new_is, least_is ∙ ap distance is) in
+    let test : ltb (distance count) (distance (least_distant distance count)) ≡ false = grind (arith, nat_tests, most') in
+    sym (ap (least_distant distance) (add-one count)
+    ∙ cond-false (ltb (distance count) (distance (least_distant distance count))) count (least_distant distance count) test ∙ sym is)
 
 -- ---- of the colours with numbers
 

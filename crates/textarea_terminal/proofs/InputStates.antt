@@ -8,7 +8,7 @@ use Rattle.textarea_terminal.specs.declared.input.reply.Expected.{Expected}
 use Rattle.textarea_terminal.specs.InputEvent.{EventValue}
 use Rattle.textarea_terminal.specs.InputReply.{refined, refining}
 use Rattle.textarea_terminal.specs.InputState.{DecoderState, IsReady, Reading, reading_kept, last_five, reading_dropped, reading, quiet_after, after_reading, fed, pause_limit, after_short}
-use Rattle.textarea_terminal.specs.InputState.{short_pause, settled, settled_by, long_pause, paused, Call, feed, idle, ask, set_resizes, set_console, new_decoder, after_call, after_calls}
+use Rattle.textarea_terminal.specs.InputState.{short_pause, settled, settled_by, long_pause, paused, DecoderCall, feed, idle, ask, set_resizes, set_console, new_decoder, after_call, after_calls}
 use Rattle.textarea_terminal.specs.InputState.{stream_of}
 use Rattle.textarea_terminal.specs.InputStream.{Decoding, begun_bytes, idle_keys, idle_of, idle_decoding}
 use Rattle.textarea_terminal.specs.InputUnit.{unit_at, paste_end, after_mark, mark_index}
@@ -190,17 +190,17 @@ paused-ready s milliseconds ready = let quiet = min pause_limit (s.quiet + milli
 
 -- ---- calls
 
-call-ready : (s : DecoderState) (call : Call) → IsReady s → IsReady (after_call s call).1
+call-ready : (s : DecoderState) (call : DecoderCall) → IsReady s → IsReady (after_call s call).1
 call-ready s (feed bytes) ready = fed-ready s bytes
 call-ready s (idle milliseconds) ready = paused-ready s milliseconds ready
 call-ready s ask ready = record { begun = ready.begun; few = ready.few }
 call-ready s (set_resizes b) ready = record { begun = ready.begun; few = ready.few }
 call-ready s (set_console b) ready = record { begun = ready.begun; few = ready.few }
 
-abbrev single : ℕ → Call
+abbrev single : ℕ → DecoderCall
 single b = feed (b ∷ [])
 
-after_calls-cons : (s : DecoderState) (call : Call) (calls : List Call) → after_calls s (call ∷ calls) ≡ chain (after_call s call) (λ t. after_calls t calls)
+after_calls-cons : (s : DecoderState) (call : DecoderCall) (calls : List DecoderCall) → after_calls s (call ∷ calls) ≡ chain (after_call s call) (λ t. after_calls t calls)
 unfolding after_calls
 after_calls-cons s call calls = refl
 
@@ -208,7 +208,7 @@ chain-assoc : (a : List EventValue × DecoderState) (f g : DecoderState → List
 chain-assoc a f g = let t = f a.1 in ap (λ (xs : List EventValue). (xs, (g t.1).1)) (sym (append_assoc a.0 t.0 (g t.1).0))
 
 -- bytes one by one
-singles : (s : DecoderState) (bytes : List ℕ) (calls : List Call) → IsReady s → after_calls s (map single bytes ++ calls) ≡ chain (fed s bytes) (λ t. after_calls t calls)
+singles : (s : DecoderState) (bytes : List ℕ) (calls : List DecoderCall) → IsReady s → after_calls s (map single bytes ++ calls) ≡ chain (fed s bytes) (λ t. after_calls t calls)
 singles s [] calls ready = sym (ap (λ (a : List EventValue × DecoderState). chain a (λ t. after_calls t calls)) (fed-nil s ready))
 singles s (b ∷ bytes) calls ready =
     after_calls-cons s (single b) (map single bytes ++ calls)
@@ -216,13 +216,13 @@ singles s (b ∷ bytes) calls ready =
     ∙ chain-assoc (fed s (b ∷ [])) (λ t. fed t bytes) (λ t. after_calls t calls)
     ∙ ap (λ (a : List EventValue × DecoderState). chain a (λ t. after_calls t calls)) (sym (fed-append s (b ∷ []) bytes))
 
-streamed-cons : (s : DecoderState) (call : Call) (calls : List Call) → IsReady s → ((t : DecoderState) → IsReady t → after_calls t calls ≡ after_calls t (stream_of calls))
+streamed-cons : (s : DecoderState) (call : DecoderCall) (calls : List DecoderCall) → IsReady s → ((t : DecoderState) → IsReady t → after_calls t calls ≡ after_calls t (stream_of calls))
     → after_calls s (call ∷ calls) ≡ chain (after_call s call) (λ t. after_calls t (stream_of calls))
 streamed-cons s call calls ready same =
     after_calls-cons s call calls
     ∙ ap (λ (d : List EventValue × DecoderState). ((after_call s call).0 ++ d.0, d.1)) (same (after_call s call).1 (call-ready s call ready))
 
-pub streamed : (calls : List Call) (s : DecoderState) → IsReady s → after_calls s calls ≡ after_calls s (stream_of calls)
+pub streamed : (calls : List DecoderCall) (s : DecoderState) → IsReady s → after_calls s calls ≡ after_calls s (stream_of calls)
 unfolding stream_of
 streamed [] s ready = refl
 streamed (feed bytes ∷ calls) s ready = streamed-cons s (feed bytes) calls ready (streamed calls) ∙ sym (singles s bytes (stream_of calls) ready)

@@ -7,7 +7,7 @@ use Rattle.textarea_terminal.specs.PaintSpot.{IsSpot}
 use Rattle.textarea_screen.specs.Cell.{CellView}
 use Rattle.textarea_terminal.specs.Control.Control.{MoveTo}
 use Rattle.textarea_terminal.specs.PaintCells.{cluster_columns, can_begin}
-use Rattle.textarea_terminal.specs.Screen.{Terminal, apply_control, cursor_after, is_plain}
+use Rattle.textarea_terminal.specs.Screen.{Terminal, apply_control, cursor_after, has_plain_modes}
 use Rattle.textarea_terminal.proofs.ScreenMoves.{move-there}
 use Rattle.textarea_terminal.specs.declared.output.spot.Spot.{Spot}
 
@@ -21,7 +21,7 @@ pub some-columns : (index height width : ℕ) → index < height * width → 0 <
 some-columns index height zero within = absurd (omega (arith, within))
 some-columns index height (suc less) within = omega arith
 
-pub move-to-spot : (terminal : Terminal) (columns : ℕ) (spot : Spot) → 0 < columns → IsSpot columns spot → terminal.columns ≡ columns → is_plain terminal.modes ≡ true → spot.index < length terminal.cells →
+pub move-to-spot : (terminal : Terminal) (columns : ℕ) (spot : Spot) → 0 < columns → IsSpot columns spot → terminal.columns ≡ columns → has_plain_modes terminal.modes ≡ true → spot.index < length terminal.cells →
     apply_control (MoveTo spot.row spot.column) terminal ≡ record terminal { cursor = Some spot.index }
 move-to-spot terminal columns spot some is same modes within =
     let M : ℕ → Type 0 = λ row. apply_control (MoveTo row spot.column) terminal ≡ record terminal { cursor = Some spot.index } in

@@ -9,7 +9,7 @@ use Rattle.textarea_terminal.specs.Control.Control.{Print, MoveTo, SetPen, Chang
 use Rattle.textarea_terminal.specs.Paint.{Wrote, prints_of, HasRuns, HasLooks, AreChanges, Repaints, PaintedFrame, IsCaret, ShowsFrame, HasSize, Paints, MovesTo, Clears, SetsCursor, EndsUpdate, PutsCaret, EndsFrame, PaintsFrame}
 use Rattle.textarea_terminal.specs.PaintCells.{are_whole, cluster_columns}
 use Rattle.textarea_terminal.specs.Pen.{plain_look}
-use Rattle.textarea_terminal.specs.Screen.{Terminal, CountsAlike, first_modes, is_plain, apply_control, run, unknown, printed, print_at, rest_of, cursor_after, cluster_cells, settled_frame}
+use Rattle.textarea_terminal.specs.Screen.{Terminal, CountsAlike, first_modes, has_plain_modes, apply_control, run, unknown, printed, print_at, rest_of, cursor_after, cluster_cells, settled_frame}
 use Rattle.textarea_terminal.specs.declared.output.brush.Brush.{Brush}
 use Rattle.textarea_terminal.proofs.ControlLemmas.{Wrote-then, run-append, prints_of-append, moves_of-append, pens_of-append}
 use Rattle.textarea_terminal.proofs.SettledLemmas.{Shown, settled-length, settled-fresh, settled-exact}
@@ -87,14 +87,14 @@ finishes start brush known columns old new caret xs ys zs within repaints puts e
       rw (quiet.0, puts.still is_printed here', ends.2 (ap (λ (b : Brush). b.is_updating) quiet.1 ∙ not_begun)) refl;
 }
 
-first-plain : is_plain first_modes ≡ true
-unfolding is_plain
+first-plain : has_plain_modes first_modes ≡ true
+unfolding has_plain_modes
 first-plain = refl
 
 print-alike : (cells : List CellView) (is_cluster : Bool) (at : Option ℕ) (terminal : Terminal) → (print_at cells is_cluster at terminal).shown_as ≡ terminal.shown_as
 print-alike cells is_cluster None terminal = refl
 print-alike cells is_cluster (Some index) terminal =
-    elim (is_plain terminal.modes && is_cluster && leb (index % terminal.columns + length cells) terminal.columns) as (λ b. (cond b (record terminal {
+    elim (has_plain_modes terminal.modes && is_cluster && leb (index % terminal.columns + length cells) terminal.columns) as (λ b. (cond b (record terminal {
       cells = printed (rest_of terminal.rest_look terminal.pen) cells (take index terminal.cells) (drop index terminal.cells);
       cursor = cursor_after terminal.columns (index + length cells);
     }) (unknown terminal)).shown_as ≡ terminal.shown_as) [ true ↦ refl | false ↦ refl ]

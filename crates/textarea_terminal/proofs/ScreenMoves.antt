@@ -13,27 +13,27 @@ use Rattle.textarea_terminal.specs.Disputed.{is_disputed}
 use Rattle.textarea_terminal.specs.Paint.{Wrote, IsNeeded, moves_of, pens_of, BeginsUpdate, MovesTo, TakesLook, PrintsLast, PrintsCell, with_cell}
 use Rattle.textarea_terminal.specs.PaintCells.{can_begin, cluster_columns}
 use Rattle.textarea_terminal.specs.Pen.{in_look, look_of}
-use Rattle.textarea_terminal.specs.Screen.{Terminal, is_plain, apply_control, run, unknown, printed, print_at, rest_of, cursor_after, cluster_cells, settled_cells}
+use Rattle.textarea_terminal.specs.Screen.{Terminal, has_plain_modes, apply_control, run, unknown, printed, print_at, rest_of, cursor_after, cluster_cells, settled_cells}
 use Rattle.textarea_terminal.specs.declared.output.brush.Brush.{Brush}
 use Rattle.textarea_terminal.specs.declared.output.look.Pen.{Pen}
 use Rattle.textarea_terminal.proofs.ControlLemmas.{run-append, bytes_of-append, prints_of-append, moves_of-append, pens_of-append}
 use Rattle.textarea_terminal.proofs.PaintFrames.{columns-some}
 use Rattle.textarea_terminal.proofs.SettledLemmas.{Shown, agreed-length}
 
-pub move-there : (terminal : Terminal) (columns index : ℕ) → 0 < columns → terminal.columns ≡ columns → is_plain terminal.modes ≡ true → index < length terminal.cells →
+pub move-there : (terminal : Terminal) (columns index : ℕ) → 0 < columns → terminal.columns ≡ columns → has_plain_modes terminal.modes ≡ true → index < length terminal.cells →
     apply_control (MoveTo (index / columns) (index % columns)) terminal ≡ record terminal { cursor = Some index }
 move-there terminal columns index some same modes within =
     let there : index / columns * terminal.columns + index % columns ≡ index = rw same (omega arith) in
     let in_row : index % columns < terminal.columns = rw same (omega arith) in
     let on_screen : index / columns * terminal.columns + index % columns < length terminal.cells = rw there within in
     ap (λ (cursor : Option ℕ). record terminal { cursor = cursor })
-    (cond-true (is_plain terminal.modes && ltb (index % columns) terminal.columns && ltb (index / columns * terminal.columns + index % columns) (length terminal.cells))
+    (cond-true (has_plain_modes terminal.modes && ltb (index % columns) terminal.columns && ltb (index / columns * terminal.columns + index % columns) (length terminal.cells))
     (Some (index / columns * terminal.columns + index % columns)) None (rw modes (grind (arith, nat_tests, in_row, on_screen)))
     ∙ ap Some there)
 
 -- a cluster's cells are printed at the cursor, if they end in the row
 pub print-fits : (terminal : Terminal) (index : ℕ) (text : List ℕ) (cells : List CellView) → terminal.cursor ≡ Some index → cluster_cells terminal.shown_as terminal.pen text ≡ cells →
-    is_plain terminal.modes ≡ true → 0 < cluster_columns text → index % terminal.columns + length cells ≤ terminal.columns →
+    has_plain_modes terminal.modes ≡ true → 0 < cluster_columns text → index % terminal.columns + length cells ≤ terminal.columns →
     apply_control (Print text) terminal ≡ record terminal {
       cells = printed (rest_of terminal.rest_look terminal.pen) cells (take index terminal.cells) (drop index terminal.cells);
       cursor = cursor_after terminal.columns (index + length cells);
@@ -43,11 +43,11 @@ print-fits terminal index text cells at are modes some fits =
       cells = printed (rest_of terminal.rest_look terminal.pen) cells (take index terminal.cells) (drop index terminal.cells);
       cursor = cursor_after terminal.columns (index + length cells);
     } in
-    let test : (is_plain terminal.modes && ltb 0 (cluster_columns text) && leb (index % terminal.columns + length cells) terminal.columns) ≡ true =
+    let test : (has_plain_modes terminal.modes && ltb 0 (cluster_columns text) && leb (index % terminal.columns + length cells) terminal.columns) ≡ true =
     rw (modes, lt-ltb 0 (cluster_columns text) some, le-leb (index % terminal.columns + length cells) terminal.columns fits) refl in
     ap (λ unit. print_at unit (ltb 0 (cluster_columns text)) terminal.cursor terminal) are
     ∙ ap (λ at. print_at cells (ltb 0 (cluster_columns text)) at terminal) at
-    ∙ cond-true (is_plain terminal.modes && ltb 0 (cluster_columns text) && leb (index % terminal.columns + length cells) terminal.columns) done (unknown terminal) test
+    ∙ cond-true (has_plain_modes terminal.modes && ltb 0 (cluster_columns text) && leb (index % terminal.columns + length cells) terminal.columns) done (unknown terminal) test
 
 pub columns-fit : (columns index : ℕ) (cell : CellView) → can_begin columns index cell ≡ true → index % columns + cluster_columns cell.symbol ≤ columns
 columns-fit columns index cell begins =
@@ -63,7 +63,7 @@ agreed-settled shown_as cell some agreed =
     ap (λ n. cells ++ replicate n (in_look (look_of cell) (32 ∷ []))) none ∙ append-nil cells
 
 -- a cluster that isn't disputed is printed at the cursor
-print-there : (terminal : Terminal) (columns index : ℕ) (cell : CellView) → terminal.columns ≡ columns → is_plain terminal.modes ≡ true → can_begin columns index cell ≡ true →
+print-there : (terminal : Terminal) (columns index : ℕ) (cell : CellView) → terminal.columns ≡ columns → has_plain_modes terminal.modes ≡ true → can_begin columns index cell ≡ true →
     is_disputed cell.symbol ≡ false →
     apply_control (Print cell.symbol) (record terminal { is_updating = true; cursor = Some index; pen = look_of cell }) ≡ with_cell columns index cell terminal
 print-there terminal columns index cell same modes begins agreed =

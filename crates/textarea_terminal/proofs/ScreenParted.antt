@@ -11,7 +11,7 @@ use Rattle.textarea_terminal.specs.Paint.{PrintsLast, prints_of, moves_of, pens_
 use Rattle.textarea_terminal.specs.PaintCells.{can_begin, cluster_columns, is_half}
 use Rattle.textarea_terminal.specs.Parted.{blank_prints, parted_controls}
 use Rattle.textarea_terminal.specs.Pen.{in_look, look_of}
-use Rattle.textarea_terminal.specs.Screen.{Terminal, is_plain, apply_control, run, begins_half, mended, mended_back, printed, rest_of, cursor_after, cluster_cells, settled_cells}
+use Rattle.textarea_terminal.specs.Screen.{Terminal, has_plain_modes, apply_control, run, begins_half, mended, mended_back, printed, rest_of, cursor_after, cluster_cells, settled_cells}
 use Rattle.textarea_terminal.specs.declared.output.look.Pen.{Pen}
 use Rattle.textarea_terminal.proofs.ControlLemmas.{run-append, prints_of-append, moves_of-append, pens_of-append}
 use Rattle.textarea_terminal.proofs.PaintFrames.{columns-some}
@@ -94,7 +94,7 @@ with_blanks terminal front back count cursor = record terminal {
 }
 
 one-blank : (terminal : Terminal) (index : ℕ) (front back : List CellView) → terminal.cells ≡ front ++ back → length front ≡ index → begins_half back ≡ false →
-    terminal.cursor ≡ Some index → is_plain terminal.modes ≡ true → index % terminal.columns + 1 ≤ terminal.columns →
+    terminal.cursor ≡ Some index → has_plain_modes terminal.modes ≡ true → index % terminal.columns + 1 ≤ terminal.columns →
     apply_control (Print (32 ∷ [])) terminal ≡ with_blanks terminal front back 1 (cursor_after terminal.columns (index + 1))
 one-blank terminal index front back is long whole at modes fits =
     let blank = in_look terminal.pen (32 ∷ []) in
@@ -109,7 +109,7 @@ one-blank terminal index front back is long whole at modes fits =
     ∙ ap (λ (all : List CellView). record terminal { cells = all; cursor = cursor_after terminal.columns (index + 1) }) cells
 
 blanks-run : (count : ℕ) (terminal : Terminal) (index : ℕ) (front back : List CellView) → terminal.cells ≡ front ++ back → length front ≡ index → begins_half back ≡ false →
-    terminal.cursor ≡ Some index → is_plain terminal.modes ≡ true → index % terminal.columns + count ≤ terminal.columns →
+    terminal.cursor ≡ Some index → has_plain_modes terminal.modes ≡ true → index % terminal.columns + count ≤ terminal.columns →
     (cursor : Option ℕ) × (run (blank_prints count) terminal ≡ with_blanks terminal front back count cursor)
 blanks-run zero terminal index front back is long whole at modes fits =
     let rest = rest_of terminal.rest_look terminal.pen in (

@@ -123,15 +123,15 @@ abbrev pub new_decoder : DecoderState
 new_decoder = record { pending = []; drops = false; expected = record { asked = 0; resizes = false; console = false }; quiet = 0 }
 
 -- the calls of a decoder
-pub data Call : Type 0 where
-  feed : List ℕ → Call
-  idle : ℕ → Call
-  ask : Call
-  set_resizes : Bool → Call
-  set_console : Bool → Call
+pub data DecoderCall : Type 0 where
+  feed : List ℕ → DecoderCall
+  idle : ℕ → DecoderCall
+  ask : DecoderCall
+  set_resizes : Bool → DecoderCall
+  set_console : Bool → DecoderCall
 
 -- the events of a call, and the state after it
-abbrev pub after_call : DecoderState → Call → List EventValue × DecoderState
+abbrev pub after_call : DecoderState → DecoderCall → List EventValue × DecoderState
 after_call s (feed bytes) = fed s bytes
 after_call s (idle milliseconds) = paused s milliseconds
 after_call s ask = ([], with_expected s (asked s.expected))
@@ -139,13 +139,13 @@ after_call s (set_resizes b) = ([], with_expected s (resizing b s.expected))
 after_call s (set_console b) = ([], with_expected s (on_console b s.expected))
 
 -- the events of calls, one after another, and the state after the last
-unfoldable pub after_calls : DecoderState → List Call → List EventValue × DecoderState
+unfoldable pub after_calls : DecoderState → List DecoderCall → List EventValue × DecoderState
 after_calls s [] = ([], s)
 after_calls s (call ∷ calls) =
     ((after_call s call).0 ++ (after_calls (after_call s call).1 calls).0, (after_calls (after_call s call).1 calls).1)
 
 -- The stream of calls: the bytes, each by itself, and what is told between them.
-unfoldable pub stream_of : List Call → List Call
+unfoldable pub stream_of : List DecoderCall → List DecoderCall
 stream_of [] = []
 stream_of (feed bytes ∷ calls) = map (λ b. feed (b ∷ [])) bytes ++ stream_of calls
 stream_of (idle milliseconds ∷ calls) = idle milliseconds ∷ stream_of calls

@@ -8,7 +8,7 @@ use Rattle.textarea_terminal.specs.Control.Control.{Print, MoveTo, SetPen, Chang
 use Rattle.textarea_terminal.specs.PaintCells.{cluster_columns, is_half}
 use Rattle.textarea_terminal.specs.Pen.{look_of, plain_look, pen_count}
 use Rattle.textarea_terminal.specs.Disputed.{is_disputed}
-use Rattle.textarea_terminal.specs.Screen.{Terminal, IsOfFamily, CountsAlike, first_modes, is_plain, run, begins_half, printed, cluster_cells, settled_cells, settled_frame, rest_of, cursor_after}
+use Rattle.textarea_terminal.specs.Screen.{Terminal, IsOfFamily, CountsAlike, first_modes, has_plain_modes, run, begins_half, printed, cluster_cells, settled_cells, settled_frame, rest_of, cursor_after}
 use Rattle.textarea_terminal.specs.declared.output.brush.Brush.{Brush}
 use Rattle.textarea_terminal.specs.declared.output.look.Pen.{Pen}
 
@@ -59,7 +59,7 @@ BeginsUpdate is_updating controls =
 abbrev pub MovesTo : Option ℕ → ℕ → ℕ → List Control → Type 0
 MovesTo at columns index controls =
     (prints_of controls ≡ [])
-    × ((terminal : Terminal) → IfSome at (λ here. terminal.cursor ≡ Some here) → terminal.columns ≡ columns → is_plain terminal.modes ≡ true →
+    × ((terminal : Terminal) → IfSome at (λ here. terminal.cursor ≡ Some here) → terminal.columns ≡ columns → has_plain_modes terminal.modes ≡ true →
     index < length terminal.cells → run controls terminal ≡ record terminal { cursor = Some index })
     × (at ≡ Some index → controls ≡ [])
     × (moves_of controls ≤ 1) × (pens_of controls ≡ 0)
@@ -81,7 +81,7 @@ pub record Knows (brush : Brush) (terminal : Terminal) : Type 0 where
   pub cursor : IfSome brush.at (λ index. terminal.cursor ≡ Some index)
   pub pen : IfSome brush.pen (λ look. terminal.pen ≡ look)
   pub updating : terminal.is_updating ≡ brush.is_updating
-  pub modes : is_plain terminal.modes ≡ true
+  pub modes : has_plain_modes terminal.modes ≡ true
   pub family : IsOfFamily terminal.shown_as
 
 -- the texts that are printed for a cell: the blanks of a disputed cluster come before it
@@ -117,7 +117,7 @@ brush_after columns index cell = record {
 -- controls that print the cell's cluster where the cursor is, with the pen that it needs
 pub record PrintsLast (columns index : ℕ) (cell : CellView) (last : List Control) : Type 0 where
   pub prints : prints_of last ≡ printed_texts cell
-  pub brings : (terminal : Terminal) → is_plain terminal.modes ≡ true → IsOfFamily terminal.shown_as → terminal.columns ≡ columns → index < length terminal.cells →
+  pub brings : (terminal : Terminal) → has_plain_modes terminal.modes ≡ true → IsOfFamily terminal.shown_as → terminal.columns ≡ columns → index < length terminal.cells →
       begins_half (drop index terminal.cells) ≡ false →
       run last (record terminal { is_updating = true; cursor = Some index; pen = look_of cell }) ≡ with_cell columns index cell terminal
   pub moves : moves_of last ≡ inner_moves cell
@@ -217,7 +217,7 @@ IsCaret (Some index) terminal = (terminal.has_visible_cursor ≡ true) × (termi
 -- open
 pub record ShowsFrame (width : ℕ) (frame : PaintedFrame) (terminal : Terminal) : Type 0 where
   pub family : IsOfFamily terminal.shown_as
-  pub modes : is_plain terminal.modes ≡ true
+  pub modes : has_plain_modes terminal.modes ≡ true
   pub columns : terminal.columns ≡ width
   pub cells : terminal.cells ≡ settled_frame terminal.shown_as [] frame.cells
   pub caret : IsCaret frame.caret terminal
@@ -292,7 +292,7 @@ EndsUpdate is_updating controls =
 -- the cursor is moved to the caret and shown, or hidden
 pub record PutsCaret (at : Option ℕ) (known : Option Bool) (width : ℕ) (caret : Option ℕ) (controls : List Control) : Type 0 where
   pub brings : (terminal : Terminal) → IfSome at (λ here. terminal.cursor ≡ Some here) → IfSome known (λ is_printed. terminal.has_visible_cursor ≡ is_printed) →
-      terminal.columns ≡ width → is_plain terminal.modes ≡ true → IfSome caret (λ index. index < length terminal.cells) →
+      terminal.columns ≡ width → has_plain_modes terminal.modes ≡ true → IfSome caret (λ index. index < length terminal.cells) →
       run controls terminal ≡ record terminal { cursor = option_or caret terminal.cursor; has_visible_cursor = is_some caret }
   pub prints : prints_of controls ≡ []
   pub moves : moves_of controls ≤ 1

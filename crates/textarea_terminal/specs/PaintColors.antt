@@ -49,14 +49,14 @@ named_color number =
     else if nat_lt number 15 then LightCyan else White
 
 -- the first number below a count at which a distance is least; 0 if there is none
-unfoldable pub least_below : (ℕ → ℕ) → ℕ → ℕ
-least_below distance zero = 0
-least_below distance (suc count) =
-    if nat_lt (distance count) (distance (least_below distance count)) then count else least_below distance count
+unfoldable pub least_distant : (ℕ → ℕ) → ℕ → ℕ
+least_distant distance zero = 0
+least_distant distance (suc count) =
+    if nat_lt (distance count) (distance (least_distant distance count)) then count else least_distant distance count
 
 -- the number of the nearest named colour, of equally near ones the first
 unfoldable pub nearest_named : ColorParts → ℕ
-nearest_named parts = least_below (λ number. distance_between parts (named_parts number)) 16
+nearest_named parts = least_distant (λ number. distance_between parts (named_parts number)) 16
 
 -- ---- the 240 colours with a number from 16 on: a cube of six levels of each part, and 24 grays
 

@@ -37,8 +37,8 @@ first_modes = record {
 }
 
 -- the modes are those that a terminal has at first
-unfoldable pub is_plain : Modes → Bool
-is_plain modes =
+unfoldable pub has_plain_modes : Modes → Bool
+has_plain_modes modes =
     not modes.has_origin && not modes.has_column_margins && not modes.has_row_margins && not modes.inserts && modes.wraps && not modes.has_shifted_set
     && not modes.has_double_rows
 
@@ -108,7 +108,7 @@ unknown terminal = record terminal { cells = []; cursor = None }
 abbrev pub print_at : List CellView → Bool → Option ℕ → Terminal → Terminal
 print_at cells is_cluster None terminal = unknown terminal
 print_at cells is_cluster (Some index) terminal =
-    if is_plain terminal.modes && is_cluster && nat_le (index % terminal.columns + length cells) terminal.columns
+    if has_plain_modes terminal.modes && is_cluster && nat_le (index % terminal.columns + length cells) terminal.columns
     then record terminal {
       cells = printed (rest_of terminal.rest_look terminal.pen) cells (take index terminal.cells) (drop index terminal.cells);
       cursor = cursor_after terminal.columns (index + length cells);
@@ -124,7 +124,7 @@ abbrev pub apply_control : Control → Terminal → Terminal
 apply_control (Print text) terminal =
     print_at (cluster_cells terminal.shown_as terminal.pen text) (nat_lt 0 (cluster_columns text)) terminal.cursor terminal
 apply_control (MoveTo row column) terminal = record terminal {
-  cursor = if is_plain terminal.modes && nat_lt column terminal.columns && nat_lt (row * terminal.columns + column) (length terminal.cells)
+  cursor = if has_plain_modes terminal.modes && nat_lt column terminal.columns && nat_lt (row * terminal.columns + column) (length terminal.cells)
       then Some (row * terminal.columns + column) else None;
 }
 apply_control (SetPen renditions) terminal = record terminal { pen = rendered_all plain_look (first_read 15 renditions) }

@@ -3,7 +3,7 @@ ghost use Rattle.std.specs.Prelude.{◌≡◌, [], IfOk, MatchOption, None, Some
 ghost use Rattle.tui_textarea.specs.State.{new_state};
 ghost use Rattle.textarea_c.specs.Calls.{Calls};
 ghost use Rattle.textarea_c.specs.Fresh.{IsEditorOf, Loads, state_of_file};
-ghost use Rattle.textarea_c.specs.Made.{Makes};
+ghost use Rattle.textarea_c.specs.Made.{MakesBehind};
 ghost use Rattle.textarea_c_data.specs.Texts.{text_in};
 
 use crate::calls::on;
@@ -62,7 +62,7 @@ fn copied_editor(alloc: Global, area: &TextArea<'static>) -> Result<Box<Editor>,
 /// Statuses: ok, out of memory (the handle stays as it was).
 #[unsafe(no_mangle)]
 pub extern "C" fn ta_new(handle: &mut Handle, alloc: Global) -> u32
-    ensures { Makes (IsEditorOf (new_state [])) handle.old.stored.content result
+    ensures { MakesBehind (IsEditorOf (new_state [])) handle.old.stored.content result
         handle.new.stored.content }
 {
     match fresh_editor(alloc) {
@@ -124,7 +124,7 @@ pub extern "C" fn ta_clone(handle: &mut Handle, alloc: Global, copy: &mut Handle
         (λ a b. b ≡ a) }
     ensures copy { MatchOption handle.old.stored.content
         (copy.new.stored.content ≡ copy.old.stored.content)
-        (λ a. Makes (IsEditorOf a.area) copy.old.stored.content result copy.new.stored.content) }
+        (λ a. MakesBehind (IsEditorOf a.area) copy.old.stored.content result copy.new.stored.content) }
 {
     on!(handle, alloc, editor => match copied_editor(alloc, &editor.area) {
         Ok(copied) => {

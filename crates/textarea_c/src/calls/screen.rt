@@ -12,7 +12,7 @@ ghost use Rattle.tui_textarea.specs.Drawing.{IsRendered, widget_of};
 ghost use Rattle.tui_textarea.specs.Hit.{IsHitTest};
 ghost use Rattle.tui_textarea.specs.Rendered.{IsDrawn};
 ghost use Rattle.textarea_c_data.specs.Areas.{IsArea};
-ghost use Rattle.textarea_c.specs.Calls.{Asks, Calls, Given, Paints, OnlyReads, Restyles};
+ghost use Rattle.textarea_c.specs.Calls.{Asks, Calls, Given, ChangesScreen, OnlyReads, Restyles};
 ghost use Rattle.textarea_c_data.specs.Cells.{plain_cell, plain_cells};
 ghost use Rattle.textarea_c_data.specs.Copied.{copied_over};
 ghost use Rattle.textarea_c.specs.Drawn.{IsStyledIn};
@@ -39,7 +39,7 @@ use textarea_screen::screen::{Buffer, Position, Rect};
 #[unsafe(no_mangle)]
 pub extern "C" fn ta_screen_reset(handle: &mut Handle, alloc: Global, area: &Area) -> u32
     ensures { Calls handle.old.stored.content result handle.new.stored.content
-        (λ a b. Paints (λ _ after. IsArea area.now (area_of after.screen)
+        (λ a b. ChangesScreen (λ _ after. IsArea area.now (area_of after.screen)
         × ((x y : ℕ) → cell_at after.screen x y
         ≡ (if contains (area_of after.screen) x y then Some fresh_cell else None))) result a b) }
 {
@@ -106,7 +106,7 @@ pub extern "C" fn ta_screen_put(
     style: &CStyle,
 ) -> u32
     ensures put { Calls handle.old.stored.content result handle.new.stored.content
-        (λ a b. Given (text_in text.now) (λ t. Given (style_of_numbers style.now) (λ s. Paints (λ before
+        (λ a b. Given (text_in text.now) (λ t. Given (style_of_numbers style.now) (λ s. ChangesScreen (λ before
         after. Changes before.screen after.screen (λ column row cell.
         if (column == x) && (row == y) then with_symbol t s cell else cell)))) result a b) }
     ensures inline { IfSome (text_in text.now) (λ t. length t ≤ INLINE_BYTES → result ≢ 2) }

@@ -1,6 +1,6 @@
 //! A terminal: a decoder of the bytes that it sends, and a painter of frames for it.
 ghost use Rattle.std.specs.Prelude.{◌≡◌, IfOk, None};
-ghost use Rattle.textarea_c.specs.Made.{Makes};
+ghost use Rattle.textarea_c.specs.Made.{MakesBehind};
 ghost use Rattle.textarea_c.specs.Terminals.{IsTerminalFor};
 
 use crate::handle::TerminalHandle;
@@ -29,7 +29,7 @@ fn fresh_terminal(alloc: Global, area: Area) -> Result<Box<Terminal>, AllocError
 /// Statuses: ok, out of memory (the handle stays as it was).
 #[unsafe(no_mangle)]
 pub extern "C" fn ta_terminal_new(terminal: &mut TerminalHandle, alloc: Global, area: &Area) -> u32
-    ensures { Makes (IsTerminalFor area.now) terminal.old.stored.content result
+    ensures { MakesBehind (IsTerminalFor area.now) terminal.old.stored.content result
         terminal.new.stored.content }
 {
     match fresh_terminal(alloc, *area) {

@@ -8,7 +8,7 @@ ghost use Rattle.textarea_editor.specs.declared.focus.Focus.TheVariants as focus
 
 use super::Editor;
 use crate::effect::Effect;
-use crate::focus::{Asked, Focus, Question, Reply, reply_of};
+use crate::focus::{Asked, Focus, KeyReply, Question, reply_of};
 use std::alloc::AllocError;
 use textarea_data::input::Input;
 
@@ -33,23 +33,23 @@ impl Editor {
         ensures kept { OnErr result (self.new.controls ≡ self.old.controls) }
     {
         match (question, reply_of(input)) {
-            (Question::SaveFirst, Reply::Yes) => {
+            (Question::SaveFirst, KeyReply::Yes) => {
                 let effect = self.save(false)?;
                 self.controls.ends_when_saved = true;
                 Ok(effect)
             }
-            (Question::SaveFirst, Reply::No) => Ok(Effect::Quit),
-            (Question::Overwrite, Reply::Yes) => self.save(true),
-            (Question::Overwrite, Reply::No) => {
+            (Question::SaveFirst, KeyReply::No) => Ok(Effect::Quit),
+            (Question::Overwrite, KeyReply::Yes) => self.save(true),
+            (Question::Overwrite, KeyReply::No) => {
                 self.ask(Asked::Name)?;
                 self.controls.ends_when_saved = false;
                 Ok(Effect::Nothing)
             }
-            (_, Reply::Back) => {
+            (_, KeyReply::Back) => {
                 self.leave();
                 Ok(Effect::Nothing)
             }
-            (_, Reply::Other) => Ok(Effect::Nothing),
+            (_, KeyReply::Other) => Ok(Effect::Nothing),
         }
     }
 

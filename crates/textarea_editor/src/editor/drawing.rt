@@ -1,6 +1,6 @@
 // Drawing of a frame: the text or the help, and below it the status row.
 ghost use Rattle.std.specs.Prelude.{◌≡◌, ◌-◌, IfOk, OnOk};
-ghost use Rattle.textarea_editor.specs.Editor.{ShowsHelp, columns_of, draft_of, end_of, screen_rows_of};
+ghost use Rattle.textarea_editor.specs.Editor.{ShowsHelp, screen_columns_of, draft_of, end_of, screen_rows_of};
 ghost use Rattle.textarea_editor.specs.Screen.{IsPainted};
 ghost use Rattle.tui_textarea.specs.Drawing.{IsRendered, widget_of};
 ghost use Rattle.tui_textarea.specs.Rendered.{IsDrawn};
@@ -38,7 +38,7 @@ impl Editor {
         ensures changed { (draft_of self.new).is_changed ≡ (draft_of self.old).is_changed }
         ensures end { end_of self.new ≡ end_of self.old }
         ensures text { ¬ ShowsHelp self.old → IfOk result (λ frame. IsPainted
-            (draft_of self.old).area (draft_of self.new).area (columns_of self.old)
+            (draft_of self.old).area (draft_of self.new).area (screen_columns_of self.old)
             (screen_rows_of self.old - 1) frame.buffer) }
     {
         let above = Rect::new(0, 0, self.columns, self.text_rows());

@@ -9,13 +9,13 @@ ghost use Rattle.textarea_terminal.specs.InputSequence.{inner_limit, text_limit,
 ghost use Rattle.textarea_terminal.specs.InputUnit.{paste_start, paste_end, mark_index, begins_string, unit_at};
 ghost use Rattle.textarea_terminal.specs.InputStream.{EndsIn, Takes, decoding, begun_bytes};
 ghost use Rattle.textarea_terminal.specs.InputReply.{IsWithout, stripped, refined};
-ghost use Rattle.textarea_terminal.specs.InputState.{Call, new_decoder, after_calls, stream_of};
+ghost use Rattle.textarea_terminal.specs.InputState.{DecoderCall, new_decoder, after_calls, stream_of};
 ghost use Rattle.textarea_terminal.specs.InputRow.{AreInner, AreText, BeginsString, IsGeneral, IsSentFor, bracket, bytes_of_rows};
 
 /// However bytes are split, calls make the same events and leave the same state: each makes those
 /// of its bytes one by one. The stream of calls has the queries, pauses and settings between bytes.
 pub fn any_segments()
-    ensures { (calls : List Call) → after_calls new_decoder calls
+    ensures { (calls : List DecoderCall) → after_calls new_decoder calls
         ≡ after_calls new_decoder (stream_of calls) }
 {}
 

@@ -1,5 +1,5 @@
 use Rattle.std.proofs.Common.{ℕ, sym, ap, ◌∙◌, arith}
-use Rattle.textarea_terminal.specs.PaintColors.{distance_between, named_parts, least_below, nearest_named}
+use Rattle.textarea_terminal.specs.PaintColors.{distance_between, named_parts, least_distant, nearest_named}
 use Rattle.textarea_terminal.specs.declared.output.colors.ColorParts.{ColorParts}
 use Rattle.textarea_terminal.proofs.ColorLemmas.{least-first, least-nearer, least-same}
 use Rattle.textarea_terminal.proofs.output.colors.nearest_named.Goals as goal
@@ -33,4 +33,4 @@ loop-number-preserved c =
 pub returns : goal.returns
 unfolding nearest_named
 returns c =
-    c.loop-number.invariant.0 ∙ ap (least_below (λ (number : ℕ). distance_between c.args.parts (named_parts number))) (omega arith)
+    c.loop-number.invariant.0 ∙ ap (least_distant (λ (number : ℕ). distance_between c.args.parts (named_parts number))) (omega arith)
