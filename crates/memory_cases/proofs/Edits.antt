@@ -50,7 +50,9 @@ pub copy_end : (kind copy : EditKind) (before after : Place) → IsCopyOfKind ki
 copy_end kind copy before after h = ap (λ (b : Bool). cond b after before) (alike kind copy h).inserts
 
 -- an edit with a copy of the kind is well formed if the kind meets the conditions
-pub copy_well_formed : (kind copy : EditKind) (before after : Place) (edit : Stored) → IsCopyOfKind kind copy → 0 < length (symbols_of kind) → IfSome (line_count_of kind) (λ n. 2 ≤ n) → end_of_kind kind before after ≡ end (splice_of kind before after).place (symbols_of kind) → edit.splice ≡ splice_of copy before after → edit.end ≡ end_of_kind copy before after → edit.fragment_lines ≡ line_count_of copy → IsWellFormed edit
+pub copy_well_formed : (kind copy : EditKind) (before after : Place) (edit : Stored) → IsCopyOfKind kind copy → 0 < length (symbols_of kind) → IfSome (line_count_of kind) (λ n. 2 ≤ n)
+    → end_of_kind kind before after ≡ end (splice_of kind before after).place (symbols_of kind) → edit.splice ≡ splice_of copy before after → edit.end ≡ end_of_kind copy before after
+    → edit.fragment_lines ≡ line_count_of copy → IsWellFormed edit
 copy_well_formed kind copy before after edit h some fragment_lines ends splice_is end_is lines_is =
     let is = splice_is ∙ copy_splice kind copy before after h in
     record {
@@ -65,21 +67,25 @@ record Holds (text symbols : List Symbol) (before after : Place) (inserts : Bool
   ends : cond inserts after before ≡ end (cond inserts before after) symbols
   fits : Fits text (record { place = cond inserts before after; symbols = symbols; inserts = inserts })
 
-ready : (text : List Symbol) (kind : EditKind) (before after : Place) (inserts : Bool) → inserts_of kind ≡ inserts → IfSome (line_count_of kind) (λ n. 2 ≤ n) → Holds text (symbols_of kind) before after inserts → IsEditReady text kind before after
+ready : (text : List Symbol) (kind : EditKind) (before after : Place) (inserts : Bool) → inserts_of kind ≡ inserts → IfSome (line_count_of kind) (λ n. 2 ≤ n)
+    → Holds text (symbols_of kind) before after inserts → IsEditReady text kind before after
 ready text kind before after inserts is fragment_lines holds =
     let modifiers = subst (Holds text (symbols_of kind) before after) (sym is) holds in
     record { fragment_lines = fragment_lines; ends = modifiers.ends; fits = modifiers.fits }
 
-pub ready_inserted : (text : List Symbol) (kind : EditKind) (before after : Place) → inserts_of kind ≡ true → IfSome (line_count_of kind) (λ n. 2 ≤ n) → IsPlace text before → after ≡ end before (symbols_of kind) → 0 < length (symbols_of kind) → IsEditReady text kind before after
+pub ready_inserted : (text : List Symbol) (kind : EditKind) (before after : Place) → inserts_of kind ≡ true → IfSome (line_count_of kind) (λ n. 2 ≤ n) → IsPlace text before
+    → after ≡ end before (symbols_of kind) → 0 < length (symbols_of kind) → IsEditReady text kind before after
 ready_inserted text kind before after is fragment_lines there ends some =
     ready text kind before after true is fragment_lines (record { ends = ends; fits = record { some = some; is_place = there; allowed = tt } })
 
-pub ready_removed : (text : List Symbol) (kind : EditKind) (before after : Place) → inserts_of kind ≡ false → IfSome (line_count_of kind) (λ n. 2 ≤ n) → IsPlace text after → before ≡ end after (symbols_of kind) → 0 < length (symbols_of kind) → OccursAt text after (symbols_of kind) → IsEditReady text kind before after
+pub ready_removed : (text : List Symbol) (kind : EditKind) (before after : Place) → inserts_of kind ≡ false → IfSome (line_count_of kind) (λ n. 2 ≤ n) → IsPlace text after
+    → before ≡ end after (symbols_of kind) → 0 < length (symbols_of kind) → OccursAt text after (symbols_of kind) → IsEditReady text kind before after
 ready_removed text kind before after is fragment_lines there ends some occurs =
     ready text kind before after false is fragment_lines (record { ends = ends; fits = record { some = some; is_place = there; allowed = occurs } })
 
 -- a removal of the symbol before a position
-pub ready_before : (text : List Symbol) (kind : EditKind) (before start : Place) (symbol : Symbol) → inserts_of kind ≡ false → symbols_of kind ≡ symbol ∷ [] → IfSome (line_count_of kind) (λ n. 2 ≤ n) → IsSymbolBefore text before start symbol → IsEditReady text kind before start
+pub ready_before : (text : List Symbol) (kind : EditKind) (before start : Place) (symbol : Symbol) → inserts_of kind ≡ false → symbols_of kind ≡ symbol ∷ []
+    → IfSome (line_count_of kind) (λ n. 2 ≤ n) → IsSymbolBefore text before start symbol → IsEditReady text kind before start
 ready_before text kind before start symbol is symbols_are fragment_lines known =
     ready_removed text kind before start is fragment_lines known.is_place
     (known.ends ∙ ap (end start) (sym symbols_are))
@@ -87,7 +93,8 @@ ready_before text kind before start symbol is symbols_are fragment_lines known =
     (subst (OccursAt text start) (sym symbols_are) known.occurs)
 
 -- a removal of the text between two positions
-pub ready_between : (text : List Symbol) (kind : EditKind) (before after : Place) → inserts_of kind ≡ false → symbols_of kind ≡ symbols_between text after before → IfSome (line_count_of kind) (λ n. 2 ≤ n) → IsPlace text after → IsPlace text before → index_of text after ≤ index_of text before → before ≢ after → IsEditReady text kind before after
+pub ready_between : (text : List Symbol) (kind : EditKind) (before after : Place) → inserts_of kind ≡ false → symbols_of kind ≡ symbols_between text after before
+    → IfSome (line_count_of kind) (λ n. 2 ≤ n) → IsPlace text after → IsPlace text before → index_of text after ≤ index_of text before → before ≢ after → IsEditReady text kind before after
 ready_between text kind before after is symbols_are fragment_lines from to ordered apart =
     let ends = between_ends text after before from to ordered in
     ready_removed text kind before after is fragment_lines from

@@ -29,16 +29,19 @@ stays : {Z : Type 0} (lines new : List (String Z)) (log after : Log) → IsSound
 stays lines new log after h log_is lines_are =
     subst (λ l. IsSoundLog (logged_of new l)) (sym log_is) (subst (λ (items : List (String _)). IsSoundLog (logged_of items log)) (sym lines_are) h)
 
-pub sound_undo : {Z E : Type 0} (result : Result (Option Place) E) (lines new : List (String Z)) (log after : Log) → IsSoundLog (logged_of lines log) → IfOk result (Undoes (logged_of lines log) (logged_of new after)) → OnErr result (after ≡ log) → OnErr result (new ≡ lines) → IsSoundLog (logged_of new after)
+pub sound_undo : {Z E : Type 0} (result : Result (Option Place) E) (lines new : List (String Z)) (log after : Log) → IsSoundLog (logged_of lines log)
+    → IfOk result (Undoes (logged_of lines log) (logged_of new after)) → OnErr result (after ≡ log) → OnErr result (new ≡ lines) → IsSoundLog (logged_of new after)
 sound_undo (Ok place) lines new log after h undoes log_is lines_are = subst IsSoundLog (sym undoes.is_undone) (sound_undone (logged_of lines log) h)
 sound_undo (Err e) lines new log after h undoes log_is lines_are = stays lines new log after h log_is lines_are
 
-pub sound_redo : {Z E : Type 0} (result : Result (Option Place) E) (lines new : List (String Z)) (log after : Log) → IsSoundLog (logged_of lines log) → IfOk result (Redoes (logged_of lines log) (logged_of new after)) → OnErr result (after ≡ log) → OnErr result (new ≡ lines) → IsSoundLog (logged_of new after)
+pub sound_redo : {Z E : Type 0} (result : Result (Option Place) E) (lines new : List (String Z)) (log after : Log) → IsSoundLog (logged_of lines log)
+    → IfOk result (Redoes (logged_of lines log) (logged_of new after)) → OnErr result (after ≡ log) → OnErr result (new ≡ lines) → IsSoundLog (logged_of new after)
 sound_redo (Ok place) lines new log after h redoes log_is lines_are = subst IsSoundLog (sym redoes.is_redone) (sound_redone (logged_of lines log) h)
 sound_redo (Err e) lines new log after h redoes log_is lines_are = stays lines new log after h log_is lines_are
 
 -- the lines that an edit made, with the history that recorded it
-pub sound_made : {Z : Type 0} (logged : Logged) (new : List (String Z)) (after : Log) (splice : Splice) (typed : Bool) (now : ℕ) → IsSoundLog logged → Fits logged.text splice → text_of new ≡ applied logged.text splice → after ≡ recorded logged.log splice typed now → IsSoundLog (logged_of new after)
+pub sound_made : {Z : Type 0} (logged : Logged) (new : List (String Z)) (after : Log) (splice : Splice) (typed : Bool) (now : ℕ) → IsSoundLog logged → Fits logged.text splice
+    → text_of new ≡ applied logged.text splice → after ≡ recorded logged.log splice typed now → IsSoundLog (logged_of new after)
 sound_made logged new after splice typed now h fits text_is log_is =
     subst IsSoundLog
     (sym (ap (λ (t : List Symbol). record { text = t; log = after }) text_is

@@ -12,7 +12,8 @@ use Rattle.textarea_calls.specs.Table.{ActionRow, HasFlagsOfActions, characters_
 abbrev pub FlagsAsActions : ActionRow → Type 0
 FlagsAsActions row = (input : Input) → fits_row input row ≡ true → row.flag_rule ≡ flag_rule_of (row.action input)
 
-first_row : (b : Bool) (row : ActionRow) (later : Option ActionRow) (input : Input) → (b ≡ true → row.flag_rule ≡ flag_rule_of (row.action input)) → flag_rule_in later ≡ flag_rule_of (action_in later input) → flag_rule_in (cond b (Some row) later) ≡ flag_rule_of (action_in (cond b (Some row) later) input)
+first_row : (b : Bool) (row : ActionRow) (later : Option ActionRow) (input : Input) → (b ≡ true → row.flag_rule ≡ flag_rule_of (row.action input))
+    → flag_rule_in later ≡ flag_rule_of (action_in later input) → flag_rule_in (cond b (Some row) later) ≡ flag_rule_of (action_in (cond b (Some row) later) input)
 first_row true row later input here there = here refl
 first_row false row later input here there = there
 

@@ -25,28 +25,34 @@ clicks_none selects old read column row found same none hit =
     let asked : Clicks selects old column row [] = record { found = None; found_is = hit_of old.area read column row found None same none hit; calls_are = refl } in
     record { calls = []; asked = asked; makes = makes_none old }
 
-asked_of : (selects : Bool) (old : Draft) (read : State) (column row : ℕ) (found : Option Place) (place : Place) → read ≡ old.area → found ≡ Some place → IsHitTest (widget_of read) column row found → Clicks selects old column row (selection_calls selects (is_selecting old.area) ++ GoTo place ∷ [])
+asked_of : (selects : Bool) (old : Draft) (read : State) (column row : ℕ) (found : Option Place) (place : Place) → read ≡ old.area → found ≡ Some place
+    → IsHitTest (widget_of read) column row found → Clicks selects old column row (selection_calls selects (is_selecting old.area) ++ GoTo place ∷ [])
 asked_of selects old read column row found place same is hit = record {
   found = Some place;
   found_is = hit_of old.area read column row found (Some place) same is hit;
   calls_are = refl;
 }
 
-pub clicks_made : (selects : Bool) (old mid new : Draft) (read : State) (column row : ℕ) (found : Option Place) (place : Place) → read ≡ old.area → found ≡ Some place → IsHitTest (widget_of read) column row found → Makes old (selection_calls selects (is_selecting old.area)) mid → Makes mid (GoTo place ∷ []) new → MakesSome (Clicks selects old column row) old new
+pub clicks_made : (selects : Bool) (old mid new : Draft) (read : State) (column row : ℕ) (found : Option Place) (place : Place) → read ≡ old.area → found ≡ Some place
+    → IsHitTest (widget_of read) column row found → Makes old (selection_calls selects (is_selecting old.area)) mid → Makes mid (GoTo place ∷ []) new
+    → MakesSome (Clicks selects old column row) old new
 clicks_made selects old mid new read column row found place same is hit first later = record {
   calls = selection_calls selects (is_selecting old.area) ++ GoTo place ∷ [];
   asked = asked_of selects old read column row found place same is hit;
   makes = makes_then old mid new (selection_calls selects (is_selecting old.area)) (GoTo place ∷ []) first later;
 }
 
-pub clicks_fail_first : (selects : Bool) (old new : Draft) (read : State) (column row : ℕ) (found : Option Place) (place : Place) → read ≡ old.area → found ≡ Some place → IsHitTest (widget_of read) column row found → FailsIn old (selection_calls selects (is_selecting old.area)) new → FailsInSome (Clicks selects old column row) old new
+pub clicks_fail_first : (selects : Bool) (old new : Draft) (read : State) (column row : ℕ) (found : Option Place) (place : Place) → read ≡ old.area → found ≡ Some place
+    → IsHitTest (widget_of read) column row found → FailsIn old (selection_calls selects (is_selecting old.area)) new → FailsInSome (Clicks selects old column row) old new
 clicks_fail_first selects old new read column row found place same is hit fails = inr (record {
   calls = selection_calls selects (is_selecting old.area) ++ GoTo place ∷ [];
   asked = asked_of selects old read column row found place same is hit;
   fails = fails_before old new (selection_calls selects (is_selecting old.area)) (GoTo place ∷ []) fails;
 })
 
-pub clicks_fail_then : (selects : Bool) (old mid new : Draft) (read : State) (column row : ℕ) (found : Option Place) (place : Place) → read ≡ old.area → found ≡ Some place → IsHitTest (widget_of read) column row found → Makes old (selection_calls selects (is_selecting old.area)) mid → FailsIn mid (GoTo place ∷ []) new → FailsInSome (Clicks selects old column row) old new
+pub clicks_fail_then : (selects : Bool) (old mid new : Draft) (read : State) (column row : ℕ) (found : Option Place) (place : Place) → read ≡ old.area → found ≡ Some place
+    → IsHitTest (widget_of read) column row found → Makes old (selection_calls selects (is_selecting old.area)) mid → FailsIn mid (GoTo place ∷ []) new
+    → FailsInSome (Clicks selects old column row) old new
 clicks_fail_then selects old mid new read column row found place same is hit first fails = inr (record {
   calls = selection_calls selects (is_selecting old.area) ++ GoTo place ∷ [];
   asked = asked_of selects old read column row found place same is hit;

@@ -136,7 +136,8 @@ noted_failed old left calls may ran = record {
 }
 
 -- of either result
-pub makes_noted : {E : Type 0} (result made : Result Bool E) (old left new : Draft) (calls : List Call) (may : Bool) → result ≡ made → left.is_changed ≡ old.is_changed → new ≡ noted left may (is_err made) → may ≡ list_any edits calls → OnOk made (AllMade old.area calls left.area) → OnOk result (Makes old calls new)
+pub makes_noted : {E : Type 0} (result made : Result Bool E) (old left new : Draft) (calls : List Call) (may : Bool) → result ≡ made → left.is_changed ≡ old.is_changed
+    → new ≡ noted left may (is_err made) → may ≡ list_any edits calls → OnOk made (AllMade old.area calls left.area) → OnOk result (Makes old calls new)
 makes_noted {E} result made old left new calls may is same note edit led =
     subst (λ (d : Draft). OnOk result (Makes old calls d)) (sym note)
     (subst (λ (r : Result Bool E). OnOk r (Makes old calls (noted left may (is_err made)))) (sym is) (by_result made led))
@@ -145,7 +146,8 @@ makes_noted {E} result made old left new calls may is same note edit led =
     by_result (Err error) led = tt
     by_result (Ok found) led = noted_made old left calls may same edit led
 
-pub fails_noted : {E : Type 0} (result made : Result Bool E) (old left new : Draft) (calls : List Call) (may : Bool) → result ≡ made → new ≡ noted left may (is_err made) → OnErr made (OneRunsOut old.area calls left.area) → OnErr result (FailsIn old calls new)
+pub fails_noted : {E : Type 0} (result made : Result Bool E) (old left new : Draft) (calls : List Call) (may : Bool) → result ≡ made → new ≡ noted left may (is_err made)
+    → OnErr made (OneRunsOut old.area calls left.area) → OnErr result (FailsIn old calls new)
 fails_noted {E} result made old left new calls may is note ran =
     subst (λ (d : Draft). OnErr result (FailsIn old calls d)) (sym note)
     (subst (λ (r : Result Bool E). OnErr r (FailsIn old calls (noted left may (is_err made)))) (sym is) (by_result made ran))
@@ -155,7 +157,8 @@ fails_noted {E} result made old left new calls may is note ran =
     by_result (Err error) ran = noted_failed old left calls may ran
 
 -- whether the draft then counts as changed
-pub changed_noted : {E : Type 0} (result made : Result Bool E) (left new : Draft) (calls : List Call) (may : Bool) → result ≡ made → new ≡ noted left may (is_err made) → may ≡ list_any edits calls → OnOk result (new.is_changed ≡ (left.is_changed || list_any edits calls))
+pub changed_noted : {E : Type 0} (result made : Result Bool E) (left new : Draft) (calls : List Call) (may : Bool) → result ≡ made → new ≡ noted left may (is_err made)
+    → may ≡ list_any edits calls → OnOk result (new.is_changed ≡ (left.is_changed || list_any edits calls))
 changed_noted {E} result made left new calls may is note edit =
     subst (λ (d : Draft). OnOk result (d.is_changed ≡ (left.is_changed || list_any edits calls))) (sym note)
     (subst (λ (r : Result Bool E). OnOk r ((noted left may (is_err made)).is_changed ≡ (left.is_changed || list_any edits calls))) (sym is) (by_result made))

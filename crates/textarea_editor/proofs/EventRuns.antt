@@ -36,7 +36,8 @@ may_quit : (saved old : Editor) (moments : List Moment) → AreSteps saved momen
 may_quit saved old moments steps (inl is) = inr (unchanged_since saved old moments steps is)
 may_quit saved old moments steps (inr asked) = inl asked
 
-pub quits_after : (saved old new : Editor) (moments : List Moment) (now : Duration) (event : Event) → AreSteps saved moments old → IsStep old now event Quit new → (AsksToSave old ⊎ (old.draft.area.document.text ≡ saved.draft.area.document.text))
+pub quits_after : (saved old new : Editor) (moments : List Moment) (now : Duration) (event : Event) → AreSteps saved moments old → IsStep old now event Quit new
+    → (AsksToSave old ⊎ (old.draft.area.document.text ≡ saved.draft.area.document.text))
 quits_after saved old new moments now event steps step = may_quit saved old moments steps step.carries
 
 -- ---- the calls of events

@@ -11,7 +11,8 @@ pub join_by-last : {X A : Type 0} (f : X → List A) (sep : List A) (xs : List X
 join_by-last f sep [] last = append-nil (f last)
 join_by-last f sep (x ∷ xs) last =
     let rest = flat_map (λ y. f y ++ sep) xs in
-    ap (λ l. f x ++ l) (spread f sep xs last ∙ ap (λ l. sep ++ l) (join_by-last f sep xs last)) ∙ sym (ap (λ l. l ++ f last) (append_assoc (f x) sep rest) ∙ append_assoc (f x) (sep ++ rest) (f last) ∙ ap (λ l. f x ++ l) (append_assoc sep rest (f last)))
+    ap (λ l. f x ++ l) (spread f sep xs last ∙ ap (λ l. sep ++ l) (join_by-last f sep xs last))
+    ∙ sym (ap (λ l. l ++ f last) (append_assoc (f x) sep rest) ∙ append_assoc (f x) (sep ++ rest) (f last) ∙ ap (λ l. f x ++ l) (append_assoc sep rest (f last)))
 
 pub flat_map-last : {X A : Type 0} (f : X → List A) (xs : List X) (last : X) → flat_map f (xs ++ last ∷ []) ≡ flat_map f xs ++ f last
 flat_map-last f [] last = append-nil (f last)

@@ -21,7 +21,8 @@ pub none_left : (now rest whole : List ℕ) → rest ≡ [] → now ++ rest ≡ 
 none_left now rest whole none was = sym (append-nil now) ∙ ap (λ l. now ++ l) (sym none) ∙ was
 
 -- a character is added, unless memory runs out
-pub pushed_on_ok : {Z E T : Type 0} (old new : String Z) (c : ℕ) (result : Result T E) → string_bytes new ≡ (if is_ok result then string_bytes old ++ encode_utf8 c else string_bytes old) → OnOk result (characters_of new ≡ characters_of old ++ c ∷ [])
+pub pushed_on_ok : {Z E T : Type 0} (old new : String Z) (c : ℕ) (result : Result T E) → string_bytes new ≡ (if is_ok result then string_bytes old ++ encode_utf8 c else string_bytes old)
+    → OnOk result (characters_of new ≡ characters_of old ++ c ∷ [])
 pushed_on_ok old new c (Ok value) bytes = characters_of-pushed old new c bytes
 pushed_on_ok old new c (Err error) bytes = tt
 

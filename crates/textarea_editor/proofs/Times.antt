@@ -74,7 +74,8 @@ later_at : (editor : Editor) (draft : Draft) (time : ℕ) (this : Event) (calls 
 later_at editor draft time this calls set is =
     event_at editor draft editor.draft.area time this calls (subst (λ (s : State). IsEvent (with_draft editor draft) s this calls) set is)
 
-timed : (old : Editor) (draft : Draft) (now : Duration) (this : Event) (later : List Call) → draft.area ≡ at_time old.draft.area (as_nanos now) → IsEvent (with_draft old draft) draft.area this later → IsTimed old now this (SetNow now ∷ later)
+timed : (old : Editor) (draft : Draft) (now : Duration) (this : Event) (later : List Call) → draft.area ≡ at_time old.draft.area (as_nanos now)
+    → IsEvent (with_draft old draft) draft.area this later → IsTimed old now this (SetNow now ∷ later)
 timed old draft now this later set is = record {
   later = later;
   asked = later_at old draft (as_nanos now) this later set is;
@@ -82,14 +83,16 @@ timed old draft now this later set is = record {
 }
 
 -- the time was set, and then came the calls of the event
-pub step_makes : (old : Editor) (draft new : Draft) (now : Duration) (this : Event) → draft.area ≡ at_time old.draft.area (as_nanos now) → Makes old.draft (SetNow now ∷ []) draft → MakesSome (IsEvent (with_draft old draft) draft.area this) draft new → MakesSome (IsTimed old now this) old.draft new
+pub step_makes : (old : Editor) (draft new : Draft) (now : Duration) (this : Event) → draft.area ≡ at_time old.draft.area (as_nanos now) → Makes old.draft (SetNow now ∷ []) draft
+    → MakesSome (IsEvent (with_draft old draft) draft.area this) draft new → MakesSome (IsTimed old now this) old.draft new
 step_makes old draft new now this set first made = record {
   calls = SetNow now ∷ made.calls;
   asked = timed old draft now this made.calls set made.asked;
   makes = makes_then old.draft draft new (SetNow now ∷ []) made.calls first made.makes;
 }
 
-pub step_fails : (old : Editor) (draft new : Draft) (now : Duration) (this : Event) → draft.area ≡ at_time old.draft.area (as_nanos now) → Makes old.draft (SetNow now ∷ []) draft → FailsInSome (IsEvent (with_draft old draft) draft.area this) draft new → (FailsIn old.draft (SetNow now ∷ []) new ⊎ FailsInAsked (IsTimed old now this) old.draft new)
+pub step_fails : (old : Editor) (draft new : Draft) (now : Duration) (this : Event) → draft.area ≡ at_time old.draft.area (as_nanos now) → Makes old.draft (SetNow now ∷ []) draft
+    → FailsInSome (IsEvent (with_draft old draft) draft.area this) draft new → (FailsIn old.draft (SetNow now ∷ []) new ⊎ FailsInAsked (IsTimed old now this) old.draft new)
 step_fails old draft new now this set first (inl early) = inl (fails_then old.draft draft new (SetNow now ∷ []) [] first early)
 step_fails old draft new now this set first (inr fails) = inr (record {
   calls = SetNow now ∷ fails.calls;

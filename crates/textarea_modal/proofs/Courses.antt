@@ -26,7 +26,8 @@ joined_before : (this : Step) (earlier later : Course) → before this (joined e
 joined_before this earlier later =
     same_course _ _ later.mode _ _ later.quits (sym (append_assoc this.calls earlier.calls later.calls)) (omega arith)
 
-unless_joined : (quits : Bool) (this : Step) (earlier later whole : Course) → (unless quits this.mode earlier).quits ≡ false → (earlier.quits ≡ false → whole ≡ joined earlier later) → before this (unless quits this.mode whole) ≡ joined (before this (unless quits this.mode earlier)) later
+unless_joined : (quits : Bool) (this : Step) (earlier later whole : Course) → (unless quits this.mode earlier).quits ≡ false → (earlier.quits ≡ false → whole ≡ joined earlier later)
+    → before this (unless quits this.mode whole) ≡ joined (before this (unless quits this.mode earlier)) later
 unless_joined true this earlier later whole continues same = absurd (false≢true (sym continues))
 unless_joined false this earlier later whole continues same =
     ap (before this) (same continues) ∙ joined_before this earlier later
@@ -44,7 +45,8 @@ course-append mode (input ∷ earlier) later continues =
     unless_joined this.quits this rest (course (unless this.quits this.mode rest).mode later) (course this.mode (earlier ++ later)) continues
     (λ on. course-append this.mode earlier later on ∙ ap (λ (c : Course). joined rest (course c.mode later)) (continues_unless this.quits this.mode rest continues))
 
-unless_same : (quits : Bool) (this : Step) (whole rest_of_course : Course) → (unless quits this.mode rest_of_course).quits ≡ true → (rest_of_course.quits ≡ true → whole ≡ rest_of_course) → before this (unless quits this.mode whole) ≡ before this (unless quits this.mode rest_of_course)
+unless_same : (quits : Bool) (this : Step) (whole rest_of_course : Course) → (unless quits this.mode rest_of_course).quits ≡ true → (rest_of_course.quits ≡ true → whole ≡ rest_of_course)
+    → before this (unless quits this.mode whole) ≡ before this (unless quits this.mode rest_of_course)
 unless_same true this whole rest_of_course ends same = refl
 unless_same false this whole rest_of_course ends same = ap (before this) (same ends)
 

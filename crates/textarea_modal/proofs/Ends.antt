@@ -12,7 +12,8 @@ use Rattle.textarea_modal.proofs.Courses.{single_step, course-append, course-end
 use Rattle.textarea_modal.proofs.Runs.{made_after, ran_out_after}
 
 -- one more input, whose calls are all made, and which may quit
-pub finishes_more : (old mid new : State) (from mode to : Mode) (earlier : List Input) (input : Input) (taken : ℕ) (quits : Bool) → Finishes old from earlier mid mode taken false → AllMade mid (step mode input).calls new → to ≡ (step mode input).mode → quits ≡ (step mode input).quits → Finishes old from (earlier ++ input ∷ []) new to (taken + 1) quits
+pub finishes_more : (old mid new : State) (from mode to : Mode) (earlier : List Input) (input : Input) (taken : ℕ) (quits : Bool) → Finishes old from earlier mid mode taken false
+    → AllMade mid (step mode input).calls new → to ≡ (step mode input).mode → quits ≡ (step mode input).quits → Finishes old from (earlier ++ input ∷ []) new to (taken + 1) quits
 finishes_more old mid new from mode to earlier input taken quits so_far made to_is quits_is =
     let this = step (course from earlier).mode input in
     let same : step mode input ≡ this = ap (λ (m : Mode). step m input) so_far.mode in
@@ -44,17 +45,20 @@ inputs_split inputs index input within =
     ∙ take-append-drop (index + 1) inputs
 
 -- a call of the input there runs out of memory
-pub runs_out : (old mid new : State) (from mode : Mode) (inputs : List Input) (input : Input) (index taken : ℕ) → index < length inputs → Finishes old from (take index inputs) mid mode taken false → OneRunsOut mid (step mode (get_or inputs index input)).calls new → RunsOut old from inputs new mode index
+pub runs_out : (old mid new : State) (from mode : Mode) (inputs : List Input) (input : Input) (index taken : ℕ) → index < length inputs
+    → Finishes old from (take index inputs) mid mode taken false → OneRunsOut mid (step mode (get_or inputs index input)).calls new → RunsOut old from inputs new mode index
 runs_out old mid new from mode inputs input index taken within so_far ran_out =
     let earlier = take index inputs in
     let this = get_or inputs index input in
     let before = course from earlier in
     let its = (step before.mode this).calls in
     let one : OneRunsOut mid its new = subst (λ (m : Mode). OneRunsOut mid (step m this).calls new) so_far.mode ran_out in
-    let up_to : (course from (take (index + 1) inputs)).calls ≡ before.calls ++ its = ap (λ (l : List Input). (course from l).calls) (take_more inputs index input within) ∙ ap (λ (c : Course). c.calls) (course-more from earlier this (sym so_far.quit)) in
+    let up_to : (course from (take (index + 1) inputs)).calls ≡ before.calls ++ its = ap (λ (l : List Input). (course from l).calls) (take_more inputs index input within)
+    ∙ ap (λ (c : Course). c.calls) (course-more from earlier this (sym so_far.quit)) in
     let here = step before.mode this in
     let rest = (unless here.quits here.mode (course here.mode (drop (index + 1) inputs))).calls in
-    let all : before.calls ++ (its ++ rest) ≡ (course from inputs).calls = ap (λ (c : Course). c.calls) (sym (course-append from earlier (this ∷ drop (index + 1) inputs) (sym so_far.quit))) ∙ ap (λ (l : List Input). (course from l).calls) (inputs_split inputs index input within) in
+    let all : before.calls ++ (its ++ rest) ≡ (course from inputs).calls = ap (λ (c : Course). c.calls) (sym (course-append from earlier (this ∷ drop (index + 1) inputs) (sym so_far.quit)))
+    ∙ ap (λ (l : List Input). (course from l).calls) (inputs_split inputs index input within) in
     record {
       within = within;
       none_quit = sym so_far.quit;

@@ -52,7 +52,9 @@ or_apart true second none = absurd (false≢true (sym none))
 or_apart false second none = (refl, none)
 
 -- the calls before this one were made, and then this one
-pub made_more : (old mid new : State) (calls : List Call) (index : ℕ) (call : Call) (answer : Answer) → index < length calls → call ≡ get_or calls index call → AllMade old (take index calls) mid → IsResultOf mid call (call_result answer) → IsAfterCall mid call (call_result answer) new → DrawsNothing call → (edits call ≡ false → new.document.text ≡ mid.document.text) → AllMade old (take (index + 1) calls) new
+pub made_more : (old mid new : State) (calls : List Call) (index : ℕ) (call : Call) (answer : Answer) → index < length calls → call ≡ get_or calls index call
+    → AllMade old (take index calls) mid → IsResultOf mid call (call_result answer) → IsAfterCall mid call (call_result answer) new → DrawsNothing call
+    → (edits call ≡ false → new.document.text ≡ mid.document.text) → AllMade old (take (index + 1) calls) new
 made_more old mid new calls index call answer within is_call so_far answered after nothing keeps = record {
   answers = so_far.answers ++ answer ∷ [];
   run = λ buffer. leads_more old mid new buffer buffer buffer calls so_far.answers index call answer within is_call (so_far.run buffer) (record { answered = answered; after = after; drawn = nothing.made new buffer });
@@ -62,7 +64,8 @@ made_more old mid new calls index call answer within is_call so_far answered aft
 }
 
 -- the calls before this one were made, and this one ran out of memory
-pub ran_out_here : (old mid new : State) (calls : List Call) (index : ℕ) (call : Call) → index < length calls → call ≡ get_or calls index call → AllMade old (take index calls) mid → RanOutOfMemory mid call new → DrawsNothing call → OneRunsOut old calls new
+pub ran_out_here : (old mid new : State) (calls : List Call) (index : ℕ) (call : Call) → index < length calls → call ≡ get_or calls index call → AllMade old (take index calls) mid
+    → RanOutOfMemory mid call new → DrawsNothing call → OneRunsOut old calls new
 ran_out_here old mid new calls index call within is_call so_far ran_out nothing = record {
   index = index;
   ran_out = record {
@@ -82,7 +85,8 @@ ran_out_here old mid new calls index call within is_call so_far ran_out nothing 
 
 -- ---- ---- runs after runs
 
-Leads-after : (old mid new : State) (buffer screen displayed : Buffer) (calls later : List Call) (answers others : List CallResult) → Leads old buffer calls answers mid screen → Leads mid screen later others new displayed → Leads old buffer (calls ++ later) (answers ++ others) new displayed
+Leads-after : (old mid new : State) (buffer screen displayed : Buffer) (calls later : List Call) (answers others : List CallResult) → Leads old buffer calls answers mid screen
+    → Leads mid screen later others new displayed → Leads old buffer (calls ++ later) (answers ++ others) new displayed
 Leads-after old mid new buffer screen displayed [] later [] others earlier rest =
     subst (λ (s : State). Leads s buffer later others new displayed) earlier.0 (subst (λ (b : Buffer). Leads mid b later others new displayed) earlier.1 rest)
 Leads-after old mid new buffer screen displayed [] later (a ∷ answers) others earlier rest = absurd earlier
@@ -90,7 +94,8 @@ Leads-after old mid new buffer screen displayed (call ∷ calls) later [] others
 Leads-after old mid new buffer screen displayed (call ∷ calls) later (a ∷ answers) others earlier rest =
     (earlier.0, earlier.1, earlier.2, Leads-after earlier.0 mid new earlier.1 screen displayed calls later answers others earlier.3 rest)
 
-leads_after : (old mid new : State) (buffer : Buffer) (calls later : List Call) (answers others : List Answer) → Leads old buffer calls (map call_result answers) mid buffer → Leads mid buffer later (map call_result others) new buffer → Leads old buffer (calls ++ later) (map call_result (answers ++ others)) new buffer
+leads_after : (old mid new : State) (buffer : Buffer) (calls later : List Call) (answers others : List Answer) → Leads old buffer calls (map call_result answers) mid buffer
+    → Leads mid buffer later (map call_result others) new buffer → Leads old buffer (calls ++ later) (map call_result (answers ++ others)) new buffer
 leads_after old mid new buffer calls later answers others earlier rest =
     subst (λ (all : List CallResult). Leads old buffer (calls ++ later) all new buffer) (sym (map-append call_result answers others))
     (Leads-after old mid new buffer buffer buffer calls later (map call_result answers) (map call_result others) earlier rest)
@@ -118,7 +123,9 @@ calls_before : (calls later rest : List Call) (index : ℕ) → index < length l
 calls_before calls later rest index within =
     sym (take-append-add calls (later ++ rest) index ∙ ap (λ (l : List Call). calls ++ l) (take-append-le index later rest (omega (arith, within))))
 
-stops_after : (old mid new : State) (buffer : Buffer) (calls later rest : List Call) (answers others : List Answer) (index : ℕ) → index < length later → Leads old buffer calls (map call_result answers) mid buffer → StopsAt mid buffer later others index new buffer → StopsAt old buffer (calls ++ (later ++ rest)) (answers ++ others) (length calls + index) new buffer
+stops_after : (old mid new : State) (buffer : Buffer) (calls later rest : List Call) (answers others : List Answer) (index : ℕ) → index < length later
+    → Leads old buffer calls (map call_result answers) mid buffer → StopsAt mid buffer later others index new buffer
+    → StopsAt old buffer (calls ++ (later ++ rest)) (answers ++ others) (length calls + index) new buffer
 stops_after old mid new buffer calls later rest answers others index within earlier stopped = record {
   call = stopped.call;
   here = call_after calls later rest index stopped.call within stopped.here;

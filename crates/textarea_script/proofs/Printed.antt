@@ -10,7 +10,8 @@ use Rattle.tui_textarea.specs.State.{State, new_state}
 use Rattle.textarea_script.specs.Session.{IsPrinted, IsSessionWritten, inputs_of_text}
 
 -- equal states and equal inputs have the same printed text
-pub printed_same : {T E : Type 0} {old new : State} {inputs others : List Input} (r : Result T E) (bytes : T → List ℕ) → old ≡ new → inputs ≡ others → IfOk r (λ printed. IsPrinted old inputs (bytes printed)) → IfOk r (λ printed. IsPrinted new others (bytes printed))
+pub printed_same : {T E : Type 0} {old new : State} {inputs others : List Input} (r : Result T E) (bytes : T → List ℕ) → old ≡ new → inputs ≡ others
+    → IfOk r (λ printed. IsPrinted old inputs (bytes printed)) → IfOk r (λ printed. IsPrinted new others (bytes printed))
 printed_same {T} {E} {old} {new} {inputs} {others} r bytes same_state same_inputs printed =
     subst (λ (state : State). IfOk r (λ text. IsPrinted state others (bytes text))) same_state
     (subst (λ (all : List Input). IfOk r (λ text. IsPrinted old all (bytes text))) same_inputs printed)

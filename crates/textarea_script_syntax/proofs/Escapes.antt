@@ -58,7 +58,8 @@ numbered_open text rest is none =
     ∙ ap (λ (test : Bool). if test then option_map (λ c. (c, after_first is_closing rest)) (character_numbered (before_first is_closing rest)) else None)
     (false_from_ne_true (nat_lt (position_or_len is_closing rest) (length rest)) (λ less. grind (arith, nat_tests)))
 
-pub numbered_closed : (text rest digits rest_after : List ℕ) → text ≡ 123 ∷ rest → position_or_len is_closing rest < length rest → digits ≡ before_first is_closing rest → rest_after ≡ after_first is_closing rest → numbered_escape text ≡ option_map (λ c. (c, rest_after)) (character_numbered digits)
+pub numbered_closed : (text rest digits rest_after : List ℕ) → text ≡ 123 ∷ rest → position_or_len is_closing rest < length rest → digits ≡ before_first is_closing rest
+    → rest_after ≡ after_first is_closing rest → numbered_escape text ≡ option_map (λ c. (c, rest_after)) (character_numbered digits)
 unfolding numbered_escape
 numbered_closed text rest digits rest_after is some before after =
     let test : nat_lt (position_or_len is_closing rest) (length rest) ≡ true = grind (arith, nat_tests) in
@@ -102,7 +103,8 @@ unfolding escape
 escape_other [] rest c is n r t b u = refl
 escape_other (letter ∷ text) rest c is n r t b u =
     ap (λ (test : Bool). if test then numbered_escape text else option_map (λ d. (d, text)) (control letter)) (ne_eqb letter 117 (first_byte letter c 117 text rest is (lit< tt) u))
-    ∙ ap (option_map (λ d. (d, text))) (no_control letter (first_byte letter c 110 text rest is (lit< tt) n) (first_byte letter c 114 text rest is (lit< tt) r) (first_byte letter c 116 text rest is (lit< tt) t) (first_byte letter c 92 text rest is (lit< tt) b))
+    ∙ ap (option_map (λ d. (d, text))) (no_control letter (first_byte letter c 110 text rest is (lit< tt) n) (first_byte letter c 114 text rest is (lit< tt) r)
+    (first_byte letter c 116 text rest is (lit< tt) t) (first_byte letter c 92 text rest is (lit< tt) b))
 
 -- ---- the first character
 

@@ -77,7 +77,8 @@ line_unread text front escaped utf8 is none unread =
     line_after_front front text (92 ∷ escaped) utf8 (front_whole text front escaped utf8 is) is none
     ∙ ap (option_map (λ lines. in_front front lines)) (lines_none (92 ∷ escaped) (omega arith) (backslash escaped ∙ unread))
 
-pub line_escaped : (text front escaped after : List ℕ) (c : ℕ) → IsUtf8 text → text ≡ front ++ (92 ∷ escaped) → HasNoBackslash front → ((rest : List ℕ) → escaped ≢ 110 ∷ rest) → escape escaped ≡ Some (c, after) → unescaped_lines text ≡ option_map (λ lines. in_front (front ++ encode_utf8 c) lines) (unescaped_lines after)
+pub line_escaped : (text front escaped after : List ℕ) (c : ℕ) → IsUtf8 text → text ≡ front ++ (92 ∷ escaped) → HasNoBackslash front → ((rest : List ℕ) → escaped ≢ 110 ∷ rest)
+    → escape escaped ≡ Some (c, after) → unescaped_lines text ≡ option_map (λ lines. in_front (front ++ encode_utf8 c) lines) (unescaped_lines after)
 line_escaped text front escaped after c utf8 is none other read =
     let unbroken : (rest : List ℕ) → 92 ∷ escaped ≢ 92 ∷ 110 ∷ rest = λ rest same. other rest (ap (λ (bytes : List ℕ). tail bytes) same) in
     line_after_front front text (92 ∷ escaped) utf8 (front_whole text front escaped utf8 is) is none

@@ -24,7 +24,8 @@ meaning_of_line-other line other =
 
 -- ---- ---- the lines up to one of them
 
-meanings_of_lines-append : (lines : List (List ℕ)) (line : List ℕ) (more : List (List ℕ)) → filter (λ line. is_filled_line line) (line ∷ []) ≡ more → meanings_of_lines (lines ++ line ∷ []) ≡ meanings_of_lines lines ++ map meaning_of_line more
+meanings_of_lines-append : (lines : List (List ℕ)) (line : List ℕ) (more : List (List ℕ)) → filter (λ line. is_filled_line line) (line ∷ []) ≡ more
+    → meanings_of_lines (lines ++ line ∷ []) ≡ meanings_of_lines lines ++ map meaning_of_line more
 meanings_of_lines-append lines line more is =
     ap (map meaning_of_line) (filter-append (λ line. is_filled_line line) lines (line ∷ []) ∙ ap (λ (rest : List (List ℕ)). filter (λ line. is_filled_line line) lines ++ rest) is)
     ∙ map-append meaning_of_line (filter (λ line. is_filled_line line) lines) more
@@ -41,7 +42,8 @@ meanings_of_lines-empty lines count index line turn none =
     ∙ append-nil (meanings_of_lines (take count lines))
 
 -- a line that is not empty adds one meaning
-pub meanings_of_lines-filled : (lines : List (List ℕ)) (count index : ℕ) (line : List ℕ) → IsTurn lines count index line → 0 < length line → meanings_of_lines (take (count + 1) lines) ≡ meanings_of_lines (take count lines) ++ meaning_of_line line ∷ []
+pub meanings_of_lines-filled : (lines : List (List ℕ)) (count index : ℕ) (line : List ℕ) → IsTurn lines count index line → 0 < length line
+    → meanings_of_lines (take (count + 1) lines) ≡ meanings_of_lines (take count lines) ++ meaning_of_line line ∷ []
 meanings_of_lines-filled lines count index line turn some =
     let test : is_filled_line line ≡ true = grind (arith, nat_tests) in
     ap meanings_of_lines (next_line lines count index line turn)

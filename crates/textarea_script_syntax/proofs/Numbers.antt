@@ -1,5 +1,6 @@
 -- How `parse` reads numbers.
-use Rattle.std.proofs.Common.{arith, rules, ◌≡◌, ℕ, ◌+◌, ◌<◌, ◌≤◌, ◌^◌, Bool, true, false, List, [], ◌∷◌, Option, Some, None, Result, Ok, Err, length, nat_lt, ◌&&◌, if◌then◌else◌, refl, ap, sym, ◌∙◌, Bor, ◌==◌, ◌≢◌, ℤ, pos, neg_ℤ, slice_index, drop, option_map, unwrap_or, MatchOption, eqb-true, lit<}
+use Rattle.std.proofs.Common.{arith, rules, ◌≡◌, ℕ, ◌+◌, ◌<◌, ◌≤◌, ◌^◌, Bool, true, false, List, [], ◌∷◌, Option, Some, None, Result, Ok, Err, length, nat_lt, ◌&&◌, if◌then◌else◌, refl, ap}
+use Rattle.std.proofs.Common.{sym, ◌∙◌, Bor, ◌==◌, ◌≢◌, ℤ, pos, neg_ℤ, slice_index, drop, option_map, unwrap_or, MatchOption, eqb-true, lit<}
 use Rattle.std.specs.Char.{is_ascii_digit}
 use Rattle.std.specs.List.{list_all}
 use Rattle.std.specs.Str.{all_ascii_digits}
@@ -80,11 +81,13 @@ minus_stripped : (text : Bor (List ℕ)) (r : Option (Bor (List ℕ))) → Match
 minus_stripped text None other = ap (λ test. after_minus test text.now) (sym (no_minus text.now other))
 minus_stripped text (Some rest) is = sym (ap (λ (t : List ℕ). after_minus (has_minus t) t) is)
 
-signed_read : {E : Type 0} → (f : ℕ → ℤ) (bound : ℕ) (ds : List ℕ) (r : Result ℤ E) → OkIff r ((0 < length ds) × (digits_value 10 ds < bound)) (f (digits_value 10 ds)) → list_all (λ byte. is_ascii_digit byte) ds ≡ true → result_ok r ≡ option_map f (number_below bound ds)
+signed_read : {E : Type 0} → (f : ℕ → ℤ) (bound : ℕ) (ds : List ℕ) (r : Result ℤ E) → OkIff r ((0 < length ds) × (digits_value 10 ds < bound)) (f (digits_value 10 ds))
+    → list_all (λ byte. is_ascii_digit byte) ds ≡ true → result_ok r ≡ option_map f (number_below bound ds)
 signed_read f bound ds (Ok n) is all = ap Some is.1 ∙ sym (ap (option_map f) (number_read bound ds all is.0.0 is.0.1))
 signed_read f bound ds (Err e) is all = sym (ap (option_map f) (number_unread bound ds is))
 
-at_most : {E : Type 0} → (f : ℕ → ℤ) (bound : ℕ) (ds : List ℕ) (r : Result ℤ E) → OkIff r ((all_ascii_digits ds ≡ true) × (0 < length ds) × (digits_value 10 ds ≤ bound)) (f (digits_value 10 ds)) → list_all (λ byte. is_ascii_digit byte) ds ≡ true → OkIff r ((0 < length ds) × (digits_value 10 ds < bound + 1)) (f (digits_value 10 ds))
+at_most : {E : Type 0} → (f : ℕ → ℤ) (bound : ℕ) (ds : List ℕ) (r : Result ℤ E) → OkIff r ((all_ascii_digits ds ≡ true) × (0 < length ds) × (digits_value 10 ds ≤ bound))
+    (f (digits_value 10 ds)) → list_all (λ byte. is_ascii_digit byte) ds ≡ true → OkIff r ((0 < length ds) × (digits_value 10 ds < bound + 1)) (f (digits_value 10 ds))
 at_most f bound ds (Ok n) is all = ((is.0.1, omega (arith, is.0.2)), is.1)
 at_most f bound ds (Err e) is all = λ (q : (0 < length ds) × (digits_value 10 ds < bound + 1)). is (all_digits ds all, q.0, omega (arith, q.1))
 
@@ -108,6 +111,7 @@ signed_letters bs some =
     ] some
 
 -- the result of `strip_prefix` of a `-`, or the whole text where there is none
-pub stripped : (text : Bor (List ℕ)) (r : Option (Bor (List ℕ))) (digits : Bor (List ℕ)) → MatchOption r (FindsCharPrefix 45 text.now None) (λ x. (n : ℕ) × FindsCharPrefix 45 text.now (Some n) × (x.now ≡ drop n text.now) × (length x.now + n ≡ length text.now))
+pub stripped : (text : Bor (List ℕ)) (r : Option (Bor (List ℕ))) (digits : Bor (List ℕ)) → MatchOption r (FindsCharPrefix 45 text.now None)
+    (λ x. (n : ℕ) × FindsCharPrefix 45 text.now (Some n) × (x.now ≡ drop n text.now) × (length x.now + n ≡ length text.now))
     → digits ≡ unwrap_or r text → digits.now ≡ after_minus (has_minus text.now) text.now
 stripped text r digits cases is = ap (λ (b : Bor (List ℕ)). b.now) is ∙ minus_stripped text r (strip_prefix_char 45 text.now r cases (lit< tt))

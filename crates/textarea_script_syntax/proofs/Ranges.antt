@@ -69,7 +69,8 @@ first_zipped None more = refl
 first_zipped (Some one) None = refl
 first_zipped (Some one) (Some more) = refl
 
-pub ranges_more : (text row rest start last end after : List ℕ) → split_first text ≡ Some (row, rest) → split_first rest ≡ Some (start, last) → split_first last ≡ Some (end, after) → ranges text ≡ first_and (range row start end) (ranges after)
+pub ranges_more : (text row rest start last end after : List ℕ) → split_first text ≡ Some (row, rest) → split_first rest ≡ Some (start, last) → split_first last ≡ Some (end, after)
+    → ranges text ≡ first_and (range row start end) (ranges after)
 unfolding ranges
 ranges_more text row rest start last end after one two three =
     ap ranges_of (words_some text row rest one ∙ ap (λ (w : List (List ℕ)). row ∷ w) (words_some rest start last two ∙ ap (λ (w : List (List ℕ)). start ∷ w) (words_some last end after three)))

@@ -1,5 +1,6 @@
 -- The tokens of a text with escapes, one after another.
-use Rattle.std.proofs.Common.{arith, ◌≡◌, ◌≢◌, ℕ, zero, suc, ◌+◌, ◌<◌, ◌≤◌, Bool, true, false, ◌&&◌, ◌==◌, List, [], ◌∷◌, ◌++◌, Option, Some, None, length, drop, nat_lt, option_map, if◌then◌else◌, refl, ap, sym, ◌∙◌, subst, append_assoc, append-nil, length-drop, eqb-true, flat_map}
+use Rattle.std.proofs.Common.{arith, ◌≡◌, ◌≢◌, ℕ, zero, suc, ◌+◌, ◌<◌, ◌≤◌, Bool, true, false, ◌&&◌, ◌==◌, List, [], ◌∷◌, ◌++◌, Option, Some, None, length, drop, nat_lt, option_map}
+use Rattle.std.proofs.Common.{if◌then◌else◌, refl, ap, sym, ◌∙◌, subst, append_assoc, append-nil, length-drop, eqb-true, flat_map}
 use Rattle.std.specs.Prelude.{encode_utf8, option_and_then, chars, slice_get}
 use Rattle.std.specs.Char.{len_utf8}
 use Rattle.std.specs.List.{after_first, before_first, join_by, position_or_len}
@@ -8,7 +9,8 @@ use Rattle.std.proofs.lemmas.Bool.Decides.{nat_tests}
 use Rattle.textarea_script_syntax.specs.Arguments.{IsUnparsedAs}
 use Rattle.textarea_script_syntax.specs.declared.arguments.Unparsed.{Unparsed}
 use Rattle.textarea_script_syntax.specs.declared.arguments.Unparsed.TheVariants.{NoCommand, Memory}
-use Rattle.textarea_script_syntax.specs.Escapes.{Token, Character, Break, character_numbered, control, escape, first_character, in_front, is_break, is_closing, lines_after_escape, lines_of_tokens, numbered_escape, plain_character, text_of_tokens, token, tokens, tokens_within, unescaped, unescaped_lines}
+use Rattle.textarea_script_syntax.specs.Escapes.{Token, Character, Break, character_numbered, control, escape, first_character, in_front, is_break, is_closing, lines_after_escape}
+use Rattle.textarea_script_syntax.specs.Escapes.{lines_of_tokens, numbered_escape, plain_character, text_of_tokens, token, tokens, tokens_within, unescaped, unescaped_lines}
 
 -- ---- ---- each character takes at least one byte
 
@@ -191,7 +193,8 @@ unfolding unescaped unescaped_lines
 line_before line text =
     elim (tokens text) as (λ found. option_map joined (option_map (λ lines. line ∷ lines) (option_map lines_of_tokens found)) ≡ option_map (λ more. line ++ (10 ∷ more)) (option_map text_of_tokens found)) [
       | None ↦ refl
-      | Some found ↦ ap Some (sym ((more_in_front line (10 ∷ text_of_tokens found) ([] ∷ lines_of_tokens found) (break_in_front (text_of_tokens found) (lines_of_tokens found) (lines_joined found))).1 ∙ ap (λ (first : List ℕ). joined (first ∷ lines_of_tokens found)) (append-nil line)))
+      | Some found ↦ ap Some (sym ((more_in_front line (10 ∷ text_of_tokens found) ([] ∷ lines_of_tokens found)
+          (break_in_front (text_of_tokens found) (lines_of_tokens found) (lines_joined found))).1 ∙ ap (λ (first : List ℕ). joined (first ∷ lines_of_tokens found)) (append-nil line)))
     ]
 
 -- a text, and after a line feed the text that the rest writes, if there is a rest
@@ -204,7 +207,8 @@ rest_joined text None = ap Some (append-nil text)
 rest_joined text (Some rest) = line_before text rest
 
 -- once the first line of a text is appended, the text goes on with the rest
-line_pushed : (old new text : List ℕ) (rest : Option (List ℕ)) → option_map (λ lines. in_front old lines) (unescaped_lines text) ≡ option_map (λ more. new ∷ more) (lines_after_escape rest) → option_map (λ more. old ++ more) (unescaped text) ≡ with_rest new rest
+line_pushed : (old new text : List ℕ) (rest : Option (List ℕ)) → option_map (λ lines. in_front old lines) (unescaped_lines text) ≡ option_map (λ more. new ∷ more) (lines_after_escape rest)
+    → option_map (λ more. old ++ more) (unescaped text) ≡ with_rest new rest
 line_pushed old new text rest pushed = sym (front_joined old text) ∙ ap (option_map joined) pushed ∙ rest_joined new rest
 
 -- where the lines can't be read, the text can't be
@@ -228,7 +232,8 @@ fed_before text fed None is = refl
 fed_before text fed (Some more) is = ap Some (sym (append_assoc text (10 ∷ []) more)) ∙ ap (λ (front : List ℕ). Some (front ++ more)) (sym is)
 
 -- a line feed and the next line were appended
-pub next_read : (text read fed new after : List ℕ) (rest : Option (List ℕ)) → unescaped text ≡ with_rest read (Some after) → fed ≡ read ++ (10 ∷ []) → option_map (λ lines. in_front fed lines) (unescaped_lines after) ≡ option_map (λ more. new ∷ more) (lines_after_escape rest) → unescaped text ≡ with_rest new rest
+pub next_read : (text read fed new after : List ℕ) (rest : Option (List ℕ)) → unescaped text ≡ with_rest read (Some after) → fed ≡ read ++ (10 ∷ [])
+    → option_map (λ lines. in_front fed lines) (unescaped_lines after) ≡ option_map (λ more. new ∷ more) (lines_after_escape rest) → unescaped text ≡ with_rest new rest
 next_read text read fed new after rest is feed pushed = is ∙ fed_before read fed (unescaped after) feed ∙ line_pushed fed new after rest pushed
 
 -- a later line can't be read

@@ -1,6 +1,7 @@
 -- How the arguments of a command are read. A reading takes a text, a list of bytes, and gives the
 -- value that it writes, or none.
-use Rattle.std.specs.Prelude.{ℕ, ℤ, pos, neg_ℤ, ◌+◌, ◌-◌, ◌^◌, ◌==◌, min, Bool, true, false, ◌&&◌, if◌then◌else◌, nat_lt, List, [], ◌∷◌, length, drop, slice_index, bytes_eq, codes, Option, Some, None, option_map, option_and_then, Result, Ok, Err, ◌≡◌}
+use Rattle.std.specs.Prelude.{ℕ, ℤ, pos, neg_ℤ, ◌+◌, ◌-◌, ◌^◌, ◌==◌, min, Bool, true, false, ◌&&◌, if◌then◌else◌, nat_lt, List, [], ◌∷◌, length, drop, slice_index, bytes_eq, codes, Option}
+use Rattle.std.specs.Prelude.{Some, None, option_map, option_and_then, Result, Ok, Err, ◌≡◌}
 use Rattle.std.specs.Char.{is_ascii_digit}
 use Rattle.std.specs.List.{after_first, before_first, list_all, position_or_len}
 use Rattle.std.specs.Option.{option_zip}

@@ -17,7 +17,9 @@ use Rattle.tui_textarea.specs.Run.{Leads, CallLeads}
 use Rattle.tui_textarea.specs.CallResults as reported
 use Rattle.tui_textarea.specs.CallResults.{CallResult, Done, Flag, Text}
 use Rattle.textarea_calls.specs.declared.call.Call.{Call}
-use Rattle.textarea_calls.specs.declared.call.Call.TheVariants.{InsertChar, InsertNewline, DeleteChar, DeleteStr, Cut, Paste, Undo, Redo, StartSelection, SelectAll, YankText, Measure, Move, SetSearchPattern, Render, CursorAtPosition, Scroll, Input, InputWithoutShortcuts, SetMaskChar, ClearMaskChar, MaskChar, RenderedCursorPosition}
+use Rattle.textarea_calls.specs.declared.call.Call.TheVariants.{InsertChar, InsertNewline, DeleteChar, DeleteStr, Cut, Paste, Undo, Redo, StartSelection, SelectAll, YankText, Measure, Move}
+use Rattle.textarea_calls.specs.declared.call.Call.TheVariants.{SetSearchPattern, Render, CursorAtPosition, Scroll, Input, InputWithoutShortcuts, SetMaskChar, ClearMaskChar, MaskChar}
+use Rattle.textarea_calls.specs.declared.call.Call.TheVariants.{RenderedCursorPosition}
 
 abbrev empty : State
 empty = new_state []

@@ -44,7 +44,8 @@ abbrev pub typed : List Symbol → Place → Splice
 typed symbols place = record { place = place; symbols = symbols; inserts = true }
 
 -- the third edit of a log of two: the oldest is dropped
-pub bound_case : (recorded (recorded (recorded (empty_log 2) (typed (Character 97 ∷ []) (0, 0)) false 0) (typed (Character 98 ∷ []) (0, 1)) false 0) (typed (Character 99 ∷ []) (0, 2)) false 0).done ≡ typed (Character 98 ∷ []) (0, 1) ∷ typed (Character 99 ∷ []) (0, 2) ∷ []
+pub bound_case : (recorded (recorded (recorded (empty_log 2) (typed (Character 97 ∷ []) (0, 0)) false 0) (typed (Character 98 ∷ []) (0, 1)) false 0)
+    (typed (Character 99 ∷ []) (0, 2)) false 0).done ≡ typed (Character 98 ∷ []) (0, 1) ∷ typed (Character 99 ∷ []) (0, 2) ∷ []
 bound_case = refl
 
 -- a character and a blank typed with coalescing on, 499 ms apart, are one edit; 500 ms apart two
@@ -89,7 +90,8 @@ pub carriage_return_case : (char_inserted (new_state []) 13).document.text ≡ B
 carriage_return_case = refl
 
 -- an insertion over a selection is two edits: the removal and the insertion
-pub over_selection_case : (char_inserted (selected_first (new_state (Character 97 ∷ Character 98 ∷ []))) 120).document.log.done ≡ (record { place = (0, 0); symbols = Character 97 ∷ []; inserts = false }) ∷ (record { place = (0, 0); symbols = Character 120 ∷ []; inserts = true }) ∷ []
+pub over_selection_case : (char_inserted (selected_first (new_state (Character 97 ∷ Character 98 ∷ []))) 120).document.log.done ≡
+    (record { place = (0, 0); symbols = Character 97 ∷ []; inserts = false }) ∷ (record { place = (0, 0); symbols = Character 120 ∷ []; inserts = true }) ∷ []
 unfolding between_removed moved_ranges
 over_selection_case = refl
 

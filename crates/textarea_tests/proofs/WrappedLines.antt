@@ -84,7 +84,8 @@ width_searched state found width put =
     ∙ put
     ∙ ap (λ (s : SurroundState). width_inside s.block width) (sym (searched_surround state found))
 
-pub still_wrapped : (drawn down scrolled again : State) (found : Option Place) → down.document.layout ≡ drawn.document.layout → scrolled.document.layout ≡ down.document.layout → again.document ≡ (after_search scrolled found).document → WrapsNothing drawn.document again.document
+pub still_wrapped : (drawn down scrolled again : State) (found : Option Place) → down.document.layout ≡ drawn.document.layout → scrolled.document.layout ≡ down.document.layout
+    → again.document ≡ (after_search scrolled found).document → WrapsNothing drawn.document again.document
 still_wrapped drawn down scrolled again found moved displayed same =
     let layout : again.document.layout ≡ drawn.document.layout =
     ap (λ (d : DocumentState). d.layout) same ∙ searched_document scrolled found ∙ displayed ∙ moved in

@@ -1,6 +1,7 @@
 -- Worked cases of the definitions, each by computing.
 use Rattle.std.proofs.Common.{◌≡◌, ℕ, true, false, List, [], ◌∷◌, refl, Some, None}
-use Rattle.textarea_ranges.specs.Prelude.{Symbol, Break, Character, Splice, AtomicRange, RejectedAtomicRange, Backward, Forward, AtomicRangeRejectReason, Empty, RowOutOfBounds, ColumnOutOfBounds, OverlapsPrevious, range_at_place, moved_out, widened, moved_ranges, in_order, rejected_of}
+use Rattle.textarea_ranges.specs.Prelude.{Symbol, Break, Character, Splice, AtomicRange, RejectedAtomicRange, Backward, Forward, AtomicRangeRejectReason, Empty, RowOutOfBounds}
+use Rattle.textarea_ranges.specs.Prelude.{ColumnOutOfBounds, OverlapsPrevious, range_at_place, moved_out, widened, moved_ranges, in_order, rejected_of}
 use Rattle.textarea_data.specs.declared.range.AtomicDeleteDirection.TheVariants.{Backward as DeleteBackward, Forward as DeleteForward}
 
 abbrev pub range_of : ℕ → ℕ → ℕ → AtomicRange
@@ -52,7 +53,8 @@ bracket = range_of 0 5 10 ∷ []
 pub moved_cases : (moved_out bracket (0, 7) Backward ∷ moved_out bracket (0, 7) Forward ∷ moved_out bracket (0, 5) Forward ∷ moved_out bracket (1, 7) Forward ∷ []) ≡ (0, 5) ∷ (0, 10) ∷ (0, 5) ∷ (1, 7) ∷ []
 moved_cases = refl
 
-pub range_at_place_cases : (range_at_place bracket (0, 10) DeleteBackward ∷ range_at_place bracket (0, 5) DeleteBackward ∷ range_at_place bracket (0, 5) DeleteForward ∷ range_at_place bracket (0, 10) DeleteForward ∷ []) ≡ Some (range_of 0 5 10) ∷ None ∷ Some (range_of 0 5 10) ∷ None ∷ []
+pub range_at_place_cases : (range_at_place bracket (0, 10) DeleteBackward ∷ range_at_place bracket (0, 5) DeleteBackward ∷ range_at_place bracket
+    (0, 5) DeleteForward ∷ range_at_place bracket (0, 10) DeleteForward ∷ []) ≡ Some (range_of 0 5 10) ∷ None ∷ Some (range_of 0 5 10) ∷ None ∷ []
 range_at_place_cases = refl
 
 pub widened_cases : (widened (range_of 0 5 10 ∷ range_of 1 0 4 ∷ []) (0, 7) (1, 2) ∷ widened bracket (0, 6) (0, 7) ∷ []) ≡ ((0, 5), (1, 4)) ∷ ((0, 5), (0, 10)) ∷ []

@@ -19,7 +19,9 @@ lines_replaced items new row count =
     ∙ ap (λ t. take row (lines_of items) ++ (lines_of new ++ t)) (sym (drop-map characters_of (row + count) items))
 
 -- lines replace others, and their visual rows replace those of the others
-pub rows_replaced : {Z : Type 0} (w : Wrapping) (old new borrowed after : List (String Z)) (row count at number : ℕ) (was retained others now : List RowsView) → AreRowsOf w (lines_of old) was → AreRowsOf w (lines_of borrowed) others → borrowed ≡ new → retained ≡ was → at ≡ row → number ≡ count → now ≡ replaced retained at number others → after ≡ replaced old row count new → AreRowsOf w (lines_of after) now
+pub rows_replaced : {Z : Type 0} (w : Wrapping) (old new borrowed after : List (String Z)) (row count at number : ℕ) (was retained others now : List RowsView)
+    → AreRowsOf w (lines_of old) was → AreRowsOf w (lines_of borrowed) others → borrowed ≡ new → retained ≡ was → at ≡ row → number ≡ count → now ≡ replaced retained at number others
+    → after ≡ replaced old row count new → AreRowsOf w (lines_of after) now
 rows_replaced w old new borrowed after row count at number was retained others now h k borrowed_is rest_is at_is number_is now_is after_is =
     let changed = AreRowsOf-replaced w (lines_of old) (lines_of new) was others row count h (subst (λ (t : List (String _)). AreRowsOf w (lines_of t) others) borrowed_is k) in
     let rows_are : now ≡ replaced was row count others = now_is ∙ ap (λ (r : List RowsView). replaced r at number others) rest_is ∙ ap (λ n. replaced was n number others) at_is ∙ ap (λ n. replaced was row n others) number_is in

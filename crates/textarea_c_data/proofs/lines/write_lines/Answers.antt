@@ -29,7 +29,8 @@ loop-row-preserved c =
       out =
           subst (λ (out : List ℕ). written_at (used + count) out (concat rest) ≡ copied_over c.args.out.now (concat (encoded_lines (lines_of all))))
           (sym (copied.out ∙ ap (λ (t : List ℕ). written_at used c.loop-row.out t) same))
-          (text_out used count c.loop-row.out text rest _ counted (subst (λ (ts : List (List ℕ)). written_at used c.loop-row.out (concat ts) ≡ copied_over c.args.out.now (concat (encoded_lines (lines_of all)))) texts c.loop-row.invariant.out));
+          (text_out used count c.loop-row.out text rest _ counted (subst (λ (ts : List (List ℕ)). written_at used c.loop-row.out (concat ts) ≡ copied_over c.args.out.now
+          (concat (encoded_lines (lines_of all)))) texts c.loop-row.invariant.out));
       ends =
           subst (λ (ends : List ℕ). written_at (row + 1) ends (ends_of (used + count) rest) ≡ copied_over c.args.ends.now (ends_of 0 (encoded_lines (lines_of all))))
           (sym c.put.ensures.out)

@@ -21,7 +21,9 @@ returns-in_err-make-clause-err c =
     let here = c.loop-call-test.true in
     let this = c.call-item.result in
     on_err c.from_residual.result
-    (ran_out_here c.args.area.now c.loop-call.area c.make.new.area (plain_calls calls) index (plain_call this) (within calls index here) (is_call calls index this here c.call-item.is) c.loop-call.invariant (ran_out_plain this c.loop-call.area c.make.new.area c.in_err-make.ensures.err) (draws_nothing_of (plain_call this) (search (rules, draws_plain))))
+    (ran_out_here c.args.area.now c.loop-call.area c.make.new.area (plain_calls calls) index (plain_call this) (within calls index here)
+    (is_call calls index this here c.call-item.is) c.loop-call.invariant (ran_out_plain this c.loop-call.area c.make.new.area c.in_err-make.ensures.err)
+    (draws_nothing_of (plain_call this) (search (rules, draws_plain))))
 
 pub loop-call-preserved : goal.loop-call-preserved
 loop-call-preserved c =

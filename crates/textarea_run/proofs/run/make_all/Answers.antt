@@ -26,7 +26,9 @@ loop-index-preserved c =
     c.push.ensures.items ∙ ap (λ b. cond b (c.loop-index.answers.items ++ c.in-Ok.answer ∷ []) c.loop-index.answers.items) pushed in
     record {
       led = subst (λ (all : List Answer). Leads c.args.area.now c.args.buffer.now (take (c.loop-index.index + 1) c.args.calls.now) (map call_result all) c.perform.new.area c.perform.new.buffer) (sym items)
-          (leads_more c.args.area.now c.loop-index.area c.perform.new.area c.args.buffer.now c.loop-index.buffer c.perform.new.buffer c.args.calls.now c.loop-index.answers.items c.loop-index.index c.index-calls-index.result c.in-Ok.answer within c.index-calls-index.is before.led (record { answered = did.answer; after = did.ok; drawn = did.displayed }));
+          (leads_more c.args.area.now c.loop-index.area c.perform.new.area c.args.buffer.now c.loop-index.buffer c.perform.new.buffer c.args.calls.now c.loop-index.answers.items
+          c.loop-index.index c.index-calls-index.result c.in-Ok.answer within c.index-calls-index.is before.led
+          (record { answered = did.answer; after = did.ok; drawn = did.displayed }));
       counted = c.push.ensures.len ∙ ap (λ b. cond b (vec_len c.loop-index.answers + 1) (vec_len c.loop-index.answers)) pushed ∙ ap (λ n. n + 1) before.counted;
       room = omega (arith, before.room, c.push.ensures.capacity);
     }

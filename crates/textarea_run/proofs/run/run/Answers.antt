@@ -13,19 +13,24 @@ fact_of_error (Ok done) P is so = let no : false ≡ true = is in cc
 fact_of_error (Err error) P is so = so
 
 -- memory runs out for the results of some calls
-never : {T E : Type 0} (reserve : Result T E) (old : State) (buffer : Buffer) (calls : List Call) (answers : List Answer) (room count : ℕ) (failed : Bool) → failed ≡ true → failed ≡ is_err reserve → OnErr reserve (room < count + length calls) → count ≡ 0 → answers ≡ [] → NeverBegins old buffer calls answers 0 old buffer
+never : {T E : Type 0} (reserve : Result T E) (old : State) (buffer : Buffer) (calls : List Call) (answers : List Answer) (room count : ℕ) (failed : Bool) → failed ≡ true
+    → failed ≡ is_err reserve → OnErr reserve (room < count + length calls) → count ≡ 0 → answers ≡ [] → NeverBegins old buffer calls answers 0 old buffer
 never reserve old buffer calls answers room count failed so is full empty none =
     let more = fact_of_error reserve (room < count + length calls) (sym is ∙ so) full in
     record { some = omega (arith, empty, more); first = refl; answered = none; state = refl; screen = refl }
 
 pub returns-then-is_err-clause-led : goal.returns-then-is_err-clause-led
 returns-then-is_err-clause-led c =
-    inl (never c.try_reserve.result c.args.area.now c.args.buffer.now c.args.calls.now c.try_reserve.new.self.items (vec_capacity c.new-answers.result) (vec_len c.new-answers.result) c.is_err.result c.if-is_err.true c.is_err.ensures.value c.try_reserve.ensures.full c.new-answers.ensures.len (c.try_reserve.ensures.items ∙ c.new-answers.ensures.items))
+    inl (never c.try_reserve.result c.args.area.now c.args.buffer.now c.args.calls.now c.try_reserve.new.self.items (vec_capacity c.new-answers.result)
+    (vec_len c.new-answers.result) c.is_err.result c.if-is_err.true c.is_err.ensures.value c.try_reserve.ensures.full c.new-answers.ensures.len
+    (c.try_reserve.ensures.items ∙ c.new-answers.ensures.items))
 
 pub returns-then-is_err-clause-ranges : goal.returns-then-is_err-clause-ranges
 returns-then-is_err-clause-ranges c =
     c.ranges_follow_each_run.ensures c.args.calls.now c.try_reserve.new.self.items (Some 0) c.args.area.now c.args.area.now c.args.buffer.now c.args.buffer.now c.is_sound.ensures c.requires
-    (inl (never c.try_reserve.result c.args.area.now c.args.buffer.now c.args.calls.now c.try_reserve.new.self.items (vec_capacity c.new-answers.result) (vec_len c.new-answers.result) c.is_err.result c.if-is_err.true c.is_err.ensures.value c.try_reserve.ensures.full c.new-answers.ensures.len (c.try_reserve.ensures.items ∙ c.new-answers.ensures.items)))
+    (inl (never c.try_reserve.result c.args.area.now c.args.buffer.now c.args.calls.now c.try_reserve.new.self.items (vec_capacity c.new-answers.result)
+    (vec_len c.new-answers.result) c.is_err.result c.if-is_err.true c.is_err.ensures.value c.try_reserve.ensures.full c.new-answers.ensures.len
+    (c.try_reserve.ensures.items ∙ c.new-answers.ensures.items)))
 
 pub returns-clause-ranges : goal.returns-clause-ranges
 returns-clause-ranges c =

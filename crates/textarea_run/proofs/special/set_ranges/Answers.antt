@@ -13,7 +13,8 @@ use Rattle.textarea_run.proofs.special.set_ranges.Goals as goal
 none : (c : goal.In-Ok) → rejected_ranges c.args.area.now c.args.ranges.items ≡ []
 none c =
     let rows = lines c.args.area.now.document.text in
-    let valid : AreValid rows c.args.ranges.items = subst (λ outcome. MatchResult outcome (λ _. AreValid rows c.args.ranges.items) (λ error. AreRejected rows c.args.ranges.items error.rejected.items)) c.in-Ok.is c.in_ok-try_set_atomic_ranges.ensures.judged in
+    let valid : AreValid rows c.args.ranges.items = subst (λ outcome. MatchResult outcome (λ _. AreValid rows c.args.ranges.items)
+    (λ error. AreRejected rows c.args.ranges.items error.rejected.items)) c.in-Ok.is c.in_ok-try_set_atomic_ranges.ensures.judged in
     (accepted_if_valid rows c.args.ranges.items).1 valid
 
 pub returns-in-Ok-clause-answer : goal.returns-in-Ok-clause-answer
@@ -27,7 +28,9 @@ returns-in-Ok-clause-ok c =
 some : (c : goal.In-Err) → rejected_ranges c.args.area.now c.args.ranges.items ≢ []
 some c =
     let rows = lines c.args.area.now.document.text in
-    let are_rejected : AreRejected rows c.args.ranges.items c.in-Err.error.rejected.items = subst (λ outcome. MatchResult outcome (λ _. AreValid rows c.args.ranges.items) (λ error. AreRejected rows c.args.ranges.items error.rejected.items)) c.in-Err.is c.in_ok-try_set_atomic_ranges.ensures.judged in
+    let are_rejected : AreRejected rows c.args.ranges.items c.in-Err.error.rejected.items = subst
+    (λ outcome. MatchResult outcome (λ _. AreValid rows c.args.ranges.items) (λ error. AreRejected rows c.args.ranges.items error.rejected.items)) c.in-Err.is
+    c.in_ok-try_set_atomic_ranges.ensures.judged in
     subst (λ (rejected : List RejectedAtomicRange). rejected ≢ []) are_rejected.listed are_rejected.some
 
 pub returns-in-Err-clause-ok : goal.returns-in-Err-clause-ok

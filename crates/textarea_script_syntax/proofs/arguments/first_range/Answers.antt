@@ -16,7 +16,8 @@ returns-in_err-start-clause-value c =
 
 pub returns-in_err-range-in-Some-clause-value : goal.returns-in_err-range-in-Some-clause-value
 returns-in_err-range-in-Some-clause-value c =
-    let none = ranges_more c.args.text.now c.in_ok-row.row.now c.in_ok-row.rest.now c.in_ok-start.start.now c.in_ok-start.rest.now c.in-Some.end.now c.in-Some.after.now c.in_ok-row.ensures.value c.in_ok-start.ensures.value c.in-Some.ensures.value
+    let none = ranges_more c.args.text.now c.in_ok-row.row.now c.in_ok-row.rest.now c.in_ok-start.start.now c.in_ok-start.rest.now c.in-Some.end.now c.in-Some.after.now
+    c.in_ok-row.ensures.value c.in_ok-start.ensures.value c.in-Some.ensures.value
     ∙ ap (λ (one : Option AtomicRange). first_and one (ranges c.in-Some.after.now)) (sym c.in_err-range-in-Some.ensures) in
     rw c.from_residual-in_err-range-in-Some.ensures none
 

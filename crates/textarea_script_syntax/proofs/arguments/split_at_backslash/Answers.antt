@@ -20,7 +20,8 @@ returns-then-bytes-index-eq92 c =
     let front : c.range.result.now ≡ take index text = grind (arith, common_steps) in
     let whole : text ≡ take index text ++ (92 ∷ drop (index + 1) text) = sym (take-append-drop index text) ∙ ap (λ t. take index text ++ t) (drop_more text index 0 within ∙ ap (λ byte. byte ∷ drop (index + 1) text) at) in (
       whole ∙ ap (λ t. t ++ (92 ∷ drop (index + 1) text)) (sym front) ∙ ap (λ t. c.range.result.now ++ (92 ∷ t)) (sym c.range_from.ensures.value),
-      subst HasNoBackslash (sym front) (without (take index text) (λ k below same. c.loop-index.invariant k (omega (arith, below, length-take index text)) (sym (get_or-take index text k 0 (omega (arith, below, length-take index text))) ∙ same))),
+      subst HasNoBackslash (sym front) (without (take index text) (λ k below same. c.loop-index.invariant k (omega (arith, below, length-take index text))
+          (sym (get_or-take index text k 0 (omega (arith, below, length-take index text))) ∙ same))),
     )
 
 pub returns : goal.returns

@@ -31,4 +31,6 @@ returns-in_err-rest-2 c =
 
 pub loop-rest-preserved : goal.loop-rest-preserved
 loop-rest-preserved c =
-    next_read c.args.text.now (string_bytes c.loop-rest.unescaped) (string_bytes c.push.new.self) (string_bytes c.push_line-in-Some.new.line) c.in-Some.text.now (option_copied c.in_ok-rest-2.rest) (read (goal.at.loop-rest-preserved c).After-push_line-in-Some) (c.in_ok-push.ensures.bytes ∙ ap (λ (bytes : List ℕ). string_bytes c.loop-rest.unescaped ++ bytes) (encode_ascii 10 (lit< tt))) c.in_ok-rest-2.ensures.value
+    next_read c.args.text.now (string_bytes c.loop-rest.unescaped) (string_bytes c.push.new.self) (string_bytes c.push_line-in-Some.new.line) c.in-Some.text.now
+    (option_copied c.in_ok-rest-2.rest) (read (goal.at.loop-rest-preserved c).After-push_line-in-Some)
+    (c.in_ok-push.ensures.bytes ∙ ap (λ (bytes : List ℕ). string_bytes c.loop-rest.unescaped ++ bytes) (encode_ascii 10 (lit< tt))) c.in_ok-rest-2.ensures.value

@@ -17,7 +17,9 @@ loop-index-preserved-then-is_empty c =
     let lines = lines_of_script c.args.script.now in
     let count = length c.loop-index.yielded in
     let line = c.in-Some.line.now in
-    let t = YieldsList-turn (YieldsList-from_enumerate {s = c.into_iter-index-iterator.result} (YieldsList-at (cc) (YieldsList-from_slice_split {s = c.split.result} _ (λ byte. byte == 10) c.args.script.now c.split.ensures.rest c.split.ensures.done c.split.ensures.closure (λ x r q k. search (rules, tests)))) (cc)) c.loop-index.yielded _ c.loop-index.yielded_by _ _ (c.in-Some.index, c.in-Some.line) c.in-Some.is c.next.ensures.steps in
+    let t = YieldsList-turn (YieldsList-from_enumerate {s = c.into_iter-index-iterator.result}
+    (YieldsList-at (cc) (YieldsList-from_slice_split {s = c.split.result} _ (λ byte. byte == 10) c.args.script.now c.split.ensures.rest c.split.ensures.done c.split.ensures.closure
+    (λ x r q k. search (rules, tests)))) (cc)) c.loop-index.yielded _ c.loop-index.yielded_by _ _ (c.in-Some.index, c.in-Some.line) c.in-Some.is c.next.ensures.steps in
     let turn = turn_at lines count c.in-Some.index line t.0 t.1 in
     let none : length line ≡ 0 = grind (arith, nat_tests) in
     let more = sym (length_push c.loop-index.yielded (c.in-Some.index, c.in-Some.line)) in
@@ -35,7 +37,9 @@ loop-index-preserved c =
     let lines = lines_of_script c.args.script.now in
     let count = length c.loop-index.yielded in
     let line = c.in-Some.line.now in
-    let t = YieldsList-turn (YieldsList-from_enumerate {s = c.into_iter-index-iterator.result} (YieldsList-at (cc) (YieldsList-from_slice_split {s = c.split.result} _ (λ byte. byte == 10) c.args.script.now c.split.ensures.rest c.split.ensures.done c.split.ensures.closure (λ x r q k. search (rules, tests)))) (cc)) c.loop-index.yielded _ c.loop-index.yielded_by _ _ (c.in-Some.index, c.in-Some.line) c.in-Some.is c.next.ensures.steps in
+    let t = YieldsList-turn (YieldsList-from_enumerate {s = c.into_iter-index-iterator.result}
+    (YieldsList-at (cc) (YieldsList-from_slice_split {s = c.split.result} _ (λ byte. byte == 10) c.args.script.now c.split.ensures.rest c.split.ensures.done c.split.ensures.closure
+    (λ x r q k. search (rules, tests)))) (cc)) c.loop-index.yielded _ c.loop-index.yielded_by _ _ (c.in-Some.index, c.in-Some.line) c.in-Some.is c.next.ensures.steps in
     let turn = turn_at lines count c.in-Some.index line t.0 t.1 in
     let some : 0 < length line = grind (arith, nat_tests) in
     let more = sym (length_push c.loop-index.yielded (c.in-Some.index, c.in-Some.line)) in
@@ -58,7 +62,9 @@ returns-in_err-read_line-clause-err c =
     let lines = lines_of_script c.args.script.now in
     let count = length c.loop-index.yielded in
     let line = c.in-Some.line.now in
-    let t = YieldsList-turn (YieldsList-from_enumerate {s = c.into_iter-index-iterator.result} (YieldsList-at (cc) (YieldsList-from_slice_split {s = c.split.result} _ (λ byte. byte == 10) c.args.script.now c.split.ensures.rest c.split.ensures.done c.split.ensures.closure (λ x r q k. search (rules, tests)))) (cc)) c.loop-index.yielded _ c.loop-index.yielded_by _ _ (c.in-Some.index, c.in-Some.line) c.in-Some.is c.next.ensures.steps in
+    let t = YieldsList-turn (YieldsList-from_enumerate {s = c.into_iter-index-iterator.result}
+    (YieldsList-at (cc) (YieldsList-from_slice_split {s = c.split.result} _ (λ byte. byte == 10) c.args.script.now c.split.ensures.rest c.split.ensures.done c.split.ensures.closure
+    (λ x r q k. search (rules, tests)))) (cc)) c.loop-index.yielded _ c.loop-index.yielded_by _ _ (c.in-Some.index, c.in-Some.line) c.in-Some.is c.next.ensures.steps in
     let turn = turn_at lines count c.in-Some.index line t.0 t.1 in
     let some : 0 < length line = grind (arith, nat_tests) in
     let here : c.in-Some.index + 1 - 1 ≡ count = omega (arith, turn.index_is) in
@@ -81,11 +87,15 @@ returns-in_err-read_line-clause-err c =
 pub returns-clause-ok : goal.returns-clause-ok
 returns-clause-ok c =
     let lines = lines_of_script c.args.script.now in
-    let e = YieldsList-end (YieldsList-from_enumerate {s = c.into_iter-index-iterator.result} (YieldsList-at (cc) (YieldsList-from_slice_split {s = c.split.result} _ (λ byte. byte == 10) c.args.script.now c.split.ensures.rest c.split.ensures.done c.split.ensures.closure (λ x r q k. search (rules, tests)))) (cc)) c.loop-index.yielded _ c.loop-index.yielded_by _ _ c.in-None.is c.next.ensures.steps in
+    let e = YieldsList-end (YieldsList-from_enumerate {s = c.into_iter-index-iterator.result}
+    (YieldsList-at (cc) (YieldsList-from_slice_split {s = c.split.result} _ (λ byte. byte == 10) c.args.script.now c.split.ensures.rest c.split.ensures.done c.split.ensures.closure
+    (λ x r q k. search (rules, tests)))) (cc)) c.loop-index.yielded _ c.loop-index.yielded_by _ _ c.in-None.is c.next.ensures.steps in
     c.loop-index.invariant.count ∙ ap filled_lines (take_all (length c.loop-index.yielded) lines (omega (arith, e.1, length-enumerate_from 0 lines)))
 
 pub returns-clause-means : goal.returns-clause-means
 returns-clause-means c =
     let lines = lines_of_script c.args.script.now in
-    let e = YieldsList-end (YieldsList-from_enumerate {s = c.into_iter-index-iterator.result} (YieldsList-at (cc) (YieldsList-from_slice_split {s = c.split.result} _ (λ byte. byte == 10) c.args.script.now c.split.ensures.rest c.split.ensures.done c.split.ensures.closure (λ x r q k. search (rules, tests)))) (cc)) c.loop-index.yielded _ c.loop-index.yielded_by _ _ c.in-None.is c.next.ensures.steps in
+    let e = YieldsList-end (YieldsList-from_enumerate {s = c.into_iter-index-iterator.result}
+    (YieldsList-at (cc) (YieldsList-from_slice_split {s = c.split.result} _ (λ byte. byte == 10) c.args.script.now c.split.ensures.rest c.split.ensures.done c.split.ensures.closure
+    (λ x r q k. search (rules, tests)))) (cc)) c.loop-index.yielded _ c.loop-index.yielded_by _ _ c.in-None.is c.next.ensures.steps in
     c.loop-index.invariant.means ∙ ap meanings_of_lines (take_all (length c.loop-index.yielded) lines (omega (arith, e.1, length-enumerate_from 0 lines)))

@@ -11,4 +11,6 @@ returns-clause-rows c =
     let change = c.args.change in
     let made = c.in_ok-prepared.ensures in
     let prepared = c.in_ok-prepared.prepared in
-    rows_replaced c.args.wrapping c.args.lines.now.items change.lines.items c.as_slice.result.now c.apply.new.lines.items change.row change.count prepared.row prepared.count c.args.map.now.rows c.prepare.new.self.rows (rows_in prepared.rows) c.replace.new.self.rows c.requires.rows made.rows c.as_slice.ensures.value made.same made.prepared.row_is made.prepared.count_is c.replace.ensures.rows c.in_ok-apply.ensures.ok
+    rows_replaced c.args.wrapping c.args.lines.now.items change.lines.items c.as_slice.result.now c.apply.new.lines.items change.row change.count prepared.row prepared.count
+    c.args.map.now.rows c.prepare.new.self.rows (rows_in prepared.rows) c.replace.new.self.rows c.requires.rows made.rows c.as_slice.ensures.value made.same made.prepared.row_is
+    made.prepared.count_is c.replace.ensures.rows c.in_ok-apply.ensures.ok

@@ -17,4 +17,5 @@ undo-requires-clause-fits c =
     let plan = c.args.plan.now in
     let lines = c.redo.new.lines in
     fits_lines lines.items (inverse c.in_ok-edit.edit.splice) (omega (arith, lines.ok, c.redo.ensures.nonempty))
-    (back_fits (text_of c.args.lines.now) (text_of c.in_ok-lines.lines.items) (text_of lines.items) c.in_ok-edit.edit.splice (splice_of plan.kind plan.before plan.after) c.requires.ready.fits c.in_ok-edit.ensures.splice c.in_ok-lines.ensures.text c.in_ok-redo.ensures.ok)
+    (back_fits (text_of c.args.lines.now) (text_of c.in_ok-lines.lines.items) (text_of lines.items) c.in_ok-edit.edit.splice
+    (splice_of plan.kind plan.before plan.after) c.requires.ready.fits c.in_ok-edit.ensures.splice c.in_ok-lines.ensures.text c.in_ok-redo.ensures.ok)

@@ -15,11 +15,13 @@ returns-in_err-select-clause-err c =
 pub returns-clause-ok : goal.returns-clause-ok
 returns-clause-ok c =
     on_ok_weaker c.move_to.result
-    (λ later. clicks_made c.args.selects c.args.self.now c.select.new.self c.move_to.new.self c.area.result.now c.args.cell.x c.args.cell.y c.in_ok-place.field-0 c.in-Some.place c.area.ensures c.in-Some.is c.in_ok-place.ensures.hit c.in_ok-select.ensures.ok later)
+    (λ later. clicks_made c.args.selects c.args.self.now c.select.new.self c.move_to.new.self c.area.result.now c.args.cell.x c.args.cell.y c.in_ok-place.field-0 c.in-Some.place
+    c.area.ensures c.in-Some.is c.in_ok-place.ensures.hit c.in_ok-select.ensures.ok later)
     c.move_to.ensures.ok
 
 pub returns-clause-err : goal.returns-clause-err
 returns-clause-err c =
     on_err_weaker c.move_to.result
-    (λ later. clicks_fail_then c.args.selects c.args.self.now c.select.new.self c.move_to.new.self c.area.result.now c.args.cell.x c.args.cell.y c.in_ok-place.field-0 c.in-Some.place c.area.ensures c.in-Some.is c.in_ok-place.ensures.hit c.in_ok-select.ensures.ok later)
+    (λ later. clicks_fail_then c.args.selects c.args.self.now c.select.new.self c.move_to.new.self c.area.result.now c.args.cell.x c.args.cell.y c.in_ok-place.field-0 c.in-Some.place
+    c.area.ensures c.in-Some.is c.in_ok-place.ensures.hit c.in_ok-select.ensures.ok later)
     c.move_to.ensures.err

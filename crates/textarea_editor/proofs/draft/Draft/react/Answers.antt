@@ -10,12 +10,15 @@ use Rattle.textarea_modal.specs.Runs.{AllMade, OneRunsOut}
 use Rattle.textarea_modal.specs.declared.mode.Mode.{Mode}
 use Rattle.textarea_modal.specs.declared.step.Reaction.{Reaction}
 
-reacted : {E : Type 0} (made : Result Bool E) (old left : Draft) (mode : Mode) (found : Reaction) (may : Bool) → left.is_changed ≡ old.is_changed → OfStep mode found (λ step. may ≡ list_any edits step.calls) → OnOk made (OfStep mode found (λ step. AllMade old.area step.calls left.area)) → OnOk made (OfStep mode found (λ step. Makes old step.calls (noted left may (is_err made))))
+reacted : {E : Type 0} (made : Result Bool E) (old left : Draft) (mode : Mode) (found : Reaction) (may : Bool) → left.is_changed ≡ old.is_changed
+    → OfStep mode found (λ step. may ≡ list_any edits step.calls) → OnOk made (OfStep mode found (λ step. AllMade old.area step.calls left.area))
+    → OnOk made (OfStep mode found (λ step. Makes old step.calls (noted left may (is_err made))))
 reacted (Err error) old left mode found may same edit led = tt
 reacted (Ok quits) old left mode found may same edit led = λ input is.
     noted_made old left _ may same (edit input is) (led input is)
 
-failed : {E : Type 0} (made : Result Bool E) (old left : Draft) (mode : Mode) (found : Reaction) (may : Bool) → OnErr made (OfStep mode found (λ step. OneRunsOut old.area step.calls left.area)) → OnErr made (OfStep mode found (λ step. FailsIn old step.calls (noted left may (is_err made))))
+failed : {E : Type 0} (made : Result Bool E) (old left : Draft) (mode : Mode) (found : Reaction) (may : Bool)
+    → OnErr made (OfStep mode found (λ step. OneRunsOut old.area step.calls left.area)) → OnErr made (OfStep mode found (λ step. FailsIn old step.calls (noted left may (is_err made))))
 failed (Ok quits) old left mode found may ran = tt
 failed (Err error) old left mode found may ran = λ input is.
     noted_failed old left _ may (ran input is)

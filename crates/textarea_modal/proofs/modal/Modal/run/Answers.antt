@@ -31,7 +31,9 @@ returns-in-Ok-true c =
     let index = c.loop-index.index in
     let this = get_or inputs index some_input in
     let did = c.in-Ok-true.ensures in
-    let up_to : Finishes old from (take (index + 1) inputs) new to (index + 1) true = subst (λ (l : List Input). Finishes old from l new to (index + 1) true) (sym (take_more inputs index some_input c.loop-index-test.true)) (finishes_more old c.loop-index.area new from c.loop-index.self to (take index inputs) this index true c.loop-index.invariant did.ok did.mode (sym c.in-Ok-true.field-0-test ∙ did.quits)) in
+    let up_to : Finishes old from (take (index + 1) inputs) new to (index + 1) true = subst (λ (l : List Input). Finishes old from l new to (index + 1) true)
+    (sym (take_more inputs index some_input c.loop-index-test.true)) (finishes_more old c.loop-index.area new from c.loop-index.self to
+    (take index inputs) this index true c.loop-index.invariant did.ok did.mode (sym c.in-Ok-true.field-0-test ∙ did.quits)) in
     subst (λ (l : List Input). Finishes old from l new to (index + 1) true) (take-append-drop (index + 1) inputs)
     (finishes_at_quit old new from to (take (index + 1) inputs) (drop (index + 1) inputs) (index + 1) up_to)
 

@@ -26,7 +26,8 @@ returns-in_err-make-clause-err c =
     let here = c.loop-call-test.true in
     let made = c.call.result in
     on_err c.from_residual.result
-    (ran_out_here c.args.area.now c.loop-call.area c.make.new.area (map key_call calls) index made (within calls index here) (is_call calls index made here c.call.ensures.call) c.loop-call.invariant c.in_err-make.ensures.err (draws_nothing_of made c.call.ensures.undrawn))
+    (ran_out_here c.args.area.now c.loop-call.area c.make.new.area (map key_call calls) index made (within calls index here)
+    (is_call calls index made here c.call.ensures.call) c.loop-call.invariant c.in_err-make.ensures.err (draws_nothing_of made c.call.ensures.undrawn))
 
 pub loop-call-preserved : goal.loop-call-preserved
 loop-call-preserved c =
@@ -34,5 +35,6 @@ loop-call-preserved c =
     let index = c.loop-call.call-index in
     let here = c.loop-call-test.true in
     let made = c.call.result in
-    made_more c.args.area.now c.loop-call.area c.make.new.area (map key_call calls) index made c.in_ok-make.field-0 (within calls index here) (is_call calls index made here c.call.ensures.call) c.loop-call.invariant c.in_ok-make.ensures.answer c.in_ok-make.ensures.ok (draws_nothing_of made c.call.ensures.undrawn)
+    made_more c.args.area.now c.loop-call.area c.make.new.area (map key_call calls) index made c.in_ok-make.field-0 (within calls index here)
+    (is_call calls index made here c.call.ensures.call) c.loop-call.invariant c.in_ok-make.ensures.answer c.in_ok-make.ensures.ok (draws_nothing_of made c.call.ensures.undrawn)
     (λ none. c.others_edit_nothing.ensures.text c.loop-call.area c.make.new.area made _ none c.in_ok-make.ensures.ok)

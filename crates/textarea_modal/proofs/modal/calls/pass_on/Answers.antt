@@ -14,7 +14,9 @@ use Rattle.tui_textarea.specs.State.{State}
 draws_nothing : (input : Input) → DrawsNothing (passed_on input)
 draws_nothing input = record { made = λ state buffer. refl; ran_out = λ buffer. refl }
 
-passed : {E : Type 0} (result : Result Bool E) (old new : State) (asked : Action) → ((input : Input) → edits (passed_on input) ≡ false → IsAfterAction old (asked_by input) new → new.document.text ≡ old.document.text) → IfOk result (λ changed. changed ≡ action_flag old asked) → OnOk result (IsAfterAction old asked new) → OnOk result ((input : Input) → asked_by input ≡ asked → AllMade old (passed_on input ∷ []) new)
+passed : {E : Type 0} (result : Result Bool E) (old new : State) (asked : Action) → ((input : Input) → edits (passed_on input) ≡ false → IsAfterAction old (asked_by input) new
+    → new.document.text ≡ old.document.text) → IfOk result (λ changed. changed ≡ action_flag old asked) → OnOk result (IsAfterAction old asked new)
+    → OnOk result ((input : Input) → asked_by input ≡ asked → AllMade old (passed_on input ∷ []) new)
 passed (Err error) old new asked keeps returned after = tt
 passed (Ok changed) old new asked keeps returned after = λ input is.
     let acted : IsAfterAction old (asked_by input) new = subst (λ (a : Action). IsAfterAction old a new) (sym is) after in
@@ -22,7 +24,8 @@ passed (Ok changed) old new asked keeps returned after = λ input is.
     (ap Flag (returned ∙ ap (λ (a : Action). action_flag old a) (sym is)))
     acted (draws_nothing input) (λ none. keeps input none acted)
 
-failed : {E : Type 0} (result : Result Bool E) (old new : State) (asked : Action) → OnErr result (ActMayRunOutOfMemory old asked) → OnErr result (IsInputOutOfMemory old asked new) → OnErr result ((input : Input) → asked_by input ≡ asked → OneRunsOut old (passed_on input ∷ []) new)
+failed : {E : Type 0} (result : Result Bool E) (old new : State) (asked : Action) → OnErr result (ActMayRunOutOfMemory old asked) → OnErr result (IsInputOutOfMemory old asked new)
+    → OnErr result ((input : Input) → asked_by input ≡ asked → OneRunsOut old (passed_on input ∷ []) new)
 failed (Ok changed) old new asked may left = tt
 failed (Err error) old new asked may left = λ input is.
     ran_out_here old old new (passed_on input ∷ []) 0 (passed_on input) (lit< tt) refl (none_made old)
