@@ -140,11 +140,11 @@ static uint32_t (*const steps[])(ta_handle_t *) = {
 /* A text of all that can be read of the text area and the terminal without memory, but for the events
  * that wait. */
 static const char *state_of(ta_handle_t *area) {
-    static char state[4][5000];
+    static char state[4][8000];
     static int next;
     size_t n[8] = {0};
     uint8_t bytes[2][1000] = {0};
-    char of_copy[500] = "";
+    char of_copy[2000] = "";
     char *text = state[next++ % 4];
     if (!area->full) return "empty";
     long before = refused_at;
@@ -154,7 +154,7 @@ static const char *state_of(ta_handle_t *area) {
     if (copy.full) snprintf(of_copy, sizeof of_copy, "%s", lines_of(&copy));
     ta_cursor(area, &n[0], &n[1]);
     ta_selection_range(area, &n[2], &n[3], &n[4], &n[5]);
-    snprintf(text, 5000, "%s%zu %zu, %zu %zu %zu %zu, %zu %zu %s %s %s", lines_of(area), n[0], n[1], n[2], n[3], n[4], n[5], n[6],
+    snprintf(text, 8000, "%s%zu %zu, %zu %zu %zu %zu, %zu %zu %s %s %s", lines_of(area), n[0], n[1], n[2], n[3], n[4], n[5], n[6],
              n[7], of_copy, bytes[0], bytes[1]);
     refused_at = before;
     return text;
@@ -201,7 +201,7 @@ static const char *run(long refused, int *was_refused) {
 
 int main(void) {
     int was_refused;
-    char end[5000];
+    char end[8000];
     strcpy(end, run(0, &was_refused));
     long count = requests;
     for (long k = 1; k <= count; k++) {
