@@ -1,5 +1,5 @@
 use Rattle.std.proofs.Common.{◌≡◌, ◌∙◌, None, Some, sym, ap, subst, arith}
-use Rattle.textarea_document.specs.Prelude.{Fits, IsSound, DocumentState, document_of, redone_log, after_redo, after_redo_by, next_group}
+use Rattle.textarea_document.specs.Prelude.{Fits, IsSound, DocumentState, next, document_of, redone_log, after_redo, after_redo_by, next_group}
 use Rattle.textarea_document.proofs.Sounds.{changed_is, logged_sound, next_fits}
 use Rattle.textarea_document.proofs.UndoGroups.{none_redone, redo_of_one, sound_redo}
 use Rattle.textarea_document.proofs.document.Document.redo.Goals as goal
@@ -37,9 +37,9 @@ invariant_of-self-2 c =
     subst IsSound (sym (redo_is (goal.at.invariant_of-self-2 c).After-step_forward)) (sound_redo _ c.self.invariant)
 
 pub returns-clause-ok : goal.returns-clause-ok
-returns-clause-ok c = redo_is c ∙ ap after_redo c.self.view_is
+returns-clause-ok c = redo_is (goal.at.returns-clause-ok c).After-step_forward ∙ ap after_redo c.self.view_is
 
 pub returns-in_default-clause-ok : goal.returns-in_default-clause-ok
 returns-in_default-clause-ok c =
     let old = c.args.self.now in
-    sym (none_redone (next_group old.log) old c.in_default.ensures.edit).0
+    sym (none_redone (next_group old.log) old (sym (ap (λ (d : DocumentState). next d.log) c.self.view_is) ∙ c.in_default.ensures.edit)).0

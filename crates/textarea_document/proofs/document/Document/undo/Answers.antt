@@ -37,4 +37,4 @@ invariant_of-self-2 c =
     subst IsSound (sym (undo_is (goal.at.invariant_of-self-2 c).After-step_back)) (sound_undo _ c.self.invariant)
 
 pub returns-clause-ok : goal.returns-clause-ok
-returns-clause-ok c = undo_is c ∙ ap after_undo c.self.view_is
+returns-clause-ok c = undo_is (goal.at.returns-clause-ok c).After-step_back ∙ ap after_undo c.self.view_is
