@@ -21,7 +21,6 @@ use Rattle.textarea_document.proofs.Ranges.{IsStoredRange, range_is_stored}
 use Rattle.textarea_document.proofs.Sounds.{start_is_place}
 use Rattle.textarea_document.specs.Target.{word_end_after, word_start_before}
 use Rattle.tui_textarea.specs.Removals.{cursor_line, in_line, index_ahead, is_at_line_end}
-use borrow.Author.Tests.{ltb-true}
 
 -- ---- the selected text
 
@@ -84,6 +83,12 @@ pub line_end_made : (document : DocumentState) → IsSound document → is_at_li
 line_end_made document h inside =
     in_line_made document document.cursor.1 (length (cursor_line document)) h (differs document.cursor.1 (length (cursor_line document)) h.cursor.1 inside) (omega arith)
 
+pub some_number : (m : ℕ) → (m == 0) ≡ false → 0 < m
+some_number m apart = grind (arith, nat_tests)
+
+pub below : (m n : ℕ) → nat_lt m n ≡ true → m < n
+below m n test = grind (arith, nat_tests)
+
 pub line_head_made : (document : DocumentState) → IsSound document → (document.cursor.1 == 0) ≡ false → HasEffect document (Remove (in_line document 0) document.cursor)
 line_head_made document h inside = in_line_made document 0 document.cursor.1 h (grind (arith, nat_tests)) h.cursor.1
 
@@ -110,7 +115,7 @@ least_passes test (suc n) found is =
 start_before : (line : List ℕ) (column : ℕ) (found : Option ℕ) → 0 < column → previous_word_start line column ≡ found → unwrap_or found 0 < column
 start_before line column None some is = some
 start_before line column (Some start) some is =
-    ltb-true start column (and_parts (nat_lt start column) (is_word_start line start) (greatest_passes (is_earlier_word_start line column) (length line) start is)).0
+    below start column (and_parts (nat_lt start column) (is_word_start line start) (greatest_passes (is_earlier_word_start line column) (length line) start is)).0
 
 pub word_start_made : (document : DocumentState) → IsSound document → (document.cursor.1 == 0) ≡ false → HasEffect document (Remove (in_line document (word_start_before (cursor_line document) document.cursor.1)) document.cursor)
 word_start_made document h inside =
