@@ -40,7 +40,7 @@ def run(words, **how):
     """Runs a command, and returns its output. The end of that is in the fault if it fails."""
     ran = subprocess.run([str(it) for it in words], stdout=subprocess.PIPE, stderr=subprocess.STDOUT, text=True, errors="replace", **how)
     if ran.returncode:
-        raise Fault(f"{pathlib.Path(words[0]).name} {words[1]} failed:\n{ran.stdout[-3000:]}")
+        raise Fault(f"{pathlib.Path(words[0]).name} {words[1]} ended with status {ran.returncode}:\n{ran.stdout[-3000:]}")
     return ran.stdout
 
 
