@@ -13,6 +13,7 @@ from textarea import (
     Padding, Page, PatternRejected, Range, RangesRejected, Reason, Side, Span, Style, TextArea,
     WrapMode, in_curses,
 )
+from textarea.terminal import LEFT, RIGHT, Mouse, MouseKind, Paste
 
 RED = Style(Color.RED, add=Modifier.BOLD)
 
@@ -213,47 +214,41 @@ class Calls(unittest.TestCase):
 
 
 class FakeWindow:
-    """A window of curses that gives these characters."""
+    """A window of curses that gives these bytes and numbers of keys; None is a pause."""
 
-    def __init__(self, text):
-        self.characters = list(text)
+    def __init__(self, *found):
+        self.found = [byte for it in found for byte in (it if isinstance(it, bytes) else [it])]
+        self.patience = None
 
     def timeout(self, milliseconds):
-        pass
+        self.patience = milliseconds
 
-    def get_wch(self):
-        if not self.characters:
-            raise curses.error("no input")
-        return self.characters.pop(0)
+    def getch(self):
+        if self.found and self.found[0] is not None:
+            return self.found.pop(0)
+        assert self.patience != -1, "it would wait for ever"
+        if self.found and self.patience:
+            self.found.pop(0)
+        return -1
 
 
 class InCurses(unittest.TestCase):
     def test_events(self):
-        for text, wanted in {
-            "a": Input.char("a"), "犬": Input.char("犬"), "\r": Input(Key.ENTER), "\n": Input(Key.ENTER),
-            "\t": Input(Key.TAB), "\x7f": Input(Key.BACKSPACE), "\x1b": Input(Key.ESC),
-            "\x01": Input.char("a", ctrl=True), "\x1c": Input.char("\\", ctrl=True), "\0": Input.char(" ", ctrl=True),
-            "\x1bx": Input.char("x", alt=True), "\x1b\r": Input(Key.ENTER, alt=True), "\x1b[": Input.char("[", alt=True),
-            "\x1bO": Input.char("O", alt=True), "\x1b[A": Input(Key.UP), "\x1bOA": Input(Key.UP), "\x1bOS": Input(Key.F, 4),
-            "\x1b[1;5C": Input(Key.RIGHT, ctrl=True), "\x1b[1;4F": Input(Key.END, alt=True, shift=True),
-            "\x1b[3~": Input(Key.DELETE), "\x1b[6;3~": Input(Key.PAGE_DOWN, alt=True), "\x1b[24~": Input(Key.F, 12),
-            "\x1b[15;2~": Input(Key.F, 5, shift=True), "\x1b[Z": Input(Key.TAB, shift=True), "\x1b[99~": None, "\x1b[q": None,
-            "\x1b[200~one\rtwo\x1b[201~": in_curses.Paste("one\rtwo"), "\x1b[200~cut off": in_curses.Paste("cut off"),
-            "\x1b[<0;3;2M": in_curses.Mouse(2, 1, False), "\x1b[<32;1;1M": in_curses.Mouse(0, 0, True),
-            "\x1b[<0;3;2m": None, "\x1b[<64;1;1M": Input(Key.MOUSE_SCROLL_UP), "\x1b[<;M": None, "": None,
-        }.items():
-            window = FakeWindow(text)
-            self.assertEqual(in_curses.read(window), wanted, repr(text))
-            self.assertEqual(window.characters, [], repr(text))
+        sent = b"a\xc3\xa9\x1b[1;5C\x1b[200~one\rtwo\x1b[201~"
+        events = in_curses.Events(FakeWindow(sent, curses.KEY_RESIZE, b"\r\x1b", None, b"[A\x1b", None, None))
+        wanted = [Input.char("a"), Input.char("é"), Input(Key.RIGHT, ctrl=True), Paste("one\rtwo"), None]
+        wanted += [Input(Key.ENTER), Input(Key.ESC), Input.char("["), Input.char("A"), Input(Key.ESC)]
+        self.assertEqual([events.read() for _ in wanted], wanted)
 
     def test_effects(self):
-        area = TextArea("one two")
+        area, modifiers = TextArea("one two"), (False, False, False)
         area.reset_screen(Area(0, 0, 20, 2))
         area.render(Area(0, 0, 20, 2))
-        self.assertFalse(in_curses.take(area, None) or in_curses.take(area, in_curses.Mouse(4, 0, False)))
-        self.assertFalse(in_curses.take(area, in_curses.Mouse(7, 0, True)))
+        self.assertFalse(in_curses.take(area, None) or in_curses.take(area, Mouse(MouseKind.PRESS, LEFT, 4, 0, *modifiers)))
+        self.assertFalse(in_curses.take(area, Mouse(MouseKind.DRAG, LEFT, 7, 0, *modifiers)))
+        self.assertFalse(in_curses.take(area, Mouse(MouseKind.PRESS, RIGHT, 0, 0, *modifiers)))
         self.assertEqual(area.selection_range, ((0, 4), (0, 7)))
-        self.assertTrue(in_curses.take(area, in_curses.Paste("a\rb")) and in_curses.take(area, Input.char("!")))
+        self.assertTrue(in_curses.take(area, Paste("a\rb")) and in_curses.take(area, Input.char("!")))
         self.assertEqual(area.lines, ["one a", "b!"])
 
 

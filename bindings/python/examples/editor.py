@@ -35,11 +35,11 @@ def show(window, area, is_changed):
 
 
 def main(window):
-    area, is_changed, event = set_up(), False, None
+    area, is_changed, events, event = set_up(), False, in_curses.Events(window), None
     while event != Input(Key.ESC):
         is_changed = in_curses.take(area, event) or is_changed
         show(window, area, is_changed)
-        event = in_curses.read(window)
+        event = events.read()
 
 
 in_curses.run(main)

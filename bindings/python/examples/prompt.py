@@ -2,6 +2,7 @@
 the text, Alt with Enter breaks the line, and Esc ends the program: python3 examples/prompt.py"""
 
 from textarea import Area, Block, Borders, Color, Input, Key, Move, Style, TextArea, WrapMode, in_curses
+from textarea.terminal import Paste
 
 MOST_ROWS = 5
 
@@ -32,7 +33,7 @@ class Prompt:
             return False
         if event == Input(Key.ENTER):
             self.send()
-        elif not isinstance(event, in_curses.Mouse):
+        elif isinstance(event, (Input, Paste)):
             in_curses.take(self.area, event)
         return True
 
@@ -48,10 +49,10 @@ class Prompt:
 
 
 def main(window):
-    prompt, event = Prompt(), None
+    prompt, events, event = Prompt(), in_curses.Events(window), None
     while prompt.take(event):
         prompt.show(window)
-        event = in_curses.read(window)
+        event = events.read()
 
 
 in_curses.run(main)

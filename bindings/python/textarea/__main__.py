@@ -8,6 +8,7 @@ import sys
 from typing import Any, Optional
 
 from . import Area, Color, Input, Modifier, Style, TextArea, WrapMode, in_curses
+from .terminal import Event
 
 SAVE, QUIT = Input.char("s", ctrl=True), Input.char("q", ctrl=True)
 
@@ -43,7 +44,7 @@ class Editor:
         else:
             self.is_changed, self.message = False, "Saved"
 
-    def take(self, event: in_curses.Event) -> bool:
+    def take(self, event: Optional[Event]) -> bool:
         """Does what the event means, and returns whether the editor goes on."""
         if event is None:
             return True
@@ -84,12 +85,12 @@ def main() -> int:
         return 1
 
     def edit(window: Any) -> None:
-        event: in_curses.Event = None
+        events, event = in_curses.Events(window), None
         while editor.take(event):
             rows, columns = window.getmaxyx()
             editor.draw(columns, rows)
             in_curses.show(window, editor.area)
-            event = in_curses.read(window)
+            event = events.read()
 
     in_curses.run(edit)
     return 0
