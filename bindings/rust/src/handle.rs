@@ -69,9 +69,9 @@ impl Handle {
         text_of(|out, room, needed| self.on(|h| call(h, out, room, needed)))
     }
 
-    /// Copies a cell to the screen, whose cell is fresh.
+    /// Replaces a cell of the screen, if the screen has it.
     pub fn put(&self, x: u16, y: u16, cell: &Cell) -> Result<(), OutOfMemory> {
-        let (symbol, style) = (cell.symbol(), cell.style().into());
+        let (symbol, style) = (cell.symbol(), cell.whole_style().into());
         self.on(|h| unsafe { sys::ta_screen_put(h, x, y, symbol.as_ptr(), symbol.len(), &style) })?;
         Ok(())
     }

@@ -27,10 +27,11 @@
 //! assert!(terminal.paint(&buffer, area.rendered_cursor_position()).is_empty());
 //! ```
 
-use crate::data::OutOfMemory;
+use crate::TextArea;
+use crate::data::{CursorRenderMode, OutOfMemory};
 use crate::handle::{Handle, must, status, text_of};
 use crate::input::{Input, Key};
-use crate::ratatui::buffer::{Buffer, Cell};
+use crate::ratatui::buffer::Buffer;
 use crate::ratatui::layout::{Position, Rect};
 use crate::sys;
 use std::ptr::null_mut;
@@ -132,9 +133,11 @@ pub enum Colors {
 /// A terminal: a decoder of the bytes that it sends, and a painter of buffers on it.
 pub struct Terminal {
     core: sys::TerminalHandle,
-    /// A text area on whose screen a buffer is copied, and the rectangle of that screen.
+    /// The area that it shows.
+    area: Rect,
+    /// A text area to whose screen buffers are copied, and the cells of that screen.
     canvas: Handle,
-    screen: Rect,
+    copied: Buffer,
 }
 
 impl Terminal {
@@ -152,8 +155,9 @@ impl Terminal {
         };
         let mut terminal = Terminal {
             core,
+            area,
             canvas: Handle::new()?,
-            screen: Rect::ZERO,
+            copied: Buffer::default(),
         };
         terminal.on(|t| unsafe { sys::ta_terminal_new(t, &area.into()) })?;
         Ok(terminal)
@@ -251,28 +255,69 @@ impl Terminal {
         caret: Option<Position>,
     ) -> Result<Vec<u8>, OutOfMemory> {
         self.copy_to_canvas(buffer)?;
-        let Position { x, y } = caret.unwrap_or_default();
-        let core: *mut sys::TerminalHandle = &mut self.core;
-        self.canvas
-            .on(|h| unsafe { sys::ta_painter_paint(core, h, caret.is_some(), x, y) })?;
+        paint_screen(&mut self.core, &self.canvas, caret)?;
         Ok(self.bytes())
     }
 
+    /// Draws a text area into an area of the terminal, and returns the bytes that make the terminal
+    /// show it, with blanks around it, after the frame before; none if it shows them already. The
+    /// terminal's own cursor is at the text area's, if its cursor's cell is drawn as any other
+    /// ([`CursorRenderMode::Hidden`]); otherwise it is hidden.
+    ///
+    /// The bytes are those of [`Terminal::paint`] for a buffer that only the text area is drawn into,
+    /// and are made faster. Use a buffer for a frame with more than one text area in it.
+    ///
+    /// ```
+    /// use tui_textarea::ratatui::layout::Rect;
+    /// use tui_textarea::terminal::Terminal;
+    /// use tui_textarea::{CursorRenderMode, TextArea};
+    ///
+    /// let place = Rect::new(0, 0, 20, 3);
+    /// let mut terminal = Terminal::new(place);
+    /// let mut text_area = TextArea::from(["one"]);
+    /// text_area.set_cursor_render_mode(CursorRenderMode::Hidden);
+    /// let frame = terminal.paint_text_area(&text_area, place);
+    /// assert!(frame.windows(3).any(|bytes| bytes == b"one")); // it is written to the terminal
+    /// text_area.insert_char('t');
+    /// let change = terminal.paint_text_area(&text_area, place);
+    /// assert!(change.len() < frame.len());
+    /// assert!(terminal.paint_text_area(&text_area, place).is_empty());
+    /// ```
+    pub fn paint_text_area(&mut self, text_area: &TextArea, area: Rect) -> Vec<u8> {
+        must(self.try_paint_text_area(text_area, area))
+    }
+
+    /// As [`Terminal::paint_text_area`], but returns that memory ran out; then the terminal is as it
+    /// was.
+    pub fn try_paint_text_area(
+        &mut self,
+        text_area: &TextArea,
+        area: Rect,
+    ) -> Result<Vec<u8>, OutOfMemory> {
+        text_area.draw_on_screen(area, area.intersection(self.area))?;
+        let caret = match text_area.cursor_render_mode() {
+            CursorRenderMode::Cell => None,
+            CursorRenderMode::Hidden => text_area.rendered_cursor_position(),
+        };
+        paint_screen(&mut self.core, &text_area.core, caret)?;
+        Ok(self.bytes())
+    }
+
+    /// Gives the screen of the canvas the cells of a buffer: those that it hasn't yet are copied.
     fn copy_to_canvas(&mut self, buffer: &Buffer) -> Result<(), OutOfMemory> {
-        if self.screen == buffer.area {
-            self.canvas.is(|h| unsafe { sys::ta_screen_clear(h) });
-        } else {
-            let area = buffer.area.into();
+        let area = buffer.area;
+        if self.copied.area != area {
             self.canvas
-                .on(|h| unsafe { sys::ta_screen_reset(h, &area) })?;
-            self.screen = buffer.area;
+                .on(|h| unsafe { sys::ta_screen_reset(h, &area.into()) })?;
+            self.copied = Buffer::empty(area);
         }
-        let blank = Cell::default();
-        for y in buffer.area.top()..buffer.area.bottom() {
-            for x in buffer.area.left()..buffer.area.right() {
-                let cell = &buffer[(x, y)];
-                if *cell != blank {
+        for y in area.top()..area.bottom() {
+            let cells = self.copied.row_mut(area, y).iter_mut();
+            let pairs = cells.zip(buffer.row(area, y));
+            for (x, (copied, cell)) in (area.left()..area.right()).zip(pairs) {
+                if copied != cell {
                     self.canvas.put(x, y, cell)?;
+                    copied.clone_from(cell);
                 }
             }
         }
@@ -307,6 +352,7 @@ impl Terminal {
     /// As [`Terminal::resize`], but returns that memory ran out; then nothing changed.
     pub fn try_resize(&mut self, area: Rect) -> Result<(), OutOfMemory> {
         self.on(|t| unsafe { sys::ta_painter_resize(t, &area.into()) })?;
+        self.area = area;
         Ok(())
     }
 
@@ -327,6 +373,17 @@ impl Drop for Terminal {
     fn drop(&mut self) {
         unsafe { sys::ta_terminal_free(&mut self.core) }
     }
+}
+
+/// Paints the screen of a text area.
+fn paint_screen(
+    terminal: &mut sys::TerminalHandle,
+    screen: &Handle,
+    caret: Option<Position>,
+) -> Result<(), OutOfMemory> {
+    let Position { x, y } = caret.unwrap_or_default();
+    screen.on(|h| unsafe { sys::ta_painter_paint(terminal, h, caret.is_some(), x, y) })?;
+    Ok(())
 }
 
 const BLANK: sys::Event = sys::Event {

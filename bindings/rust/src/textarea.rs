@@ -47,7 +47,7 @@ use std::time::{Duration, Instant};
 /// std::thread::spawn(move || drop(area));
 /// ```
 pub struct TextArea<'a> {
-    core: Handle,
+    pub(crate) core: Handle,
     /// What is returned by reference is copied from the core when it is first asked for.
     lines: OnceCell<Vec<String>>,
     block: OnceCell<Option<Block<'static>>>,

@@ -21,12 +21,12 @@ impl widgets::Widget for &TextArea<'_> {
     }
 }
 
-/// Takes the cells of a part of a buffer out of it.
-fn cells_of(buf: &mut buffer::Buffer, part: Rect) -> Buffer {
+/// Returns copies of the cells of a part of a buffer.
+fn cells_of(buf: &buffer::Buffer, part: Rect) -> Buffer {
     let content = places(part).map(|(x, y)| {
-        let cell = buf.get_mut(x, y);
+        let cell = buf.get(x, y);
         Cell {
-            symbol: take(&mut cell.symbol),
+            symbol: cell.symbol.as_str().into(),
             fg: cell.fg.into(),
             bg: cell.bg.into(),
             modifier: cell.modifier.into(),
@@ -38,15 +38,12 @@ fn cells_of(buf: &mut buffer::Buffer, part: Rect) -> Buffer {
     }
 }
 
-/// Moves cells into the same places of a buffer.
+/// Copies cells to the same places of a buffer.
 fn put_back(cells: Buffer, buf: &mut buffer::Buffer) {
     for ((x, y), cell) in places(cells.area).zip(cells.content) {
-        *buf.get_mut(x, y) = buffer::Cell {
-            symbol: cell.symbol,
-            fg: cell.fg.into(),
-            bg: cell.bg.into(),
-            modifier: cell.modifier.into(),
-        };
+        let place = buf.get_mut(x, y).set_symbol(cell.symbol());
+        (place.fg, place.bg) = (cell.fg.into(), cell.bg.into());
+        place.modifier = cell.modifier.into();
     }
 }
 
@@ -68,7 +65,7 @@ pub(crate) fn draw_block(block: &widgets::Block, area: Rect, buf: &mut Buffer) {
         &mut cells,
     );
     widgets::Widget::render(block.clone(), area, &mut cells);
-    for (at, cell) in places(part).zip(cells_of(&mut cells, part).content) {
+    for (at, cell) in places(part).zip(cells_of(&cells, part).content) {
         buf[at] = cell;
     }
 }

@@ -1,14 +1,15 @@
 use super::area::{Position, Rect};
 use super::lines::Line;
 use super::styles::{Color, Modifier, Style, from_core};
+use super::symbols::Symbol;
 use super::widgets::Widget;
 use crate::{CursorMove, CursorRenderMode, TextArea, sys};
-use std::ops::{Index, IndexMut};
+use std::ops::{Index, IndexMut, Range};
 
 /// One cell of a screen: its text, mostly one character, its colours and its modifiers.
 #[derive(Clone, Debug, PartialEq, Eq, Hash)]
 pub struct Cell {
-    pub(crate) symbol: String,
+    pub(crate) symbol: Symbol,
     /// The colour of the text.
     pub fg: Color,
     /// The colour behind the text.
@@ -20,7 +21,7 @@ pub struct Cell {
 impl Default for Cell {
     fn default() -> Cell {
         Cell {
-            symbol: " ".to_string(),
+            symbol: Symbol::SPACE,
             fg: Color::Reset,
             bg: Color::Reset,
             modifier: Modifier::empty(),
@@ -32,19 +33,19 @@ impl Cell {
     /// Returns a cell with this text, without colours and modifiers.
     pub fn new(symbol: &str) -> Cell {
         Cell {
-            symbol: symbol.to_string(),
+            symbol: symbol.into(),
             ..Cell::default()
         }
     }
 
     /// Returns the text.
     pub fn symbol(&self) -> &str {
-        &self.symbol
+        self.symbol.as_str()
     }
 
     /// Sets the text.
     pub fn set_symbol(&mut self, symbol: &str) -> &mut Cell {
-        symbol.clone_into(&mut self.symbol);
+        self.symbol = symbol.into();
         self
     }
 
@@ -83,6 +84,14 @@ impl Cell {
             .add_modifier(self.modifier)
     }
 
+    /// Returns the style that gives any cell the colours and modifiers of this one.
+    pub(crate) fn whole_style(&self) -> Style {
+        Style {
+            sub_modifier: Modifier::all().difference(self.modifier),
+            ..self.style()
+        }
+    }
+
     /// Makes the cell a blank one, without colours and modifiers.
     pub fn reset(&mut self) {
         *self = Cell::default();
@@ -90,7 +99,7 @@ impl Cell {
 
     /// Returns whether the cell is as a fresh one.
     pub(crate) fn is_blank(&self) -> bool {
-        self.symbol == " "
+        self.symbol == Symbol::SPACE
             && self.modifier.is_empty()
             && (self.fg, self.bg) == (Color::Reset, Color::Reset)
     }
@@ -170,6 +179,27 @@ impl Buffer {
             .expect("the cell is in the buffer")
     }
 
+    /// Returns the cells of a row in a part of the buffer's area.
+    pub(crate) fn row(&self, part: Rect, y: u16) -> &[Cell] {
+        &self.content[self.places(part, y)]
+    }
+
+    /// As `row`, for changes of the cells.
+    pub(crate) fn row_mut(&mut self, part: Rect, y: u16) -> &mut [Cell] {
+        let places = self.places(part, y);
+        &mut self.content[places]
+    }
+
+    fn places(&self, part: Rect, y: u16) -> Range<usize> {
+        let count = usize::from(part.right() - part.left());
+        let first = if count == 0 {
+            0
+        } else {
+            self.index_of(part.x, y)
+        };
+        first..first + count
+    }
+
     /// Returns the cell, or `None` if the buffer hasn't it.
     pub fn cell<P: Into<Position>>(&self, position: P) -> Option<&Cell> {
         self.place(position.into()).map(|at| &self.content[at])
@@ -231,7 +261,7 @@ fn symbols_of(text: &str) -> Vec<String> {
     (&area).render(row.area, &mut row);
     let width = area.rendered_cursor_position().map_or(room, |end| end.x);
     let shown = row.content.into_iter().take(usize::from(width));
-    shown.map(|cell| cell.symbol).collect()
+    shown.map(|cell| cell.symbol().to_string()).collect()
 }
 
 impl<P: Into<Position>> Index<P> for Buffer {

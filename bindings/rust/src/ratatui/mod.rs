@@ -6,9 +6,11 @@ mod cells;
 mod lines;
 mod styles;
 mod stylize;
+mod symbols;
 
 pub(crate) use lines::Parts;
 pub(crate) use styles::BLANK;
+pub(crate) use symbols::Symbol;
 
 /// Buffers of cells.
 pub mod buffer {

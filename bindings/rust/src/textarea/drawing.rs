@@ -4,7 +4,7 @@ use super::TextArea;
 use crate::data::OutOfMemory;
 use crate::handle::must;
 use crate::ratatui::BLANK;
-use crate::ratatui::buffer::{Buffer, Cell};
+use crate::ratatui::buffer::Buffer;
 use crate::ratatui::layout::{Position, Rect};
 use crate::ratatui::style::Style;
 use crate::ratatui::widgets::Widget;
@@ -34,10 +34,10 @@ impl TextArea<'_> {
         self.draw_foreign_block(area, buf);
         let part = area.intersection(buf.area);
         self.clear_screen(part)?;
-        self.lend_all(part, buf)?;
-        self.draw(area, part, |x, y, cell, symbol| {
-            buf[(x, y)].set(cell, symbol)
-        })
+        self.copy_to_screen(part, buf)?;
+        self.draw(area)?;
+        self.screen_cells(part, |x, y, cell, symbol| buf[(x, y)].set(cell, symbol));
+        Ok(())
     }
 
     /// Draws the text area into an area that the library at hand has, whichever it is: makes a call
@@ -88,15 +88,20 @@ impl TextArea<'_> {
         mut call: impl FnMut(u16, u16, &str, Style),
     ) -> Result<(), OutOfMemory> {
         let area = area.into();
-        self.clear_screen(area)?;
+        self.draw_on_screen(area, area)?;
+        self.screen_cells(area, |x, y, cell, symbol| call(x, y, symbol, cell.into()));
+        Ok(())
+    }
+
+    /// Draws the text area into an area, of which the core's screen gets a part and no other cells.
+    pub(crate) fn draw_on_screen(&self, area: Rect, part: Rect) -> Result<(), OutOfMemory> {
+        self.clear_screen(part)?;
         if self.has_foreign_block() {
-            let mut below = Buffer::empty(area);
+            let mut below = Buffer::empty(part);
             self.draw_foreign_block(area, &mut below);
-            self.lend_all(area, &below)?;
+            self.copy_to_screen(part, &below)?;
         }
-        self.draw(area, area, |x, y, cell, symbol| {
-            call(x, y, symbol, cell.into())
-        })
+        self.draw(area)
     }
 
     /// Gives the core's screen the cells of this rectangle, each fresh. Takes memory only if it had
@@ -113,10 +118,9 @@ impl TextArea<'_> {
     }
 
     /// Copies cells of a buffer to the core's screen, whose cells are fresh.
-    fn lend_all(&self, part: Rect, buf: &Buffer) -> Result<(), OutOfMemory> {
+    fn copy_to_screen(&self, part: Rect, buf: &Buffer) -> Result<(), OutOfMemory> {
         for y in part.top()..part.bottom() {
-            for x in part.left()..part.right() {
-                let cell = &buf[(x, y)];
+            for (x, cell) in (part.left()..part.right()).zip(buf.row(part, y)) {
                 if !cell.is_blank() {
                     self.core.put(x, y, cell)?;
                 }
@@ -125,17 +129,16 @@ impl TextArea<'_> {
         Ok(())
     }
 
-    /// Draws the text area over the cells of the core's screen, and makes a call for each of them,
-    /// with its text.
-    fn draw(
-        &self,
-        area: Rect,
-        part: Rect,
-        mut call: impl FnMut(u16, u16, &sys::Cell, &str),
-    ) -> Result<(), OutOfMemory> {
+    /// Draws the text area over the cells of the core's screen.
+    fn draw(&self, area: Rect) -> Result<(), OutOfMemory> {
         self.core
             .on(|h| unsafe { sys::ta_render(h, &area.into()) })?;
-        let cells = self.screen_cells(part);
+        Ok(())
+    }
+
+    /// Makes a call for each cell of the core's screen, which has this rectangle, with its text.
+    fn screen_cells(&self, part: Rect, mut call: impl FnMut(u16, u16, &sys::Cell, &str)) {
+        let cells = self.core_cells(part);
         let mut cells = cells.iter();
         for y in part.top()..part.bottom() {
             for (x, cell) in (part.left()..part.right()).zip(&mut cells) {
@@ -145,10 +148,9 @@ impl TextArea<'_> {
                 }
             }
         }
-        Ok(())
     }
 
-    fn screen_cells(&self, part: Rect) -> Vec<sys::Cell> {
+    fn core_cells(&self, part: Rect) -> Vec<sys::Cell> {
         let blank = sys::Cell {
             fg: BLANK.fg,
             bg: BLANK.bg,
