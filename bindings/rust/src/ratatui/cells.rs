@@ -105,8 +105,8 @@ impl Cell {
     }
 
     /// Writes a cell of the core with this text here.
-    pub(crate) fn set(&mut self, cell: &sys::Cell, symbol: &str) {
-        self.set_symbol(symbol);
+    pub(crate) fn set(&mut self, cell: &sys::Cell, symbol: Symbol) {
+        self.symbol = symbol;
         self.fg = from_core(cell.fg).unwrap_or_default();
         self.bg = from_core(cell.bg).unwrap_or_default();
         self.modifier = Modifier::from_core(cell.modifier);
@@ -231,7 +231,7 @@ impl Buffer {
 
     /// Makes each cell a blank one, without colours and modifiers.
     pub fn reset(&mut self) {
-        self.content.fill(Cell::default());
+        self.content.iter_mut().for_each(Cell::reset);
     }
 }
 

@@ -25,11 +25,18 @@ impl Symbol {
         Symbol(Stored::Short(1, bytes))
     };
 
+    /// Returns the symbol of a text's bytes, or `None` if they are more than 22. They are UTF-8.
+    pub(crate) fn short(text: &[u8]) -> Option<Symbol> {
+        let mut bytes = [0; ROOM];
+        bytes.get_mut(..text.len())?.copy_from_slice(text);
+        Some(Symbol(Stored::Short(text.len() as u8, bytes)))
+    }
+
     /// Returns the text.
     pub(crate) fn as_str(&self) -> &str {
         match &self.0 {
             Stored::Short(length, bytes) => {
-                from_utf8(&bytes[..usize::from(*length)]).expect("it was a text")
+                from_utf8(&bytes[..usize::from(*length)]).expect("a symbol is UTF-8")
             }
             Stored::Long(text) => text,
         }
@@ -38,14 +45,8 @@ impl Symbol {
 
 impl From<&str> for Symbol {
     fn from(text: &str) -> Symbol {
-        let mut bytes = [0; ROOM];
-        match bytes.get_mut(..text.len()) {
-            Some(part) => {
-                part.copy_from_slice(text.as_bytes());
-                Symbol(Stored::Short(text.len() as u8, bytes))
-            }
-            None => Symbol(Stored::Long(text.into())),
-        }
+        let short = Symbol::short(text.as_bytes());
+        short.unwrap_or_else(|| Symbol(Stored::Long(text.into())))
     }
 }
 

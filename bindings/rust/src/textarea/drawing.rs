@@ -3,11 +3,11 @@
 use super::TextArea;
 use crate::data::OutOfMemory;
 use crate::handle::must;
-use crate::ratatui::BLANK;
 use crate::ratatui::buffer::Buffer;
 use crate::ratatui::layout::{Position, Rect};
 use crate::ratatui::style::Style;
 use crate::ratatui::widgets::Widget;
+use crate::ratatui::{BLANK, Symbol};
 use crate::sys;
 
 impl TextArea<'_> {
@@ -36,7 +36,9 @@ impl TextArea<'_> {
         self.clear_screen(part)?;
         self.copy_to_screen(part, buf)?;
         self.draw(area)?;
-        self.screen_cells(part, |x, y, cell, symbol| buf[(x, y)].set(cell, symbol));
+        self.screen_cells(part, |x, y, cell, bytes| {
+            buf[(x, y)].set(cell, self.symbol(x, y, bytes))
+        });
         Ok(())
     }
 
@@ -89,7 +91,10 @@ impl TextArea<'_> {
     ) -> Result<(), OutOfMemory> {
         let area = area.into();
         self.draw_on_screen(area, area)?;
-        self.screen_cells(area, |x, y, cell, symbol| call(x, y, symbol, cell.into()));
+        self.screen_cells(area, |x, y, cell, bytes| match bytes {
+            Some(bytes) => call(x, y, text_of(bytes), cell.into()),
+            None => call(x, y, &self.long_symbol(x, y), cell.into()),
+        });
         Ok(())
     }
 
@@ -136,16 +141,14 @@ impl TextArea<'_> {
         Ok(())
     }
 
-    /// Makes a call for each cell of the core's screen, which has this rectangle, with its text.
-    fn screen_cells(&self, part: Rect, mut call: impl FnMut(u16, u16, &sys::Cell, &str)) {
+    /// Makes a call for each cell of the core's screen, which has this rectangle, with the bytes of
+    /// its text if they have room in a `sys::Cell`.
+    fn screen_cells(&self, part: Rect, mut call: impl FnMut(u16, u16, &sys::Cell, Option<&[u8]>)) {
         let cells = self.core_cells(part);
         let mut cells = cells.iter();
         for y in part.top()..part.bottom() {
             for (x, cell) in (part.left()..part.right()).zip(&mut cells) {
-                match cell.symbol.get(..usize::from(cell.bytes)) {
-                    Some(bytes) => call(x, y, cell, text_of(bytes)),
-                    None => call(x, y, cell, &self.long_symbol(x, y)),
-                }
+                call(x, y, cell, cell.symbol.get(..usize::from(cell.bytes)));
             }
         }
     }
@@ -166,7 +169,13 @@ impl TextArea<'_> {
         cells
     }
 
-    /// Returns the text of a cell of the core's screen that has no room in a `sys::Cell`.
+    /// Returns the text of a cell of the core's screen, whose bytes are these if they are given.
+    fn symbol(&self, x: u16, y: u16, bytes: Option<&[u8]>) -> Symbol {
+        let short = bytes.and_then(Symbol::short);
+        short.unwrap_or_else(|| Symbol::from(&*self.long_symbol(x, y)))
+    }
+
+    /// Returns the text of a cell of the core's screen, also one that has no room in a `sys::Cell`.
     fn long_symbol(&self, x: u16, y: u16) -> String {
         let text = self.core.text(|h, out, room, needed| unsafe {
             sys::ta_screen_symbol(h, x, y, out, room, needed)
