@@ -1,7 +1,7 @@
 #!/bin/sh
-# Times calls from C, Rust and Python, in nanoseconds, of which the last is a key with its frame: from the
-# bytes that a terminal sends to those that it is sent. ARCHIVE is the folder of libtextarea_c.a, KIT the
-# folder `c` of the toolchain.
+# Times calls from C, Rust and Python, in nanoseconds of processor time, and last a key with its frame: from
+# the bytes that a terminal sends to those that it is sent; from Rust also by a buffer. ARCHIVE is the folder
+# of libtextarea_c.a, KIT the folder `c` of the toolchain.
 # usage: bench/keys.sh ARCHIVE KIT
 set -e
 archive=$1 kit=$2

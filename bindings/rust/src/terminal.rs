@@ -1,17 +1,17 @@
-//! A terminal without another library: the bytes that it sends as events, and buffers as the bytes
-//! that show them.
+//! A terminal without another library: the bytes that it sends as events, and text areas and buffers
+//! as the bytes that show them.
 //!
 //! The program itself reads and writes the bytes, and sets the terminal's modes: raw input, and those
 //! of reports that it wants, such as bracketed paste.
 //!
 //! ```
 //! use tui_textarea::TextArea;
-//! use tui_textarea::ratatui::{buffer::Buffer, layout::Rect, widgets::Widget};
+//! use tui_textarea::ratatui::layout::Rect;
 //! use tui_textarea::terminal::{Event, Terminal};
 //!
 //! let mut area = TextArea::default();
-//! let mut buffer = Buffer::empty(Rect::new(0, 0, 20, 3));
-//! let mut terminal = Terminal::new(buffer.area);
+//! let place = Rect::new(0, 0, 20, 3);
+//! let mut terminal = Terminal::new(place);
 //! terminal.feed(b"on\x1b[200~e\rtwo\x1b[201~"); // as they are read from the terminal
 //! while let Some(event) = terminal.event() {
 //!     match event {
@@ -21,10 +21,9 @@
 //!     }
 //! }
 //! assert_eq!(area.lines(), ["one", "two"]);
-//! (&area).render(buffer.area, &mut buffer);
-//! let bytes = terminal.paint(&buffer, area.rendered_cursor_position());
+//! let bytes = terminal.paint_text_area(&area, place);
 //! assert!(!bytes.is_empty()); // they are written to the terminal
-//! assert!(terminal.paint(&buffer, area.rendered_cursor_position()).is_empty());
+//! assert!(terminal.paint_text_area(&area, place).is_empty());
 //! ```
 
 use crate::TextArea;
@@ -130,7 +129,7 @@ pub enum Colors {
     True,
 }
 
-/// A terminal: a decoder of the bytes that it sends, and a painter of buffers on it.
+/// A terminal: a decoder of the bytes that it sends, and a painter of frames on it.
 pub struct Terminal {
     core: sys::TerminalHandle,
     /// The area that it shows.
@@ -243,7 +242,22 @@ impl Terminal {
 
     /// Returns the bytes that make the terminal show a buffer and a caret, after the frame before;
     /// none if it shows them already. A cell that the buffer doesn't have is a blank, and a caret
-    /// outside of the area is hidden.
+    /// outside of the area is hidden. So a frame may have several text areas, and other widgets:
+    ///
+    /// ```
+    /// use tui_textarea::TextArea;
+    /// use tui_textarea::ratatui::{buffer::Buffer, layout::Rect, widgets::Widget};
+    /// use tui_textarea::terminal::Terminal;
+    ///
+    /// let (first, second) = (TextArea::from(["one"]), TextArea::from(["two"]));
+    /// let mut buffer = Buffer::empty(Rect::new(0, 0, 20, 2));
+    /// let mut terminal = Terminal::new(buffer.area);
+    /// (&first).render(Rect::new(0, 0, 20, 1), &mut buffer);
+    /// (&second).render(Rect::new(0, 1, 20, 1), &mut buffer);
+    /// let bytes = terminal.paint(&buffer, None);
+    /// assert!(!bytes.is_empty()); // they are written to the terminal
+    /// assert!(terminal.paint(&buffer, None).is_empty());
+    /// ```
     pub fn paint(&mut self, buffer: &Buffer, caret: Option<Position>) -> Vec<u8> {
         must(self.try_paint(buffer, caret))
     }
@@ -260,12 +274,13 @@ impl Terminal {
     }
 
     /// Draws a text area into an area of the terminal, and returns the bytes that make the terminal
-    /// show it, with blanks around it, after the frame before; none if it shows them already. The
-    /// terminal's own cursor is at the text area's, if its cursor's cell is drawn as any other
-    /// ([`CursorRenderMode::Hidden`]); otherwise it is hidden.
+    /// show it with blanks around it, after the frame before; none if it shows that already. With
+    /// [`CursorRenderMode::Hidden`] the terminal's own cursor is shown at the text area's cursor;
+    /// with [`CursorRenderMode::Cell`] the text area shows its cursor itself, and the terminal's is
+    /// hidden.
     ///
-    /// The bytes are those of [`Terminal::paint`] for a buffer that only the text area is drawn into,
-    /// and are made faster. Use a buffer for a frame with more than one text area in it.
+    /// The bytes are those of [`Terminal::paint`] for a buffer with only this text area, but are made
+    /// faster.
     ///
     /// ```
     /// use tui_textarea::ratatui::layout::Rect;
@@ -338,7 +353,7 @@ impl Terminal {
     }
 
     /// Forgets what the terminal shows, and its modes, as after another program has written to it.
-    /// The next [`Terminal::paint`] erases it.
+    /// The next frame erases it.
     pub fn reset(&mut self) {
         must(self.on(|t| unsafe { sys::ta_painter_reset(t) }));
     }

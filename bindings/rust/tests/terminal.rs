@@ -1,12 +1,12 @@
-//! Tests of a terminal: the bytes that it sends as events, and buffers as the bytes that show them.
+//! Tests of a terminal: the bytes that it sends as events, and frames as the bytes that show them.
 
 use std::time::Duration;
 use tui_textarea::ratatui::buffer::Buffer;
 use tui_textarea::ratatui::layout::{Position, Rect};
-use tui_textarea::ratatui::style::{Color, Style};
-use tui_textarea::ratatui::widgets::Widget;
+use tui_textarea::ratatui::style::{Color, Modifier, Style};
+use tui_textarea::ratatui::widgets::{Block, Widget};
 use tui_textarea::terminal::{Colors, Event, Mouse, MouseButton, MouseKind, Terminal};
-use tui_textarea::{Input, Key, TextArea};
+use tui_textarea::{CursorMove, CursorRenderMode, Input, Key, TextArea, WrapMode};
 
 const PLACE: Rect = Rect::new(0, 0, 10, 2);
 
@@ -137,4 +137,134 @@ fn frames() {
     assert!(shown.contains("two") && !shown.contains("one") && shown.contains("\x1b[1;2H"));
     let smaller = Buffer::empty(Rect::new(0, 1, 1, 1));
     assert!(!text(terminal.paint(&smaller, None)).contains("two"));
+}
+
+/// Text areas of several looks.
+fn text_areas() -> Vec<TextArea<'static>> {
+    let lines = [
+        "one two three four five",
+        "wide 漢字 and e\u{301}",
+        "\ttab",
+        "",
+        "end",
+    ];
+    let areas = std::iter::repeat_with(|| TextArea::from(lines)).take(5);
+    let mut areas: Vec<TextArea> = areas.chain([TextArea::default()]).collect();
+    areas[1].set_wrap_mode(WrapMode::Word);
+    areas[1].set_cursor_render_mode(CursorRenderMode::Hidden);
+    areas[2].set_block(Block::bordered().title("title"));
+    areas[2].set_line_number_style(Style::new().fg(Color::Indexed(7)));
+    areas[3].set_wrap_mode(WrapMode::Glyph);
+    areas[3].select_all();
+    areas[4].set_cursor_render_mode(CursorRenderMode::Hidden);
+    areas[4].set_style(Style::new().bg(Color::Rgb(1, 2, 3)));
+    areas[5].set_placeholder_text("nothing yet");
+    areas
+}
+
+/// The bytes of a text area in a frame, by a buffer that has the terminal's area.
+fn paint_by_buffer(
+    terminal: &mut Terminal,
+    whole: Rect,
+    text_area: &TextArea,
+    area: Rect,
+) -> Vec<u8> {
+    let mut buffer = Buffer::empty(whole);
+    text_area.render(area, &mut buffer);
+    let has_caret = text_area.cursor_render_mode() == CursorRenderMode::Hidden;
+    let caret = text_area.rendered_cursor_position();
+    terminal.paint(&buffer, caret.filter(|_| has_caret))
+}
+
+#[test]
+fn text_areas_without_buffer() {
+    let whole = Rect::new(3, 2, 20, 6);
+    let places = [
+        whole,
+        Rect::new(5, 3, 9, 2),
+        Rect::new(0, 0, 12, 4),
+        Rect::new(15, 5, 40, 40),
+        Rect::new(60, 60, 5, 5),
+        Rect::ZERO,
+        Rect::new(0, 0, u16::MAX, u16::MAX),
+        Rect::new(22, 2, 1, 6),
+    ];
+    let (mut direct, mut by_buffer) = (Terminal::new(whole), Terminal::new(whole));
+    for mut text_area in text_areas() {
+        for (step, area) in places.into_iter().cycle().take(40).enumerate() {
+            let bytes = direct.paint_text_area(&text_area, area);
+            let expected = paint_by_buffer(&mut by_buffer, whole, &text_area, area);
+            assert_eq!(bytes, expected, "step {step}, {area:?}, {text_area:?}");
+            assert_eq!(direct.paint_text_area(&text_area, area), []);
+            match step % 5 {
+                0 => text_area.move_cursor(CursorMove::Down),
+                1 => text_area.insert_char('字'),
+                2 => text_area.move_cursor(CursorMove::WordForward),
+                3 => text_area.insert_newline(),
+                _ => _ = text_area.delete_char(),
+            }
+        }
+    }
+    let smaller = Rect::new(3, 2, 7, 3);
+    direct.resize(smaller);
+    by_buffer.resize(smaller);
+    let text_area = TextArea::from(["a longer line", "two"]);
+    let bytes = direct.paint_text_area(&text_area, whole);
+    assert_eq!(
+        bytes,
+        paint_by_buffer(&mut by_buffer, smaller, &text_area, whole)
+    );
+    assert!(!bytes.is_empty());
+}
+
+#[test]
+fn caret_of_a_text_area() {
+    let (mut terminal, mut text_area) = (Terminal::new(PLACE), TextArea::from(["one"]));
+    let text = |bytes: Vec<u8>| String::from_utf8(bytes).unwrap();
+    text_area.move_cursor(CursorMove::End);
+    assert!(!text(terminal.paint_text_area(&text_area, PLACE)).contains("\x1b[?25h"));
+    text_area.set_cursor_render_mode(CursorRenderMode::Hidden);
+    assert!(text(terminal.paint_text_area(&text_area, PLACE)).contains("\x1b[?25h"));
+    text_area.set_cursor_render_mode(CursorRenderMode::Cell);
+    assert!(text(terminal.paint_text_area(&text_area, PLACE)).contains("\x1b[?25l"));
+}
+
+#[test]
+fn frames_do_not_depend_on_earlier_ones() {
+    let long = "e\u{301}".repeat(20);
+    let looks = [
+        Style::new(),
+        Style::new().fg(Color::Red).add_modifier(Modifier::BOLD),
+        Style::new().bg(Color::Rgb(1, 2, 3)),
+        Style::new().add_modifier(Modifier::all()),
+    ];
+    let symbols = [
+        " ",
+        "a",
+        "é",
+        "漢",
+        "",
+        "0123456789012345678901",
+        long.as_str(),
+    ];
+    let mut later = Terminal::new(PLACE);
+    let mut number = 1_u32;
+    let mut next = |count: usize| {
+        number = number.wrapping_mul(1_103_515_245).wrapping_add(12345);
+        (number >> 16) as usize % count
+    };
+    for _ in 0..200 {
+        let width = 9 + next(2) as u16;
+        let mut buffer = Buffer::empty(Rect::new(0, 0, width, 2));
+        for cell in &mut buffer.content {
+            cell.set_symbol(symbols[next(symbols.len())]);
+            cell.set_style(looks[next(looks.len())]);
+        }
+        later.reset();
+        let caret = Some(Position::new(1, 1));
+        assert_eq!(
+            later.paint(&buffer, caret),
+            Terminal::new(PLACE).paint(&buffer, caret)
+        );
+    }
 }
