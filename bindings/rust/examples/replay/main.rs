@@ -5,6 +5,8 @@
 //! The commands are those of calls.rs, `insert_char`, `insert_str`, `move` and `set_search_pattern`.
 //! Texts have no escape `\u{..}`.
 
+#![allow(clippy::unit_arg)] // a call without a result is passed to `done`
+
 mod calls;
 
 use calls::{call, done, flag};
