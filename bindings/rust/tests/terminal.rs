@@ -205,16 +205,14 @@ fn text_areas_without_buffer() {
             }
         }
     }
-    let smaller = Rect::new(3, 2, 7, 3);
-    direct.resize(smaller);
-    by_buffer.resize(smaller);
-    let text_area = TextArea::from(["a longer line", "two"]);
-    let bytes = direct.paint_text_area(&text_area, whole);
-    assert_eq!(
-        bytes,
-        paint_by_buffer(&mut by_buffer, smaller, &text_area, whole)
-    );
-    assert!(!bytes.is_empty());
+    let text_area = TextArea::from(["a longer line than before", "two"]);
+    for whole in [Rect::new(3, 2, 7, 3), Rect::new(1, 1, 30, 9)] {
+        direct.resize(whole);
+        by_buffer.resize(whole);
+        let bytes = direct.paint_text_area(&text_area, whole);
+        let expected = paint_by_buffer(&mut by_buffer, whole, &text_area, whole);
+        assert_eq!(bytes, expected);
+    }
 }
 
 #[test]

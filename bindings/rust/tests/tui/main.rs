@@ -12,6 +12,7 @@ use tui_textarea::ratatui::buffer::{Buffer, Cell};
 use tui_textarea::ratatui::layout::Rect;
 use tui_textarea::ratatui::style::Style;
 use tui_textarea::ratatui::widgets::Widget;
+use tui_textarea::terminal;
 use tui_textarea::{CursorMove, CursorRenderMode, TextArea, WrapMode};
 
 const FRAMES: u64 = 2_000;
@@ -212,6 +213,26 @@ fn calls_for_cells() {
             });
             assert_eq!(by_calls, buffer);
             assert!(places.is_sorted() && places.len() == buffer.content.len());
+        }
+    }
+}
+
+#[test]
+fn frames_without_buffer() {
+    let random = &mut Random(11);
+    for _ in 0..500 {
+        let pair = Pair::new(random);
+        let (width, height) = (1 + random.below(30) as u16, 1 + random.below(9) as u16);
+        let screen = Rect::new(2, 1, width, height);
+        let area = random.area(screen);
+        for text_area in [&pair.own, &pair.tui] {
+            let mut buffer = Buffer::empty(screen);
+            Widget::render(text_area, area, &mut buffer);
+            let has_caret = text_area.cursor_render_mode() == CursorRenderMode::Hidden;
+            let caret = text_area.rendered_cursor_position();
+            let bytes = terminal::Terminal::new(screen).paint_text_area(text_area, area);
+            let caret = caret.filter(|_| has_caret);
+            assert_eq!(bytes, terminal::Terminal::new(screen).paint(&buffer, caret));
         }
     }
 }
