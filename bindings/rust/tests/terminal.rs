@@ -252,8 +252,8 @@ fn frames_do_not_depend_on_earlier_ones() {
         (number >> 16) as usize % count
     };
     for _ in 0..200 {
-        let width = 9 + next(2) as u16;
-        let mut buffer = Buffer::empty(Rect::new(0, 0, width, 2));
+        let (x, y, width) = (next(2) as u16, next(2) as u16, 9 + next(2) as u16);
+        let mut buffer = Buffer::empty(Rect::new(x, y, width, 2));
         for cell in &mut buffer.content {
             cell.set_symbol(symbols[next(symbols.len())]);
             cell.set_style(looks[next(looks.len())]);
