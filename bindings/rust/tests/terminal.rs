@@ -1,7 +1,7 @@
 //! Tests of a terminal: the bytes that it sends as events, and frames as the bytes that show them.
 
 use std::time::Duration;
-use tui_textarea::ratatui::buffer::Buffer;
+use tui_textarea::ratatui::buffer::{Buffer, Cell};
 use tui_textarea::ratatui::layout::{Position, Rect};
 use tui_textarea::ratatui::style::{Color, Modifier, Style};
 use tui_textarea::ratatui::widgets::{Block, Widget};
@@ -174,6 +174,23 @@ fn paint_by_buffer(
     let has_caret = text_area.cursor_render_mode() == CursorRenderMode::Hidden;
     let caret = text_area.rendered_cursor_position();
     terminal.paint(&buffer, caret.filter(|_| has_caret))
+}
+
+#[test]
+fn cells_with_long_texts() {
+    for marks in 0..20 {
+        let cluster = format!("e{}", "\u{301}".repeat(marks));
+        let text_area = TextArea::from([format!("a{cluster}")]);
+        let mut buffer = Buffer::empty(PLACE);
+        text_area.render(PLACE, &mut buffer);
+        assert_eq!(buffer[(1, 0)].symbol(), cluster);
+        let expected = Cell::new(&cluster).set_style(Modifier::UNDERLINED).clone();
+        assert_eq!(buffer[(1, 0)], expected);
+        let shown = String::from_utf8(Terminal::new(PLACE).paint(&buffer, None)).unwrap();
+        assert!(shown.contains(&cluster));
+        let bytes = Terminal::new(PLACE).paint_text_area(&text_area, PLACE);
+        assert!(String::from_utf8(bytes).unwrap().contains(&cluster));
+    }
 }
 
 #[test]
