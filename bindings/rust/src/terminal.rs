@@ -279,8 +279,8 @@ impl Terminal {
     /// with [`CursorRenderMode::Cell`] the text area shows its cursor itself, and the terminal's is
     /// hidden.
     ///
-    /// The bytes are those of [`Terminal::paint`] for a buffer with only this text area, but are made
-    /// faster.
+    /// The bytes are those of [`Terminal::paint`] for a buffer with only the text area and for that
+    /// caret, but no cell is copied to a buffer and back.
     ///
     /// ```
     /// use tui_textarea::ratatui::layout::Rect;

@@ -25,7 +25,7 @@ impl Symbol {
         Symbol(Stored::Short(1, bytes))
     };
 
-    /// Returns the symbol of a text's bytes, or `None` if they are more than 22. They are UTF-8.
+    /// Returns the text that has these bytes in UTF-8, or `None` if they are more than 22.
     pub(crate) fn short(text: &[u8]) -> Option<Symbol> {
         let mut bytes = [0; ROOM];
         bytes.get_mut(..text.len())?.copy_from_slice(text);
