@@ -1,7 +1,7 @@
 //! What a terminal sent, behind a handle.
 use std::alloc::{AllocError, Global};
 use std::marker::Model;
-use textarea_c_data::event;
+use textarea_c_data::event::CEvent;
 use textarea_terminal::input::{Decoder, Event};
 
 /// A decoder, the events that were not taken yet, and the text that was pasted last.
@@ -69,12 +69,12 @@ impl Incoming {
     }
 
     /// Takes the oldest event. If it is a pasted text, `pasted` returns that from now on.
-    pub fn take(&mut self) -> Option<event::Event>
+    pub fn take(&mut self) -> Option<CEvent>
         ensures taken { result ≡ event_taken self.old.events }
         ensures rest { self.new ≡ rest_taken self.old self.old.events }
     {
         let event = self.waiting.pop()?;
-        let taken = event::Event::of(&event);
+        let taken = CEvent::of(&event);
         if let Event::Paste(text) = event {
             self.pasted = text;
         }
