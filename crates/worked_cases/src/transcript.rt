@@ -16,7 +16,7 @@ use std::alloc::{AllocError, Global};
 use std::mem::replace;
 use textarea_calls::Call;
 use textarea_run::perform::perform;
-use textarea_run::printing::{Report, Screen};
+use textarea_run::printing::{PrintedCells, Report};
 use textarea_script::script::{COLUMNS, ROWS};
 use textarea_script_syntax::commands::{Command, read};
 use textarea_test_support::differences::result_text;
@@ -306,7 +306,7 @@ impl Cells {
         let report = Report {
             answers: &[],
             area,
-            screen: self.drawn.map(|area| Screen { buffer, area }),
+            screen: self.drawn.map(|area| PrintedCells { buffer, area }),
         };
         format!(in alloc; "{report}")
     }
