@@ -19,8 +19,8 @@ use Rattle.textarea_editor.specs.declared.focus.PromptKey.{PromptKey}
 use Rattle.textarea_editor.specs.declared.focus.PromptKey.TheVariants as prompt
 use Rattle.textarea_editor.specs.declared.focus.Question.{Question}
 use Rattle.textarea_editor.specs.declared.focus.Question.TheVariants.{Overwrite, SaveFirst}
-use Rattle.textarea_editor.specs.declared.focus.Reply.{KeyReply}
-use Rattle.textarea_editor.specs.declared.focus.Reply.TheVariants as reply
+use Rattle.textarea_editor.specs.declared.focus.KeyReply.{KeyReply}
+use Rattle.textarea_editor.specs.declared.focus.KeyReply.TheVariants as reply
 use Rattle.textarea_editor.specs.declared.keys.KeyCommand.{KeyCommand}
 use Rattle.textarea_editor.specs.declared.keys.KeyCommand.TheVariants as command
 use Rattle.textarea_modal.specs.Table.{Step, step}

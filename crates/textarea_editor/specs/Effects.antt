@@ -10,8 +10,8 @@ use Rattle.textarea_editor.specs.declared.effect.SaveEnd.TheVariants as save_end
 use Rattle.textarea_editor.specs.declared.file_text.LineEnds.{LineEnds}
 use Rattle.textarea_editor.specs.declared.focus.Question.{Question}
 use Rattle.textarea_editor.specs.declared.focus.Question.TheVariants.{Overwrite, SaveFirst}
-use Rattle.textarea_editor.specs.declared.focus.Reply.{KeyReply}
-use Rattle.textarea_editor.specs.declared.focus.Reply.TheVariants as reply
+use Rattle.textarea_editor.specs.declared.focus.KeyReply.{KeyReply}
+use Rattle.textarea_editor.specs.declared.focus.KeyReply.TheVariants as reply
 use Rattle.textarea_text.specs.Fragment.{fragment_text}
 use Rattle.textarea_text.specs.Text.{lines, lines_of}
 use Rattle.tui_textarea.specs.State.{State}

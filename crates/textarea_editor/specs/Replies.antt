@@ -3,8 +3,8 @@ use Rattle.std.specs.Prelude.{ℕ, ◌==◌, ◌||◌, if◌then◌else◌}
 use Rattle.textarea_data.specs.declared.input.Input.{Input}
 use Rattle.textarea_data.specs.declared.input.Key.{Key}
 use Rattle.textarea_data.specs.declared.input.Key.TheVariants.{Char, Esc}
-use Rattle.textarea_editor.specs.declared.focus.Reply.{KeyReply}
-use Rattle.textarea_editor.specs.declared.focus.Reply.TheVariants.{Back, No, Other, Yes}
+use Rattle.textarea_editor.specs.declared.focus.KeyReply.{KeyReply}
+use Rattle.textarea_editor.specs.declared.focus.KeyReply.TheVariants.{Back, No, Other, Yes}
 
 -- a letter, upper case or not: `y` is 121, `n` is 110
 abbrev pub letter_reply : ℕ → KeyReply
