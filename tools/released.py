@@ -13,7 +13,7 @@ import built
 ROOT = built.ROOT
 FOLDER = ROOT / "release"
 LIBRARY = "textarea_c"
-PROGRAMS = ("taedit", "tascript", "gallery")
+PROGRAMS = ("taedit", "tascript")
 # The newest glibc that each may ask for, and the bytes that a clone may download for all, as git compresses them.
 GLIBC = {"libtextarea.so": (2, 17), **{name: (2, 34) for name in PROGRAMS}}
 MOST_BYTES = 6_000_000
