@@ -207,6 +207,17 @@ enum {
     TA_COLORS_TRUE = 3,
 };
 
+/** `CursorShape`. */
+enum {
+    TA_SHAPE_DEFAULT = 0,
+    TA_SHAPE_BLINKING_BLOCK = 1,
+    TA_SHAPE_BLOCK = 2,
+    TA_SHAPE_BLINKING_UNDERLINE = 3,
+    TA_SHAPE_UNDERLINE = 4,
+    TA_SHAPE_BLINKING_BAR = 5,
+    TA_SHAPE_BAR = 6,
+};
+
 /** `Borders`, a set of bits. */
 enum {
     TA_BORDER_TOP = 1,
@@ -1203,6 +1214,21 @@ uint32_t ta_painter_resize(ta_terminal_handle_t *terminal, const ta_area_t *area
  *
  * Statuses: ok, invalid argument (there are no such colours), empty handle. */
 uint32_t ta_painter_set_colors(ta_terminal_handle_t *terminal, uint32_t colors);
+
+/* The shape of a terminal's cursor, and the title of its window. */
+
+/** Returns the bytes that give a terminal's cursor a shape, one of `TA_SHAPE_..` (DECSCUSR). `out`
+ * gets the first of them, as many as there is room for, and `needed` the number of all.
+ *
+ * Statuses: ok, out of memory, invalid argument (there is no such shape). */
+uint32_t ta_cursor_shape_bytes(uint32_t shape, uint8_t *out, size_t out_len, size_t *needed);
+
+/** Returns the bytes that give a terminal's window a title (OSC 2), without the title's control
+ * characters. `out` gets the first of them, as many as there is room for, and `needed` the number
+ * of all.
+ *
+ * Statuses: ok, out of memory, invalid argument (the bytes are not UTF-8). */
+uint32_t ta_title_bytes(const uint8_t *title, size_t title_len, uint8_t *out, size_t out_len, size_t *needed);
 
 #ifdef __cplusplus
 }

@@ -1,20 +1,21 @@
 """The files of release/: what is in them, what they may ask for, and how the libraries are made of the proved archive."""
 import configparser
+import gzip
 import hashlib
 import importlib.util
 import pathlib
 import re
 import shutil
 import subprocess
-import zlib
+import tempfile
 
 import built
 
 ROOT = built.ROOT
 FOLDER = ROOT / "release"
 LIBRARY = "textarea_c"
-PROGRAMS = ("taedit", "tascript")
-# The newest glibc that each may ask for, and the bytes that a clone may download for all, as git compresses them.
+PROGRAMS = ("taedit", "tascript", "gallery")
+# The newest glibc that each may ask for, and the bytes of all files.
 GLIBC = {"libtextarea.so": (2, 17), **{name: (2, 34) for name in PROGRAMS}}
 MOST_BYTES = 6_000_000
 PLATFORM = "manylinux_2_17_x86_64"
@@ -52,6 +53,21 @@ def wheel_maker(root):
     return found
 
 
+def packed(program):
+    """The name of the file that has a program, which tools/released-program unpacks."""
+    return f"{program}.gz"
+
+
+def pack(file, out):
+    """Writes a program as packed, of the same bytes each time."""
+    with open(out, "wb") as archive, gzip.GzipFile(filename="", mode="wb", compresslevel=9, fileobj=archive, mtime=0) as packing:
+        packing.write(file.read_bytes())
+
+
+def unpacked(program, folder=FOLDER):
+    return gzip.decompress((folder / packed(program)).read_bytes())
+
+
 def join_archive(core, out):
     """Writes the archive of the core with the toolchain's C part in it."""
     out.unlink(missing_ok=True)
@@ -71,6 +87,16 @@ def link_shared(archive, version, out):
     words += ["--build-id=none", "-soname", soname(version), f"--version-script={script}", "-o", out]
     run([*words, "--whole-archive", archive, "--no-whole-archive", built.kit() / "toolchain/lib/libc.so.6"])
     script.unlink()
+
+
+def asked_glibc(name, folder):
+    """The newest glibc that a program or the shared library of a release asks for."""
+    if name not in PROGRAMS:
+        return glibc_of(folder / name)
+    with tempfile.NamedTemporaryFile() as file:
+        file.write(unpacked(name, folder))
+        file.flush()
+        return glibc_of(file.name)
 
 
 def glibc_of(file):
@@ -105,13 +131,16 @@ def check_limits(folder):
     """Checks what the files ask for, what they show, and their size."""
     if not shutil.which("readelf"):
         raise Fault("there is no readelf, which tells what programs ask for")
+    absent = {name for name in PROGRAMS if not (folder / packed(name)).exists()}
     for name, most in GLIBC.items():
-        asked = glibc_of(folder / name)
+        if name in absent:
+            continue
+        asked = asked_glibc(name, folder)
         if asked > most:
             raise Fault(f"{name} asks for glibc {asked[0]}.{asked[1]}, and may ask for {most[0]}.{most[1]}")
     others = sorted(it for it in visible_names(folder / "libtextarea.so") if not it.startswith("ta_"))
     if others:
         raise Fault(f"libtextarea.so shows {', '.join(others[:4])}")
-    size = sum(len(zlib.compress((folder / name).read_bytes())) for name in files_in(folder))
+    size = sum((folder / name).stat().st_size for name in files_in(folder))
     if size > MOST_BYTES:
-        raise Fault(f"the release has {size} compressed bytes, and may have {MOST_BYTES}")
+        raise Fault(f"the release has {size} bytes, and may have {MOST_BYTES}")

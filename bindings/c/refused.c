@@ -127,6 +127,17 @@ static uint32_t resized(ta_handle_t *a) {
     return (void)a, ta_painter_resize(&terminal, &wider);
 }
 
+static uint32_t shaped(ta_handle_t *a) {
+    uint8_t out[4];
+    size_t needed;
+    return (void)a, ta_cursor_shape_bytes(TA_SHAPE_BAR, out, 4, &needed);
+}
+static uint32_t titled(ta_handle_t *a) {
+    uint8_t out[4];
+    size_t needed;
+    return (void)a, ta_title_bytes(TEXT("a title"), out, 4, &needed);
+}
+
 static uint32_t (*const steps[])(ta_handle_t *) = {
     made,    written, typed,    broken,  selected,  over,       tabbed,      copied, pasted, top,
     typed,   undone,  redone,   wrapped, numbered,  screen,     drawn,       some,   drawn,  next_word,
@@ -135,6 +146,7 @@ static uint32_t (*const steps[])(ta_handle_t *) = {
     key,     lines,   key,      drawn,   cleared,   drawn,     loaded,      whole,  pasted_in, cloned,
     terminal_made, fed, taken, idle, screen, drawn, painted, typed, drawn, painted,
     resized, painted, fed, terminal_made, fed, painted, made, typed,
+    shaped,  titled,
 };
 
 /* A text of all that can be read of the text area and the terminal without memory, but for the events

@@ -146,6 +146,25 @@ static void frames(void) {
     ta_free(&area);
 }
 
+static void cursor_and_title(void) {
+    uint8_t out[32];
+    size_t needed = 9;
+    for (uint32_t shape = TA_SHAPE_DEFAULT; shape <= TA_SHAPE_BAR; shape++) {
+        CHECK(ta_cursor_shape_bytes(shape, out, sizeof out, &needed) == TA_OK && needed == 5);
+        CHECK(!memcmp(out, "\x1b[", 2) && out[2] == '0' + shape && !memcmp(out + 3, " q", 2));
+    }
+    memset(out, '.', sizeof out), needed = 9;
+    CHECK(ta_cursor_shape_bytes(TA_SHAPE_BAR + 1, out, sizeof out, &needed) == TA_INVALID_ARGUMENT);
+    CHECK(needed == 9 && out[0] == '.');
+    CHECK(ta_cursor_shape_bytes(TA_SHAPE_BAR, out, 3, &needed) == TA_OK && needed == 5 && !memcmp(out, "\x1b[6.", 4));
+    CHECK(ta_title_bytes(TEXT("a\x07" "b\xc2\x9c\x1b\xc3\xa9"), out, sizeof out, &needed) == TA_OK && needed == 10);
+    CHECK(!memcmp(out, "\x1b]2;ab\xc3\xa9\x1b\\", 10));
+    memset(out, '.', sizeof out);
+    CHECK(ta_title_bytes(TEXT("note"), out, 6, &needed) == TA_OK && needed == 10 && !memcmp(out, "\x1b]2;no.", 7));
+    CHECK(ta_title_bytes(TEXT("\xff"), out, sizeof out, &needed) == TA_INVALID_ARGUMENT && needed == 10 && out[6] == '.');
+    CHECK(ta_title_bytes(out, 0, out + 8, 8, &needed) == TA_OK && needed == 6);
+}
+
 /* A whole terminal: from bytes to keys, and from a text to bytes. */
 static void typed(void) {
     ta_terminal_handle_t terminal = terminal_of(place);
@@ -173,6 +192,7 @@ int main(void) {
     keys();
     events();
     frames();
+    cursor_and_title();
     typed();
     puts("all checks hold");
     return 0;

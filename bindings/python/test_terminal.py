@@ -6,7 +6,8 @@ import unittest
 import textarea.terminal
 from textarea import Area, Color, Input, Key, Style, TextArea
 from textarea.terminal import (
-    LEFT, RIGHT, Colors, Cursor, Focus, Mouse, MouseKind, Paste, Size, Terminal, Unknown,
+    LEFT, RIGHT, Colors, Cursor, CursorShape, Focus, Mouse, MouseKind, Paste, Size, Terminal, Unknown,
+    cursor_shape_bytes, title_bytes,
 )
 
 PLACE = Area(0, 0, 10, 2)
@@ -72,6 +73,16 @@ class Frames(unittest.TestCase):
         area.reset_screen(whole)
         area.render(whole)
         self.assertGreater(len(terminal.paint(area)), 10000)
+
+    def test_cursor_and_title(self):
+        for shape in CursorShape:
+            self.assertEqual(cursor_shape_bytes(shape), f"\x1b[{int(shape)} q".encode())
+        with self.assertRaises(ValueError):
+            cursor_shape_bytes(7)
+        self.assertEqual(title_bytes("a\x07b\x9c\x1b漢"), "\x1b]2;ab漢\x1b\\".encode())
+        self.assertEqual(title_bytes(""), b"\x1b]2;\x1b\\")
+        long = "x" * 3000
+        self.assertEqual(title_bytes(long), f"\x1b]2;{long}\x1b\\".encode())
 
     def test_documentation(self):
         self.assertEqual(doctest.testmod(textarea.terminal).failed, 0)

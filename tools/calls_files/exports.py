@@ -10,6 +10,16 @@ FOLDER = "crates/textarea_c/src/calls"
 HANDLE = "Calls handle.old.stored.content result handle.new.stored.content"
 NUMBERS = ("u8", "u16", "usize")
 
+# What else is known of a number that a call returns: the clause's name, and its lines.
+BOUNDS = {
+    "min_rows": ("bounds", ["AreBounds min_rows.new a.area.surround.max_rows"]),
+    "max_rows": ("bounds", ["AreBounds a.area.surround.min_rows max_rows.new"]),
+    "max_histories": ("bound", [
+        "length a.area.document.log.done + length a.area.document.log.undone",
+        "≤ max_histories.new",
+    ]),
+}
+
 # The files of exports, which are the headings of include/textarea.h, and what is in them, by the topic
 # of a call; a call that reads what another sets is with that one.
 EXPORTS = {
@@ -91,10 +101,21 @@ def reader(call, made):
         "    (λ a b. OnlyReads result a b) }",
         "ensures value { IfSome handle.old.stored.content",
         f"    (λ a. {value}) }}",
+        *bound_of(call),
         f"ensures unwritten {{ result ≢ 0 → {out}.new ≡ {out}.old }}",
     ]
     type = "CStyle" if call.result == "Style" else call.result
     return Form([f"{out}: &mut {type}"], clauses, ["{", f"    *{out} = {written};", "    OK", "}"], "ok, empty handle")
+
+
+def bound_of(call):
+    """The clause of the bounds of what a call returns, if it has one."""
+    if call.name not in BOUNDS:
+        return []
+    name, lines = BOUNDS[call.name]
+    first, *rest = [*lines[:-1], f"{lines[-1]}) }}"]
+    head = f"ensures {name} {{ IfSome handle.old.stored.content"
+    return [head, f"    (λ a. {first}", *[f"    {line}" for line in rest]]
 
 
 def export(call, names):
@@ -118,7 +139,8 @@ def export(call, names):
 
 # What a file of exports names, where it does: in clauses, and in code.
 GHOSTS = {
-    "Rattle.std.specs.Prelude": ["◌≡◌", "◌≢◌", "IfSome"],
+    "Rattle.std.specs.Prelude": ["◌≡◌", "◌≢◌", "◌+◌", "◌≤◌", "IfSome", "length"],
+    "Rattle.textarea_view.specs.SurroundState": ["AreBounds"],
     "Rattle.tui_textarea.specs.Calls": ["result_of_call"],
     "Rattle.tui_textarea.specs.Input": ["flag_of"],
     "Rattle.textarea_c.specs.Calls": "Answers Calls MakesAttempt MakesChange MakesSetting MakesSettingBy OnlyReads number_in style_in".split(),
@@ -128,7 +150,7 @@ STATUSES = ["INVALID_ARGUMENT", "OK", "done", "flag", "truth"]
 
 
 def named(names, code):
-    return [name for name in names if (name.strip("◌") in code if "◌" in name else re.search(rf"\b{name}\b", code))]
+    return [name for name in names if (name.strip("◌") in code if "◌" in name else re.search(rf"(?<![.\w]){name}\b", code))]
 
 
 def exports_of(topic, calls, table):

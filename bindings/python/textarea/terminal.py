@@ -58,6 +58,18 @@ class Colors(enum.IntEnum):
     TRUE = sys_.COLORS_TRUE
 
 
+class CursorShape(enum.IntEnum):
+    """The shape of a terminal's cursor. `DEFAULT` is the terminal's own."""
+
+    DEFAULT = sys_.SHAPE_DEFAULT
+    BLINKING_BLOCK = sys_.SHAPE_BLINKING_BLOCK
+    BLOCK = sys_.SHAPE_BLOCK
+    BLINKING_UNDERLINE = sys_.SHAPE_BLINKING_UNDERLINE
+    UNDERLINE = sys_.SHAPE_UNDERLINE
+    BLINKING_BAR = sys_.SHAPE_BLINKING_BAR
+    BAR = sys_.SHAPE_BAR
+
+
 LEFT, MIDDLE, RIGHT = sys_.BUTTON_LEFT, sys_.BUTTON_MIDDLE, sys_.BUTTON_RIGHT
 
 
@@ -107,6 +119,50 @@ class Unknown(NamedTuple):
 Event = Union[Input, Paste, Mouse, Size, Cursor, Focus, Unknown]
 
 
+def _is_ok(status: int) -> bool:
+    if status == sys_.OUT_OF_MEMORY:
+        raise MemoryError
+    if status == sys_.INVALID_ARGUMENT:
+        raise ValueError("the core does not take this argument")
+    return status == sys_.OK
+
+
+def _all_bytes(call: Callable) -> bytes:
+    """The bytes that a call writes, which is asked again where it has more of them than there is room for."""
+    room, needed = 1024, ctypes.c_size_t()
+    while True:
+        out = (ctypes.c_uint8 * room)()
+        call(out, room, needed)
+        if needed.value <= room:
+            return bytes(memoryview(out)[:needed.value])
+        room = needed.value
+
+
+def _passed(data: bytes) -> ctypes.Array:
+    """Bytes for a call, which takes no null pointer."""
+    return (ctypes.c_uint8 * max(1, len(data))).from_buffer_copy(data or b"\0")
+
+
+def cursor_shape_bytes(shape: CursorShape) -> bytes:
+    """The bytes that give a terminal's cursor a shape.
+
+    >>> cursor_shape_bytes(CursorShape.BAR)
+    b'\\x1b[6 q'
+    """
+    return _all_bytes(lambda *out: _is_ok(_lib.ta_cursor_shape_bytes(shape, *out)))
+
+
+def title_bytes(title: str) -> bytes:
+    """The bytes that give a terminal's window a title, without the title's control characters.
+
+    >>> title_bytes("note.txt\\n")
+    b'\\x1b]2;note.txt\\x1b\\\\'
+    """
+    data = title.encode()
+    passed = _passed(data)
+    return _all_bytes(lambda *out: _is_ok(_lib.ta_title_bytes(passed, len(data), *out)))
+
+
 class Terminal:
     """A decoder of the bytes that a terminal sends, and a painter of screens on it. The terminal shows the
     cells of an area, of which the first is in its first column and row; what it shows at first is
@@ -121,29 +177,17 @@ class Terminal:
             _lib.ta_terminal_free(self._handle)
 
     def _call(self, function: Callable, *arguments) -> bool:
-        status = function(self._handle, *arguments)
-        if status == sys_.OUT_OF_MEMORY:
-            raise MemoryError
-        if status == sys_.INVALID_ARGUMENT:
-            raise ValueError("the core does not take this argument")
-        return status == sys_.OK
+        return _is_ok(function(self._handle, *arguments))
 
     def _bytes(self, function: Callable) -> bytes:
-        room, needed = 1024, ctypes.c_size_t()
-        while True:
-            out = (ctypes.c_uint8 * room)()
-            self._call(function, out, room, needed)
-            if needed.value <= room:
-                return bytes(memoryview(out)[:needed.value])
-            room = needed.value
+        return _all_bytes(lambda *out: self._call(function, *out))
 
     # ---- The bytes that the terminal sends
 
     def feed(self, data: bytes) -> list[Event]:
         """Decodes the next bytes that the terminal sent, however they are split, and returns the events
         that are complete."""
-        out = (ctypes.c_uint8 * max(1, len(data))).from_buffer_copy(data or b"\0")
-        self._call(_lib.ta_decoder_feed, out, len(data))
+        self._call(_lib.ta_decoder_feed, _passed(data), len(data))
         return list(self._events())
 
     def idle(self, milliseconds: int) -> list[Event]:

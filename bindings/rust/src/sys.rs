@@ -104,6 +104,13 @@ pub const COLORS_NONE: u32 = 0;
 pub const COLORS_SIXTEEN: u32 = 1;
 pub const COLORS_INDEXED: u32 = 2;
 pub const COLORS_TRUE: u32 = 3;
+pub const SHAPE_DEFAULT: u32 = 0;
+pub const SHAPE_BLINKING_BLOCK: u32 = 1;
+pub const SHAPE_BLOCK: u32 = 2;
+pub const SHAPE_BLINKING_UNDERLINE: u32 = 3;
+pub const SHAPE_UNDERLINE: u32 = 4;
+pub const SHAPE_BLINKING_BAR: u32 = 5;
+pub const SHAPE_BAR: u32 = 6;
 pub const BORDER_TOP: u32 = 1;
 pub const BORDER_RIGHT: u32 = 2;
 pub const BORDER_BOTTOM: u32 = 4;
@@ -389,4 +396,6 @@ unsafe extern "C" {
     pub fn ta_painter_reset(terminal: *mut TerminalHandle) -> u32;
     pub fn ta_painter_resize(terminal: *mut TerminalHandle, area: *const Area) -> u32;
     pub fn ta_painter_set_colors(terminal: *mut TerminalHandle, colors: u32) -> u32;
+    pub fn ta_cursor_shape_bytes(shape: u32, out: *mut u8, out_len: usize, needed: *mut usize) -> u32;
+    pub fn ta_title_bytes(title: *const u8, title_len: usize, out: *mut u8, out_len: usize, needed: *mut usize) -> u32;
 }

@@ -129,6 +129,83 @@ pub enum Colors {
     True,
 }
 
+/// The shape of a terminal's cursor.
+#[derive(Clone, Copy, Debug, PartialEq, Eq, Hash)]
+pub enum CursorShape {
+    /// The terminal's own.
+    Default,
+    /// A block that blinks.
+    BlinkingBlock,
+    /// A block.
+    Block,
+    /// A line under the cell that blinks.
+    BlinkingUnderline,
+    /// A line under the cell.
+    Underline,
+    /// A line before the cell that blinks.
+    BlinkingBar,
+    /// A line before the cell.
+    Bar,
+}
+
+/// Returns the bytes that give a terminal's cursor a shape.
+///
+/// ```
+/// use tui_textarea::terminal::{CursorShape, cursor_shape_bytes};
+///
+/// assert_eq!(cursor_shape_bytes(CursorShape::Bar), b"\x1b[6 q"); // to be written
+/// ```
+pub fn cursor_shape_bytes(shape: CursorShape) -> Vec<u8> {
+    must(try_cursor_shape_bytes(shape))
+}
+
+/// As [`cursor_shape_bytes`], but returns that memory ran out.
+pub fn try_cursor_shape_bytes(shape: CursorShape) -> Result<Vec<u8>, OutOfMemory> {
+    let number = match shape {
+        CursorShape::Default => sys::SHAPE_DEFAULT,
+        CursorShape::BlinkingBlock => sys::SHAPE_BLINKING_BLOCK,
+        CursorShape::Block => sys::SHAPE_BLOCK,
+        CursorShape::BlinkingUnderline => sys::SHAPE_BLINKING_UNDERLINE,
+        CursorShape::Underline => sys::SHAPE_UNDERLINE,
+        CursorShape::BlinkingBar => sys::SHAPE_BLINKING_BAR,
+        CursorShape::Bar => sys::SHAPE_BAR,
+    };
+    all_bytes(|out, room, needed| unsafe { sys::ta_cursor_shape_bytes(number, out, room, needed) })
+}
+
+/// Returns the bytes that give a terminal's window a title, without the title's control characters.
+///
+/// ```
+/// use tui_textarea::terminal::title_bytes;
+///
+/// assert_eq!(title_bytes("note.txt\n"), b"\x1b]2;note.txt\x1b\\"); // to be written
+/// ```
+pub fn title_bytes(title: &str) -> Vec<u8> {
+    must(try_title_bytes(title))
+}
+
+/// As [`title_bytes`], but returns that memory ran out.
+pub fn try_title_bytes(title: &str) -> Result<Vec<u8>, OutOfMemory> {
+    let (text, length) = (title.as_ptr(), title.len());
+    all_bytes(|out, room, needed| unsafe { sys::ta_title_bytes(text, length, out, room, needed) })
+}
+
+/// Returns the bytes that a call writes, as many as there is room for, with the number of all. It is
+/// made again while there are more of them.
+fn all_bytes(
+    mut call: impl FnMut(*mut u8, usize, *mut usize) -> u32,
+) -> Result<Vec<u8>, OutOfMemory> {
+    let (mut bytes, mut needed) = (Vec::new(), 0);
+    loop {
+        status(call(bytes.as_mut_ptr(), bytes.len(), &mut needed))?;
+        let is_whole = needed <= bytes.len();
+        bytes.resize(needed, 0);
+        if is_whole {
+            return Ok(bytes);
+        }
+    }
+}
+
 /// A terminal: a decoder of the bytes that it sends, and a painter of frames on it.
 pub struct Terminal {
     core: sys::TerminalHandle,
@@ -340,16 +417,10 @@ impl Terminal {
     }
 
     fn bytes(&mut self) -> Vec<u8> {
-        let (mut bytes, mut needed) = (Vec::new(), 0);
-        loop {
-            let (out, room) = (bytes.as_mut_ptr(), bytes.len());
-            must(self.on(|t| unsafe { sys::ta_painter_bytes(t, out, room, &mut needed) }));
-            let is_whole = needed <= bytes.len();
-            bytes.resize(needed, 0);
-            if is_whole {
-                return bytes;
-            }
-        }
+        let terminal = &mut self.core;
+        must(all_bytes(|out, room, needed| unsafe {
+            sys::ta_painter_bytes(terminal, out, room, needed)
+        }))
     }
 
     /// Forgets what the terminal shows, and its modes, as after another program has written to it.

@@ -5,7 +5,10 @@ use tui_textarea::ratatui::buffer::{Buffer, Cell};
 use tui_textarea::ratatui::layout::{Position, Rect};
 use tui_textarea::ratatui::style::{Color, Modifier, Style};
 use tui_textarea::ratatui::widgets::{Block, Widget};
-use tui_textarea::terminal::{Colors, Event, Mouse, MouseButton, MouseKind, Terminal};
+use tui_textarea::terminal::{
+    Colors, CursorShape, Event, Mouse, MouseButton, MouseKind, Terminal, cursor_shape_bytes,
+    title_bytes,
+};
 use tui_textarea::{CursorMove, CursorRenderMode, Input, Key, TextArea, WrapMode};
 
 const PLACE: Rect = Rect::new(0, 0, 10, 2);
@@ -282,4 +285,31 @@ fn frames_do_not_depend_on_earlier_ones() {
             Terminal::new(PLACE).paint(&buffer, caret)
         );
     }
+}
+
+#[test]
+fn cursor_shapes() {
+    let shapes = [
+        CursorShape::Default,
+        CursorShape::BlinkingBlock,
+        CursorShape::Block,
+        CursorShape::BlinkingUnderline,
+        CursorShape::Underline,
+        CursorShape::BlinkingBar,
+        CursorShape::Bar,
+    ];
+    for (number, shape) in shapes.into_iter().enumerate() {
+        let bytes = format!("\x1b[{number} q");
+        assert_eq!(cursor_shape_bytes(shape), bytes.as_bytes(), "{shape:?}");
+    }
+}
+
+#[test]
+fn titles() {
+    let shown = title_bytes("a\x07b\u{9c}\x1b漢");
+    assert_eq!(shown, "\x1b]2;ab漢\x1b\\".as_bytes());
+    assert_eq!(title_bytes(""), b"\x1b]2;\x1b\\");
+    let long = "x".repeat(3000);
+    let bytes = format!("\x1b]2;{long}\x1b\\");
+    assert_eq!(title_bytes(&long), bytes.as_bytes());
 }

@@ -10,3 +10,4 @@ pub mod Outgoing
 pub mod Rejections
 pub mod Rendered
 pub mod Terminals
+pub mod Titles

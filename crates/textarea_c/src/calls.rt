@@ -1,7 +1,7 @@
 //! The exports. Each takes the editor behind the handle, makes one call on it, and puts it back.
 //!
 //! Each returns `TA_EMPTY_HANDLE` if the handle is empty, and leaves its out-parameters unchanged if
-//! it doesn't return `TA_OK`.
+//! it doesn't return `TA_OK`. Those of `title` have no handle.
 
 // Takes the editor behind the handle, makes a call on it, and puts it back.
 macro_rules! on {
@@ -36,3 +36,4 @@ pub mod selection;
 pub mod settings;
 pub mod surround;
 pub mod terminal;
+pub mod title;

@@ -514,6 +514,24 @@ impl<'a> TextArea<'a> {
 
     /// Returns the position of the text that a cell of the screen shows, in the inner area of the
     /// last drawing, for the present text and viewport; `None` for a cell outside of it.
+    ///
+    /// ```
+    /// use tui_textarea::ratatui::buffer::Buffer;
+    /// use tui_textarea::ratatui::layout::{Position, Rect};
+    /// use tui_textarea::ratatui::widgets::{Block, Widget};
+    /// use tui_textarea::{CursorMove, TextArea};
+    ///
+    /// let mut area = TextArea::from(["one", "two"]);
+    /// area.set_block(Block::bordered());
+    /// let mut buffer = Buffer::empty(Rect::new(0, 0, 10, 4));
+    /// (&area).render(buffer.area, &mut buffer);
+    /// let click = Position::new(2, 2); // a cell of the mouse: the "w", inside the border
+    /// if let Some((row, column)) = area.cursor_at_position(click) {
+    ///     area.move_cursor(CursorMove::Jump(row as u16, column as u16));
+    /// }
+    /// assert_eq!(area.cursor(), (1, 1));
+    /// assert_eq!(area.cursor_at_position(Position::new(0, 0)), None);
+    /// ```
     pub fn cursor_at_position(&self, position: Position) -> Option<(usize, usize)> {
         must(self.try_cursor_at_position(position))
     }

@@ -1,6 +1,6 @@
 // Written by tools/calls from crates/textarea_calls/calls.txt.
 //! Undo, redo, and options of the history.
-ghost use Rattle.std.specs.Prelude.{◌≡◌, ◌≢◌, IfSome};
+ghost use Rattle.std.specs.Prelude.{◌≡◌, ◌≢◌, ◌+◌, ◌≤◌, IfSome, length};
 ghost use Rattle.tui_textarea.specs.Calls.{result_of_call};
 ghost use Rattle.tui_textarea.specs.Input.{flag_of};
 ghost use Rattle.textarea_c.specs.Calls.{Answers, Calls, MakesAttempt, MakesSetting, OnlyReads, number_in};
@@ -76,6 +76,9 @@ pub extern "C" fn ta_max_histories(
         (λ a b. OnlyReads result a b) }
     ensures value { IfSome handle.old.stored.content
         (λ a. max_histories.new ≡ number_in (result_of_call a.area call.MaxHistories)) }
+    ensures bound { IfSome handle.old.stored.content
+        (λ a. length a.area.document.log.done + length a.area.document.log.undone
+        ≤ max_histories.new) }
     ensures unwritten { result ≢ 0 → max_histories.new ≡ max_histories.old }
 {
     on!(handle, alloc, editor => {

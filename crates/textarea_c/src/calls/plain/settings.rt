@@ -1,6 +1,7 @@
 // Written by tools/calls from crates/textarea_calls/calls.txt.
 //! Options that are numbers or truth values.
 ghost use Rattle.std.specs.Prelude.{◌≡◌, ◌≢◌, IfSome};
+ghost use Rattle.textarea_view.specs.SurroundState.{AreBounds};
 ghost use Rattle.tui_textarea.specs.Calls.{result_of_call};
 ghost use Rattle.tui_textarea.specs.Input.{flag_of};
 ghost use Rattle.textarea_c.specs.Calls.{Answers, Calls, MakesChange, MakesSetting, OnlyReads, number_in};
@@ -114,6 +115,8 @@ pub extern "C" fn ta_min_rows(handle: &mut Handle, alloc: Global, min_rows: &mut
         (λ a b. OnlyReads result a b) }
     ensures value { IfSome handle.old.stored.content
         (λ a. min_rows.new ≡ number_in (result_of_call a.area call.MinRows)) }
+    ensures bounds { IfSome handle.old.stored.content
+        (λ a. AreBounds min_rows.new a.area.surround.max_rows) }
     ensures unwritten { result ≢ 0 → min_rows.new ≡ min_rows.old }
 {
     on!(handle, alloc, editor => {
@@ -131,6 +134,8 @@ pub extern "C" fn ta_max_rows(handle: &mut Handle, alloc: Global, max_rows: &mut
         (λ a b. OnlyReads result a b) }
     ensures value { IfSome handle.old.stored.content
         (λ a. max_rows.new ≡ number_in (result_of_call a.area call.MaxRows)) }
+    ensures bounds { IfSome handle.old.stored.content
+        (λ a. AreBounds a.area.surround.min_rows max_rows.new) }
     ensures unwritten { result ≢ 0 → max_rows.new ≡ max_rows.old }
 {
     on!(handle, alloc, editor => {
