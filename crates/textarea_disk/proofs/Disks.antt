@@ -1,10 +1,12 @@
 -- Lemmas on disks.
-use Rattle.std.proofs.Common.{◌≡◌, ◌≢◌, ◌∙◌, ℕ, true, false, cond, List, [], ◌∷◌, Option, None, Some, inl, inr, refl, sym, ap, subst, arith}
+use Rattle.std.proofs.Common.{◌≡◌, ◌≢◌, ◌∙◌, ◌++◌, ℕ, length, take, drop, true, false, cond, List, [], ◌∷◌, Option, None, Some, inl, inr, refl, sym, ap, subst, arith}
 use Rattle.std.proofs.lemmas.Bool.{eq-eqb}
+use Rattle.std.proofs.lemmas.List.{append-nil, take_all, take-append-drop}
 use Rattle.std.proofs.lemmas.Slice.Eq.{bytes_eq-Decides}
 use Rattle.std.specs.List.{AllByRecursion}
 use Rattle.std.specs.Str.{bytes_eq}
-use Rattle.textarea_disk.specs.Disk.{Content, File, Entries, Disk, IsLeftByEntry, IsLeftByOne, MayLeave, Leaves, content_of, seen, with_entries, with_file, IsNumbered}
+use Rattle.textarea_disk.specs.Disk.{Content, File, Durable, everything, up_to, nothing, Entries, Disk, IsLeftOf, IsLeftByEntry, IsLeftByOne, MayLeave, Leaves, content_of, seen, with_entries, with_file, IsNumbered}
+use Rattle.textarea_disk.specs.Journal.{IsTorn}
 use Rattle.std.proofs.lemmas.Bool.{false_from_ne_true}
 use borrow.Author.Tests.{ne_eqb}
 
@@ -69,7 +71,7 @@ left_agree old new [] h left l = l
 left_agree old new (None ∷ entries) h left (inl l) = inl l
 left_agree old new (None ∷ entries) h left (inr l) = inr (left_agree old new entries h left l)
 left_agree old new (Some n ∷ entries) h None (inl l) = inl l
-left_agree old new (Some n ∷ entries) h (Some content) (inl l) = inl (subst (λ (f : File). f.is_synced ≡ true → content ≡ f.content) h.0 l)
+left_agree old new (Some n ∷ entries) h (Some content) (inl l) = inl (subst (λ (f : File). IsLeftOf f.stored f.content content) h.0 l)
 left_agree old new (Some n ∷ entries) h left (inr l) = inr (left_agree old new entries h.1 left l)
 
 -- the entries of a name are those of another disk, and so are their files
@@ -78,9 +80,9 @@ leaves_agree P old new name same agree leaves =
     record { each = λ left l. leaves.each left (left_agree old new (entries_of (old.names name)) agree left (subst (λ (e : Entries). IsLeftByOne new (entries_of e) left) same l)) }
 
 -- what a synced file leaves
-pub synced_left : (disk : Disk) (n : ℕ) (content : Content) → disk.files n ≡ record { content = content; is_synced = true } → (left : Option Content) → IsLeftByEntry disk (Some n) left → left ≡ Some content
+pub synced_left : (disk : Disk) (n : ℕ) (content : Content) → disk.files n ≡ record { content = content; stored = everything } → (left : Option Content) → IsLeftByEntry disk (Some n) left → left ≡ Some content
 synced_left disk n content h None l = absurd l
-synced_left disk n content h (Some c) l = ap Some (l (ap (λ (f : File). f.is_synced) h) ∙ ap (λ (f : File). f.content) h)
+synced_left disk n content h (Some c) l = let same : c ≡ content = subst (λ (f : File). IsLeftOf f.stored f.content c) h l in ap Some same
 
 pub left_or_later : (P : Option Content → Type 0) (old new : Disk) (name : List ℕ) (entry : Option ℕ) → new.names name ≡ record { now = entry; before = entries_of (old.names name) } →
     Agree old new (entries_of (old.names name)) → ((left : Option Content) → IsLeftByEntry new entry left → P left) → Leaves old name P → Leaves new name P
@@ -93,7 +95,7 @@ left_or_later P old new name entry same agree first leaves =
 
 -- a name with one entry, a synced file
 pub leaves_one : (P : Option Content → Type 0) (disk : Disk) (name : List ℕ) (n : ℕ) (content : Content) → disk.names name ≡ record { now = Some n; before = [] } →
-    disk.files n ≡ record { content = content; is_synced = true } → P (Some content) → Leaves disk name P
+    disk.files n ≡ record { content = content; stored = everything } → P (Some content) → Leaves disk name P
 leaves_one P disk name n content same file p =
     record { each = λ left l. cases left (subst (λ (e : Entries). IsLeftByOne disk (entries_of e) left) same l) }
   where
@@ -103,9 +105,20 @@ leaves_one P disk name n content same file p =
 
 -- ---- what is seen
 
+-- a crash may leave all that is there
+pub all_torn : (bytes : List ℕ) → IsTorn bytes bytes
+all_torn bytes =
+    record { count = length bytes; zeroes = 0; same = sym (append-nil (take (length bytes) bytes) ∙ take_all (length bytes) bytes (omega arith)) }
+
+whole_left : (stored : Durable) (content : Content) → IsLeftOf stored content content
+whole_left everything content = refl
+whole_left (up_to n) content =
+    (drop n content.bytes, all_torn (drop n content.bytes), ap (λ (x : List ℕ). record { bytes = x; mode = content.mode }) (sym (take-append-drop n content.bytes)))
+whole_left nothing content = tt
+
 entry_left : (disk : Disk) (entry : Option ℕ) → IsLeftByEntry disk entry (content_of disk entry)
 entry_left disk None = refl
-entry_left disk (Some n) = λ _. refl
+entry_left disk (Some n) = whole_left (disk.files n).stored (disk.files n).content
 
 -- a crash may leave what is seen
 pub seen_left : (disk : Disk) (name : List ℕ) → MayLeave disk name (seen disk name)

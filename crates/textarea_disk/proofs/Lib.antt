@@ -1,2 +1,5 @@
 pub mod Disks
+pub mod JournalSteps
+pub mod Journals
+pub mod Recoveries
 pub mod Saves

@@ -1,6 +1,6 @@
 -- Lemmas on saves.
 use Rattle.std.proofs.Common.{◌≡◌, ◌≢◌, ◌⊎◌, ◌∙◌, ℕ, true, false, List, [], ◌∷◌, Option, None, Some, inl, inr, refl, sym, ap, subst}
-use Rattle.textarea_disk.specs.Disk.{Content, File, Entries, Disk, content_of, seen, with_entries, with_entry, with_file, with_new_file, changed_at, changed_file}
+use Rattle.textarea_disk.specs.Disk.{Content, File, everything, nothing, Entries, Disk, content_of, seen, with_entries, with_entry, with_file, with_new_file, changed_at, changed_file}
 use Rattle.textarea_disk.specs.Plan.{steps_of}
 use Rattle.textarea_disk.specs.Save.{Save, saved, created_at, grown_file, written, with_mode, synced, unsynced, after_step, after, AtEachPoint, AtEachFailure, LeavesOnly, LeavesOldOrNew, LeavesWholeText, HasBytes, CanBegin, IsWhole}
 use Rattle.textarea_disk.specs.declared.step.DiskStep.TheVariants.{Create, Write, SetMode, Sync, SyncFolder, Rename, Remove}
@@ -10,7 +10,7 @@ use Rattle.textarea_disk.proofs.Disks.{Apart, agree_all, apart_agree, at_file, a
 
 -- a fact at one point, and those at the others
 infixr 20 ◌&◌
-◌&◌ : {A B : Type 0} → A → B → A × B
+pub ◌&◌ : {A B : Type 0} → A → B → A × B
 one & others = (one, others)
 
 -- ---- while the copy is written
@@ -24,7 +24,7 @@ pub record Begun (save : Save) (old : Option Content) (m : ℕ) (copy : File) (d
   pub differs : save.copy ≢ save.file
 
 abbrev pub new_copy : Save → File
-new_copy save = record { content = record { bytes = []; mode = save.first_mode }; is_synced = false }
+new_copy save = record { content = record { bytes = []; mode = save.first_mode }; stored = nothing }
 
 begun_new : (save : Save) (disk : Disk) (old : Option Content) → CanBegin save disk old → Begun save old disk.count (new_copy save) (with_new_file disk save.copy (new_copy save))
 begun_new save disk old b =
@@ -84,7 +84,7 @@ begun_removed save old m copy disk b =
 -- ---- the copy takes the name
 
 abbrev pub whole_copy : Save → File
-whole_copy save = record { content = saved save; is_synced = true }
+whole_copy save = record { content = saved save; stored = everything }
 
 renamed_names : (save : Save) (old : Option Content) (m : ℕ) (copy : File) (disk : Disk) → Begun save old m copy disk → (after_step save Rename disk).names save.file ≡ record { now = Some m; before = entries_of (disk.names save.file) }
 renamed_names save old m copy disk b =
@@ -187,14 +187,14 @@ beside_failures save disk old bytes b = (beside save disk old bytes b).2
 -- The whole text is in the copy, which a crash leaves under its name. The file is another one, and has this content.
 pub record Copied (save : Save) (m n : ℕ) (file : File) (disk : Disk) : Type 0 where
   pub copy : disk.names save.copy ≡ record { now = Some m; before = [] }
-  pub whole : disk.files m ≡ record { content = record { bytes = save.text; mode = save.first_mode }; is_synced = true }
+  pub whole : disk.files m ≡ record { content = record { bytes = save.text; mode = save.first_mode }; stored = everything }
   pub named : (disk.names save.file).now ≡ Some n
   pub has : disk.files n ≡ file
   pub apart : n ≢ m
   pub differs : save.copy ≢ save.file
 
 abbrev pub text_copy : Save → File
-text_copy save = record { content = record { bytes = save.text; mode = save.first_mode }; is_synced = true }
+text_copy save = record { content = record { bytes = save.text; mode = save.first_mode }; stored = everything }
 
 -- the file that is there
 file_at : (disk : Disk) (entry : Option ℕ) (old : Content) → content_of disk entry ≡ Some old → (n : ℕ) × (entry ≡ Some n)

@@ -1,18 +1,32 @@
 -- A disk: what is under each name, and what a crash may leave there.
-use Rattle.std.specs.Prelude.{◌≡◌, ◌⊎◌, ◌<◌, ◌+◌, ◌==◌, ℕ, Bool, true, if◌then◌else◌, List, [], ◌∷◌, Option, None, Some}
+use Rattle.std.specs.Prelude.{◌≡◌, ◌⊎◌, ◌++◌, ◌<◌, ◌+◌, ◌==◌, ℕ, if◌then◌else◌, List, [], ◌∷◌, take, drop, Option, None, Some}
 use Rattle.std.specs.List.{AllByRecursion}
 use Rattle.std.specs.Str.{bytes_eq}
+use Rattle.textarea_disk.specs.Journal.{IsTorn}
 
 -- a file's bytes and mode bits
 pub record Content : Type 0 where
   pub bytes : List ℕ
   pub mode : ℕ
 
--- A file, and whether a sync has made sure of its content since it was written last. What a crash leaves of a file without one may
--- be anything: any bytes, of any number, and any mode bits.
+-- What is sure to be on the disk of a file, after a sync: all of it; its first bytes, so many, to which others were appended since;
+-- or nothing, since it was written over, or changed in another way.
+pub data Durable : Type 0 where
+  everything : Durable
+  up_to : ℕ → Durable
+  nothing : Durable
+
 pub record File : Type 0 where
   pub content : Content
-  pub is_synced : Bool
+  pub stored : Durable
+
+-- What a crash may leave of a file. Of bytes that were appended it may leave some, and zeroes; if nothing is sure, it may leave any
+-- bytes, of any number, and any mode bits.
+abbrev pub IsLeftOf : Durable → Content → Content → Type 0
+IsLeftOf everything content left = left ≡ content
+IsLeftOf (up_to n) content left =
+    (torn : List ℕ) × IsTorn (drop n content.bytes) torn × (left ≡ record { bytes = take n content.bytes ++ torn; mode = content.mode })
+IsLeftOf nothing content left = Unit {0}
 
 -- An entry of a folder: the number of a file, or none. A crash leaves an entry that the name has now, or one that it had since the
 -- folder was synced last: each name by itself, as no order of their writes is known.
@@ -31,7 +45,7 @@ pub record Disk : Type 0 where
 abbrev pub IsLeftByEntry : Disk → Option ℕ → Option Content → Type 0
 IsLeftByEntry disk None left = left ≡ None
 IsLeftByEntry disk (Some n) None = ⊥
-IsLeftByEntry disk (Some n) (Some content) = (disk.files n).is_synced ≡ true → content ≡ (disk.files n).content
+IsLeftByEntry disk (Some n) (Some left) = IsLeftOf (disk.files n).stored (disk.files n).content left
 
 abbrev pub IsLeftByOne : Disk → List (Option ℕ) → Option Content → Type 0
 IsLeftByOne disk [] left = ⊥

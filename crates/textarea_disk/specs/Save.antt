@@ -1,6 +1,6 @@
 -- What each step of a save does to a disk, and what is right after a crash or a failure.
 use Rattle.std.specs.Prelude.{◌≡◌, ◌≢◌, ◌⊎◌, ◌++◌, ℕ, true, false, if◌then◌else◌, List, [], ◌∷◌, length, drop, Option, None, Some}
-use Rattle.textarea_disk.specs.Disk.{Content, File, Disk, IsDisk, Leaves, seen, with_entries, with_entry, with_new_file, changed_file}
+use Rattle.textarea_disk.specs.Disk.{Content, File, everything, nothing, Disk, IsDisk, Leaves, seen, with_entries, with_entry, with_new_file, changed_file}
 use Rattle.textarea_disk.specs.Plan.{copy_is_removed}
 use Rattle.textarea_disk.specs.declared.step.DiskStep.{DiskStep}
 use Rattle.textarea_disk.specs.declared.step.DiskStep.TheVariants.{Create, Grow, Write, SetMode, Sync, SyncFolder, Rename, Remove}
@@ -26,21 +26,21 @@ saved save = record { bytes = save.text; mode = save.mode }
 -- ---- steps
 
 abbrev pub created_at : Option ℕ → Save → Disk → Disk
-created_at None save disk = with_new_file disk save.copy (record { content = record { bytes = []; mode = save.first_mode }; is_synced = false })
+created_at None save disk = with_new_file disk save.copy (record { content = record { bytes = []; mode = save.first_mode }; stored = nothing })
 created_at (Some n) save disk = disk
 
 abbrev pub grown_file : List ℕ → File → File
 grown_file text file =
-    record { content = record { bytes = file.content.bytes ++ drop (length file.content.bytes) text; mode = file.content.mode }; is_synced = false }
+    record { content = record { bytes = file.content.bytes ++ drop (length file.content.bytes) text; mode = file.content.mode }; stored = nothing }
 
 abbrev pub written : List ℕ → File → File
-written text file = record { content = record { bytes = text; mode = file.content.mode }; is_synced = false }
+written text file = record { content = record { bytes = text; mode = file.content.mode }; stored = nothing }
 
 abbrev pub with_mode : ℕ → File → File
-with_mode mode file = record { content = record { bytes = file.content.bytes; mode = mode }; is_synced = false }
+with_mode mode file = record { content = record { bytes = file.content.bytes; mode = mode }; stored = nothing }
 
 abbrev pub synced : File → File
-synced file = record { content = file.content; is_synced = true }
+synced file = record { content = file.content; stored = everything }
 
 -- the disk after a step that doesn't fail
 abbrev pub after_step : Save → DiskStep → Disk → Disk
@@ -92,7 +92,7 @@ pub record CanBegin (save : Save) (disk : Disk) (old : Option Content) : Type 0 
 -- ---- failures
 
 abbrev pub unsynced : File → File
-unsynced file = record { content = file.content; is_synced = false }
+unsynced file = record { content = file.content; stored = nothing }
 
 -- A step that fails may leave any bytes in a file that it writes over; one that fails to grow a file has cut it again, and no sync has
 -- made sure of that. No other failure does anything.
