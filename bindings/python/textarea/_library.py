@@ -33,10 +33,7 @@ def load() -> ctypes.CDLL:
     except OSError as error:
         needs = "A released library is for Linux on x86-64-v2 with glibc 2.17 or later."
         raise ImportError(f"textarea: the library can't be loaded: {error}. {needs}") from None
-    try:
-        _sys.declare(found)
-    except AttributeError as error:
-        raise ImportError(f"textarea: the library is older than this package: {error}") from None
+    _sys.declare(found)
     return found
 
 

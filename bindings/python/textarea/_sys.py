@@ -195,270 +195,149 @@ class Block(Structure):
     _fields_ = [("borders", c_uint8), ("has_title", c_bool), ("padding", Padding), ("style", Style), ("border_style", Style), ("title_style", Style)]
 
 
+def declare_call(library, name, arguments, result):
+    """Declares a call. If the library is older and has none, the call is an error where it is made."""
+    try:
+        call = getattr(library, name)
+    except AttributeError:
+        def missing(*_):
+            raise NotImplementedError(f"textarea: the library has no {name}: it is older than this package")
+        setattr(library, name, missing)
+        return
+    call.argtypes, call.restype = arguments, result
+
+
 def declare(library):
-    library.ta_new.argtypes = [POINTER(Handle)]
-    library.ta_new.restype = c_uint32
-    library.ta_from_text.argtypes = [POINTER(Handle), POINTER(c_uint8), c_size_t]
-    library.ta_from_text.restype = c_uint32
-    library.ta_free.argtypes = [POINTER(Handle)]
-    library.ta_free.restype = None
-    library.ta_clone.argtypes = [POINTER(Handle), POINTER(Handle)]
-    library.ta_clone.restype = c_uint32
-    library.ta_set_lines.argtypes = [POINTER(Handle), POINTER(c_uint8), c_size_t, POINTER(c_size_t), c_size_t, c_size_t, c_size_t]
-    library.ta_set_lines.restype = c_uint32
-    library.ta_line_count.argtypes = [POINTER(Handle), POINTER(c_size_t)]
-    library.ta_line_count.restype = c_uint32
-    library.ta_line.argtypes = [POINTER(Handle), c_size_t, POINTER(c_uint8), c_size_t, POINTER(c_size_t)]
-    library.ta_line.restype = c_uint32
-    library.ta_lines.argtypes = [POINTER(Handle), POINTER(c_uint8), c_size_t, POINTER(c_size_t), POINTER(c_size_t), c_size_t, POINTER(c_size_t)]
-    library.ta_lines.restype = c_uint32
-    library.ta_text.argtypes = [POINTER(Handle), POINTER(c_uint8), c_size_t, POINTER(c_size_t)]
-    library.ta_text.restype = c_uint32
-    library.ta_is_empty.argtypes = [POINTER(Handle)]
-    library.ta_is_empty.restype = c_uint32
-    library.ta_duplicate_line.argtypes = [POINTER(Handle)]
-    library.ta_duplicate_line.restype = c_uint32
-    library.ta_insert_char.argtypes = [POINTER(Handle), c_uint32]
-    library.ta_insert_char.restype = c_uint32
-    library.ta_insert_newline.argtypes = [POINTER(Handle)]
-    library.ta_insert_newline.restype = c_uint32
-    library.ta_insert_str.argtypes = [POINTER(Handle), POINTER(c_uint8), c_size_t]
-    library.ta_insert_str.restype = c_uint32
-    library.ta_insert_pasted.argtypes = [POINTER(Handle), POINTER(c_uint8), c_size_t]
-    library.ta_insert_pasted.restype = c_uint32
-    library.ta_insert_tab.argtypes = [POINTER(Handle)]
-    library.ta_insert_tab.restype = c_uint32
-    library.ta_paste.argtypes = [POINTER(Handle)]
-    library.ta_paste.restype = c_uint32
-    library.ta_delete_char.argtypes = [POINTER(Handle)]
-    library.ta_delete_char.restype = c_uint32
-    library.ta_delete_next_char.argtypes = [POINTER(Handle)]
-    library.ta_delete_next_char.restype = c_uint32
-    library.ta_delete_newline.argtypes = [POINTER(Handle)]
-    library.ta_delete_newline.restype = c_uint32
-    library.ta_delete_str.argtypes = [POINTER(Handle), c_size_t]
-    library.ta_delete_str.restype = c_uint32
-    library.ta_delete_line_by_end.argtypes = [POINTER(Handle)]
-    library.ta_delete_line_by_end.restype = c_uint32
-    library.ta_delete_line_by_head.argtypes = [POINTER(Handle)]
-    library.ta_delete_line_by_head.restype = c_uint32
-    library.ta_clear.argtypes = [POINTER(Handle)]
-    library.ta_clear.restype = c_uint32
-    library.ta_cut.argtypes = [POINTER(Handle)]
-    library.ta_cut.restype = c_uint32
-    library.ta_delete_word.argtypes = [POINTER(Handle)]
-    library.ta_delete_word.restype = c_uint32
-    library.ta_delete_next_word.argtypes = [POINTER(Handle)]
-    library.ta_delete_next_word.restype = c_uint32
-    library.ta_input.argtypes = [POINTER(Handle), POINTER(Input)]
-    library.ta_input.restype = c_uint32
-    library.ta_input_without_shortcuts.argtypes = [POINTER(Handle), POINTER(Input)]
-    library.ta_input_without_shortcuts.restype = c_uint32
-    library.ta_undo.argtypes = [POINTER(Handle)]
-    library.ta_undo.restype = c_uint32
-    library.ta_redo.argtypes = [POINTER(Handle)]
-    library.ta_redo.restype = c_uint32
-    library.ta_set_max_histories.argtypes = [POINTER(Handle), c_size_t]
-    library.ta_set_max_histories.restype = c_uint32
-    library.ta_set_undo_coalescing.argtypes = [POINTER(Handle), c_bool]
-    library.ta_set_undo_coalescing.restype = c_uint32
-    library.ta_max_histories.argtypes = [POINTER(Handle), POINTER(c_size_t)]
-    library.ta_max_histories.restype = c_uint32
-    library.ta_undo_coalescing.argtypes = [POINTER(Handle)]
-    library.ta_undo_coalescing.restype = c_uint32
-    library.ta_set_now.argtypes = [POINTER(Handle), c_uint64]
-    library.ta_set_now.restype = c_uint32
-    library.ta_move_cursor.argtypes = [POINTER(Handle), c_uint32]
-    library.ta_move_cursor.restype = c_uint32
-    library.ta_jump.argtypes = [POINTER(Handle), c_uint16, c_uint16]
-    library.ta_jump.restype = c_uint32
-    library.ta_go_to.argtypes = [POINTER(Handle), c_size_t, c_size_t]
-    library.ta_go_to.restype = c_uint32
-    library.ta_cursor.argtypes = [POINTER(Handle), POINTER(c_size_t), POINTER(c_size_t)]
-    library.ta_cursor.restype = c_uint32
-    library.ta_scroll.argtypes = [POINTER(Handle), c_int16, c_int16]
-    library.ta_scroll.restype = c_uint32
-    library.ta_scroll_page.argtypes = [POINTER(Handle), c_uint32]
-    library.ta_scroll_page.restype = c_uint32
-    library.ta_start_selection.argtypes = [POINTER(Handle)]
-    library.ta_start_selection.restype = c_uint32
-    library.ta_cancel_selection.argtypes = [POINTER(Handle)]
-    library.ta_cancel_selection.restype = c_uint32
-    library.ta_select_all.argtypes = [POINTER(Handle)]
-    library.ta_select_all.restype = c_uint32
-    library.ta_copy.argtypes = [POINTER(Handle)]
-    library.ta_copy.restype = c_uint32
-    library.ta_is_selecting.argtypes = [POINTER(Handle)]
-    library.ta_is_selecting.restype = c_uint32
-    library.ta_selection_range.argtypes = [POINTER(Handle), POINTER(c_size_t), POINTER(c_size_t), POINTER(c_size_t), POINTER(c_size_t)]
-    library.ta_selection_range.restype = c_uint32
-    library.ta_yank_text.argtypes = [POINTER(Handle), POINTER(c_uint8), c_size_t, POINTER(c_size_t)]
-    library.ta_yank_text.restype = c_uint32
-    library.ta_set_yank_text.argtypes = [POINTER(Handle), POINTER(c_uint8), c_size_t]
-    library.ta_set_yank_text.restype = c_uint32
-    library.ta_set_search_pattern.argtypes = [POINTER(Handle), POINTER(c_uint8), c_size_t]
-    library.ta_set_search_pattern.restype = c_uint32
-    library.ta_pattern_error.argtypes = [POINTER(Handle), POINTER(c_uint8), c_size_t, POINTER(c_size_t)]
-    library.ta_pattern_error.restype = c_uint32
-    library.ta_search_pattern.argtypes = [POINTER(Handle), POINTER(c_uint8), c_size_t, POINTER(c_size_t)]
-    library.ta_search_pattern.restype = c_uint32
-    library.ta_search_forward.argtypes = [POINTER(Handle), c_bool]
-    library.ta_search_forward.restype = c_uint32
-    library.ta_search_back.argtypes = [POINTER(Handle), c_bool]
-    library.ta_search_back.restype = c_uint32
-    library.ta_clear_atomic_ranges.argtypes = [POINTER(Handle)]
-    library.ta_clear_atomic_ranges.restype = c_uint32
-    library.ta_set_atomic_ranges.argtypes = [POINTER(Handle), POINTER(Range), c_size_t]
-    library.ta_set_atomic_ranges.restype = c_uint32
-    library.ta_rejected_ranges.argtypes = [POINTER(Handle), POINTER(Rejected), c_size_t, POINTER(c_size_t)]
-    library.ta_rejected_ranges.restype = c_uint32
-    library.ta_atomic_ranges.argtypes = [POINTER(Handle), POINTER(Range), c_size_t, POINTER(c_size_t)]
-    library.ta_atomic_ranges.restype = c_uint32
-    library.ta_normalize_cursor_around_atomic_ranges.argtypes = [POINTER(Handle), c_uint32]
-    library.ta_normalize_cursor_around_atomic_ranges.restype = c_uint32
-    library.ta_atomic_range_at_cursor.argtypes = [POINTER(Handle), c_uint32, POINTER(Range)]
-    library.ta_atomic_range_at_cursor.restype = c_uint32
-    library.ta_delete_atomic_range_at_cursor.argtypes = [POINTER(Handle), c_uint32, POINTER(Range)]
-    library.ta_delete_atomic_range_at_cursor.restype = c_uint32
-    library.ta_set_tab_length.argtypes = [POINTER(Handle), c_uint8]
-    library.ta_set_tab_length.restype = c_uint32
-    library.ta_set_hard_tab_indent.argtypes = [POINTER(Handle), c_bool]
-    library.ta_set_hard_tab_indent.restype = c_uint32
-    library.ta_remove_line_number.argtypes = [POINTER(Handle)]
-    library.ta_remove_line_number.restype = c_uint32
-    library.ta_set_min_rows.argtypes = [POINTER(Handle), c_uint16]
-    library.ta_set_min_rows.restype = c_uint32
-    library.ta_set_max_rows.argtypes = [POINTER(Handle), c_uint16]
-    library.ta_set_max_rows.restype = c_uint32
-    library.ta_tab_length.argtypes = [POINTER(Handle), POINTER(c_uint8)]
-    library.ta_tab_length.restype = c_uint32
-    library.ta_hard_tab_indent.argtypes = [POINTER(Handle)]
-    library.ta_hard_tab_indent.restype = c_uint32
-    library.ta_min_rows.argtypes = [POINTER(Handle), POINTER(c_uint16)]
-    library.ta_min_rows.restype = c_uint32
-    library.ta_max_rows.argtypes = [POINTER(Handle), POINTER(c_uint16)]
-    library.ta_max_rows.restype = c_uint32
-    library.ta_indent.argtypes = [POINTER(Handle), POINTER(c_uint8), c_size_t, POINTER(c_size_t)]
-    library.ta_indent.restype = c_uint32
-    library.ta_set_wrap_mode.argtypes = [POINTER(Handle), c_uint32]
-    library.ta_set_wrap_mode.restype = c_uint32
-    library.ta_wrap_mode.argtypes = [POINTER(Handle), POINTER(c_uint32)]
-    library.ta_wrap_mode.restype = c_uint32
-    library.ta_set_line_number_style.argtypes = [POINTER(Handle), POINTER(Style)]
-    library.ta_set_line_number_style.restype = c_uint32
-    library.ta_line_number_style.argtypes = [POINTER(Handle), POINTER(Style)]
-    library.ta_line_number_style.restype = c_uint32
-    library.ta_set_alignment.argtypes = [POINTER(Handle), c_uint32]
-    library.ta_set_alignment.restype = c_uint32
-    library.ta_alignment.argtypes = [POINTER(Handle), POINTER(c_uint32)]
-    library.ta_alignment.restype = c_uint32
-    library.ta_measure.argtypes = [POINTER(Handle), c_uint16, POINTER(Measure)]
-    library.ta_measure.restype = c_uint32
-    library.ta_set_style.argtypes = [POINTER(Handle), POINTER(Style)]
-    library.ta_set_style.restype = c_uint32
-    library.ta_set_cursor_style.argtypes = [POINTER(Handle), POINTER(Style)]
-    library.ta_set_cursor_style.restype = c_uint32
-    library.ta_set_cursor_line_style.argtypes = [POINTER(Handle), POINTER(Style)]
-    library.ta_set_cursor_line_style.restype = c_uint32
-    library.ta_set_selection_style.argtypes = [POINTER(Handle), POINTER(Style)]
-    library.ta_set_selection_style.restype = c_uint32
-    library.ta_set_search_style.argtypes = [POINTER(Handle), POINTER(Style)]
-    library.ta_set_search_style.restype = c_uint32
-    library.ta_style.argtypes = [POINTER(Handle), POINTER(Style)]
-    library.ta_style.restype = c_uint32
-    library.ta_cursor_style.argtypes = [POINTER(Handle), POINTER(Style)]
-    library.ta_cursor_style.restype = c_uint32
-    library.ta_cursor_line_style.argtypes = [POINTER(Handle), POINTER(Style)]
-    library.ta_cursor_line_style.restype = c_uint32
-    library.ta_selection_style.argtypes = [POINTER(Handle), POINTER(Style)]
-    library.ta_selection_style.restype = c_uint32
-    library.ta_search_style.argtypes = [POINTER(Handle), POINTER(Style)]
-    library.ta_search_style.restype = c_uint32
-    library.ta_clear_mask_char.argtypes = [POINTER(Handle)]
-    library.ta_clear_mask_char.restype = c_uint32
-    library.ta_clear_custom_highlight.argtypes = [POINTER(Handle)]
-    library.ta_clear_custom_highlight.restype = c_uint32
-    library.ta_set_mask_char.argtypes = [POINTER(Handle), c_uint32]
-    library.ta_set_mask_char.restype = c_uint32
-    library.ta_mask_char.argtypes = [POINTER(Handle), POINTER(c_uint32)]
-    library.ta_mask_char.restype = c_uint32
-    library.ta_set_cursor_render_mode.argtypes = [POINTER(Handle), c_uint32]
-    library.ta_set_cursor_render_mode.restype = c_uint32
-    library.ta_cursor_render_mode.argtypes = [POINTER(Handle), POINTER(c_uint32)]
-    library.ta_cursor_render_mode.restype = c_uint32
-    library.ta_custom_highlight.argtypes = [POINTER(Handle), c_size_t, c_size_t, c_size_t, c_size_t, POINTER(Style), c_uint8]
-    library.ta_custom_highlight.restype = c_uint32
-    library.ta_set_block.argtypes = [POINTER(Handle), POINTER(Block), POINTER(c_uint8), c_size_t, POINTER(Span), c_size_t]
-    library.ta_set_block.restype = c_uint32
-    library.ta_remove_block.argtypes = [POINTER(Handle)]
-    library.ta_remove_block.restype = c_uint32
-    library.ta_block.argtypes = [POINTER(Handle), POINTER(Block), POINTER(c_uint8), c_size_t, POINTER(c_size_t), POINTER(Span), c_size_t, POINTER(c_size_t)]
-    library.ta_block.restype = c_uint32
-    library.ta_set_placeholder_text.argtypes = [POINTER(Handle), POINTER(c_uint8), c_size_t]
-    library.ta_set_placeholder_text.restype = c_uint32
-    library.ta_set_styled_placeholder.argtypes = [POINTER(Handle), POINTER(c_uint8), c_size_t, POINTER(Span), c_size_t, POINTER(Line), c_size_t, POINTER(Style)]
-    library.ta_set_styled_placeholder.restype = c_uint32
-    library.ta_set_placeholder_style.argtypes = [POINTER(Handle), POINTER(Style)]
-    library.ta_set_placeholder_style.restype = c_uint32
-    library.ta_placeholder.argtypes = [POINTER(Handle), POINTER(Style), POINTER(c_uint8), c_size_t, POINTER(c_size_t), POINTER(Span), c_size_t, POINTER(c_size_t), POINTER(Line), c_size_t, POINTER(c_size_t)]
-    library.ta_placeholder.restype = c_uint32
-    library.ta_placeholder_text.argtypes = [POINTER(Handle), POINTER(c_uint8), c_size_t, POINTER(c_size_t)]
-    library.ta_placeholder_text.restype = c_uint32
-    library.ta_placeholder_style.argtypes = [POINTER(Handle), POINTER(Style)]
-    library.ta_placeholder_style.restype = c_uint32
-    library.ta_screen_reset.argtypes = [POINTER(Handle), POINTER(Area)]
-    library.ta_screen_reset.restype = c_uint32
-    library.ta_screen_clear.argtypes = [POINTER(Handle)]
-    library.ta_screen_clear.restype = c_uint32
-    library.ta_screen_area.argtypes = [POINTER(Handle), POINTER(Area)]
-    library.ta_screen_area.restype = c_uint32
-    library.ta_screen_put.argtypes = [POINTER(Handle), c_uint16, c_uint16, POINTER(c_uint8), c_size_t, POINTER(Style)]
-    library.ta_screen_put.restype = c_uint32
-    library.ta_screen_set_style.argtypes = [POINTER(Handle), POINTER(Area), POINTER(Style)]
-    library.ta_screen_set_style.restype = c_uint32
-    library.ta_screen_cell.argtypes = [POINTER(Handle), c_uint16, c_uint16, POINTER(Cell)]
-    library.ta_screen_cell.restype = c_uint32
-    library.ta_screen_symbol.argtypes = [POINTER(Handle), c_uint16, c_uint16, POINTER(c_uint8), c_size_t, POINTER(c_size_t)]
-    library.ta_screen_symbol.restype = c_uint32
-    library.ta_screen_cells.argtypes = [POINTER(Handle), POINTER(Cell), c_size_t, POINTER(c_size_t)]
-    library.ta_screen_cells.restype = c_uint32
-    library.ta_render.argtypes = [POINTER(Handle), POINTER(Area)]
-    library.ta_render.restype = c_uint32
-    library.ta_rendered_cursor_position.argtypes = [POINTER(Handle), POINTER(c_uint16), POINTER(c_uint16)]
-    library.ta_rendered_cursor_position.restype = c_uint32
-    library.ta_cursor_at_position.argtypes = [POINTER(Handle), c_uint16, c_uint16, POINTER(c_size_t), POINTER(c_size_t)]
-    library.ta_cursor_at_position.restype = c_uint32
-    library.ta_viewport.argtypes = [POINTER(Handle), POINTER(c_size_t), POINTER(c_size_t), POINTER(c_size_t), POINTER(c_size_t)]
-    library.ta_viewport.restype = c_uint32
-    library.ta_terminal_new.argtypes = [POINTER(TerminalHandle), POINTER(Area)]
-    library.ta_terminal_new.restype = c_uint32
-    library.ta_terminal_free.argtypes = [POINTER(TerminalHandle)]
-    library.ta_terminal_free.restype = None
-    library.ta_decoder_feed.argtypes = [POINTER(TerminalHandle), POINTER(c_uint8), c_size_t]
-    library.ta_decoder_feed.restype = c_uint32
-    library.ta_decoder_idle.argtypes = [POINTER(TerminalHandle), c_uint32]
-    library.ta_decoder_idle.restype = c_uint32
-    library.ta_decoder_event.argtypes = [POINTER(TerminalHandle), POINTER(Event)]
-    library.ta_decoder_event.restype = c_uint32
-    library.ta_decoder_pasted.argtypes = [POINTER(TerminalHandle), POINTER(c_uint8), c_size_t, POINTER(c_size_t)]
-    library.ta_decoder_pasted.restype = c_uint32
-    library.ta_decoder_asked.argtypes = [POINTER(TerminalHandle)]
-    library.ta_decoder_asked.restype = c_uint32
-    library.ta_decoder_set_resizes.argtypes = [POINTER(TerminalHandle), c_bool]
-    library.ta_decoder_set_resizes.restype = c_uint32
-    library.ta_decoder_set_console.argtypes = [POINTER(TerminalHandle), c_bool]
-    library.ta_decoder_set_console.restype = c_uint32
-    library.ta_painter_paint.argtypes = [POINTER(TerminalHandle), POINTER(Handle), c_bool, c_uint16, c_uint16]
-    library.ta_painter_paint.restype = c_uint32
-    library.ta_painter_bytes.argtypes = [POINTER(TerminalHandle), POINTER(c_uint8), c_size_t, POINTER(c_size_t)]
-    library.ta_painter_bytes.restype = c_uint32
-    library.ta_painter_reset.argtypes = [POINTER(TerminalHandle)]
-    library.ta_painter_reset.restype = c_uint32
-    library.ta_painter_resize.argtypes = [POINTER(TerminalHandle), POINTER(Area)]
-    library.ta_painter_resize.restype = c_uint32
-    library.ta_painter_set_colors.argtypes = [POINTER(TerminalHandle), c_uint32]
-    library.ta_painter_set_colors.restype = c_uint32
-    library.ta_cursor_shape_bytes.argtypes = [c_uint32, POINTER(c_uint8), c_size_t, POINTER(c_size_t)]
-    library.ta_cursor_shape_bytes.restype = c_uint32
-    library.ta_title_bytes.argtypes = [POINTER(c_uint8), c_size_t, POINTER(c_uint8), c_size_t, POINTER(c_size_t)]
-    library.ta_title_bytes.restype = c_uint32
+    declare_call(library, "ta_new", [POINTER(Handle)], c_uint32)
+    declare_call(library, "ta_from_text", [POINTER(Handle), POINTER(c_uint8), c_size_t], c_uint32)
+    declare_call(library, "ta_free", [POINTER(Handle)], None)
+    declare_call(library, "ta_clone", [POINTER(Handle), POINTER(Handle)], c_uint32)
+    declare_call(library, "ta_set_lines", [POINTER(Handle), POINTER(c_uint8), c_size_t, POINTER(c_size_t), c_size_t, c_size_t, c_size_t], c_uint32)
+    declare_call(library, "ta_line_count", [POINTER(Handle), POINTER(c_size_t)], c_uint32)
+    declare_call(library, "ta_line", [POINTER(Handle), c_size_t, POINTER(c_uint8), c_size_t, POINTER(c_size_t)], c_uint32)
+    declare_call(library, "ta_lines", [POINTER(Handle), POINTER(c_uint8), c_size_t, POINTER(c_size_t), POINTER(c_size_t), c_size_t, POINTER(c_size_t)], c_uint32)
+    declare_call(library, "ta_text", [POINTER(Handle), POINTER(c_uint8), c_size_t, POINTER(c_size_t)], c_uint32)
+    declare_call(library, "ta_is_empty", [POINTER(Handle)], c_uint32)
+    declare_call(library, "ta_duplicate_line", [POINTER(Handle)], c_uint32)
+    declare_call(library, "ta_insert_char", [POINTER(Handle), c_uint32], c_uint32)
+    declare_call(library, "ta_insert_newline", [POINTER(Handle)], c_uint32)
+    declare_call(library, "ta_insert_str", [POINTER(Handle), POINTER(c_uint8), c_size_t], c_uint32)
+    declare_call(library, "ta_insert_pasted", [POINTER(Handle), POINTER(c_uint8), c_size_t], c_uint32)
+    declare_call(library, "ta_insert_tab", [POINTER(Handle)], c_uint32)
+    declare_call(library, "ta_paste", [POINTER(Handle)], c_uint32)
+    declare_call(library, "ta_delete_char", [POINTER(Handle)], c_uint32)
+    declare_call(library, "ta_delete_next_char", [POINTER(Handle)], c_uint32)
+    declare_call(library, "ta_delete_newline", [POINTER(Handle)], c_uint32)
+    declare_call(library, "ta_delete_str", [POINTER(Handle), c_size_t], c_uint32)
+    declare_call(library, "ta_delete_line_by_end", [POINTER(Handle)], c_uint32)
+    declare_call(library, "ta_delete_line_by_head", [POINTER(Handle)], c_uint32)
+    declare_call(library, "ta_clear", [POINTER(Handle)], c_uint32)
+    declare_call(library, "ta_cut", [POINTER(Handle)], c_uint32)
+    declare_call(library, "ta_delete_word", [POINTER(Handle)], c_uint32)
+    declare_call(library, "ta_delete_next_word", [POINTER(Handle)], c_uint32)
+    declare_call(library, "ta_input", [POINTER(Handle), POINTER(Input)], c_uint32)
+    declare_call(library, "ta_input_without_shortcuts", [POINTER(Handle), POINTER(Input)], c_uint32)
+    declare_call(library, "ta_undo", [POINTER(Handle)], c_uint32)
+    declare_call(library, "ta_redo", [POINTER(Handle)], c_uint32)
+    declare_call(library, "ta_set_max_histories", [POINTER(Handle), c_size_t], c_uint32)
+    declare_call(library, "ta_set_undo_coalescing", [POINTER(Handle), c_bool], c_uint32)
+    declare_call(library, "ta_max_histories", [POINTER(Handle), POINTER(c_size_t)], c_uint32)
+    declare_call(library, "ta_undo_coalescing", [POINTER(Handle)], c_uint32)
+    declare_call(library, "ta_set_now", [POINTER(Handle), c_uint64], c_uint32)
+    declare_call(library, "ta_move_cursor", [POINTER(Handle), c_uint32], c_uint32)
+    declare_call(library, "ta_jump", [POINTER(Handle), c_uint16, c_uint16], c_uint32)
+    declare_call(library, "ta_go_to", [POINTER(Handle), c_size_t, c_size_t], c_uint32)
+    declare_call(library, "ta_cursor", [POINTER(Handle), POINTER(c_size_t), POINTER(c_size_t)], c_uint32)
+    declare_call(library, "ta_scroll", [POINTER(Handle), c_int16, c_int16], c_uint32)
+    declare_call(library, "ta_scroll_page", [POINTER(Handle), c_uint32], c_uint32)
+    declare_call(library, "ta_start_selection", [POINTER(Handle)], c_uint32)
+    declare_call(library, "ta_cancel_selection", [POINTER(Handle)], c_uint32)
+    declare_call(library, "ta_select_all", [POINTER(Handle)], c_uint32)
+    declare_call(library, "ta_copy", [POINTER(Handle)], c_uint32)
+    declare_call(library, "ta_is_selecting", [POINTER(Handle)], c_uint32)
+    declare_call(library, "ta_selection_range", [POINTER(Handle), POINTER(c_size_t), POINTER(c_size_t), POINTER(c_size_t), POINTER(c_size_t)], c_uint32)
+    declare_call(library, "ta_yank_text", [POINTER(Handle), POINTER(c_uint8), c_size_t, POINTER(c_size_t)], c_uint32)
+    declare_call(library, "ta_set_yank_text", [POINTER(Handle), POINTER(c_uint8), c_size_t], c_uint32)
+    declare_call(library, "ta_set_search_pattern", [POINTER(Handle), POINTER(c_uint8), c_size_t], c_uint32)
+    declare_call(library, "ta_pattern_error", [POINTER(Handle), POINTER(c_uint8), c_size_t, POINTER(c_size_t)], c_uint32)
+    declare_call(library, "ta_search_pattern", [POINTER(Handle), POINTER(c_uint8), c_size_t, POINTER(c_size_t)], c_uint32)
+    declare_call(library, "ta_search_forward", [POINTER(Handle), c_bool], c_uint32)
+    declare_call(library, "ta_search_back", [POINTER(Handle), c_bool], c_uint32)
+    declare_call(library, "ta_clear_atomic_ranges", [POINTER(Handle)], c_uint32)
+    declare_call(library, "ta_set_atomic_ranges", [POINTER(Handle), POINTER(Range), c_size_t], c_uint32)
+    declare_call(library, "ta_rejected_ranges", [POINTER(Handle), POINTER(Rejected), c_size_t, POINTER(c_size_t)], c_uint32)
+    declare_call(library, "ta_atomic_ranges", [POINTER(Handle), POINTER(Range), c_size_t, POINTER(c_size_t)], c_uint32)
+    declare_call(library, "ta_normalize_cursor_around_atomic_ranges", [POINTER(Handle), c_uint32], c_uint32)
+    declare_call(library, "ta_atomic_range_at_cursor", [POINTER(Handle), c_uint32, POINTER(Range)], c_uint32)
+    declare_call(library, "ta_delete_atomic_range_at_cursor", [POINTER(Handle), c_uint32, POINTER(Range)], c_uint32)
+    declare_call(library, "ta_set_tab_length", [POINTER(Handle), c_uint8], c_uint32)
+    declare_call(library, "ta_set_hard_tab_indent", [POINTER(Handle), c_bool], c_uint32)
+    declare_call(library, "ta_remove_line_number", [POINTER(Handle)], c_uint32)
+    declare_call(library, "ta_set_min_rows", [POINTER(Handle), c_uint16], c_uint32)
+    declare_call(library, "ta_set_max_rows", [POINTER(Handle), c_uint16], c_uint32)
+    declare_call(library, "ta_tab_length", [POINTER(Handle), POINTER(c_uint8)], c_uint32)
+    declare_call(library, "ta_hard_tab_indent", [POINTER(Handle)], c_uint32)
+    declare_call(library, "ta_min_rows", [POINTER(Handle), POINTER(c_uint16)], c_uint32)
+    declare_call(library, "ta_max_rows", [POINTER(Handle), POINTER(c_uint16)], c_uint32)
+    declare_call(library, "ta_indent", [POINTER(Handle), POINTER(c_uint8), c_size_t, POINTER(c_size_t)], c_uint32)
+    declare_call(library, "ta_set_wrap_mode", [POINTER(Handle), c_uint32], c_uint32)
+    declare_call(library, "ta_wrap_mode", [POINTER(Handle), POINTER(c_uint32)], c_uint32)
+    declare_call(library, "ta_set_line_number_style", [POINTER(Handle), POINTER(Style)], c_uint32)
+    declare_call(library, "ta_line_number_style", [POINTER(Handle), POINTER(Style)], c_uint32)
+    declare_call(library, "ta_set_alignment", [POINTER(Handle), c_uint32], c_uint32)
+    declare_call(library, "ta_alignment", [POINTER(Handle), POINTER(c_uint32)], c_uint32)
+    declare_call(library, "ta_measure", [POINTER(Handle), c_uint16, POINTER(Measure)], c_uint32)
+    declare_call(library, "ta_set_style", [POINTER(Handle), POINTER(Style)], c_uint32)
+    declare_call(library, "ta_set_cursor_style", [POINTER(Handle), POINTER(Style)], c_uint32)
+    declare_call(library, "ta_set_cursor_line_style", [POINTER(Handle), POINTER(Style)], c_uint32)
+    declare_call(library, "ta_set_selection_style", [POINTER(Handle), POINTER(Style)], c_uint32)
+    declare_call(library, "ta_set_search_style", [POINTER(Handle), POINTER(Style)], c_uint32)
+    declare_call(library, "ta_style", [POINTER(Handle), POINTER(Style)], c_uint32)
+    declare_call(library, "ta_cursor_style", [POINTER(Handle), POINTER(Style)], c_uint32)
+    declare_call(library, "ta_cursor_line_style", [POINTER(Handle), POINTER(Style)], c_uint32)
+    declare_call(library, "ta_selection_style", [POINTER(Handle), POINTER(Style)], c_uint32)
+    declare_call(library, "ta_search_style", [POINTER(Handle), POINTER(Style)], c_uint32)
+    declare_call(library, "ta_clear_mask_char", [POINTER(Handle)], c_uint32)
+    declare_call(library, "ta_clear_custom_highlight", [POINTER(Handle)], c_uint32)
+    declare_call(library, "ta_set_mask_char", [POINTER(Handle), c_uint32], c_uint32)
+    declare_call(library, "ta_mask_char", [POINTER(Handle), POINTER(c_uint32)], c_uint32)
+    declare_call(library, "ta_set_cursor_render_mode", [POINTER(Handle), c_uint32], c_uint32)
+    declare_call(library, "ta_cursor_render_mode", [POINTER(Handle), POINTER(c_uint32)], c_uint32)
+    declare_call(library, "ta_custom_highlight", [POINTER(Handle), c_size_t, c_size_t, c_size_t, c_size_t, POINTER(Style), c_uint8], c_uint32)
+    declare_call(library, "ta_set_block", [POINTER(Handle), POINTER(Block), POINTER(c_uint8), c_size_t, POINTER(Span), c_size_t], c_uint32)
+    declare_call(library, "ta_remove_block", [POINTER(Handle)], c_uint32)
+    declare_call(library, "ta_block", [POINTER(Handle), POINTER(Block), POINTER(c_uint8), c_size_t, POINTER(c_size_t), POINTER(Span), c_size_t, POINTER(c_size_t)], c_uint32)
+    declare_call(library, "ta_set_placeholder_text", [POINTER(Handle), POINTER(c_uint8), c_size_t], c_uint32)
+    declare_call(library, "ta_set_styled_placeholder", [POINTER(Handle), POINTER(c_uint8), c_size_t, POINTER(Span), c_size_t, POINTER(Line), c_size_t, POINTER(Style)], c_uint32)
+    declare_call(library, "ta_set_placeholder_style", [POINTER(Handle), POINTER(Style)], c_uint32)
+    declare_call(library, "ta_placeholder", [POINTER(Handle), POINTER(Style), POINTER(c_uint8), c_size_t, POINTER(c_size_t), POINTER(Span), c_size_t, POINTER(c_size_t), POINTER(Line), c_size_t, POINTER(c_size_t)], c_uint32)
+    declare_call(library, "ta_placeholder_text", [POINTER(Handle), POINTER(c_uint8), c_size_t, POINTER(c_size_t)], c_uint32)
+    declare_call(library, "ta_placeholder_style", [POINTER(Handle), POINTER(Style)], c_uint32)
+    declare_call(library, "ta_screen_reset", [POINTER(Handle), POINTER(Area)], c_uint32)
+    declare_call(library, "ta_screen_clear", [POINTER(Handle)], c_uint32)
+    declare_call(library, "ta_screen_area", [POINTER(Handle), POINTER(Area)], c_uint32)
+    declare_call(library, "ta_screen_put", [POINTER(Handle), c_uint16, c_uint16, POINTER(c_uint8), c_size_t, POINTER(Style)], c_uint32)
+    declare_call(library, "ta_screen_set_style", [POINTER(Handle), POINTER(Area), POINTER(Style)], c_uint32)
+    declare_call(library, "ta_screen_cell", [POINTER(Handle), c_uint16, c_uint16, POINTER(Cell)], c_uint32)
+    declare_call(library, "ta_screen_symbol", [POINTER(Handle), c_uint16, c_uint16, POINTER(c_uint8), c_size_t, POINTER(c_size_t)], c_uint32)
+    declare_call(library, "ta_screen_cells", [POINTER(Handle), POINTER(Cell), c_size_t, POINTER(c_size_t)], c_uint32)
+    declare_call(library, "ta_render", [POINTER(Handle), POINTER(Area)], c_uint32)
+    declare_call(library, "ta_rendered_cursor_position", [POINTER(Handle), POINTER(c_uint16), POINTER(c_uint16)], c_uint32)
+    declare_call(library, "ta_cursor_at_position", [POINTER(Handle), c_uint16, c_uint16, POINTER(c_size_t), POINTER(c_size_t)], c_uint32)
+    declare_call(library, "ta_viewport", [POINTER(Handle), POINTER(c_size_t), POINTER(c_size_t), POINTER(c_size_t), POINTER(c_size_t)], c_uint32)
+    declare_call(library, "ta_terminal_new", [POINTER(TerminalHandle), POINTER(Area)], c_uint32)
+    declare_call(library, "ta_terminal_free", [POINTER(TerminalHandle)], None)
+    declare_call(library, "ta_decoder_feed", [POINTER(TerminalHandle), POINTER(c_uint8), c_size_t], c_uint32)
+    declare_call(library, "ta_decoder_idle", [POINTER(TerminalHandle), c_uint32], c_uint32)
+    declare_call(library, "ta_decoder_event", [POINTER(TerminalHandle), POINTER(Event)], c_uint32)
+    declare_call(library, "ta_decoder_pasted", [POINTER(TerminalHandle), POINTER(c_uint8), c_size_t, POINTER(c_size_t)], c_uint32)
+    declare_call(library, "ta_decoder_asked", [POINTER(TerminalHandle)], c_uint32)
+    declare_call(library, "ta_decoder_set_resizes", [POINTER(TerminalHandle), c_bool], c_uint32)
+    declare_call(library, "ta_decoder_set_console", [POINTER(TerminalHandle), c_bool], c_uint32)
+    declare_call(library, "ta_painter_paint", [POINTER(TerminalHandle), POINTER(Handle), c_bool, c_uint16, c_uint16], c_uint32)
+    declare_call(library, "ta_painter_bytes", [POINTER(TerminalHandle), POINTER(c_uint8), c_size_t, POINTER(c_size_t)], c_uint32)
+    declare_call(library, "ta_painter_reset", [POINTER(TerminalHandle)], c_uint32)
+    declare_call(library, "ta_painter_resize", [POINTER(TerminalHandle), POINTER(Area)], c_uint32)
+    declare_call(library, "ta_painter_set_colors", [POINTER(TerminalHandle), c_uint32], c_uint32)
+    declare_call(library, "ta_cursor_shape_bytes", [c_uint32, POINTER(c_uint8), c_size_t, POINTER(c_size_t)], c_uint32)
+    declare_call(library, "ta_title_bytes", [POINTER(c_uint8), c_size_t, POINTER(c_uint8), c_size_t, POINTER(c_size_t)], c_uint32)
