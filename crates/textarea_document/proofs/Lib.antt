@@ -3,8 +3,6 @@ pub mod Inserts
 pub mod UndoGroups
 pub mod UndoLaw
 pub mod Orders
-pub mod Replacing
-pub mod ReplacedTexts
 pub mod Betweens
 pub mod Ranges
 pub mod Sounds

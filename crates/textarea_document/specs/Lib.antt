@@ -9,7 +9,5 @@ pub mod DocumentLaw
 pub mod Sound
 pub mod RangesOverSplices
 pub mod Splices
-pub mod Replacing
-pub mod ReplacedText
 pub mod Target
 pub mod Prelude

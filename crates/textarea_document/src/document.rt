@@ -7,7 +7,6 @@ mod laws;
 mod next_symbol;
 mod ranges;
 mod removals;
-mod replacing;
 mod rows;
 mod selection;
 mod target;

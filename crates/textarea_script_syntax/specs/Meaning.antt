@@ -7,8 +7,7 @@ use Rattle.textarea_script_syntax.specs.Escapes.{unescaped}
 use Rattle.textarea_calls.specs.declared.call.Call.{Call}
 
 -- the meaning of a line: a call that borrows nothing; a time in nanoseconds; an area; or what a
--- call borrows: a text (with two positions), ranges, lines (with the cursor's position) or an input.
--- Texts are bytes
+-- call borrows: a text, ranges, lines (with the cursor's position) or an input. Texts are bytes
 pub data Meaning : Type 0 where
   Plain : Call → Meaning
   SetNow : ℕ → Meaning
@@ -19,9 +18,6 @@ pub data Meaning : Type 0 where
   TrySetAtomicRanges : List AtomicRange → Meaning
   SetSearchPattern : List ℕ → Meaning
   SetLines : List (List ℕ) → ℕ × ℕ → Meaning
-  ReplaceRange : ℕ × ℕ → ℕ × ℕ → List ℕ → Meaning
-  ReplaceMatch : List ℕ → Meaning
-  ReplaceAll : List ℕ → Meaning
   Press : Input → Meaning
 
 -- a command without arguments

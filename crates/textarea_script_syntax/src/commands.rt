@@ -2,7 +2,7 @@
 ghost use Rattle.std.specs.Prelude.{◌≡◌, ◌+◌, All, IfOk, IfErr, IfSome, map, option_and_then, option_copied, option_map, string_bytes, vec_len};
 ghost use Rattle.textarea_script_syntax.specs.Arguments.{IsReadAs};
 ghost use Rattle.textarea_calls.specs.Possible.{CanBeMade};
-ghost use Rattle.textarea_script_syntax.specs.Commands.{line_meaning, line_numbers, command_meaning, plain_meaning, replace_range_meaning, set_lines_meaning};
+ghost use Rattle.textarea_script_syntax.specs.Commands.{line_meaning, line_numbers, command_meaning, plain_meaning, set_lines_meaning};
 ghost use Rattle.textarea_script_syntax.specs.Inputs.{input_named};
 ghost use Rattle.textarea_script_syntax.specs.Meaning.{argument_text};
 ghost use Rattle.textarea_script_syntax.specs.Ranges.{ranges_after_space};
@@ -11,7 +11,7 @@ ghost use Rattle.textarea_script_syntax.specs.declared.commands.CommandContent.T
 
 use crate::arguments::{
     Unparsed, area, input_named, number, page_named, ranges, size, split_first, truth,
-    two_places, two_short_numbers, unescape, unescaped_lines,
+    two_short_numbers, unescape, unescaped_lines,
 };
 use crate::call_commands::{call_with_arguments, call_without_arguments};
 use std::alloc::{AllocError, AllocFailed, Global};
@@ -63,13 +63,6 @@ enum CommandContent {
         lines: Vec<String>,
         cursor: (usize, usize),
     },
-    ReplaceRange {
-        from: (usize, usize),
-        to: (usize, usize),
-        text: String,
-    },
-    ReplaceMatch(String),
-    ReplaceAll(String),
     Input(Input),
 }
 
@@ -92,13 +85,6 @@ impl Command {
                 lines: lines.as_slice(),
                 cursor: *cursor,
             },
-            CommandContent::ReplaceRange { from, to, text } => Call::ReplaceRange {
-                from: *from,
-                to: *to,
-                text: text.as_str(),
-            },
-            CommandContent::ReplaceMatch(text) => Call::ReplaceMatch(text.as_str()),
-            CommandContent::ReplaceAll(text) => Call::ReplaceAll(text.as_str()),
             CommandContent::Input(input) => Call::Input(input),
         }
     }
@@ -181,9 +167,6 @@ fn content_named(
         "set_search_pattern" => Ok(CommandContent::SetSearchPattern(text(alloc, arguments)?)),
         "ranges" => Ok(CommandContent::TrySetAtomicRanges(some_ranges(alloc, arguments)?)),
         "set_lines" => set_lines(alloc, arguments),
-        "replace_range" => replace_range(alloc, arguments),
-        "replace_match" => Ok(CommandContent::ReplaceMatch(text(alloc, arguments)?)),
-        "replace_all" => Ok(CommandContent::ReplaceAll(text(alloc, arguments)?)),
         "input" => Ok(CommandContent::Input(input(arguments).ok_or(Unparsed::NoCommand)?)),
         _ => Ok(CommandContent::Plain(plain(name, arguments).ok_or(Unparsed::NoCommand)?)),
     }
@@ -229,28 +212,6 @@ fn set_lines(alloc: Global, arguments: Option<&str>) -> Result<CommandContent, U
     })
 }
 
-// A `replace_range` with these arguments: two positions, each a row and a column, and a text, which
-// may be missing.
-fn replace_range(alloc: Global, arguments: Option<&str>) -> Result<CommandContent, Unparsed>
-    ensures ready { IfOk result IsCallReady }
-    ensures means { IsReadAs meaning_of (replace_range_meaning (option_copied arguments.entry))
-        result }
-{
-    let (row, rest) = split_first(arguments.unwrap_or("")).ok_or(Unparsed::NoCommand)?;
-    let (column, rest) = split_first(rest).ok_or(Unparsed::NoCommand)?;
-    let (end_row, rest) = split_first(rest).ok_or(Unparsed::NoCommand)?;
-    let (end_column, text) = split_first(rest).unwrap_or((rest, ""));
-    let row = size(row).ok_or(Unparsed::NoCommand)?;
-    let column = size(column).ok_or(Unparsed::NoCommand)?;
-    let end_row = size(end_row).ok_or(Unparsed::NoCommand)?;
-    let end_column = size(end_column).ok_or(Unparsed::NoCommand)?;
-    Ok(CommandContent::ReplaceRange {
-        from: (row, column),
-        to: (end_row, end_column),
-        text: unescape(alloc, text)?,
-    })
-}
-
 // The call of this name and its arguments, if there are any. None of the arguments is a text.
 fn plain(name: &str, arguments: Option<&str>) -> Option<Call<'static>>
     ensures ready { IfSome result CanBeMade }
@@ -279,10 +240,6 @@ fn call_with(name: &str, arguments: &str) -> Option<Call<'static>>
         "jump" => {
             let (row, column) = two_short_numbers(arguments)?;
             Some(Call::Move(CursorMove::Jump(row, column)))
-        }
-        "text_range" => {
-            let (from, to) = two_places(arguments)?;
-            Some(Call::TextRange { from, to })
         }
         "page" => Some(Call::Scroll(page_named(arguments)?)),
         "line_numbers" => Some(line_numbers(truth(arguments)?)),
