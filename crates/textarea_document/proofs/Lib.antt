@@ -8,6 +8,9 @@ pub mod ReplacedTexts
 pub mod Betweens
 pub mod Ranges
 pub mod Sounds
+pub mod Changing
+mod ChangeLogs
+mod UnitCounts
 pub mod StepLaw
 pub mod DocumentWraps
 pub mod RangesOverSplices

@@ -35,4 +35,6 @@ mod CursorLine
 pub mod CallWraps
 mod RangesOverCalls
 mod RangesOverRuns
+mod ChangesOverCalls
+mod ChangesOverRuns
 pub mod Runs
