@@ -79,6 +79,16 @@ impl Clone for Document {
 }
 
 impl Document {
+    // Returns a copy with the log of changes.
+    fn copied(&self) -> Result<Document, AllocError>
+        ensures { IfOk result (λ copy. copy ≡ self.now) }
+    {
+        let changes = self.changes.copied()?;
+        let mut copy = self.clone()?;
+        copy.changes = changes;
+        Ok(copy)
+    }
+
     /// Returns a document with these lines, layout settings and maximum of remembered edits, and
     /// the cursor at the start. An empty list becomes one empty line. A line feed inside a line
     /// stays a character of that line.

@@ -38,6 +38,18 @@ impl ChangeLog {
         ChangeLog::new(*self.changes.allocator(), self.unit)
     }
 
+    /// Returns a copy of the log.
+    pub(crate) fn copied(&self) -> Result<ChangeLog, AllocError>
+        ensures { IfOk result (λ copy. changes_of copy ≡ changes_of self.now) }
+    {
+        let alloc = *self.changes.allocator();
+        let changes = copies(alloc, self.changes.as_slice())?;
+        Ok(ChangeLog {
+            unit: self.unit,
+            changes,
+        })
+    }
+
     /// Returns what is to be kept of a change of these lines, and reserves room for it.
     pub(crate) fn prepare(
         &mut self,
@@ -107,6 +119,29 @@ impl ChangeLog {
         let alloc = *self.changes.allocator();
         replace(&mut self.changes, Vec::new(alloc))
     }
+}
+
+// Returns a copy of each change.
+fn copies(alloc: Global, changes: &[TextChange]) -> Result<Vec<TextChange>, AllocError>
+    ensures { IfOk result (λ copies. map change_view copies.items ≡ map change_view changes.now) }
+{
+    let mut copies = Vec::new(alloc);
+    for change in changes {
+        let copy = copy_of(alloc, change)?;
+        copies.push(copy)?;
+    }
+    Ok(copies)
+}
+
+fn copy_of(alloc: Global, change: &TextChange) -> Result<TextChange, AllocError>
+    ensures { IfOk result (λ copy. change_view copy ≡ change_view change.now) }
+{
+    let lines = copy_fragment(alloc, change.lines.as_slice())?;
+    Ok(TextChange {
+        start: change.start,
+        end: change.end,
+        lines,
+    })
 }
 
 // Returns the change of these lines with its columns in the unit.

@@ -62,7 +62,7 @@ impl Document {
             (text_of (arc_value fragment_lines).items) (as_nanos now)) }
     {
         let (start, end) = self.stretch(from, to);
-        let mut copy = self.clone()?;
+        let mut copy = self.copied()?;
         copy.begin_group();
         copy.replace_stretch(start, end, fragment_lines, now)?;
         Ok(self.end_group_of(copy))
@@ -108,7 +108,7 @@ impl Document {
         if stretches.is_empty() {
             return Ok(());
         }
-        let mut copy = self.clone()?;
+        let mut copy = self.copied()?;
         copy.begin_group();
         copy.move_to((0, 0), None);
         copy.replace_each(stretches, fragment_lines, now)?;
@@ -214,12 +214,14 @@ impl Document {
             anchor,
             ranges,
             history,
+            changes,
         } = other;
         self.text_layout = text_layout;
         self.cursor = cursor;
         self.anchor = anchor;
         self.ranges = ranges;
         self.history = history;
+        self.changes = changes;
     }
 }
 
