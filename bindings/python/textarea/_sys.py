@@ -291,6 +291,12 @@ def declare(library):
     library.ta_set_yank_text.restype = c_uint32
     library.ta_set_search_pattern.argtypes = [POINTER(Handle), POINTER(c_uint8), c_size_t]
     library.ta_set_search_pattern.restype = c_uint32
+    library.ta_set_search_text.argtypes = [POINTER(Handle), POINTER(c_uint8), c_size_t, c_bool, c_bool]
+    library.ta_set_search_text.restype = c_uint32
+    library.ta_match_count.argtypes = [POINTER(Handle), POINTER(c_size_t)]
+    library.ta_match_count.restype = c_uint32
+    library.ta_match_index.argtypes = [POINTER(Handle), POINTER(c_size_t)]
+    library.ta_match_index.restype = c_uint32
     library.ta_pattern_error.argtypes = [POINTER(Handle), POINTER(c_uint8), c_size_t, POINTER(c_size_t)]
     library.ta_pattern_error.restype = c_uint32
     library.ta_search_pattern.argtypes = [POINTER(Handle), POINTER(c_uint8), c_size_t, POINTER(c_size_t)]

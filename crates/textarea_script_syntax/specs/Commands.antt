@@ -6,9 +6,9 @@ use Rattle.textarea_data.specs.declared.cursor.CursorMove.TheVariants as move
 use Rattle.textarea_screen.specs.Style.{empty_style}
 use Rattle.textarea_script_syntax.specs.Arguments.{has_space, is_separator, number, page, sides, split_first, truth, two_short_numbers}
 use Rattle.textarea_script_syntax.specs.CallCommands.{call_commands}
-use Rattle.textarea_script_syntax.specs.Escapes.{unescaped_lines}
+use Rattle.textarea_script_syntax.specs.Escapes.{unescaped, unescaped_lines}
 use Rattle.textarea_script_syntax.specs.Inputs.{input_named}
-use Rattle.textarea_script_syntax.specs.Meaning.{Meaning, SetNow, Render, InsertStr, InsertPasted, SetYankText, TrySetAtomicRanges, SetSearchPattern, SetLines, Press, meaning_by, plain_command, with_arguments, with_text}
+use Rattle.textarea_script_syntax.specs.Meaning.{Meaning, SetNow, Render, InsertStr, InsertPasted, SetYankText, TrySetAtomicRanges, SetSearchPattern, SetSearchText, SetLines, Press, meaning_by, plain_command, with_arguments, with_text}
 use Rattle.textarea_script_syntax.specs.Ranges.{ranges_after_space}
 use Rattle.textarea_calls.specs.declared.call.Call.{Call}
 use Rattle.textarea_calls.specs.declared.call.Call.TheVariants as call
@@ -26,6 +26,17 @@ lines_and_place with_text =
 
 abbrev pub set_lines_meaning : Option (List ℕ) → Option Meaning
 set_lines_meaning = with_arguments lines_and_place (λ p. SetLines p.0 p.1)
+
+-- the text and the two options of a `set_search_text`: whether case is ignored, whether whole words
+-- are wanted, and a text, empty by default
+abbrev pub text_and_options : List ℕ → Option (List ℕ × (Bool × Bool))
+text_and_options with_text =
+    option_and_then
+    (λ p. option_zip (unescaped (after_first is_separator p.1)) (option_zip (truth p.0) (truth (before_first is_separator p.1))))
+    (split_first with_text)
+
+abbrev pub search_text_meaning : Option (List ℕ) → Option Meaning
+search_text_meaning = with_arguments text_and_options (λ p. SetSearchText p.0 p.1.0 p.1.1)
 
 -- a command with any number of atomic ranges; there are none where nothing follows the name
 abbrev pub some_ranges : Option (List ℕ) → Option Meaning
@@ -54,6 +65,7 @@ borrowing_commands =
     ∷ (codes "insert_pasted", with_text InsertPasted)
     ∷ (codes "set_yank_text", with_text SetYankText)
     ∷ (codes "set_search_pattern", with_text SetSearchPattern)
+    ∷ (codes "set_search_text", search_text_meaning)
     ∷ (codes "ranges", some_ranges)
     ∷ (codes "set_lines", set_lines_meaning)
     ∷ (codes "input", with_arguments input_named Press)

@@ -22,6 +22,7 @@ mod Targets
 mod FoundPlaces
 mod StaysSound
 mod SoundStates
+mod TextFailures
 mod Cases
 mod WrappedLines
 mod Stepping
