@@ -751,6 +751,27 @@ uint32_t ta_set_yank_text(ta_handle_t *handle, const uint8_t *text, size_t text_
  * empty handle. Where it is not ok, the pattern stays. */
 uint32_t ta_set_search_pattern(ta_handle_t *handle, const uint8_t *pattern, size_t pattern_len);
 
+/** Sets a search pattern that finds the text as it is: each character that has a meaning in the
+ * syntax of patterns is escaped. The empty text removes the pattern. With `ignore_case`, letters
+ * of either case match. With `whole_word`, each end of the text that is a word's character must be
+ * an end of a word.
+ *
+ * Statuses: ok, out of memory, pattern rejected (it is too large), invalid argument (the text is
+ * not UTF-8), empty handle. Where it is not ok, the pattern stays. */
+uint32_t ta_set_search_text(ta_handle_t *handle, const uint8_t *text, size_t text_len, bool ignore_case, bool whole_word);
+
+/** Writes the number of the search pattern's matches in the whole text; 0 without a pattern.
+ *
+ * Statuses: ok, out of memory, empty handle. */
+uint32_t ta_match_count(ta_handle_t *handle, size_t *count);
+
+/** Writes the number, counted from 0 in the order of the text, of the match that starts at the
+ * cursor.
+ *
+ * Statuses: ok, false (no match starts at the cursor, or no pattern is set), out of memory, empty
+ * handle. */
+uint32_t ta_match_index(ta_handle_t *handle, size_t *index);
+
 /** Returns why a pattern was rejected last, in words; empty if none was. `out` gets the first of
  * its bytes, as many as there is room for, and `needed` the number of all.
  *

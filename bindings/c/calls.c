@@ -175,6 +175,13 @@ static void search(void) {
     CHECK(ta_search_pattern(&area, out, 2, &needed) == TA_OK && needed == 3);
     CHECK(ta_set_search_pattern(&area, (const uint8_t *)"\xff", 1) == TA_INVALID_ARGUMENT);
     CHECK(ta_set_search_pattern(&area, TEXT("")) == TA_OK && ta_search_pattern(&area, out, 2, &needed) == TA_FALSE);
+    size_t count = 9, index = 9;
+    CHECK(ta_match_count(&area, &count) == TA_OK && count == 0 && ta_match_index(&area, &index) == TA_FALSE && index == 9);
+    CHECK(ta_set_search_text(&area, TEXT("O"), true, false) == TA_OK);
+    CHECK(ta_match_count(&area, &count) == TA_OK && count == 3 && ta_match_index(&area, &index) == TA_OK && index == 0);
+    CHECK(ta_set_search_text(&area, TEXT("o"), false, true) == TA_OK);
+    CHECK(ta_match_count(&area, &count) == TA_OK && count == 0 && ta_match_index(&area, &index) == TA_FALSE);
+    CHECK(ta_set_search_text(&area, (const uint8_t *)"\xff", 1, false, false) == TA_INVALID_ARGUMENT);
     ta_free(&area);
 }
 

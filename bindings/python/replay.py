@@ -87,6 +87,13 @@ class Replay:
                 area.search_pattern = unescaped(words)
             except PatternRejected:
                 return "pattern"
+        elif name == "set_search_text":
+            ignore_case, whole_word, *text = words.split(" ", 2)
+            area.set_search_text(unescaped(text[0] if text else ""), ignore_case == "true", whole_word == "true")
+        elif name == "match_count":
+            return str(area.match_count)
+        elif name == "match_index":
+            return "none" if area.match_index is None else str(area.match_index)
         elif name == "ranges":
             try:
                 area.atomic_ranges = [Range(*numbers[i:i + 3]) for i in range(0, len(numbers), 3)]

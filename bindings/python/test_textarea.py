@@ -130,6 +130,16 @@ class Calls(unittest.TestCase):
         self.assertEqual(area.search_pattern, "o.e")
         area.search_pattern = None
         self.assertIsNone(area.search_pattern)
+        self.assertEqual((area.match_count, area.match_index), (0, None))
+
+    def test_search_of_a_text(self):
+        area = TextArea("a.b axb\nA.B")
+        area.set_search_text("a.b")
+        self.assertEqual((area.match_count, area.match_index), (1, 0))
+        area.set_search_text("a.b", ignore_case=True, whole_word=True)
+        self.assertTrue(area.match_count == 2 and area.search_forward() and area.match_index == 1)
+        area.set_search_text("")
+        self.assertIsNone(area.search_pattern)
 
     def test_ranges(self):
         area = TextArea("@one two\nthree")

@@ -171,6 +171,25 @@ class TextArea(Calls):
     def search_pattern(self, pattern: Optional[str]) -> None:
         self._call(lib.ta_set_search_pattern, *passed_text(pattern or ""))
 
+    def set_search_text(self, text: str, ignore_case: bool = False, whole_word: bool = False) -> None:
+        """Sets a search pattern that finds the text as it is: each character that has a meaning in
+        the syntax of patterns is escaped. The empty text removes the pattern. With `ignore_case`,
+        letters of either case match. With `whole_word`, each end of the text that is a word's
+        character must be an end of a word."""
+        self._call(lib.ta_set_search_text, *passed_text(text), ignore_case, whole_word)
+
+    @property
+    def match_count(self) -> int:
+        """The number of the search pattern's matches in the whole text; 0 without a pattern."""
+        return self._numbers(ctypes.c_size_t, 1, lib.ta_match_count)[0]
+
+    @property
+    def match_index(self) -> Optional[int]:
+        """The number, counted from 0 in the order of the text, of the match that starts at the
+        cursor; None if none does, and without a pattern."""
+        found = self._numbers(ctypes.c_size_t, 1, lib.ta_match_index)
+        return found and found[0]
+
     # ---- Atomic ranges
 
     @property

@@ -190,6 +190,10 @@ fn searches() {
     assert_eq!(area.search_pattern().unwrap().as_str(), "o.e");
     area.set_search_pattern("").unwrap();
     assert_eq!(area.search_pattern(), None);
+    area.set_search_text("ONE", true, true).unwrap();
+    assert_eq!((area.match_count(), area.match_index()), (2, Some(0)));
+    area.set_search_text("n.", false, false).unwrap();
+    assert_eq!((area.match_count(), area.match_index()), (0, None));
 }
 
 #[test]

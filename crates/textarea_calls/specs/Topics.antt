@@ -75,6 +75,7 @@ call_of_move (move.Scroll scrolling) = call.Scroll scrolling
 
 abbrev pub call_of_search : SearchCall → Call
 call_of_search (search.SetSearchPattern pattern) = call.SetSearchPattern pattern
+call_of_search (search.SetSearchText text ignore_case whole_word) = call.SetSearchText text ignore_case whole_word
 call_of_search (search.SearchForward match_cursor) = call.SearchForward match_cursor
 call_of_search (search.SearchBack match_cursor) = call.SearchBack match_cursor
 
@@ -122,6 +123,8 @@ call_of_read read.Cursor = call.Cursor
 call_of_read read.IsEmpty = call.IsEmpty
 call_of_read read.IsSelecting = call.IsSelecting
 call_of_read read.SelectionRange = call.SelectionRange
+call_of_read read.MatchCount = call.MatchCount
+call_of_read read.MatchIndex = call.MatchIndex
 call_of_read read.YankText = call.YankText
 call_of_read read.MaxHistories = call.MaxHistories
 call_of_read read.UndoCoalescing = call.UndoCoalescing

@@ -89,6 +89,15 @@ pub enum Call<'a> {
     Scroll(Scrolling),
     /// `TextArea::set_search_pattern`
     SetSearchPattern(&'a str),
+    /// `TextArea::set_search_text`
+    SetSearchText {
+        /// The text to find; the empty one removes the pattern.
+        text: &'a str,
+        /// Whether letters of either case match.
+        ignore_case: bool,
+        /// Whether each end of the text that is a word's character must be an end of a word.
+        whole_word: bool,
+    },
     /// `TextArea::search_forward`
     SearchForward(bool),
     /// `TextArea::search_back`
@@ -172,6 +181,10 @@ pub enum Call<'a> {
     IsSelecting,
     /// `TextArea::selection_range`
     SelectionRange,
+    /// `TextArea::match_count`
+    MatchCount,
+    /// `TextArea::match_index`
+    MatchIndex,
     /// `TextArea::yank_text`
     YankText,
     /// `TextArea::max_histories`

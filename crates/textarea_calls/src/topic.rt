@@ -95,6 +95,11 @@ pub enum MoveCall {
 #[derive(Clone, Copy)]
 pub enum SearchCall<'a> {
     SetSearchPattern(&'a str),
+    SetSearchText {
+        text: &'a str,
+        ignore_case: bool,
+        whole_word: bool,
+    },
     SearchForward(bool),
     SearchBack(bool),
 }
@@ -161,6 +166,8 @@ pub enum ReadCall {
     IsEmpty,
     IsSelecting,
     SelectionRange,
+    MatchCount,
+    MatchIndex,
     YankText,
     MaxHistories,
     UndoCoalescing,
@@ -227,6 +234,15 @@ pub fn topic_of(call: Call<'_>) -> Topic<'_>
         Call::GoTo(place) => Topic::Move(MoveCall::GoTo(place)),
         Call::Scroll(scrolling) => Topic::Move(MoveCall::Scroll(scrolling)),
         Call::SetSearchPattern(pattern) => Topic::Search(SearchCall::SetSearchPattern(pattern)),
+        Call::SetSearchText {
+            text,
+            ignore_case,
+            whole_word,
+        } => Topic::Search(SearchCall::SetSearchText {
+            text,
+            ignore_case,
+            whole_word,
+        }),
         Call::SearchForward(match_cursor) => Topic::Search(SearchCall::SearchForward(match_cursor)),
         Call::SearchBack(match_cursor) => Topic::Search(SearchCall::SearchBack(match_cursor)),
         Call::TrySetAtomicRanges(ranges) => Topic::Ranges(RangesCall::TrySetAtomicRanges(ranges)),
@@ -290,6 +306,8 @@ pub fn topic_of(call: Call<'_>) -> Topic<'_>
         Call::IsEmpty => Topic::Read(ReadCall::IsEmpty),
         Call::IsSelecting => Topic::Read(ReadCall::IsSelecting),
         Call::SelectionRange => Topic::Read(ReadCall::SelectionRange),
+        Call::MatchCount => Topic::Read(ReadCall::MatchCount),
+        Call::MatchIndex => Topic::Read(ReadCall::MatchIndex),
         Call::YankText => Topic::Read(ReadCall::YankText),
         Call::MaxHistories => Topic::Read(ReadCall::MaxHistories),
         Call::UndoCoalescing => Topic::Read(ReadCall::UndoCoalescing),

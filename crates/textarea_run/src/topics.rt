@@ -172,6 +172,11 @@ pub(crate) fn search_call(
 {
     match call {
         SearchCall::SetSearchPattern(pattern) => special::set_search_pattern(area, pattern),
+        SearchCall::SetSearchText {
+            text,
+            ignore_case,
+            whole_word,
+        } => special::set_search_text(area, text, ignore_case, whole_word),
         SearchCall::SearchForward(match_cursor) => area
             .search_forward(match_cursor)
             .map(Answer::Flag),
@@ -344,6 +349,8 @@ pub(crate) fn read_call(area: &mut TextArea<'_>, call: ReadCall) -> Result<Answe
         ReadCall::IsEmpty => Ok(Answer::Flag(area.is_empty())),
         ReadCall::IsSelecting => Ok(Answer::Flag(area.is_selecting())),
         ReadCall::SelectionRange => Ok(Answer::Selection(area.selection_range())),
+        ReadCall::MatchCount => area.match_count().map(Answer::Number),
+        ReadCall::MatchIndex => area.match_index().map(Answer::NumberIfAny),
         ReadCall::YankText => area.yank_text().map(Answer::Text),
         ReadCall::MaxHistories => Ok(Answer::Number(area.max_histories())),
         ReadCall::UndoCoalescing => Ok(Answer::Flag(area.undo_coalescing())),

@@ -8,7 +8,7 @@ use Rattle.textarea_script_syntax.specs.Arguments.{both, has_space, is_separator
 use Rattle.textarea_script_syntax.specs.CallCommands.{call_commands}
 use Rattle.textarea_script_syntax.specs.Escapes.{unescaped, unescaped_lines}
 use Rattle.textarea_script_syntax.specs.Inputs.{input_named}
-use Rattle.textarea_script_syntax.specs.Meaning.{Meaning, SetNow, Render, InsertStr, InsertPasted, SetYankText, TrySetAtomicRanges, SetSearchPattern, SetLines, ReplaceRange, ReplaceMatch, ReplaceAll, Press, meaning_by, plain_command, with_arguments, with_text}
+use Rattle.textarea_script_syntax.specs.Meaning.{Meaning, SetNow, Render, InsertStr, InsertPasted, SetYankText, TrySetAtomicRanges, SetSearchPattern, SetLines, ReplaceRange, ReplaceMatch, ReplaceAll, Press, meaning_by, plain_command, with_arguments, with_text, SetSearchText}
 use Rattle.textarea_script_syntax.specs.Ranges.{ranges_after_space}
 use Rattle.textarea_calls.specs.declared.call.Call.{Call}
 use Rattle.textarea_calls.specs.declared.call.Call.TheVariants as call
@@ -39,6 +39,16 @@ places_and_text = both number (both number (both number number_and_text))
 abbrev pub replace_range_meaning : Option (List ℕ) → Option Meaning
 replace_range_meaning =
     with_arguments places_and_text (λ p. ReplaceRange (p.0, p.1.0) (p.1.1.0, p.1.1.1.0) p.1.1.1.1)
+-- the text and the two options of a `set_search_text`: whether case is ignored, whether whole words
+-- are wanted, and a text, empty by default
+abbrev pub text_and_options : List ℕ → Option (List ℕ × (Bool × Bool))
+text_and_options with_text =
+    option_and_then
+    (λ p. option_zip (unescaped (after_first is_separator p.1)) (option_zip (truth p.0) (truth (before_first is_separator p.1))))
+    (split_first with_text)
+
+abbrev pub search_text_meaning : Option (List ℕ) → Option Meaning
+search_text_meaning = with_arguments text_and_options (λ p. SetSearchText p.0 p.1.0 p.1.1)
 
 -- a command with any number of atomic ranges; there are none where nothing follows the name
 abbrev pub some_ranges : Option (List ℕ) → Option Meaning
@@ -68,6 +78,7 @@ borrowing_commands =
     ∷ (codes "insert_pasted", with_text InsertPasted)
     ∷ (codes "set_yank_text", with_text SetYankText)
     ∷ (codes "set_search_pattern", with_text SetSearchPattern)
+    ∷ (codes "set_search_text", search_text_meaning)
     ∷ (codes "ranges", some_ranges)
     ∷ (codes "set_lines", set_lines_meaning)
     ∷ (codes "replace_range", replace_range_meaning)

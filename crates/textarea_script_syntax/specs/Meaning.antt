@@ -1,5 +1,5 @@
 -- The meaning of a script's line, and how a name and its arguments give it.
-use Rattle.std.specs.Prelude.{ℕ, List, [], ◌∷◌, unwrap_or, Option, Some, None, option_map, option_and_then}
+use Rattle.std.specs.Prelude.{ℕ, Bool, List, [], ◌∷◌, unwrap_or, Option, Some, None, option_map, option_and_then}
 use Rattle.textarea_data.specs.declared.input.Input.{Input}
 use Rattle.textarea_data.specs.declared.range.AtomicRange.{AtomicRange}
 use Rattle.textarea_script_syntax.specs.Arguments.{Sides, named}
@@ -18,6 +18,7 @@ pub data Meaning : Type 0 where
   SetYankText : List ℕ → Meaning
   TrySetAtomicRanges : List AtomicRange → Meaning
   SetSearchPattern : List ℕ → Meaning
+  SetSearchText : List ℕ → Bool → Bool → Meaning
   SetLines : List (List ℕ) → ℕ × ℕ → Meaning
   ReplaceRange : ℕ × ℕ → ℕ × ℕ → List ℕ → Meaning
   ReplaceMatch : List ℕ → Meaning

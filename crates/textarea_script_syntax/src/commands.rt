@@ -2,7 +2,7 @@
 ghost use Rattle.std.specs.Prelude.{◌≡◌, ◌+◌, All, IfOk, IfErr, IfSome, map, option_and_then, option_copied, option_map, string_bytes, vec_len};
 ghost use Rattle.textarea_script_syntax.specs.Arguments.{IsReadAs};
 ghost use Rattle.textarea_calls.specs.Possible.{CanBeMade};
-ghost use Rattle.textarea_script_syntax.specs.Commands.{line_meaning, line_numbers, command_meaning, plain_meaning, replace_range_meaning, set_lines_meaning};
+ghost use Rattle.textarea_script_syntax.specs.Commands.{line_meaning, line_numbers, command_meaning, plain_meaning, replace_range_meaning, set_lines_meaning, search_text_meaning};
 ghost use Rattle.textarea_script_syntax.specs.Inputs.{input_named};
 ghost use Rattle.textarea_script_syntax.specs.Meaning.{argument_text};
 ghost use Rattle.textarea_script_syntax.specs.Ranges.{ranges_after_space};
@@ -59,6 +59,11 @@ enum CommandContent {
     SetYankText(String),
     TrySetAtomicRanges(Vec<AtomicRange>),
     SetSearchPattern(String),
+    SetSearchText {
+        text: String,
+        ignore_case: bool,
+        whole_word: bool,
+    },
     SetLines {
         lines: Vec<String>,
         cursor: (usize, usize),
@@ -85,6 +90,15 @@ impl Command {
             CommandContent::InsertPasted(text) => Call::InsertPasted(text.as_str()),
             CommandContent::SetYankText(text) => Call::SetYankText(text.as_str()),
             CommandContent::SetSearchPattern(text) => Call::SetSearchPattern(text.as_str()),
+            CommandContent::SetSearchText {
+                text,
+                ignore_case,
+                whole_word,
+            } => Call::SetSearchText {
+                text: text.as_str(),
+                ignore_case: *ignore_case,
+                whole_word: *whole_word,
+            },
             CommandContent::TrySetAtomicRanges(ranges) => Call::TrySetAtomicRanges(
                 ranges.as_slice(),
             ),
@@ -179,6 +193,7 @@ fn content_named(
         "insert_pasted" => Ok(CommandContent::InsertPasted(text(alloc, arguments)?)),
         "set_yank_text" => Ok(CommandContent::SetYankText(text(alloc, arguments)?)),
         "set_search_pattern" => Ok(CommandContent::SetSearchPattern(text(alloc, arguments)?)),
+        "set_search_text" => search_text(alloc, arguments),
         "ranges" => Ok(CommandContent::TrySetAtomicRanges(some_ranges(alloc, arguments)?)),
         "set_lines" => set_lines(alloc, arguments),
         "replace_range" => replace_range(alloc, arguments),
@@ -194,6 +209,23 @@ fn text(alloc: Global, arguments: Option<&str>) -> Result<String, Unparsed>
     ensures { IsReadAs string_bytes (argument_text (option_copied arguments.entry)) result }
 {
     unescape(alloc, arguments.unwrap_or(""))
+}
+
+// A `set_search_text` with these arguments: two truth values, and a text, which may be missing.
+fn search_text(alloc: Global, arguments: Option<&str>) -> Result<CommandContent, Unparsed>
+    ensures ready { IfOk result IsCallReady }
+    ensures means { IsReadAs meaning_of (search_text_meaning (option_copied arguments.entry))
+        result }
+{
+    let (ignore_case, rest) = split_first(arguments.unwrap_or("")).ok_or(Unparsed::NoCommand)?;
+    let (whole_word, text) = split_first(rest).unwrap_or((rest, ""));
+    let ignore_case = truth(ignore_case).ok_or(Unparsed::NoCommand)?;
+    let whole_word = truth(whole_word).ok_or(Unparsed::NoCommand)?;
+    Ok(CommandContent::SetSearchText {
+        text: unescape(alloc, text)?,
+        ignore_case,
+        whole_word,
+    })
 }
 
 // The ranges that the arguments name. There are none where there are no arguments.

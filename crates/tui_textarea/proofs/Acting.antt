@@ -11,6 +11,7 @@ use Rattle.textarea_data.specs.declared.cursor.CursorMove.TheVariants as move
 use Rattle.textarea_data.specs.declared.range.AtomicCursorBias.TheVariants.{Forward as BiasForward}
 use Rattle.textarea_ranges.specs.Lookup.{moved_out}
 use Rattle.textarea_ranges.proofs.LookupLemmas.{IsPlaceOf-moved_out}
+use Rattle.textarea_search.specs.PlainTexts.{text_pattern}
 use Rattle.textarea_search.specs.declared.search.direction.Direction.TheVariants as toward
 use Rattle.textarea_text.specs.Between.{clip}
 use Rattle.textarea_text.specs.Fragment.{fragment_symbols, pasted_symbols}
@@ -227,6 +228,8 @@ module _ (By Own : Fact) (by : Reckoning By) (past : Past Own) where
   calls_by old new (call.Scroll scrolling) returned h k = acts_by old new (action.Scroll scrolling) h k
   calls_by old new (call.SetSearchPattern text) returned h k =
       by.none old.document new.document (ap (λ (s : State). layout_and_ranges s.document) k ∙ pattern_unchanged old text.now returned)
+  calls_by old new (call.SetSearchText text ignore_case whole_word) returned h k =
+      by.none old.document new.document (ap (λ (s : State). layout_and_ranges s.document) k ∙ pattern_unchanged old (text_pattern text.now ignore_case whole_word) returned)
   calls_by old new (call.Render area) returned h k = tt
   calls_by old new made returned h k = as_outcome (ByState By Own made) old new (state_after old made) (splices_of old made) k (by_state old made h).0
 

@@ -24,6 +24,7 @@ mod Targets
 mod FoundPlaces
 mod StaysSound
 mod SoundStates
+mod TextFailures
 mod Cases
 mod WrappedLines
 mod Stepping

@@ -36,7 +36,7 @@ use Rattle.tui_textarea.specs.Drawing.{highlighted, unhighlighted, with_look_set
 use Rattle.tui_textarea.specs.LayoutCalls.{alignment_set, mode_set, number_style, line_numbers_set, keeps_layout, tab_length, tab_length_set, with_alignment, with_line_numbers, with_tab_length, with_wrap_mode, without_line_numbers}
 use Rattle.tui_textarea.specs.Moves.{gone_to}
 use Rattle.tui_textarea.specs.Measure.{reads_rows, with_surround}
-use Rattle.tui_textarea.specs.Search.{next_match, previous_match, after_search, with_pattern}
+use Rattle.tui_textarea.specs.Search.{match_count, match_index, next_match, previous_match, after_search, with_pattern, with_search_text}
 use Rattle.tui_textarea.specs.Patterns.{IsNewPattern}
 use Rattle.tui_textarea.specs.Ranges.{cursor_normalized, atomic_range_removed, ranges_accepted, ranges_cleared}
 use Rattle.tui_textarea.specs.CallResults as reported
@@ -85,6 +85,8 @@ result_of_call state (call.AtomicRangeAtCursor direction) = Range (range_at_curs
 result_of_call state (call.DeleteAtomicRangeAtCursor direction) = Range (range_at_cursor state.document direction)
 result_of_call state (call.SearchForward at_cursor) = Flag (is_some (next_match state at_cursor))
 result_of_call state (call.SearchBack at_cursor) = Flag (is_some (previous_match state at_cursor))
+result_of_call state call.MatchCount = reported.Number (match_count state)
+result_of_call state call.MatchIndex = reported.NumberIfAny (match_index state)
 result_of_call state call.Style = reported.Style state.drawing.look.style
 result_of_call state call.CursorStyle = reported.Style state.drawing.look.cursor_style
 result_of_call state call.CursorLineStyle = reported.Style state.drawing.look.cursor_line_style
@@ -147,6 +149,7 @@ state_after state (call.AtomicRangeAtCursor direction) = state
 state_after state (call.DeleteAtomicRangeAtCursor direction) = atomic_range_removed state direction
 state_after state (call.SetLines lines cursor) = with_lines state lines.now cursor
 state_after state (call.SetSearchPattern text) = with_pattern state text.now
+state_after state (call.SetSearchText text ignore_case whole_word) = with_search_text state text.now ignore_case whole_word
 state_after state (call.SearchForward at_cursor) = after_search state (next_match state at_cursor)
 state_after state (call.SearchBack at_cursor) = after_search state (previous_match state at_cursor)
 state_after state (call.GoTo place) = gone_to state place
@@ -247,8 +250,11 @@ NeedsMemory state (call.TrySetAtomicRanges ranges) = Unit {0}
 NeedsMemory state (call.DeleteAtomicRangeAtCursor direction) = range_at_cursor state.document direction ≢ None
 NeedsMemory state (call.SetLines lines cursor) = Unit {0}
 NeedsMemory state (call.SetSearchPattern text) = IsNewPattern state text.now
+NeedsMemory state (call.SetSearchText text ignore_case whole_word) = text.now ≢ []
 NeedsMemory state (call.SearchForward at_cursor) = state.pattern ≢ None
 NeedsMemory state (call.SearchBack at_cursor) = state.pattern ≢ None
+NeedsMemory state call.MatchCount = state.pattern ≢ None
+NeedsMemory state call.MatchIndex = state.pattern ≢ None
 NeedsMemory state (call.SetTabLength columns) = keeps_layout state (tab_length_set state columns) ≢ true
 NeedsMemory state (call.SetWrapMode mode) = keeps_layout state (mode_set state mode) ≢ true
 NeedsMemory state (call.SetLineNumberStyle style) = keeps_layout state (line_numbers_set state true) ≢ true
