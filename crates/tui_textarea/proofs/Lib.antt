@@ -25,6 +25,7 @@ mod SoundStates
 mod Cases
 mod WrappedLines
 mod Stepping
+mod Replacing
 mod RangesOverActions
 mod Lifted
 mod Unedited
