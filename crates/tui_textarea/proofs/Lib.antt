@@ -28,6 +28,7 @@ mod TextFailures
 mod Cases
 mod WrappedLines
 mod Stepping
+mod Replacing
 mod RangesOverActions
 mod Lifted
 mod Unedited

@@ -109,7 +109,7 @@ module _ (By : DocumentState → List Splice → DocumentState → Type 0) (by :
   unanchored_by : (document : DocumentState) → IsSound document → Sound document [] (unanchored document)
   unanchored_by document h = kept document (unanchored document) refl (sound_unanchored document h)
 
-  between_by : (document : DocumentState) (from to : Place) (now : ℕ) → IsSound document → HasEffect document (Remove from to)
+  pub between_by : (document : DocumentState) (from to : Place) (now : ℕ) → IsSound document → HasEffect document (Remove from to)
       → Sound document (removal_splices document from to) (between_removed document from to now)
   unfolding between_removed
   between_by document from to now h made = step_by document (Remove from to) false now h made
@@ -253,7 +253,7 @@ module _ (By : DocumentState → List Splice → DocumentState → Type 0) (by :
 
   -- ---- insertions
 
-  symbols_by : (document : DocumentState) (symbols : List Symbol) (now : ℕ) → IsSound document
+  pub symbols_by : (document : DocumentState) (symbols : List Symbol) (now : ℕ) → IsSound document
       → Sound document (insertion_splices document symbols) (symbols_inserted document symbols now)
   symbols_by document [] now h =
       kept document (nothing_inserted document) refl

@@ -14,6 +14,7 @@ mod past;
 mod ranges;
 mod removals;
 mod render;
+mod replacing;
 mod search;
 mod selection;
 pub mod settings;
