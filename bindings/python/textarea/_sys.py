@@ -223,6 +223,10 @@ def declare(library):
     library.ta_insert_tab.restype = c_uint32
     library.ta_paste.argtypes = [POINTER(Handle)]
     library.ta_paste.restype = c_uint32
+    library.ta_text_range.argtypes = [POINTER(Handle), c_size_t, c_size_t, c_size_t, c_size_t, POINTER(c_uint8), c_size_t, POINTER(c_size_t)]
+    library.ta_text_range.restype = c_uint32
+    library.ta_replace_range.argtypes = [POINTER(Handle), c_size_t, c_size_t, c_size_t, c_size_t, POINTER(c_uint8), c_size_t]
+    library.ta_replace_range.restype = c_uint32
     library.ta_delete_char.argtypes = [POINTER(Handle)]
     library.ta_delete_char.restype = c_uint32
     library.ta_delete_next_char.argtypes = [POINTER(Handle)]
