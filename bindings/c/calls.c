@@ -77,6 +77,19 @@ static void edits(void) {
     ta_free(&area);
 }
 
+static void replacements(void) {
+    ta_handle_t area = area_of("one two\nthree");
+    uint8_t out[8];
+    size_t needed = 0;
+    CHECK(ta_text_range(&area, 1, 2, 0, 5, out, sizeof out, &needed) == TA_OK && needed == 5);
+    CHECK(memcmp(out, "wo\nth", 5) == 0);
+    CHECK(ta_replace_range(&area, 9, 9, 0, 4, TEXT("2\n3")) == TA_OK && has_lines(&area, "one 2\n3"));
+    CHECK(has_cursor(&area, 1, 1) && ta_undo(&area) == TA_OK && has_lines(&area, "one two\nthree"));
+    CHECK(ta_replace_range(&area, 0, 1, 0, 1, TEXT("")) == TA_FALSE && has_cursor(&area, 0, 1));
+    CHECK(ta_replace_range(&area, 0, 0, 0, 1, (const uint8_t *)"\xff", 1) == TA_INVALID_ARGUMENT);
+    ta_free(&area);
+}
+
 static void removals(void) {
     ta_handle_t area = area_of("one two\nthree\nfour");
     CHECK(ta_delete_char(&area) == TA_FALSE && ta_delete_newline(&area) == TA_FALSE);
@@ -380,6 +393,7 @@ int main(void) {
     handles();
     lines();
     edits();
+    replacements();
     removals();
     moves();
     selection();

@@ -39,6 +39,12 @@ static const ta_area_t place = {1, 1, 12, 5};
 static uint32_t made(ta_handle_t *a) { return ta_new(a); }
 static uint32_t loaded(ta_handle_t *a) { return ta_from_text(a, TEXT("one\ntwo\n")); }
 static uint32_t pasted_in(ta_handle_t *a) { return ta_insert_pasted(a, TEXT("a\rb\r\nc")); }
+static uint32_t replaced(ta_handle_t *a) { return ta_replace_range(a, 0, 1, 1, 0, TEXT("x\ny")); }
+static uint32_t part(ta_handle_t *a) {
+    uint8_t out[4];
+    size_t needed;
+    return ta_text_range(a, 1, 1, 0, 1, out, 4, &needed);
+}
 static uint32_t whole(ta_handle_t *a) {
     uint8_t out[4];
     size_t needed;
@@ -150,7 +156,7 @@ static uint32_t (*const steps[])(ta_handle_t *) = {
     to_end,  undone,  undone,   ranges,  bad_ranges, next_char, undone,      pattern, wrong, found,
     counted, plain_text, counted,
     block,   placeholder, styled, highlight, drawn, long_cell,  measured,    yank,   pasted, cloned,
-    key,     lines,   key,      drawn,   cleared,   drawn,     loaded,      whole,  pasted_in, cloned,
+    key,     lines,   key,      drawn,   cleared,   drawn,     loaded,      whole,  pasted_in, replaced, part, cloned,
     terminal_made, fed, taken, idle, screen, drawn, painted, typed, drawn, painted,
     resized, painted, fed, terminal_made, fed, painted, made, typed,
     shaped,  titled,

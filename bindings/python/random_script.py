@@ -49,6 +49,8 @@ def command(r):
         lambda: f"go_to {small()} {small()}",
         lambda: f"insert_pasted {pick(TEXTS)}",
         lambda: "text",
+        lambda: f"text_range {small()} {small()} {small()} {small()}",
+        lambda: f"replace_range {small()} {small()} {small()} {small()} {pick(TEXTS)}",
         lambda: f"scroll {r.randrange(-4, 5)} {r.randrange(-2, 3)}",
         lambda: f"page {pick(['PageDown', 'PageUp', 'HalfPageDown', 'HalfPageUp'])}",
         lambda: f"set_search_pattern {pick(PATTERNS)}",

@@ -80,6 +80,12 @@ class Replay:
             return "text " + escaped(area.text)
         elif name == "yank_text":
             return "text " + escaped(area.yank_text)
+        elif name == "text_range":
+            return "text " + escaped(area.text_range(tuple(numbers[:2]), tuple(numbers[2:])))
+        elif name == "replace_range":
+            *places, text = (words + " ").split(" ", 4)
+            row, column, end_row, end_column = map(int, places)
+            return truth(area.replace_range((row, column), (end_row, end_column), unescaped(text.removesuffix(" "))))
         elif name == "set_yank_text":
             area.yank_text = unescaped(words)
         elif name == "set_search_pattern":

@@ -36,6 +36,15 @@ class Calls(unittest.TestCase):
         with self.assertRaises(ValueError):
             area.set_lines([])
 
+    def test_replacements(self):
+        area = TextArea.from_text("one two\nthree")
+        self.assertEqual(area.text_range((1, 2), (0, 5)), "wo\nth")
+        self.assertTrue(area.replace_range((9, 9), (0, 4), "2\n3"))
+        self.assertEqual((area.lines, area.cursor), (["one 2", "3"], (1, 1)))
+        self.assertTrue(area.undo())
+        self.assertEqual(area.lines, ["one two", "three"])
+        self.assertFalse(area.replace_range((0, 1), (0, 1), ""))
+
     def test_edits(self):
         area = TextArea()
         area.insert_char("a")

@@ -72,6 +72,11 @@ class TextArea(Calls):
         """The lines, with a line feed between two."""
         return self._text(lib.ta_text)
 
+    def text_range(self, start: Tuple[int, int], end: Tuple[int, int]) -> str:
+        """The text between two positions, in either order, with a line feed for each line break.
+        Positions beyond the text count as the nearest ones in it."""
+        return self._text(lib.ta_text_range, *start, *end)
+
     def line(self, row: int) -> Optional[str]:
         """The line of this row, or None if there is none."""
         return self._text_if_any(lib.ta_line, row)
@@ -100,6 +105,12 @@ class TextArea(Calls):
         return and line feed breaks the line. Returns whether it inserted something or removed a
         selection."""
         return self._edit(lib.ta_insert_pasted, *passed_text(text))
+
+    def replace_range(self, start: Tuple[int, int], end: Tuple[int, int], text: str) -> bool:
+        """Replaces the text between two positions, in either order, by this one; one undo takes both
+        back. Returns whether it removed or inserted something. Positions beyond the text count as
+        the nearest ones in it. Atomic ranges that the replaced text overlaps are removed."""
+        return self._edit(lib.ta_replace_range, *start, *end, *passed_text(text))
 
     def input(self, input: Input) -> bool:
         """Makes the call that the key table with shortcuts has for the input. Returns whether the

@@ -144,6 +144,12 @@ Searches found area status a b =
     (status < 2 → b ≡ with_area a area) × (2 ≤ status → (status ≡ 2) × (b ≡ a) × (a.area.pattern ≢ None))
     × (status ≡ 0 → found ≡ true) × (status ≡ 1 → found ≡ false)
 
+-- a replacement: the status says whether there was something to do; out of memory nothing changes
+abbrev pub Replaces : Bool → State → ℕ → Editor → Editor → Type 0
+Replaces found area status a b =
+    (status < 2 → b ≡ with_area a area) × (2 ≤ status → (status ≡ 2) × (b ≡ a))
+    × (status ≡ 0 → found ≡ true) × (status ≡ 1 → found ≡ false)
+
 -- setting a pattern: a rejected one leaves the text area, and its error is stored; the empty and the
 -- present one are always set
 abbrev pub Patterns : List ℕ → ℕ → Editor → Editor → Type 0

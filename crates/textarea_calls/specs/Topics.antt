@@ -36,6 +36,7 @@ call_of_insert (insert.InsertPasted text) = call.InsertPasted text
 call_of_insert insert.InsertTab = call.InsertTab
 call_of_insert insert.Paste = call.Paste
 call_of_insert insert.DuplicateLine = call.DuplicateLine
+call_of_insert (insert.ReplaceRange from to text) = call.ReplaceRange from to text
 call_of_insert (insert.SetLines lines cursor) = call.SetLines lines cursor
 
 abbrev pub call_of_remove : RemoveCall → Call
@@ -119,6 +120,7 @@ call_of_keys (keys.InputWithoutShortcuts input) = call.InputWithoutShortcuts inp
 
 abbrev pub call_of_read : ReadCall → Call
 call_of_read read.Text = call.Text
+call_of_read (read.TextRange from to) = call.TextRange from to
 call_of_read read.Cursor = call.Cursor
 call_of_read read.IsEmpty = call.IsEmpty
 call_of_read read.IsSelecting = call.IsSelecting

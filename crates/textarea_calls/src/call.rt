@@ -26,6 +26,15 @@ pub enum Call<'a> {
     Paste,
     /// `TextArea::duplicate_line`
     DuplicateLine,
+    /// `TextArea::replace_range`
+    ReplaceRange {
+        /// The one end of the text that is replaced (row, column).
+        from: (usize, usize),
+        /// The other end; the two may be in either order.
+        to: (usize, usize),
+        /// What replaces it.
+        text: &'a str,
+    },
     /// `TextArea::set_lines`, with a copy of these lines; there is at least one
     SetLines {
         /// The lines that are copied.
@@ -173,6 +182,13 @@ pub enum Call<'a> {
     InputWithoutShortcuts(&'a Input),
     /// `TextArea::text`
     Text,
+    /// `TextArea::text_range`
+    TextRange {
+        /// The one end of the text (row, column).
+        from: (usize, usize),
+        /// The other end; the two may be in either order.
+        to: (usize, usize),
+    },
     /// `TextArea::cursor`
     Cursor,
     /// `TextArea::is_empty`

@@ -38,6 +38,11 @@ pub enum InsertCall<'a> {
     InsertTab,
     Paste,
     DuplicateLine,
+    ReplaceRange {
+        from: (usize, usize),
+        to: (usize, usize),
+        text: &'a str,
+    },
     SetLines {
         lines: &'a [String],
         cursor: (usize, usize),
@@ -162,6 +167,10 @@ pub enum KeysCall<'a> {
 #[derive(Clone, Copy)]
 pub enum ReadCall {
     Text,
+    TextRange {
+        from: (usize, usize),
+        to: (usize, usize),
+    },
     Cursor,
     IsEmpty,
     IsSelecting,
@@ -205,6 +214,11 @@ pub fn topic_of(call: Call<'_>) -> Topic<'_>
         Call::InsertTab => Topic::Insert(InsertCall::InsertTab),
         Call::Paste => Topic::Insert(InsertCall::Paste),
         Call::DuplicateLine => Topic::Insert(InsertCall::DuplicateLine),
+        Call::ReplaceRange { from, to, text } => Topic::Insert(InsertCall::ReplaceRange {
+            from,
+            to,
+            text,
+        }),
         Call::SetLines { lines, cursor } => Topic::Insert(InsertCall::SetLines { lines, cursor }),
         Call::DeleteChar => Topic::Remove(RemoveCall::DeleteChar),
         Call::DeleteNextChar => Topic::Remove(RemoveCall::DeleteNextChar),
@@ -302,6 +316,7 @@ pub fn topic_of(call: Call<'_>) -> Topic<'_>
         Call::Input(input) => Topic::Keys(KeysCall::Input(input)),
         Call::InputWithoutShortcuts(input) => Topic::Keys(KeysCall::InputWithoutShortcuts(input)),
         Call::Text => Topic::Read(ReadCall::Text),
+        Call::TextRange { from, to } => Topic::Read(ReadCall::TextRange { from, to }),
         Call::Cursor => Topic::Read(ReadCall::Cursor),
         Call::IsEmpty => Topic::Read(ReadCall::IsEmpty),
         Call::IsSelecting => Topic::Read(ReadCall::IsSelecting),

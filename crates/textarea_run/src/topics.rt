@@ -36,6 +36,9 @@ pub(crate) fn insert_call(
         InsertCall::InsertTab => area.insert_tab().map(Answer::Flag),
         InsertCall::Paste => area.paste().map(Answer::Flag),
         InsertCall::DuplicateLine => area.duplicate_line().map(|()| Answer::Done),
+        InsertCall::ReplaceRange { from, to, text } => area
+            .replace_range(from, to, text)
+            .map(Answer::Flag),
         InsertCall::SetLines { lines, cursor } => {
             special::set_lines(area, lines, cursor).map(|()| Answer::Done)
         }
@@ -345,6 +348,7 @@ pub(crate) fn read_call(area: &mut TextArea<'_>, call: ReadCall) -> Result<Answe
 {
     match call {
         ReadCall::Text => area.text().map(Answer::Text),
+        ReadCall::TextRange { from, to } => area.text_range(from, to).map(Answer::Text),
         ReadCall::Cursor => Ok(Answer::Cursor(area.cursor())),
         ReadCall::IsEmpty => Ok(Answer::Flag(area.is_empty())),
         ReadCall::IsSelecting => Ok(Answer::Flag(area.is_selecting())),

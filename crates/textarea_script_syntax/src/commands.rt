@@ -10,8 +10,8 @@ ghost use Rattle.textarea_script_syntax.specs.Script.{lines_of_script, filled_li
 ghost use Rattle.textarea_script_syntax.specs.declared.commands.CommandContent.TheVariants.{Plain};
 
 use crate::arguments::{
-    Unparsed, area, input_named, number, page_named, ranges, size, split_first, truth,
-    two_places, two_short_numbers, unescape, unescaped_lines,
+    Unparsed, area, input_named, number, page_named, ranges, size, split_first, truth, two_places,
+    two_short_numbers, unescape, unescaped_lines,
 };
 use crate::call_commands::{call_with_arguments, call_without_arguments};
 use std::alloc::{AllocError, AllocFailed, Global};
@@ -73,8 +73,6 @@ enum CommandContent {
         to: (usize, usize),
         text: String,
     },
-    ReplaceMatch(String),
-    ReplaceAll(String),
     Input(Input),
 }
 
@@ -111,8 +109,6 @@ impl Command {
                 to: *to,
                 text: text.as_str(),
             },
-            CommandContent::ReplaceMatch(text) => Call::ReplaceMatch(text.as_str()),
-            CommandContent::ReplaceAll(text) => Call::ReplaceAll(text.as_str()),
             CommandContent::Input(input) => Call::Input(input),
         }
     }
@@ -197,8 +193,6 @@ fn content_named(
         "ranges" => Ok(CommandContent::TrySetAtomicRanges(some_ranges(alloc, arguments)?)),
         "set_lines" => set_lines(alloc, arguments),
         "replace_range" => replace_range(alloc, arguments),
-        "replace_match" => Ok(CommandContent::ReplaceMatch(text(alloc, arguments)?)),
-        "replace_all" => Ok(CommandContent::ReplaceAll(text(alloc, arguments)?)),
         "input" => Ok(CommandContent::Input(input(arguments).ok_or(Unparsed::NoCommand)?)),
         _ => Ok(CommandContent::Plain(plain(name, arguments).ok_or(Unparsed::NoCommand)?)),
     }

@@ -41,6 +41,7 @@ use Rattle.tui_textarea.specs.Search.{after_search, next_match, previous_match}
 use Rattle.tui_textarea.specs.Selection.{IsInsertOutOfMemory, unselected}
 use Rattle.tui_textarea.specs.State.{State}
 use Rattle.tui_textarea.proofs.FoundPlaces.{match_is_place}
+use Rattle.tui_textarea.proofs.Replacing.{range_by}
 use Rattle.tui_textarea.proofs.SoundStates.{sound_at, sound_cursor, sound_from, sound_goes, sound_ranges, sound_search, sound_settings, sound_unanchored}
 use Rattle.textarea_document.proofs.UndoGroups.{sound_redo, sound_undo}
 use Rattle.tui_textarea.proofs.Stepping.{Reckoning, after_by, ahead_by, before_by, break_by, char_by, cleared_by, copied_by, cursor_range_by, cut_by, edited, kept, moved}
@@ -136,6 +137,7 @@ module _ (By Own : Fact) (by : Reckoning By) (past : Past Own) where
       let once = edited By by document (selection_duplication document) false old.time h fits (duplication_splits_none document h) in
       given _ (moved By by document (after_edit document (selection_duplication document) false old.time) (lines_duplicated document old.time) (selection_duplication document ∷ []) refl
       (sound_duplicated document old.time h) once)
+  by_state old (call.ReplaceRange from to text) h = given _ (range_by By by old.document from to (fragment_symbols (chars text.now)) old.time h)
   by_state old (call.DeleteStr count) h = given _ (unselected_by By by old (symbols_ahead_removed old count) _ h (ahead_by By by old count h))
   by_state old call.DeleteNewline h = given _ (unselected_by By by old (break_before_removed old) _ h (break_by By by old.document old.time h))
   by_state old call.DeleteChar h =

@@ -80,6 +80,30 @@ impl<'a> TextArea<'a> {
         Ok(text.unwrap_or_default())
     }
 
+    /// Returns the text between two positions, in either order, with a line feed for each line
+    /// break. Positions beyond the text count as the nearest ones in it.
+    ///
+    /// ```
+    /// use tui_textarea::TextArea;
+    ///
+    /// assert_eq!(TextArea::from(["one", "two"]).text_range((0, 2), (1, 1)), "e\nt");
+    /// ```
+    pub fn text_range(&self, from: (usize, usize), to: (usize, usize)) -> String {
+        must(self.try_text_range(from, to))
+    }
+
+    /// As `text_range`, but returns that memory ran out.
+    pub fn try_text_range(
+        &self,
+        from: (usize, usize),
+        to: (usize, usize),
+    ) -> Result<String, OutOfMemory> {
+        let text = self.core.text(|h, out, room, needed| unsafe {
+            sys::ta_text_range(h, from.0, from.1, to.0, to.1, out, room, needed)
+        })?;
+        Ok(text.unwrap_or_default())
+    }
+
     /// Returns the lines, at least one.
     ///
     /// ```
