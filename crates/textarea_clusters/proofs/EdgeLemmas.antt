@@ -9,42 +9,42 @@ use Rattle.std.proofs.lemmas.Str.{IsUtf8-drop, IsUtf8-take, chars-append, chars-
 use Rattle.textarea_text.proofs.Columns.{offset_in, IsCharBoundary-column, chars-drop, chars-take}
 use Rattle.unicode_segmentation.specs.Grapheme.{is_grapheme_break}
 use Rattle.unicode_segmentation.specs.Segments.{breaks_at, chars_before}
-use Rattle.textarea_clusters.specs.Edges.{HasNoBreak, is_edge, edge_ahead, edge_back, first_edge}
+use Rattle.textarea_clusters.specs.Edges.{HasNoBreak, is_cluster_edge, edge_ahead, edge_back, first_edge}
 
 -- ---- which edge it is
 
-pub edge_back_is : (line : List ℕ) (column edge : ℕ) → edge ≤ column → is_edge line edge ≡ true
-    → ((k : ℕ) → edge < k → k ≤ column → is_edge line k ≡ false) → edge ≡ edge_back line column
+pub edge_back_is : (line : List ℕ) (column edge : ℕ) → edge ≤ column → is_cluster_edge line edge ≡ true
+    → ((k : ℕ) → edge < k → k ≤ column → is_cluster_edge line k ≡ false) → edge ≡ edge_back line column
 unfolding edge_back
 edge_back_is line zero edge le is none = omega (arith, le)
 edge_back_is line (suc column) edge le is none =
-    by (is_edge line (suc column)) refl (cases_lt edge (suc column)) (λ below. edge_back_is line column edge (omega (arith, below)) is (λ k more within. none k more (omega (arith, within))))
+    by (is_cluster_edge line (suc column)) refl (cases_lt edge (suc column)) (λ below. edge_back_is line column edge (omega (arith, below)) is (λ k more within. none k more (omega (arith, within))))
   where
-    by : (b : Bool) → is_edge line (suc column) ≡ b → (edge < suc column) ⊎ (suc column ≤ edge) → (edge < suc column → edge ≡ edge_back line column) → edge ≡ (if b then suc column else edge_back line column)
+    by : (b : Bool) → is_cluster_edge line (suc column) ≡ b → (edge < suc column) ⊎ (suc column ≤ edge) → (edge < suc column → edge ≡ edge_back line column) → edge ≡ (if b then suc column else edge_back line column)
     by true e (inl below) earlier = absurd (false≢true (sym (none (suc column) below (omega arith)) ∙ e))
     by true e (inr above) earlier = omega (arith, le, above)
     by false e (inl below) earlier = earlier below
     by false e (inr above) earlier =
         let same : suc column ≡ edge = omega (arith, le, above) in
-        absurd (false≢true (sym e ∙ ap (is_edge line) same ∙ is))
+        absurd (false≢true (sym e ∙ ap (is_cluster_edge line) same ∙ is))
 
-first_edge_is : (line : List ℕ) (column more edge : ℕ) → column ≤ edge → edge ≤ column + more → is_edge line edge ≡ true
-    → ((k : ℕ) → column ≤ k → k < edge → is_edge line k ≡ false) → edge ≡ first_edge line column more
+first_edge_is : (line : List ℕ) (column more edge : ℕ) → column ≤ edge → edge ≤ column + more → is_cluster_edge line edge ≡ true
+    → ((k : ℕ) → column ≤ k → k < edge → is_cluster_edge line k ≡ false) → edge ≡ first_edge line column more
 unfolding first_edge
 first_edge_is line column zero edge le within is none = omega (arith, le, within)
 first_edge_is line column (suc more) edge le within is none =
-    by (is_edge line column) refl (cases_lt column edge) (λ below. first_edge_is line (suc column) more edge (omega (arith, below)) (omega (arith, within)) is (λ k from less. none k (omega (arith, from)) less))
+    by (is_cluster_edge line column) refl (cases_lt column edge) (λ below. first_edge_is line (suc column) more edge (omega (arith, below)) (omega (arith, within)) is (λ k from less. none k (omega (arith, from)) less))
   where
-    by : (b : Bool) → is_edge line column ≡ b → (column < edge) ⊎ (edge ≤ column) → (column < edge → edge ≡ first_edge line (suc column) more) → edge ≡ (if b then column else first_edge line (suc column) more)
+    by : (b : Bool) → is_cluster_edge line column ≡ b → (column < edge) ⊎ (edge ≤ column) → (column < edge → edge ≡ first_edge line (suc column) more) → edge ≡ (if b then column else first_edge line (suc column) more)
     by true e (inl below) later = absurd (false≢true (sym (none column (omega arith) below) ∙ e))
     by true e (inr above) later = omega (arith, le, above)
     by false e (inl below) later = later below
     by false e (inr above) later =
         let same : column ≡ edge = omega (arith, le, above) in
-        absurd (false≢true (sym e ∙ ap (is_edge line) same ∙ is))
+        absurd (false≢true (sym e ∙ ap (is_cluster_edge line) same ∙ is))
 
-pub edge_ahead_is : (line : List ℕ) (column edge : ℕ) → column ≤ edge → edge ≤ length line → is_edge line edge ≡ true
-    → ((k : ℕ) → column ≤ k → k < edge → is_edge line k ≡ false) → edge ≡ edge_ahead line column
+pub edge_ahead_is : (line : List ℕ) (column edge : ℕ) → column ≤ edge → edge ≤ length line → is_cluster_edge line edge ≡ true
+    → ((k : ℕ) → column ≤ k → k < edge → is_cluster_edge line k ≡ false) → edge ≡ edge_ahead line column
 edge_ahead_is line column edge le within is none =
     first_edge_is line column (length line - column) edge le (omega (arith, le, within)) is none
 
@@ -94,7 +94,7 @@ module _ (line : List ℕ) (text : IsUtf8 line) where
   offset_of column = offset_in (chars line) column
 
   -- a break at a column's byte offset is an edge at the column
-  pub edge_is : (column : ℕ) → breaks_at (is_grapheme_break true) line (offset_of column) ≡ is_edge (chars line) column
+  pub edge_is : (column : ℕ) → breaks_at (is_grapheme_break true) line (offset_of column) ≡ is_cluster_edge (chars line) column
   edge_is column =
       let boundary = IsCharBoundary-column line column text in
       ap₂ (λ (before after : List ℕ). is_grapheme_break true (reverse before) after)
@@ -130,7 +130,7 @@ module _ (line : List ℕ) (text : IsUtf8 line) where
       ap (λ bs. length (chars bs)) parts ∙ ap length (chars-append front (slice_range line from to) (IsUtf8-take line from text boundary)) ∙ length-append (chars front) (chars (slice_range line from to))
 
   -- no edge between columns whose offsets have no break between them
-  no_edge : (from to k : ℕ) → HasNoBreak line from to → from ≤ offset_of k → offset_of k < to → is_edge (chars line) k ≡ false
+  no_edge : (from to k : ℕ) → HasNoBreak line from to → from ≤ offset_of k → offset_of k < to → is_cluster_edge (chars line) k ≡ false
   no_edge from to k none above below = sym (edge_is k) ∙ none (offset_of k) above below (IsCharBoundary-column line k text)
 
   -- ---- the edge before a column, and the one after it
@@ -140,10 +140,10 @@ module _ (line : List ℕ) (text : IsUtf8 line) where
     abbrev edge : ℕ
     edge = column_at line at
 
-    is_edge_there : is_edge (chars line) edge ≡ true
+    is_edge_there : is_cluster_edge (chars line) edge ≡ true
     is_edge_there = sym (edge_is edge) ∙ ap (breaks_at (is_grapheme_break true) line) (offset_is at boundary) ∙ is
 
-    none_here : is_edge (chars line) column ≡ false
+    none_here : is_cluster_edge (chars line) column ≡ false
     none_here = sym (edge_is column) ∙ inside
 
     pub counted_back : at < offset_of column → count ≡ length (chars (slice_range line at (offset_of column))) → column ≡ edge + count
@@ -157,14 +157,14 @@ module _ (line : List ℕ) (text : IsUtf8 line) where
         let is_same : column - count ≡ edge = omega (arith, sum) in
         is_same ∙ edge_back_is (chars line) column edge (omega (arith, sum)) is_edge_there (λ k after upto. by k after (cases_lt k column) upto)
       where
-        by : (k : ℕ) → edge < k → (k < column) ⊎ (column ≤ k) → k ≤ column → is_edge (chars line) k ≡ false
+        by : (k : ℕ) → edge < k → (k < column) ⊎ (column ≤ k) → k ≤ column → is_cluster_edge (chars line) k ≡ false
         by k after (inl below) upto =
             let further : offset_in (chars line) (column_at line at) < offset_in (chars line) k = offset_below (chars line) edge k after (omega (arith, below, within)) in
             let above : at + 1 ≤ offset_of k = omega (arith, further, offset_is at boundary) in
             no_edge (at + 1) (offset_of column) k none above (offset_below (chars line) k column below within)
         by k after (inr above) upto =
             let same : k ≡ column = omega (arith, above, upto) in
-            ap (is_edge (chars line)) same ∙ none_here
+            ap (is_cluster_edge (chars line)) same ∙ none_here
 
     pub counted_ahead : offset_of column < at → count ≡ length (chars (slice_range line (offset_of column) at)) → edge ≡ column + count
     counted_ahead after counted =
@@ -179,7 +179,7 @@ module _ (line : List ℕ) (text : IsUtf8 line) where
         let sum = counted_ahead after counted in
         sym sum ∙ edge_ahead_is (chars line) column edge (omega (arith, sum)) (column_within at boundary) is_edge_there (λ k from below. by k (cases_lt column k) from below)
       where
-        by : (k : ℕ) → (column < k) ⊎ (k ≤ column) → column ≤ k → k < edge → is_edge (chars line) k ≡ false
+        by : (k : ℕ) → (column < k) ⊎ (k ≤ column) → column ≤ k → k < edge → is_cluster_edge (chars line) k ≡ false
         by k (inl above) from below =
             let inside_line : edge ≤ length (chars line) = column_within at boundary in
             let further : offset_in (chars line) column < offset_in (chars line) k = offset_below (chars line) column k above (omega (arith, below, inside_line)) in
@@ -189,4 +189,4 @@ module _ (line : List ℕ) (text : IsUtf8 line) where
             no_edge (offset_of column + 1) at k none first last
         by k (inr same) from below =
             let is_same : k ≡ column = omega (arith, same, from) in
-            ap (is_edge (chars line)) is_same ∙ none_here
+            ap (is_cluster_edge (chars line)) is_same ∙ none_here

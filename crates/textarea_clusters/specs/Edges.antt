@@ -6,19 +6,19 @@ use Rattle.unicode_segmentation.specs.Segments.{breaks_at}
 
 -- an extended grapheme cluster of the line's characters begins or ends at the column, by the rules
 -- of Unicode; one does at the line's start and at its end
-abbrev pub is_edge : List ℕ → ℕ → Bool
-is_edge line column = is_grapheme_break true (reverse (take column line)) (drop column line)
+abbrev pub is_cluster_edge : List ℕ → ℕ → Bool
+is_cluster_edge line column = is_grapheme_break true (reverse (take column line)) (drop column line)
 
 -- the last edge at or before the column
 unfoldable pub edge_back : List ℕ → ℕ → ℕ
 edge_back line zero = zero
-edge_back line (suc column) = if is_edge line (suc column) then suc column else edge_back line column
+edge_back line (suc column) = if is_cluster_edge line (suc column) then suc column else edge_back line column
 
 -- the first edge among the column and so many columns after it, of which the last is taken for one
 unfoldable pub first_edge : List ℕ → ℕ → ℕ → ℕ
 first_edge line column zero = column
 first_edge line column (suc more) =
-    if is_edge line column then column else first_edge line (suc column) more
+    if is_cluster_edge line column then column else first_edge line (suc column) more
 
 -- the first edge at or after the column
 abbrev pub edge_ahead : List ℕ → ℕ → ℕ

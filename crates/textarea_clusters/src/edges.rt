@@ -3,7 +3,7 @@ ghost use Rattle.std.specs.Prelude.{◌≡◌, ◌<◌, ◌≤◌, ◌+◌, leng
 ghost use Rattle.std.specs.Str.{chars};
 ghost use Rattle.unicode_segmentation.specs.Grapheme.{is_grapheme_break};
 ghost use Rattle.unicode_segmentation.specs.Segments.{breaks_at};
-ghost use Rattle.textarea_clusters.specs.Edges.{HasNoBreak, is_edge, edge_ahead, edge_back};
+ghost use Rattle.textarea_clusters.specs.Edges.{HasNoBreak, is_cluster_edge, edge_ahead, edge_back};
 
 use textarea_text::rows::{byte_offset, column_count};
 use unicode_segmentation::GraphemeCursor;
@@ -11,9 +11,9 @@ use unicode_segmentation::GraphemeCursor;
 /// Returns whether a grapheme cluster of the line begins or ends at the column, counted in
 /// characters. One does at the line's start and at its end. Reads the characters around the column,
 /// and before it only as far as flags, joined emoji or conjuncts go.
-pub fn is_edge(line: &str, column: usize) -> bool
+pub fn is_cluster_edge(line: &str, column: usize) -> bool
     requires { column ≤ length (chars line.now) }
-    ensures { result ≡ is_edge (chars line.now) column }
+    ensures { result ≡ is_cluster_edge (chars line.now) column }
 {
     is_break(line, byte_offset(line, column))
 }

@@ -1,5 +1,5 @@
 -- The lines that the edits of a document wrap, given those that each splice of a text wraps.
-use Rattle.std.proofs.Common.{◌≡◌, ◌∙◌, ℕ, zero, suc, Bool, List, ◌∷◌, map, reverse, take, Option, None, Some, ap, refl, subst, sym}
+use Rattle.std.proofs.Common.{◌≡◌, ◌∙◌, ℕ, zero, suc, Bool, List, [], ◌∷◌, map, reverse, take, Option, None, Some, ap, refl, subst, sym}
 use Rattle.textarea_document.specs.Prelude.{Splice, Fits, inverse, newest, next, WrapsForSplice, WrapsForSettings, WrapsForWidth, TextAndLayout, applied_to, at_width, with_settings, LayoutSettings}
 use Rattle.textarea_document.specs.Prelude.{WrapsBySettings, WrapsByWidth, SplicedBy, SplicesBy, edit_redone, edit_undone, newest_group, next_group, redo_splices, times, undo_splices, HasEffect}
 use Rattle.textarea_document.specs.Prelude.{EditStep, splice_of_step, stepped, after_edit, after_redo, after_redo_by, after_undo, after_undo_by, text_and_layout, with_inner_width}

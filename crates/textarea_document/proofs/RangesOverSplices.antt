@@ -1,8 +1,9 @@
 -- How the atomic ranges of a document move with its text, over one splice after another.
 use Rattle.std.proofs.Common.{◌≡◌, ℕ, zero, suc, Bool, true, false, List, [], ◌∷◌, ◌++◌, map, reverse, take, get_or, filter_map, Contains, Option, None, Some, sym, ap, refl, subst, ◌∙◌, arith, inl, inr, ◌⊎◌, suc-le-suc}
+use Rattle.std.proofs.lemmas.Bool.Decides.{nat_tests}
 use Rattle.std.proofs.lemmas.List.Elements.{All-cons, All-contains, All-nil, Contains-get_or}
 use Rattle.textarea_document.specs.Prelude.{IsSoundInside, edit_redone, edit_undone, newest_group, next_group, redo_splices, times, undo_splices, cons_option, Symbol, lines, Place, end, CanApply}
-use Rattle.textarea_document.specs.Prelude.{Fits, Splice, IsTextBefore, applied, applied_all, inverse, newest, next, AtomicRange, IsBeside, IsInside, TakesRange, CoversTheSame, DisturbsBy}
+use Rattle.textarea_document.specs.Prelude.{Fits, Splice, IsTextBefore, applied, applied_all, inverse, newest, next, AtomicRange, IsBeside, IsInside, TakesRange, Overlaps, CoversTheSame, DisturbsBy}
 use Rattle.textarea_document.specs.Prelude.{moved_range, moved_ranges, AreValid, IsRangeOfLine, HasEffect, EditStep, splice_of_step, stepped, AllStayOrAreDropped, AllStemFrom, SplitNoRange}
 use Rattle.textarea_document.specs.Prelude.{RangesFollowSplices, RangesStayWhole, IsDroppedBy, StemsFrom, carried_range, ranges_over, SplitsNoRange, SplitsNoRangeBy, after_redo, after_redo_by}
 use Rattle.textarea_document.specs.Prelude.{after_undo, after_undo_by, IsSound, DocumentState, after_edit}

@@ -4,7 +4,7 @@ use Rattle.std.proofs.lemmas.Bool.{ne_eqb}
 use Rattle.std.proofs.lemmas.List.{drop_all, length-drop}
 use Rattle.std.proofs.lemmas.Str.{length-le-encodes}
 use Rattle.textarea_text.proofs.Befores.{next_is}
-use Rattle.textarea_document.specs.Prelude.{MatchOption, Symbol, Character, Break, joined, lines, Place, IsPlace, IsPlaceOf, OccursAt, index_of, line_end, Fits, inserts_of, symbols_of}
+use Rattle.textarea_document.specs.Prelude.{MatchOption, chars, IsUtf8, Symbol, Character, Break, joined, lines, Place, IsPlace, IsPlaceOf, OccursAt, index_of, line_end, Fits, inserts_of, symbols_of}
 use Rattle.textarea_document.specs.Prelude.{EditKind, DocumentState, after_edit, IsSymbolAfter, break_removal, symbol_removed_after}
 use Rattle.textarea_text.proofs.Befores.{break_occurs, character_occurs}
 use Rattle.textarea_history.specs.Edit.{splice_of}

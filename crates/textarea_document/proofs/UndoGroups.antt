@@ -1,6 +1,7 @@
 -- Undos and redos of groups are undos and redos of their edits.
-use Rattle.std.proofs.Common.{◌≡◌, ◌∙◌, ℕ, zero, suc, ◌+◌, ◌-◌, ◌≤◌, ◌<◌, Bool, false, List, [], ◌∷◌, length, drop, get_or, Option, Some, None, slice_get, is_some, true, sym, ap, refl, subst, arith}
+use Rattle.std.proofs.Common.{◌≡◌, ◌∙◌, ℕ, zero, suc, ◌+◌, ◌-◌, ◌≤◌, ◌<◌, Bool, false, List, [], ◌∷◌, ◌++◌, length, take, drop, get_or, Option, Some, None, slice_get, is_some, true, sym, ap, refl, subst, arith}
 use Rattle.std.proofs.lemmas.List.{length-append, length-drop, length-take-le, nil_from_length}
+use Rattle.std.proofs.lemmas.Option.{slice_get_within}
 use Rattle.textarea_document.specs.Prelude.{Splice, DocumentState, after_redo, after_redo_by, after_undo, after_undo_by, edit_redone, edit_undone, group_count, grouped_before, grouped_first}
 use Rattle.textarea_document.specs.Prelude.{is_grouped, newest, newest_group, next, next_group, times, IsSound}
 use Rattle.textarea_history.proofs.Groups.{before_within, first_ends, first_none, first_within, group_again, group_begins, group_less}

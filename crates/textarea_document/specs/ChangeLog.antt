@@ -13,5 +13,5 @@ kept_view None = []
 kept_view (Some change) = change_view change ∷ []
 
 -- there is room for one more change
-abbrev pub HasRoom : ChangeLog → Type 0
-HasRoom log = vec_len log.changes < vec_capacity log.changes
+abbrev pub HasRoomForChange : ChangeLog → Type 0
+HasRoomForChange log = vec_len log.changes < vec_capacity log.changes

@@ -1,7 +1,7 @@
 //! The log of what changed in a document's text.
 ghost use Rattle.std.specs.Prelude.{◌≡◌, ◌<◌, ◌≤◌, ◌^◌, length, map, take, IfOk, IfSome, OnErr, OnOk};
 ghost use Rattle.textarea_document.specs.Prelude.{chars, lines_of, text_of, IsPlaceOf, Fits, change_view, changes_taken, splice_changes, line_changes, change_of, whole_change, inserted_lines, no_changes, place_in_unit, unit_count, with_more, Utf16};
-ghost use Rattle.textarea_document.specs.ChangeLog.{changes_of, kept_view, HasRoom};
+ghost use Rattle.textarea_document.specs.ChangeLog.{changes_of, kept_view, HasRoomForChange};
 
 use crate::document::Document;
 use std::alloc::{AllocError, Global};
@@ -61,7 +61,7 @@ impl ChangeLog {
         ensures same { changes_of self.new ≡ changes_of self.old }
         ensures kept { IfOk result (λ kept. kept_view kept
             ≡ splice_changes self.old.unit (text_of lines.now) change.now) }
-        ensures room { IfOk result (λ kept. IfSome kept (λ _. HasRoom self.new)) }
+        ensures room { IfOk result (λ kept. IfSome kept (λ _. HasRoomForChange self.new)) }
     {
         let Some(unit) = self.unit else {
             return Ok(None);
@@ -81,7 +81,7 @@ impl ChangeLog {
         ensures same { changes_of self.new ≡ changes_of self.old }
         ensures kept { IfOk result (λ kept. kept_view kept
             ≡ line_changes self.old.unit (text_of lines.now) (lines_of others.now)) }
-        ensures room { IfOk result (λ kept. IfSome kept (λ _. HasRoom self.new)) }
+        ensures room { IfOk result (λ kept. IfSome kept (λ _. HasRoomForChange self.new)) }
     {
         let Some(unit) = self.unit else {
             return Ok(None);
@@ -93,7 +93,7 @@ impl ChangeLog {
 
     /// Appends what was prepared.
     pub(crate) fn put(&mut self, kept: Option<TextChange>)
-        requires { IfSome kept (λ _. HasRoom self.old) }
+        requires { IfSome kept (λ _. HasRoomForChange self.old) }
         ensures { changes_of self.new
             ≡ with_more (changes_of self.old) (kept_view kept) }
     {

@@ -1,7 +1,7 @@
 use Rattle.std.proofs.Common.{◌≡◌, ◌∙◌, ◌+◌, ◌-◌, ◌≤◌, ◌∷◌, [], ℕ, List, Option, IfSome, length, take, drop, sym, ap, subst, arith, String, Vec, Global, vec_len}
 use Rattle.std.proofs.lemmas.List.{length-map}
 use Rattle.std.specs.Arc.{arc_value}
-use Rattle.textarea_document.specs.Prelude.{as_nanos, chars, characters_of, IsPlace, Fits, Place, DocumentState, lines, lines_of, line_end}
+use Rattle.textarea_document.specs.Prelude.{as_nanos, chars, characters_of, IsPlace, Fits, Place, Symbol, Splice, DocumentState, applied, lines, lines_of, line_end, after_edit}
 use Rattle.textarea_document.specs.Selection.{first_selected_row, last_selected_row, selection_duplication}
 use Rattle.textarea_document.proofs.Betweens.{well_formed}
 use Rattle.textarea_document.proofs.Inserts.{anchor_as, duplicated_as, ends_as, lines_again, place_as, places_in_copy, selected_rows, selection_duplication_fits, splice_of_copy, text_is, two_lines}

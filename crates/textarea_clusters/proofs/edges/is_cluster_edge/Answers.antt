@@ -4,7 +4,7 @@ use Rattle.textarea_text.proofs.Columns.{IsCharBoundary-column}
 use Rattle.unicode_segmentation.specs.Grapheme.{is_grapheme_break}
 use Rattle.unicode_segmentation.specs.Segments.{breaks_at}
 use Rattle.textarea_clusters.proofs.EdgeLemmas.{edge_is}
-use Rattle.textarea_clusters.proofs.edges.is_edge.Goals as goal
+use Rattle.textarea_clusters.proofs.edges.is_cluster_edge.Goals as goal
 
 pub is_break-requires : goal.is_break-requires
 is_break-requires c =
