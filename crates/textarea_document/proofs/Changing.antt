@@ -7,7 +7,7 @@ use Rattle.std.proofs.lemmas.Str.{len_utf8_bounds}
 use Rattle.textarea_text.specs.Place.{changed}
 use Rattle.textarea_document.specs.Changes.{changed_by, column_from, width_in}
 use Rattle.textarea_document.specs.Prelude.{Symbol, joined, lines, Place, IsPlace, end, index_of, line_of, Fits, Splice, applied, inverse, times, Log, undone_log, redone_log, newest, next}
-use Rattle.textarea_document.specs.Prelude.{ChangeUnit, Characters, Bytes, Utf16, ChangeView, Changes, ChangesLead, change_of, changed_by_all, line_changes, place_from_unit, place_in_unit, splice_changes, unit_count, whole_change, with_more}
+use Rattle.textarea_document.specs.Prelude.{ChangeUnit, Characters, Bytes, Utf16, ChangeView, LoggedChanges, ChangesLead, change_of, changed_by_all, line_changes, place_from_unit, place_in_unit, splice_changes, unit_count, whole_change, with_more}
 use Rattle.textarea_document.specs.Prelude.{DocumentState, after_change, after_redo_by, after_undo_by, changes_taken, edit_redone, edit_undone, lines_replaced, with_changes_after, IsSoundInside}
 use Rattle.textarea_text.proofs.TextPlaces.{IsPlace-end, index_of-end, joined-lines}
 use Rattle.textarea_text.proofs.StringRows.{changed_by_none, occurs_until}
@@ -150,10 +150,10 @@ none_joined (Some unit) first second h k = tt
 
 pub leads_on : (old between new : DocumentState) → ChangesLead old between → ChangesLead between new → ChangesLead old new
 leads_on old between new h k =
-    let unit : between.changes.unit ≡ old.changes.unit = ap (λ (c : Changes). c.unit) h.changes in
+    let unit : between.changes.unit ≡ old.changes.unit = ap (λ (c : LoggedChanges). c.unit) h.changes in
     record {
       more = h.more ++ k.more;
-      changes = k.changes ∙ ap (λ (c : Changes). with_more c k.more) h.changes ∙ ap (λ (made : List ChangeView). record old.changes { made = made }) (append_assoc old.changes.made h.more k.more);
+      changes = k.changes ∙ ap (λ (c : LoggedChanges). with_more c k.more) h.changes ∙ ap (λ (made : List ChangeView). record old.changes { made = made }) (append_assoc old.changes.made h.more k.more);
       leads = changes_join old.changes.unit h.more k.more old.text between.text new.text h.leads
           (subst (λ (u : Option ChangeUnit). IfSome u (λ x. changed_by_all x between.text k.more ≡ new.text)) unit k.leads);
       none = none_joined old.changes.unit h.more k.more h.none (subst (λ (u : Option ChangeUnit). IfNone u (k.more ≡ [])) unit k.none);
@@ -190,33 +190,33 @@ redos_lead (suc count) document h =
 -- ---- steps in a draft, whose log begins empty
 
 -- a step of a document with more changes before its own
-abbrev StepsAfter : (DocumentState → DocumentState) → Changes → DocumentState → Type 0
+abbrev StepsAfter : (DocumentState → DocumentState) → LoggedChanges → DocumentState → Type 0
 StepsAfter step before document =
     (step (with_changes_after before document) ≡ with_changes_after before (step document)) × ((step document).changes.unit ≡ before.unit)
 
-changed_after : (before : Changes) (document : DocumentState) (splice : Splice) (log : Log) → document.changes.unit ≡ before.unit →
+changed_after : (before : LoggedChanges) (document : DocumentState) (splice : Splice) (log : Log) → document.changes.unit ≡ before.unit →
     after_change (with_changes_after before document) splice log ≡ with_changes_after before (after_change document splice log)
 changed_after before document splice log same =
     ap (λ (made : List ChangeView). record (after_change document splice log) { changes = record before { made = made } })
     (append_assoc before.made document.changes.made (splice_changes before.unit document.text splice)
     ∙ ap (λ (unit : Option ChangeUnit). before.made ++ (document.changes.made ++ splice_changes unit document.text splice)) (sym same))
 
-undone_after : (before : Changes) (document : DocumentState) → document.changes.unit ≡ before.unit → StepsAfter edit_undone before document
+undone_after : (before : LoggedChanges) (document : DocumentState) → document.changes.unit ≡ before.unit → StepsAfter edit_undone before document
 undone_after before document same = by (newest document.log)
   where
     by : (found : Option Splice) → StepsAfter (after_undo_by found) before document
     by None = (refl, same)
     by (Some splice) = (changed_after before document (inverse splice) (undone_log document.log splice) same, same)
 
-redone_after : (before : Changes) (document : DocumentState) → document.changes.unit ≡ before.unit → StepsAfter edit_redone before document
+redone_after : (before : LoggedChanges) (document : DocumentState) → document.changes.unit ≡ before.unit → StepsAfter edit_redone before document
 redone_after before document same = by (next document.log)
   where
     by : (found : Option Splice) → StepsAfter (after_redo_by found) before document
     by None = (refl, same)
     by (Some splice) = (changed_after before document splice (redone_log document.log splice) same, same)
 
-times_after : (step : DocumentState → DocumentState) → ((before : Changes) (document : DocumentState) → document.changes.unit ≡ before.unit → StepsAfter step before document) →
-    (count : ℕ) (before : Changes) (document : DocumentState) → document.changes.unit ≡ before.unit → StepsAfter (times count step) before document
+times_after : (step : DocumentState → DocumentState) → ((before : LoggedChanges) (document : DocumentState) → document.changes.unit ≡ before.unit → StepsAfter step before document) →
+    (count : ℕ) (before : LoggedChanges) (document : DocumentState) → document.changes.unit ≡ before.unit → StepsAfter (times count step) before document
 times_after step one zero before document same = (refl, same)
 times_after step one (suc count) before document same =
     let rest = times_after step one count before document same in

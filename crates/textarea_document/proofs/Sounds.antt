@@ -1,6 +1,6 @@
 -- Each step preserves the invariant of documents.
 use Rattle.std.proofs.Common.{◌≡◌, ℕ, zero, suc, Bool, true, false, cond, List, [], length, Option, Some, None, Result, Ok, Err, sym, ap, refl, ◌∙◌, subst, arith}
-use Rattle.textarea_document.specs.Prelude.{Changes, with_splice, group_begun, group_ended, is_open}
+use Rattle.textarea_document.specs.Prelude.{LoggedChanges, with_splice, group_begun, group_ended, is_open}
 use Rattle.textarea_history.specs.declared.history.groups.Group.TheVariants.{Closed, Empty}
 use Rattle.textarea_document.specs.Prelude.{OnErr, OnOk, Symbol, lines, Place, IsPlace, Splice, Fits, applied, inverse, place_after, Log, empty_log, redone_log, newest}
 use Rattle.textarea_document.specs.Prelude.{next, recorded, undone_log, AtomicRange, moved_ranges, LayoutSettings, TextAndLayout, Layout, applied_to, layout_from_scratch, with_settings}
@@ -50,7 +50,7 @@ sound_edited document splice typed now h fits =
     (recorded_whole (logged document) splice typed now (logged_sound document h) fits h.whole)
 
 -- a document's parts after the change of a splice, with this log, make the document after it
-pub changed_is : (text_layout new : TextAndLayout) (cursor ahead : Place) (anchor : Option Place) (ranges stored : List AtomicRange) (log after left : Log) (changes made : Changes) (change splice : Splice) → change ≡ splice →
+pub changed_is : (text_layout new : TextAndLayout) (cursor ahead : Place) (anchor : Option Place) (ranges stored : List AtomicRange) (log after left : Log) (changes made : LoggedChanges) (change splice : Splice) → change ≡ splice →
     new ≡ applied_to text_layout change → ahead ≡ place_after change → stored ≡ moved_ranges ranges change → after ≡ left → made ≡ with_splice changes text_layout.text change →
     document_of new ahead None stored after made ≡ after_change (document_of text_layout cursor anchor ranges log changes) splice left
 changed_is text_layout new cursor ahead anchor ranges stored log after left changes made change splice is layout_is cursor_is stored_is log_is made_is =
@@ -60,7 +60,7 @@ changed_is text_layout new cursor ahead anchor ranges stored log after left chan
 pub resound : (document : DocumentState) (layout : Layout) → IsSound document → IsSound (record document { layout = layout })
 resound document layout h = record { cursor = h.cursor; anchor = h.anchor; ranges = h.ranges; in_order = h.in_order; undo = h.undo; redo = h.redo; bounded = h.bounded; marks = h.marks; whole = h.whole }
 
-pub sound_changes : (document : DocumentState) (changes : Changes) → IsSound document → IsSound (record document { changes = changes })
+pub sound_changes : (document : DocumentState) (changes : LoggedChanges) → IsSound document → IsSound (record document { changes = changes })
 sound_changes document changes h = record { cursor = h.cursor; anchor = h.anchor; ranges = h.ranges; in_order = h.in_order; undo = h.undo; redo = h.redo; bounded = h.bounded; marks = h.marks; whole = h.whole }
 
 -- ---- groups
@@ -153,7 +153,7 @@ inside_times step one (suc count) document h = one (times count step document) (
 pub sound_fresh : (text : List Symbol) (settings : LayoutSettings) (count : ℕ) (cursor : Place) (maximum : ℕ) → IsPlace text cursor → IsSound (fresh_document text settings count cursor maximum)
 sound_fresh text settings count cursor maximum h = record { cursor = h; anchor = tt; ranges = valid_none (lines text); in_order = refl; undo = tt; redo = tt; bounded = omega arith; marks = refl; whole = refl }
 
-pub fresh_is : (text : List Symbol) (settings : LayoutSettings) (count : ℕ) (cursor : Place) (maximum : ℕ) (text_layout : TextAndLayout) (stored : List AtomicRange) (log : Log) (changes : Changes) →
+pub fresh_is : (text : List Symbol) (settings : LayoutSettings) (count : ℕ) (cursor : Place) (maximum : ℕ) (text_layout : TextAndLayout) (stored : List AtomicRange) (log : Log) (changes : LoggedChanges) →
     text_layout ≡ layout_from_scratch settings count text → stored ≡ [] → log ≡ empty_log maximum →
     document_of text_layout cursor None stored log changes ≡ record (fresh_document text settings count cursor maximum) { changes = changes }
 fresh_is text settings count cursor maximum text_layout stored log changes layout_is stored_is log_is =
@@ -161,7 +161,7 @@ fresh_is text settings count cursor maximum text_layout stored log changes layou
     ∙ ap (λ (r : List AtomicRange). document_of (layout_from_scratch settings count text) cursor None r log changes) stored_is
     ∙ ap (λ (l : Log). document_of (layout_from_scratch settings count text) cursor None [] l changes) log_is
 
-pub sound_layout : (text : List Symbol) (settings : LayoutSettings) (count : ℕ) (cursor : Place) (maximum : ℕ) (text_layout : TextAndLayout) (stored : List AtomicRange) (log : Log) (changes : Changes) →
+pub sound_layout : (text : List Symbol) (settings : LayoutSettings) (count : ℕ) (cursor : Place) (maximum : ℕ) (text_layout : TextAndLayout) (stored : List AtomicRange) (log : Log) (changes : LoggedChanges) →
     text_layout ≡ layout_from_scratch settings count text → stored ≡ [] → log ≡ empty_log maximum → IsPlace text cursor →
     IsSound (document_of text_layout cursor None stored log changes)
 sound_layout text settings count cursor maximum text_layout stored log changes layout_is stored_is log_is h =
@@ -178,7 +178,7 @@ text_viewed : {T E : Type 0} (r : Result T E) (text_layout new : TextAndLayout) 
 text_viewed (Ok x) text_layout new settings ok err = ap (λ (l : TextAndLayout). l.text) ok ∙ text_stays text_layout settings
 text_viewed (Err e) text_layout new settings ok err = ap (λ (l : TextAndLayout). l.text) err
 
-pub sound_viewed : {T E : Type 0} (r : Result T E) (text_layout new : TextAndLayout) (settings : LayoutSettings) (cursor : Place) (anchor : Option Place) (ranges : List AtomicRange) (log : Log) (changes : Changes) →
+pub sound_viewed : {T E : Type 0} (r : Result T E) (text_layout new : TextAndLayout) (settings : LayoutSettings) (cursor : Place) (anchor : Option Place) (ranges : List AtomicRange) (log : Log) (changes : LoggedChanges) →
     OnOk r (new ≡ with_settings text_layout settings) → OnErr r (new ≡ text_layout) → IsSound (document_of text_layout cursor anchor ranges log changes) → IsSound (document_of new cursor anchor ranges log changes)
 sound_viewed r text_layout new settings cursor anchor ranges log changes ok err h =
     subst (λ (t : List Symbol). IsSound (document_of (record { text = t; layout = new.layout }) cursor anchor ranges log changes)) (sym (text_viewed r text_layout new settings ok err))
@@ -191,7 +191,7 @@ layout_with_settings document settings =
     ap (λ (t : List Symbol). record { text = t; layout = after.layout }) (text_stays (text_and_layout document) settings)
 
 -- a document whose lines have other settings
-pub settings_put : (text_layout new : TextAndLayout) (settings : LayoutSettings) (cursor : Place) (anchor : Option Place) (ranges : List AtomicRange) (log : Log) (changes : Changes) →
+pub settings_put : (text_layout new : TextAndLayout) (settings : LayoutSettings) (cursor : Place) (anchor : Option Place) (ranges : List AtomicRange) (log : Log) (changes : LoggedChanges) →
     new ≡ with_settings text_layout settings → document_of new cursor anchor ranges log changes ≡ with_layout_settings (document_of text_layout cursor anchor ranges log changes) settings
 settings_put text_layout new settings cursor anchor ranges log changes is =
     ap (λ (l : TextAndLayout). document_of l cursor anchor ranges log changes) (is ∙ layout_with_settings (document_of text_layout cursor anchor ranges log changes) settings)

@@ -84,11 +84,11 @@ whole_change unit text rows = record {
 -- ---- the log
 
 -- the changes since they were last taken, and the unit of their columns; none are kept without one
-pub record Changes : Type 0 where
+pub record LoggedChanges : Type 0 where
   pub unit : Option ChangeUnit
   pub made : List ChangeView
 
-abbrev pub no_changes : Option ChangeUnit → Changes
+abbrev pub no_changes : Option ChangeUnit → LoggedChanges
 no_changes unit = record { unit = unit; made = [] }
 
 -- what is kept of a splice of this text
@@ -102,15 +102,15 @@ line_changes None text rows = []
 line_changes (Some unit) text rows = whole_change unit text rows ∷ []
 
 -- the log with more changes
-abbrev pub with_more : Changes → List ChangeView → Changes
+abbrev pub with_more : LoggedChanges → List ChangeView → LoggedChanges
 with_more changes more = record changes { made = changes.made ++ more }
 
 -- the log after a splice of this text
-abbrev pub with_splice : Changes → List Symbol → Splice → Changes
+abbrev pub with_splice : LoggedChanges → List Symbol → Splice → LoggedChanges
 with_splice changes text splice = with_more changes (splice_changes changes.unit text splice)
 
 -- the log after all lines of this text were replaced by these
-abbrev pub with_lines_replaced : Changes → List Symbol → List (List ℕ) → Changes
+abbrev pub with_lines_replaced : LoggedChanges → List Symbol → List (List ℕ) → LoggedChanges
 with_lines_replaced changes text rows = with_more changes (line_changes changes.unit text rows)
 
 -- what is kept of splices of this text, one after another

@@ -6,7 +6,7 @@ use Rattle.textarea_text.specs.Place.{Place}
 use Rattle.textarea_history.specs.Log.{Log, Logged, empty_log}
 use Rattle.textarea_lines.specs.declared.settings.LayoutSettings.{LayoutSettings}
 use Rattle.textarea_lines.specs.TextLayout.{TextAndLayout, Layout, all_wrapped}
-use Rattle.textarea_document.specs.Changes.{Changes, no_changes, with_lines_replaced, with_more}
+use Rattle.textarea_document.specs.Changes.{LoggedChanges, no_changes, with_lines_replaced, with_more}
 use Rattle.textarea_data.specs.declared.range.AtomicRange.{AtomicRange}
 
 -- the text as one flat list of symbols; its layout, with the ticks of its lines' rows; the cursor;
@@ -19,10 +19,10 @@ pub record DocumentState : Type 0 where
   pub anchor : Option Place
   pub ranges : List AtomicRange
   pub log : Log
-  pub changes : Changes
+  pub changes : LoggedChanges
 
 -- a document from a text with its layout, and the rest
-abbrev pub document_of : TextAndLayout → Place → Option Place → List AtomicRange → Log → Changes → DocumentState
+abbrev pub document_of : TextAndLayout → Place → Option Place → List AtomicRange → Log → LoggedChanges → DocumentState
 document_of text_layout cursor anchor ranges log changes = record {
   text = text_layout.text;
   layout = text_layout.layout;
@@ -67,5 +67,5 @@ abbrev pub changes_taken : DocumentState → DocumentState
 changes_taken document = record document { changes = no_changes document.changes.unit }
 
 -- the document with these changes before its own
-abbrev pub with_changes_after : Changes → DocumentState → DocumentState
+abbrev pub with_changes_after : LoggedChanges → DocumentState → DocumentState
 with_changes_after before document = record document { changes = with_more before document.changes.made }

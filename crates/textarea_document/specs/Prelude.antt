@@ -57,7 +57,7 @@ pub use Rattle.textarea_document.specs.Selection.{is_selected, selected_removed,
 pub use Rattle.textarea_document.specs.ChangesLead.{ChangesLead}
 pub use Rattle.textarea_document.specs.Sound.{IsSound, IsSoundInside}
 pub use Rattle.textarea_document.specs.DocumentState.{DocumentState, changes_taken, document_of, fresh_document, lines_replaced, logged, new_document, with_changes_after}
-pub use Rattle.textarea_document.specs.Changes.{ChangeView, Changes, change_of, change_view, changed_by_all, inserted_lines, line_changes, no_changes, place_from_unit, place_in_unit, splice_changes}
+pub use Rattle.textarea_document.specs.Changes.{ChangeView, LoggedChanges, change_of, change_view, changed_by_all, inserted_lines, line_changes, no_changes, place_from_unit, place_in_unit, splice_changes}
 pub use Rattle.textarea_document.specs.Changes.{splices_changes, unit_count, whole_change, with_more, with_splice}
 unfoldable pub use Rattle.textarea_document.specs.Changes.{changed_by}
 pub use Rattle.textarea_change.specs.declared.change.ChangeUnit.{ChangeUnit}

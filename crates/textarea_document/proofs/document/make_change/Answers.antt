@@ -1,6 +1,6 @@
 use Rattle.std.proofs.Common.{◌≡◌, ◌≤◌, ◌∙◌, List, ap, arith, filter_map, subst, sym}
 use Rattle.textarea_document.specs.ChangeLog.{changes_of}
-use Rattle.textarea_document.specs.Prelude.{size_limit, ChangeView, Changes, Fits, Symbol, Place, IsPlace, TextAndLayout, applied, lines, place_after, place_before, moved_by, moved_ranges, splice_changes, text_of, with_more}
+use Rattle.textarea_document.specs.Prelude.{size_limit, ChangeView, LoggedChanges, Fits, Symbol, Place, IsPlace, TextAndLayout, applied, lines, place_after, place_before, moved_by, moved_ranges, splice_changes, text_of, with_more}
 use Rattle.textarea_text.proofs.TextPlaces.{takes_back}
 use Rattle.textarea_ranges.proofs.Searching.{AreApart-valid}
 use Rattle.textarea_document.proofs.Ranges.{movable}
@@ -39,5 +39,5 @@ returns-clause-changes c =
     let splice = c.args.change in
     c.put.ensures
     ∙ ap (λ (made : List ChangeView). with_more (changes_of c.prepare.new.self) made) c.in_ok-kept.ensures.kept
-    ∙ ap (λ (log : Changes). with_more log (splice_changes old.unit (text_of c.lines.result.now) splice)) c.prepare.ensures.same
+    ∙ ap (λ (log : LoggedChanges). with_more log (splice_changes old.unit (text_of c.lines.result.now) splice)) c.prepare.ensures.same
     ∙ ap (λ (t : List Symbol). with_more old (splice_changes old.unit t splice)) c.lines.ensures.value
