@@ -12,7 +12,7 @@ use Rattle.textarea_text.specs.Between.{clip}
 use Rattle.textarea_text.specs.Place.{Place}
 use Rattle.textarea_text.specs.Splice.{Fits, Splice}
 use Rattle.textarea_text.specs.Text.{Symbol, Break, Character, lines}
-use Rattle.textarea_document.specs.Changes.{Changes}
+use Rattle.textarea_document.specs.Changes.{LoggedChanges}
 use Rattle.textarea_document.specs.DocumentRows.{text_and_layout}
 use Rattle.textarea_document.specs.DocumentState.{DocumentState}
 use Rattle.textarea_document.specs.Edits.{Insert, HasEffect, Remove, RemoveBefore, RemoveAfter, RemoveBreak, EditStep, splice_of_step, stepped}
@@ -46,7 +46,7 @@ use Rattle.tui_textarea.proofs.SoundStates.{clipped, sound_cursor, sound_from, s
 
 -- the visible side of a document's text: its layout and ranges, and its log of changes
 abbrev pub LayoutAndRanges : Type 0
-LayoutAndRanges = TextAndLayout × List AtomicRange × Changes
+LayoutAndRanges = TextAndLayout × List AtomicRange × LoggedChanges
 
 abbrev pub layout_and_ranges : DocumentState → LayoutAndRanges
 layout_and_ranges document = (text_and_layout document, document.ranges, document.changes)
