@@ -34,7 +34,7 @@ abbrev pub Logs : DocumentState → List Splice → DocumentState → Type 0
 Logs old splices new = ChangesLead old new
 
 stays : (old new : DocumentState) → layout_and_ranges new ≡ layout_and_ranges old → ChangesLead old new
-stays old new same = no_change_leads old new (ap (λ (s : LayoutAndRanges). s.0.text) same) (ap (λ (s : LayoutAndRanges). s.1.1) same)
+stays old new same = no_change_leads old new (ap (λ (s : LayoutAndRanges). s.0.text) same) (ap (λ (s : LayoutAndRanges). s.2) same)
 
 unchanged : (old new outcome : State) → new ≡ outcome → outcome.document.text ≡ old.document.text → outcome.document.changes ≡ old.document.changes → ChangesLead old.document new.document
 unchanged old new outcome is text changes =

@@ -27,14 +27,14 @@ abbrev pub RedosGo : Type 0
 RedosGo = (document : DocumentState) → IsSound document → RangesFollowSplices document (redo_splices document) (after_redo document)
 
 still : (old new : DocumentState) → layout_and_ranges new ≡ layout_and_ranges old → RangesStayWhole old [] new
-still old new same = stays old new (ap (λ (s : LayoutAndRanges). s.0.text) same) (ap (λ (s : LayoutAndRanges). s.1.0) same)
+still old new same = stays old new (ap (λ (s : LayoutAndRanges). s.0.text) same) (ap (λ (s : LayoutAndRanges). s.1) same)
 
 -- a document with the text and ranges of another is reached by the same splices
 follows_as : (old new other : DocumentState) (splices : List Splice) → layout_and_ranges other ≡ layout_and_ranges new → RangesStayWhole old splices new → RangesStayWhole old splices other
 follows_as old new other splices same h = (
   record {
     text = subst (λ t. IsTextBefore old.text t splices) (sym (ap (λ (s : LayoutAndRanges). s.0.text) same)) h.0.text;
-    ranges = ap (λ (s : LayoutAndRanges). s.1.0) same ∙ h.0.ranges;
+    ranges = ap (λ (s : LayoutAndRanges). s.1) same ∙ h.0.ranges;
   },
   h.1,
 )
