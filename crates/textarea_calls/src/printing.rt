@@ -24,7 +24,10 @@ impl fmt::Display for Answer {
                 measure.content_rows, measure.preferred_rows, measure.min_rows, measure.max_rows
             ),
             Answer::PatternRejected => write!(f, "pattern"),
-            Answer::Place(None) | Answer::Position(None) | Answer::NumberIfAny(None) => write!(f, "none"),
+            Answer::Place(None) | Answer::Position(None) | Answer::NumberIfAny(None) => write!(
+                f,
+                "none"
+            ),
             Answer::Place(Some((row, column))) => write!(f, "{row} {column}"),
             Answer::Position(Some(position)) => write!(f, "{} {}", position.x, position.y),
             Answer::Style(style) => write!(f, "{style:?}"),

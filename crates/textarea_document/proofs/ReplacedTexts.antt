@@ -256,7 +256,9 @@ still_stretches : (old new : List AtomicRange) (p q : Place) → ((xs : List Sym
 still_stretches old new p q goes left passed [] h = tt
 still_stretches old new p q goes left passed (stretch ∷ rest) h =
     let t = take (stretch.1 - passed) left in (
-      h.0, h.1, h.2,
+      h.0,
+      h.1,
+      h.2,
       goes (take (stretch.0 - passed) left) h.3,
       goes t h.4,
       still_stretches old new (end p t) (end q t)

@@ -103,8 +103,7 @@ pub fn stretches_are_replaced()
         IsSound document → AreReplaceable document stretches →
         (all_replaced document stretches symbols now).text
         ≡ with_replaced document.text 0 stretches symbols }
-{
-}
+{}
 
 /// How a document's log of changes leads from its text to the text after an edit, an undo, a redo,
 /// and lines that replace all others: the changes are appended, and applied to the old text one

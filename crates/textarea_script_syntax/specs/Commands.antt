@@ -39,6 +39,7 @@ places_and_text = both number (both number (both number number_and_text))
 abbrev pub replace_range_meaning : Option (List ℕ) → Option Meaning
 replace_range_meaning =
     with_arguments places_and_text (λ p. ReplaceRange (p.0, p.1.0) (p.1.1.0, p.1.1.1.0) p.1.1.1.1)
+
 -- the text and the two options of a `set_search_text`: whether case is ignored, whether whole words
 -- are wanted, and a text, empty by default
 abbrev pub text_and_options : List ℕ → Option (List ℕ × (Bool × Bool))

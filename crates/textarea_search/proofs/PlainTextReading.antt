@@ -263,8 +263,14 @@ module _ (config : Config) (names : Names) (tree : ℕ → Re) (dense : config.f
 
   flat_branch : (first_bound last_bound : Bool) (cs : Text) → deepest ((bound_parts first_bound ++ map part_of cs) ++ bound_parts last_bound) ≡ 0
   flat_branch first_bound last_bound cs =
-      omega (arith, deepest-append (bound_parts first_bound ++ map part_of cs) (bound_parts last_bound), deepest-append (bound_parts first_bound) (map part_of cs),
-      flat_bound first_bound, flat_bound last_bound, flat_parts cs)
+      omega (
+        arith,
+        deepest-append (bound_parts first_bound ++ map part_of cs) (bound_parts last_bound),
+        deepest-append (bound_parts first_bound) (map part_of cs),
+        flat_bound first_bound,
+        flat_bound last_bound,
+        flat_parts cs,
+      )
 
 -- ---- a pattern of one branch
 
@@ -337,8 +343,14 @@ module _ (first_bound last_bound : Bool) (cs : Text) where
 
   longer : bound_count first_bound + length cs + bound_count last_bound ≤ length after_flag
   longer =
-      omega (arith, length-append (bound_text first_bound) (escaped_text cs ++ bound_text last_bound), length-append (escaped_text cs) (bound_text last_bound), escaped_is_longer cs,
-      bound_is_longer first_bound, bound_is_longer last_bound)
+      omega (
+        arith,
+        length-append (bound_text first_bound) (escaped_text cs ++ bound_text last_bound),
+        length-append (escaped_text cs) (bound_text last_bound),
+        escaped_is_longer cs,
+        bound_is_longer first_bound,
+        bound_is_longer last_bound,
+      )
 
   read_exact : IsRead (read default_config after_flag) (tree_for false)
   read_exact =

@@ -67,8 +67,7 @@ undone_one : (new : DocumentState) (front : List Splice) (splice : Splice) (text
     ((edit_undone new).text ≡ text) × ((edit_undone new).log.done ≡ front) × ((edit_undone new).log.marks ≡ new.log.marks)
 undone_one new front splice text done_is text_is fits =
     let found : newest new.log ≡ Some splice = ap (λ (d : List Splice). slice_get d (length d - 1)) done_is ∙ last_is front splice in
-    let is : edit_undone new ≡ after_undo_by (Some splice) new = ap (λ (o : Option Splice). after_undo_by o new) found in
-    (
+    let is : edit_undone new ≡ after_undo_by (Some splice) new = ap (λ (o : Option Splice). after_undo_by o new) found in (
       ap (λ (d : DocumentState). d.text) is ∙ ap (λ t. applied t (inverse splice)) text_is ∙ (takes_back text splice fits).back,
       ap (λ (d : DocumentState). d.log.done) is ∙ ap (λ (d : List Splice). take (length d - 1) d) done_is ∙ front_is front splice,
       ap (λ (d : DocumentState). d.log.marks) is,
@@ -180,12 +179,12 @@ two_undone document new first second typed now h fits then_fits several empty ed
     let first_is : recorded log first false now ≡ after =
     separate log first false now (omega (arith, several)) refl (ap (λ (g : Group). is_forgotten g || (is_filled g && (is_full log && is_empty (remaining_done log)))) empty) in
     let stays = stays_newest after (remaining_done log) (remaining_marks log) first refl (ap (λ (g : Group). remaining_marks log ++ is_filled g ∷ []) empty)
-        (sym (remaining_same log (omega (arith, h.marks)))) refl several in
+    (sym (remaining_same log (omega (arith, h.marks)))) refl several in
     let grows : is_outgrown after ≡ false =
     ap (λ (g : Group). is_forgotten (with_edit g) || (is_filled (with_edit g) && (is_full after && is_empty (remaining_done after)))) empty
-        ∙ ap (λ (d : List Splice). is_full after && is_empty d) stays.done
-        ∙ ap (λ b. is_full after && b) (not_empty stays.front first)
-        ∙ and-false (is_full after) in
+    ∙ ap (λ (d : List Splice). is_full after && is_empty d) stays.done
+    ∙ ap (λ b. is_full after && b) (not_empty stays.front first)
+    ∙ and-false (is_full after) in
     let is : recorded (recorded log first false now) second typed now ≡ appended_log after second typed now =
     ap (λ (l : Log). recorded l second typed now) first_is ∙ separate after second typed now (omega (arith, several)) (apart after second typed now refl) grows in
     let front = stays.front ++ first ∷ [] in
@@ -202,9 +201,9 @@ two_undone document new first second typed now h fits then_fits several empty ed
     get_or_append_left before (true ∷ []) false (length stays.before) (omega (arith, size)) ∙ get_or-append_seam stays.before false [] false in
     let group : newest_group new.log ≡ 2 =
     ap (λ n. suc (grouped_before new.log.marks n)) at
-        ∙ ap (λ (m : List Bool). suc (grouped_before m (suc (length stays.before)))) marks_is
-        ∙ ap (λ b. suc (cond b (suc (grouped_before (before ++ true ∷ []) (length stays.before))) 0)) last
-        ∙ ap (λ n. suc (suc n)) (before_none (before ++ true ∷ []) (length stays.before) own) in
+    ∙ ap (λ (m : List Bool). suc (grouped_before m (suc (length stays.before)))) marks_is
+    ∙ ap (λ b. suc (cond b (suc (grouped_before (before ++ true ∷ []) (length stays.before))) 0)) last
+    ∙ ap (λ n. suc (suc n)) (before_none (before ++ true ∷ []) (length stays.before) own) in
     let back = undone_one new front second (applied document.text first) done_is edits.text_is then_fits in
     ap (λ n. (times n edit_undone new).text) group
     ∙ (undone_one (edit_undone new) stays.front first document.text back.1 back.0 fits).0

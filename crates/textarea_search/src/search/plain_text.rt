@@ -85,5 +85,4 @@ pub fn finds_text(text: &str, ignore_case: bool, whole_word: bool)
         (text_tree text.now ignore_case whole_word) }
     ensures itself { text.now ≢ [] →
         ListsMatchesOf (text_pattern text.now false false) (literal text.now) }
-{
-}
+{}

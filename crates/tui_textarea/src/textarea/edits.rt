@@ -141,10 +141,7 @@ impl TextArea<'_> {
     }
 
     // The same, without a group of its own.
-    fn replace_by_fragment(
-        &mut self,
-        fragment_lines: Arc<Vec<String>>,
-    ) -> Result<bool, AllocError>
+    fn replace_by_fragment(&mut self, fragment_lines: Arc<Vec<String>>) -> Result<bool, AllocError>
         ensures inserted { IfOk result
             (λ inserted. inserted ≡ has_symbols (text_of (arc_value fragment_lines).items)) }
         ensures ok { OnOk result

@@ -68,7 +68,8 @@ impl TextArea<'_> {
         ensures index { IfOk result (λ index. index ≡ match_index self.now) }
         ensures no_pattern { self.now.pattern ≡ None → IsOk result }
     {
-        self.search.index(self.document.lines(), self.document.cursor())
+        self.search
+            .index(self.document.lines(), self.document.cursor())
     }
 
     /// Returns the text of the search pattern, if one is set.

@@ -38,8 +38,12 @@ overflow_add-result c =
     let offset = c.byte_offset-offset.ensures in
     let inside = ap (breaks_at (is_grapheme_break true) line) (sym offset) ∙ sym c.is_break.ensures ∙ c.if-is_break.false in
     let counted = c.column_count.ensures ∙ ap (λ bytes. length (chars bytes)) c.range.ensures.value ∙ ap (λ n. length (chars (slice_range line n c.break_after-edge.result))) offset in
-    omega (arith, length-chars line c.utf8.line, ahead_within line c.utf8.line c.args.column c.break_after-edge.result c.column_count.result c.requires c.break_after-edge.ensures.boundary c.break_after-edge.ensures.is_break inside
-    (subst (λ n. n < c.break_after-edge.result) offset c.break_after-edge.ensures.after) counted)
+    omega (
+      arith,
+      length-chars line c.utf8.line,
+      ahead_within line c.utf8.line c.args.column c.break_after-edge.result c.column_count.result c.requires c.break_after-edge.ensures.boundary c.break_after-edge.ensures.is_break inside
+          (subst (λ n. n < c.break_after-edge.result) offset c.break_after-edge.ensures.after) counted,
+    )
 
 pub returns : goal.returns
 returns c =

@@ -36,8 +36,11 @@ overflow_sub-result c =
     let offset = c.byte_offset-offset.ensures in
     let inside = ap (breaks_at (is_grapheme_break true) line) (sym offset) ∙ sym c.is_break.ensures ∙ c.if-is_break.false in
     let counted = c.column_count.ensures ∙ ap (λ bytes. length (chars bytes)) c.range.ensures.value ∙ ap (λ n. length (chars (slice_range line c.break_before-edge.result n))) offset in
-    omega (arith, counted_back line c.utf8.line c.args.column c.break_before-edge.result c.column_count.result c.requires c.break_before-edge.ensures.boundary c.break_before-edge.ensures.is_break inside
-    (subst (λ n. c.break_before-edge.result < n) offset c.break_before-edge.ensures.before) counted)
+    omega (
+      arith,
+      counted_back line c.utf8.line c.args.column c.break_before-edge.result c.column_count.result c.requires c.break_before-edge.ensures.boundary c.break_before-edge.ensures.is_break inside
+          (subst (λ n. c.break_before-edge.result < n) offset c.break_before-edge.ensures.before) counted,
+    )
 
 pub returns : goal.returns
 returns c =

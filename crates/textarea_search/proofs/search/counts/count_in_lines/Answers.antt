@@ -8,8 +8,14 @@ use Rattle.textarea_search.proofs.search.counts.count_in_lines.Goals as goal
 pub overflow_add-count : goal.overflow_add-count
 overflow_add-count c =
     let line = c.line-item.result in
-    omega (arith, c.loop-line.invariant.2, c.count_in_line-count.ensures.least, ap length c.deref.ensures, line.bytes.ok.0,
-    above_size c.args.lines.now c.loop-line.line-index line (omega arith) c.line-item.is)
+    omega (
+      arith,
+      c.loop-line.invariant.2,
+      c.count_in_line-count.ensures.least,
+      ap length c.deref.ensures,
+      line.bytes.ok.0,
+      above_size c.args.lines.now c.loop-line.line-index line (omega arith) c.line-item.is,
+    )
 
 pub loop-line-preserved : goal.loop-line-preserved
 loop-line-preserved c =

@@ -25,8 +25,15 @@ count_in_lines-before-requires c = record { limit = omega (arith, c.requires.lim
 pub overflow_add-result : goal.overflow_add-result
 overflow_add-result c =
     let line = c.index-lines-row.result in
-    omega (arith, c.requires.limit, c.count_in_lines-before.ensures.least, c.in_ok-here.ensures.within, ap length c.deref.ensures, line.bytes.ok.0,
-    above_size c.args.lines.now c.args.cursor.0 line (omega arith) c.index-lines-row.is)
+    omega (
+      arith,
+      c.requires.limit,
+      c.count_in_lines-before.ensures.least,
+      c.in_ok-here.ensures.within,
+      ap length c.deref.ensures,
+      line.bytes.ok.0,
+      above_size c.args.lines.now c.args.cursor.0 line (omega arith) c.index-lines-row.is,
+    )
 
 pub returns : goal.returns
 returns c =
