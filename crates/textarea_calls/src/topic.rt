@@ -98,6 +98,8 @@ pub enum SearchCall<'a> {
     SetSearchPattern(&'a str),
     SearchForward(bool),
     SearchBack(bool),
+    ReplaceMatch(&'a str),
+    ReplaceAll(&'a str),
 }
 
 /// Atomic ranges.
@@ -234,6 +236,8 @@ pub fn topic_of(call: Call<'_>) -> Topic<'_>
         Call::SetSearchPattern(pattern) => Topic::Search(SearchCall::SetSearchPattern(pattern)),
         Call::SearchForward(match_cursor) => Topic::Search(SearchCall::SearchForward(match_cursor)),
         Call::SearchBack(match_cursor) => Topic::Search(SearchCall::SearchBack(match_cursor)),
+        Call::ReplaceMatch(text) => Topic::Search(SearchCall::ReplaceMatch(text)),
+        Call::ReplaceAll(text) => Topic::Search(SearchCall::ReplaceAll(text)),
         Call::TrySetAtomicRanges(ranges) => Topic::Ranges(RangesCall::TrySetAtomicRanges(ranges)),
         Call::ClearAtomicRanges => Topic::Ranges(RangesCall::ClearAtomicRanges),
         Call::NormalizeCursorAroundAtomicRanges(bias) => Topic::Ranges(

@@ -20,6 +20,8 @@ pub data Meaning : Type 0 where
   SetSearchPattern : List ℕ → Meaning
   SetLines : List (List ℕ) → ℕ × ℕ → Meaning
   ReplaceRange : ℕ × ℕ → ℕ × ℕ → List ℕ → Meaning
+  ReplaceMatch : List ℕ → Meaning
+  ReplaceAll : List ℕ → Meaning
   Press : Input → Meaning
 
 -- a command without arguments

@@ -12,7 +12,7 @@ use Rattle.textarea_script_syntax.specs.Arguments.{sides_of_area}
 use Rattle.textarea_script_syntax.specs.Commands.{line_meaning}
 use Rattle.textarea_script_syntax.specs.Meaning as meaning
 use Rattle.textarea_script_syntax.specs.Meaning.{Meaning}
-use Rattle.textarea_script_syntax.specs.declared.commands.CommandContent.TheVariants.{Plain, InsertStr, InsertPasted, SetYankText, TrySetAtomicRanges, SetLines, SetSearchPattern, ReplaceRange, Input}
+use Rattle.textarea_script_syntax.specs.declared.commands.CommandContent.TheVariants.{Plain, InsertStr, InsertPasted, SetYankText, TrySetAtomicRanges, SetLines, SetSearchPattern, ReplaceRange, ReplaceMatch, ReplaceAll, Input}
 use Rattle.textarea_script_syntax.specs.declared.commands.ReadError.{ReadError}
 use Rattle.textarea_script_syntax.specs.declared.commands.ReadError.TheVariants.{Line, Memory}
 
@@ -66,6 +66,8 @@ IsCallReady (TrySetAtomicRanges ranges) = Unit {0}
 IsCallReady (SetSearchPattern text) = Unit {0}
 IsCallReady (SetLines lines cursor) = 0 < vec_len lines
 IsCallReady (ReplaceRange from to text) = Unit {0}
+IsCallReady (ReplaceMatch text) = Unit {0}
+IsCallReady (ReplaceAll text) = Unit {0}
 IsCallReady (Input input) = Unit {0}
 
 pub IsReady-prop : (content : CommandContent) → IsProp (IsCallReady content)
@@ -77,6 +79,8 @@ IsReady-prop (TrySetAtomicRanges ranges) = Unit-prop
 IsReady-prop (SetSearchPattern text) = Unit-prop
 IsReady-prop (SetLines lines cursor) = le_prop
 IsReady-prop (ReplaceRange from to text) = Unit-prop
+IsReady-prop (ReplaceMatch text) = Unit-prop
+IsReady-prop (ReplaceAll text) = Unit-prop
 IsReady-prop (Input input) = Unit-prop
 
 -- the meaning of a command's content
@@ -91,6 +95,8 @@ meaning_of (TrySetAtomicRanges ranges) = meaning.TrySetAtomicRanges ranges.items
 meaning_of (SetSearchPattern text) = meaning.SetSearchPattern (string_bytes text)
 meaning_of (SetLines lines cursor) = meaning.SetLines (map string_bytes lines.items) cursor
 meaning_of (ReplaceRange from to text) = meaning.ReplaceRange from to (string_bytes text)
+meaning_of (ReplaceMatch text) = meaning.ReplaceMatch (string_bytes text)
+meaning_of (ReplaceAll text) = meaning.ReplaceAll (string_bytes text)
 meaning_of (Input input) = meaning.Press input
 
 -- an unread line has no meaning
@@ -114,6 +120,8 @@ IsCallOf (SetSearchPattern text) (call.SetSearchPattern borrowed) = borrowed.now
 IsCallOf (SetLines lines cursor) (call.SetLines borrowed place) = (borrowed.now ≡ lines.items) × (place ≡ cursor)
 IsCallOf (ReplaceRange start stop text) (call.ReplaceRange from to borrowed) =
     (from ≡ start) × (to ≡ stop) × (borrowed.now ≡ string_bytes text)
+IsCallOf (ReplaceMatch text) (call.ReplaceMatch borrowed) = borrowed.now ≡ string_bytes text
+IsCallOf (ReplaceAll text) (call.ReplaceAll borrowed) = borrowed.now ≡ string_bytes text
 IsCallOf (Input input) (call.Input borrowed) = borrowed.now ≡ input
 IsCallOf content other = ⊥
 

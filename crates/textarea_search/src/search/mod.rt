@@ -1,6 +1,7 @@
 //! A pattern to search for, its matches in a line, and the search from a cursor to the next match.
 mod cache_key;
 mod caching_matcher;
+mod column_pairs;
 mod direction;
 mod line_matcher;
 mod line_starts;
@@ -11,6 +12,7 @@ mod match_cache;
 mod matches;
 mod sparse_matches;
 mod state;
+mod text_matches;
 
 pub use crate::error::SearchError;
 pub use caching_matcher::CachingMatcher;
@@ -19,3 +21,4 @@ pub use line_matcher::LineMatcher;
 pub use match_cache::MatchCache;
 pub use matches::Matches;
 pub use state::Search;
+pub use text_matches::TextMatch;
