@@ -6,6 +6,9 @@ pub mod Orders
 pub mod Betweens
 pub mod Ranges
 pub mod Sounds
+pub mod Changing
+mod ChangeLogs
+mod UnitCounts
 pub mod StepLaw
 pub mod DocumentWraps
 pub mod RangesOverSplices

@@ -19,14 +19,15 @@ use Rattle.textarea_text.specs.Place.{Place, place_of}
 use Rattle.textarea_text.specs.Splice.{Splice}
 use Rattle.textarea_text.specs.Text.{characters_of, lines, lines_of, text_of}
 use Rattle.textarea_text.proofs.Befores.{text_place}
-use Rattle.textarea_document.specs.DocumentState.{DocumentState}
+use Rattle.textarea_document.specs.Changes.{with_lines_replaced}
+use Rattle.textarea_document.specs.DocumentState.{DocumentState, fresh_document}
 use Rattle.textarea_document.specs.Outcomes.{after_edit, after_redo, after_undo}
 use Rattle.textarea_document.specs.Selection.{lines_duplicated, selection_duplication}
 use Rattle.textarea_document.specs.Sound.{IsSound}
 use Rattle.textarea_document.specs.Splices.{redo_splices, selected_splices, undo_splices}
 use Rattle.textarea_document.proofs.Inserts.{duplication_splits_none, selection_duplication_fits, sound_duplicated}
 use Rattle.textarea_document.proofs.Ranges.{valid_none}
-use Rattle.textarea_document.proofs.Sounds.{sound_fresh, start_is_place}
+use Rattle.textarea_document.proofs.Sounds.{sound_changes, sound_fresh, start_is_place}
 use Rattle.tui_textarea.specs.CallResults.{CallResult, PatternRejected}
 use Rattle.tui_textarea.specs.CallSplices.{OfSplicesOutOfMemory, splices_by, splices_of}
 use Rattle.tui_textarea.specs.Calls.{StateOutOfMemory, call_splices, rejected_ranges, state_after}
@@ -184,8 +185,10 @@ module _ (By Own : Fact) (by : Reckoning By) (past : Past Own) where
   by_state old (call.SetLines items cursor) h =
       let place = clip (lines_of items.now) cursor in (
         tt,
-        λ can. sound_fresh (text_of items.now) old.document.layout.settings old.document.layout.count place old.document.log.maximum
-            (text_place items.now place (clip_is_place (lines_of items.now) cursor (omega (arith, can, length-map items.now characters_of)))),
+        λ can. sound_changes (fresh_document (text_of items.now) old.document.layout.settings old.document.layout.count place old.document.log.maximum)
+            (with_lines_replaced old.document.changes old.document.text (lines_of items.now))
+            (sound_fresh (text_of items.now) old.document.layout.settings old.document.layout.count place old.document.log.maximum
+            (text_place items.now place (clip_is_place (lines_of items.now) cursor (omega (arith, can, length-map items.now characters_of))))),
       )
   by_state old (call.SetTabLength columns) h = (tt, λ can. sound_settings old.document (tab_length_set old columns) h)
   by_state old (call.SetWrapMode mode) h = (tt, λ can. sound_settings old.document (mode_set old mode) h)

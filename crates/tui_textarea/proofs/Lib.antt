@@ -33,4 +33,6 @@ mod CursorLine
 pub mod CallWraps
 mod RangesOverCalls
 mod RangesOverRuns
+mod ChangesOverCalls
+mod ChangesOverRuns
 pub mod Runs

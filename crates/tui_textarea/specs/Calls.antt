@@ -4,7 +4,7 @@ use Rattle.std.specs.Duration.{as_nanos}
 use Rattle.std.specs.Str.{chars}
 use Rattle.textarea_text.specs.Place.{Place}
 use Rattle.textarea_text.specs.Splice.{Splice}
-use Rattle.textarea_text.specs.Text.{Break, lines, lines_of, text_of}
+use Rattle.textarea_text.specs.Text.{Break, lines, lines_of}
 use Rattle.textarea_data.specs.declared.range.AtomicRange.{AtomicRange}
 use Rattle.textarea_data.specs.declared.range.RejectedAtomicRange.{RejectedAtomicRange}
 use Rattle.textarea_ranges.specs.Lookup.{range_around}
@@ -12,8 +12,7 @@ use Rattle.textarea_ranges.specs.Order.{in_order}
 use Rattle.textarea_ranges.specs.Rejected.{rejected_of}
 use Rattle.textarea_history.specs.Log.{empty_log, newest, next}
 use Rattle.textarea_text.specs.Fragment.{fragment_symbols, fragment_text, pasted_symbols}
-use Rattle.textarea_text.specs.Between.{clip}
-use Rattle.textarea_document.specs.DocumentState.{fresh_document}
+use Rattle.textarea_document.specs.DocumentState.{lines_replaced}
 use Rattle.textarea_document.specs.Edits.{range_at_cursor, has_symbols}
 use Rattle.textarea_document.specs.Outcomes.{after_redo, run_ended, after_undo}
 use Rattle.textarea_document.specs.Selection.{is_selected, lines_duplicated, selection_duplication}
@@ -113,7 +112,7 @@ result_of_call state call = Done
 -- moves to the nearest position in them, nothing is selected, and nothing is scrolled
 abbrev pub with_lines : {Z : Type 0} → State → List (String Z) → Place → State
 with_lines state lines cursor =
-    with_other_lines state (fresh_document (text_of lines) state.document.layout.settings state.document.layout.count (clip (lines_of lines) cursor) state.document.log.maximum)
+    with_other_lines state (lines_replaced state.document (lines_of lines) cursor)
 
 -- the state after the call; after one that sets a pattern, if the pattern is accepted. The states
 -- after moves, scrolls, inputs and drawings are defined elsewhere

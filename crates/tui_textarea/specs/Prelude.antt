@@ -29,7 +29,9 @@ pub use Rattle.textarea_lines.specs.View.{IsViewOf}
 pub use Rattle.textarea_search.specs.PatternErrors.{IsErrorFor, IsOwnFailure, IsPatternFailure}
 pub use Rattle.textarea_document.specs.DocumentLaw.{ListsFit, RestoresAll, RestoresDocument}
 pub use Rattle.textarea_document.specs.DocumentRows.{text_and_layout}
-pub use Rattle.textarea_document.specs.DocumentState.{fresh_document}
+pub use Rattle.textarea_document.specs.ChangesLead.{ChangesLead}
+pub use Rattle.textarea_document.specs.Changes.{change_view}
+pub use Rattle.textarea_document.specs.DocumentState.{changes_taken, lines_replaced}
 pub use Rattle.textarea_document.specs.DocumentWraps.{SplicedBy, WrapsNothing}
 pub use Rattle.textarea_document.specs.Edits.{has_symbols, range_at_cursor}
 pub use Rattle.textarea_document.specs.Outcomes.{after_edit, after_redo, after_undo, run_ended}
@@ -72,5 +74,5 @@ pub use Rattle.tui_textarea.specs.Rendered.{IsDrawn}
 pub use Rattle.tui_textarea.specs.Run.{Leads, Run, ShowsSame}
 pub use Rattle.tui_textarea.specs.Search.{after_search, found_match, next_match, previous_match, with_pattern}
 pub use Rattle.tui_textarea.specs.Selection.{IsInsertOutOfMemory, all_selected, selection_cancelled, selection_copied, selection_cut, selection_started, unselected}
-pub use Rattle.tui_textarea.specs.State.{State, default_settings, new_state, text_of_each, with_document, with_other_lines}
+pub use Rattle.tui_textarea.specs.State.{State, default_settings, new_state, text_of_each, with_change_log, with_changes_taken, with_document, with_other_lines}
 pub use Rattle.tui_textarea.specs.TextAreaLaw.{HasRowsFromScratch, PastesCopy}
