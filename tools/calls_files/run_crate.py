@@ -20,6 +20,7 @@ ANSWERS = {
     "Option<((usize, usize), (usize, usize))>": "Selection",
     "WrapMode": "WrapMode",
     "usize": "Number",
+    "Vec<TextChange>": "Changes",
 }
 
 

@@ -29,4 +29,5 @@ pub mod Patterns
 pub mod Run
 pub mod CallSplices
 pub mod CallResults
+pub mod ChangesOverCalls
 pub mod Prelude
