@@ -1,0 +1,7 @@
+mod Ends
+mod Halves
+mod Heights
+mod Rising
+mod Splices
+mod Steps
+mod Written

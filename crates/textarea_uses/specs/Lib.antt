@@ -1,0 +1,4 @@
+pub mod Height
+pub mod Matches
+pub mod OneLine
+pub mod SideBySide

@@ -1,0 +1,100 @@
+//! Runs of the uses on a few inputs. What owns a text area ends without a `?` while it is alive.
+use crate::height::draw_at_bottom;
+use crate::log_view::LogView;
+use crate::matches::all_matches;
+use crate::one_line::Field;
+use crate::side_by_side::draw_both;
+use anyhow::Result;
+use std::alloc::{AllocError, Global};
+use tui_textarea::{Buffer, Input, Key, Rect, TextArea, WrapMode};
+
+const SCREEN: Rect = Rect {
+    x: 0,
+    y: 0,
+    width: 12,
+    height: 3,
+};
+
+/// What is in a field after keys and a paste with line breaks.
+pub fn one_line(alloc: Global) -> Result<String, AllocError> {
+    let mut field = Field::new(alloc)?;
+    let text = typed_into(&mut field);
+    drop(field);
+    text
+}
+
+fn typed_into(field: &mut Field) -> Result<String, AllocError> {
+    for character in "a\nb\rc".chars() {
+        field.take(&Input::from(character))?;
+    }
+    field.take(&Input::from(Key::Enter))?;
+    field.paste(" d\r\ne")?;
+    field.text()
+}
+
+/// A screen with two text areas.
+pub fn side_by_side(alloc: Global) -> Result<Buffer, AllocError> {
+    let mut buffer = Buffer::empty(alloc, SCREEN)?;
+    let mut left = TextArea::from_text(alloc, "the left one, which is long")?;
+    let drawn = left_and_right(&mut left, &mut buffer);
+    drop(left);
+    drawn.map(|()| buffer)
+}
+
+fn left_and_right(left: &mut TextArea<'_>, buffer: &mut Buffer) -> Result<(), AllocError> {
+    let mut right = TextArea::from_text(left.allocator(), "right\nalso")?;
+    let drawn = draw_both(left, &mut right, SCREEN, buffer);
+    drop(right);
+    drawn.map(|_| ())
+}
+
+/// A screen with a text at its bottom.
+pub fn height(alloc: Global) -> Result<Buffer, AllocError> {
+    let mut buffer = Buffer::empty(alloc, SCREEN)?;
+    let mut text = TextArea::from_text(alloc, "as high as it is")?;
+    let drawn = wrapped(&mut text, &mut buffer);
+    drop(text);
+    drawn.map(|()| buffer)
+}
+
+fn wrapped(text: &mut TextArea<'_>, buffer: &mut Buffer) -> Result<(), AllocError> {
+    text.set_wrap_mode(WrapMode::Word)?;
+    draw_at_bottom(text, SCREEN, buffer)?;
+    Ok(())
+}
+
+/// A screen with a log, after some keys.
+pub fn log_view(alloc: Global) -> Result<Buffer, AllocError> {
+    let mut buffer = Buffer::empty(alloc, SCREEN)?;
+    let mut view = LogView::new(alloc, "1\n2\n3\n4\n5\n6\n")?;
+    let drawn = scrolled(&mut view, &mut buffer);
+    drop(view);
+    drawn.map(|()| buffer)
+}
+
+fn scrolled(view: &mut LogView, buffer: &mut Buffer) -> Result<(), AllocError> {
+    view.draw(SCREEN, buffer)?;
+    for key in [
+        Key::PageDown,
+        Key::Down,
+        Key::Up,
+        Key::Delete,
+        Key::Char('x'),
+    ] {
+        view.take(key);
+    }
+    view.draw(SCREEN, buffer)
+}
+
+/// The matches of a pattern.
+pub fn matches(alloc: Global) -> Result<Vec<(usize, usize)>> {
+    let mut area = TextArea::from_text(alloc, "a sea, a seal\nseaside")?;
+    let places = found(&mut area);
+    drop(area);
+    places
+}
+
+fn found(area: &mut TextArea<'_>) -> Result<Vec<(usize, usize)>> {
+    area.set_search_pattern("sea")?;
+    Ok(all_matches(area)?)
+}
