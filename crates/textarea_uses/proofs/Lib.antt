@@ -1,7 +1,9 @@
 mod Ends
 mod Halves
 mod Heights
+mod Reverting
 mod Rising
+mod Saving
 mod Splices
 mod Steps
 mod Written

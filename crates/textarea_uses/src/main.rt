@@ -8,6 +8,7 @@ mod height;
 mod log_view;
 mod matches;
 mod one_line;
+mod save;
 mod side_by_side;
 mod trials;
 
@@ -16,6 +17,7 @@ use anyhow::Result;
 fn main(rt: HostRuntime) -> Result<()> {
     let alloc = rt.alloc();
     println!(rt; "one line: {}", trials::one_line(alloc)?)?;
+    println!(rt; "save: {:?}", trials::save(alloc)?)?;
     println!(rt; "side by side:\n{}", trials::side_by_side(alloc)?)?;
     println!(rt; "height:\n{}", trials::height(alloc)?)?;
     println!(rt; "log view:\n{}", trials::log_view(alloc)?)?;

@@ -3,6 +3,7 @@ use crate::height::draw_at_bottom;
 use crate::log_view::LogView;
 use crate::matches::all_matches;
 use crate::one_line::Field;
+use crate::save::SavedText;
 use crate::side_by_side::draw_both;
 use anyhow::Result;
 use std::alloc::{AllocError, Global};
@@ -30,6 +31,26 @@ fn typed_into(field: &mut Field) -> Result<String, AllocError> {
     field.take(&Input::from(Key::Enter))?;
     field.paste(" d\r\ne")?;
     field.text()
+}
+
+/// Whether a text gets back to its last save, and the text then.
+pub fn save(alloc: Global) -> Result<(bool, String), AllocError> {
+    let mut text = SavedText::new(alloc, "saved")?;
+    let reverted = reverted(&mut text);
+    drop(text);
+    reverted
+}
+
+fn reverted(text: &mut SavedText) -> Result<(bool, String), AllocError> {
+    for character in "12".chars() {
+        text.take(Input::from(character))?;
+    }
+    text.save()?;
+    for character in "34".chars() {
+        text.take(Input::from(character))?;
+    }
+    let reached = text.revert()?;
+    Ok((reached, text.text()?))
 }
 
 /// A screen with two text areas.
