@@ -1,9 +1,11 @@
 mod Ends
 mod Halves
 mod Heights
+mod Playing
 mod Reverting
 mod Rising
 mod Saving
 mod Splices
 mod Steps
+mod Typing
 mod Written

@@ -8,6 +8,8 @@ mod height;
 mod log_view;
 mod matches;
 mod one_line;
+mod prompt;
+mod recorder;
 mod save;
 mod side_by_side;
 mod trials;
@@ -16,11 +18,13 @@ use anyhow::Result;
 
 fn main(rt: HostRuntime) -> Result<()> {
     let alloc = rt.alloc();
+    println!(rt; "prompt: {:?}", trials::prompt(alloc)?)?;
     println!(rt; "one line: {}", trials::one_line(alloc)?)?;
     println!(rt; "save: {:?}", trials::save(alloc)?)?;
     println!(rt; "side by side:\n{}", trials::side_by_side(alloc)?)?;
     println!(rt; "height:\n{}", trials::height(alloc)?)?;
     println!(rt; "log view:\n{}", trials::log_view(alloc)?)?;
     println!(rt; "matches: {:?}", trials::matches(alloc)?)?;
+    println!(rt; "recorder: {:?}", trials::recorder(alloc)?)?;
     Ok(())
 }

@@ -3,10 +3,13 @@ use crate::height::draw_at_bottom;
 use crate::log_view::LogView;
 use crate::matches::all_matches;
 use crate::one_line::Field;
+use crate::prompt::{LinePrompt, send_all};
+use crate::recorder::Recorder;
 use crate::save::SavedText;
 use crate::side_by_side::draw_both;
 use anyhow::Result;
 use std::alloc::{AllocError, Global};
+use std::time::Duration;
 use tui_textarea::{Buffer, Input, Key, Rect, TextArea, WrapMode};
 
 const SCREEN: Rect = Rect {
@@ -15,6 +18,28 @@ const SCREEN: Rect = Rect {
     width: 12,
     height: 3,
 };
+
+/// What a prompt sends.
+pub fn prompt(alloc: Global) -> Result<Vec<String>, AllocError> {
+    let mut prompt = LinePrompt::new(alloc)?;
+    let sent = sent_by(&mut prompt, alloc);
+    drop(prompt);
+    sent
+}
+
+fn sent_by(prompt: &mut LinePrompt, alloc: Global) -> Result<Vec<String>, AllocError> {
+    let mut keys = Vec::new(alloc);
+    for character in "one\rtwo\r\rthreee\x08\r".chars() {
+        keys.push(match character {
+            '\r' => Key::Enter,
+            '\x08' => Key::Backspace,
+            _ => Key::Char(character),
+        })?;
+    }
+    let mut texts = Vec::new(alloc);
+    send_all(prompt, &keys, &mut texts)?;
+    Ok(texts)
+}
 
 /// What is in a field after keys and a paste with line breaks.
 pub fn one_line(alloc: Global) -> Result<String, AllocError> {
@@ -118,4 +143,34 @@ pub fn matches(alloc: Global) -> Result<Vec<(usize, usize)>> {
 fn found(area: &mut TextArea<'_>) -> Result<Vec<(usize, usize)>> {
     area.set_search_pattern("sea")?;
     Ok(all_matches(area)?)
+}
+
+/// A text that was typed, and the text of a replay.
+pub fn recorder(alloc: Global) -> Result<(String, String), AllocError> {
+    let mut area = TextArea::from_text(alloc, "start")?;
+    let both = replayed(alloc, &mut area);
+    drop(area);
+    both
+}
+
+fn replayed(alloc: Global, area: &mut TextArea<'static>) -> Result<(String, String), AllocError> {
+    let mut copy = area.clone()?;
+    let mut recorder = Recorder::new(alloc);
+    let both = recorded(&mut recorder, area, &mut copy);
+    drop(copy);
+    both
+}
+
+fn recorded(
+    recorder: &mut Recorder,
+    area: &mut TextArea<'static>,
+    copy: &mut TextArea<'static>,
+) -> Result<(String, String), AllocError> {
+    for (index, character) in "abc de".chars().enumerate() {
+        let now = Duration::from_millis(400 * index as u64);
+        recorder.take(area, Input::from(character), now)?;
+    }
+    recorder.take(area, Input::from('u').ctrl(), Duration::from_secs(9))?;
+    recorder.replay(copy)?;
+    Ok((area.text()?, copy.text()?))
 }
