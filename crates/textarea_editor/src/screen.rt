@@ -1,6 +1,8 @@
 //! The terminal's side of an editor: its bytes as events, and frames as its bytes.
 
-ghost use Rattle.std.specs.Prelude.{◌≡◌, OnErr};
+ghost use Rattle.std.specs.Prelude.{◌≡◌, ◌++◌, ◌/◌, IfOk, OnErr, OnOk, min};
+ghost use Rattle.std.specs.Duration.{as_nanos};
+ghost use Rattle.textarea_editor.specs.TerminalScreen.{IsReadBy, clipboard_bytes, decoder_of};
 
 use crate::editor::Editor;
 use base64::engine::general_purpose::STANDARD;
@@ -41,7 +43,10 @@ impl Screen {
 
     /// Returns the events of the next bytes, or, if none came in this time, those of bytes that wait
     /// for more.
-    pub fn read(&mut self, bytes: &[u8], waited: Duration) -> Result<Vec<Event>, AllocError> {
+    pub fn read(&mut self, bytes: &[u8], waited: Duration) -> Result<Vec<Event>, AllocError>
+        ensures { IfOk result (λ events. IsReadBy (decoder_of self.old) (decoder_of self.new)
+            bytes.now (min u32.MAX (as_nanos waited / 1_000_000)) events.items) }
+    {
         let mut events = Vec::new(self.alloc);
         if bytes.is_empty() {
             let milliseconds = u32::try_from(waited.as_millis()).unwrap_or(u32::MAX);
@@ -83,7 +88,8 @@ impl Screen {
     /// Adds the bytes that give a text to the terminal's clipboard (OSC 52). If memory runs out, it
     /// adds none.
     pub fn copy(&self, text: &str, out: &mut Vec<u8>) -> Result<(), AllocError>
-        ensures { OnErr result (out.new.items ≡ out.old.items) }
+        ensures ok { OnOk result (out.new.items ≡ out.old.items ++ clipboard_bytes text.now) }
+        ensures err { OnErr result (out.new.items ≡ out.old.items) }
     {
         let encoded = STANDARD.encode(self.alloc, text.as_bytes())?;
         let sequence = format!(in self.alloc; "\x1b]52;c;{encoded}\x07")?;
