@@ -48,7 +48,7 @@
 //!
 //! # Threads
 //!
-//! A text area stays on its thread: it is neither `Send` nor `Sync`, and so is a
+//! A text area stays on its thread: it is neither `Send` nor `Sync`, and neither is a
 //! [terminal](terminal::Terminal). Copies of a text area share its search pattern, which the core
 //! counts without atomics, since the toolchain has no proof that a compiled pattern may be shared by
 //! threads. A program with several threads gives the text area to one of them, and sends that one
