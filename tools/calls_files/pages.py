@@ -19,7 +19,7 @@ def command_rows(table):
 
 
 def new_rows(table):
-    """The table of calls that the Rust crate has not."""
+    """The table of calls that the Rust crate doesn't have."""
     rows = []
     for call in table.calls:
         if call.is_new:
