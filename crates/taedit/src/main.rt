@@ -152,9 +152,6 @@ fn take(
     if !events.is_empty() {
         show(rt, editor, screen)?;
     }
-    if editor.is_changed() {
-        file.make_hash(rt, editor.name().unwrap_or(""));
-    }
     Ok(true)
 }
 
@@ -170,12 +167,9 @@ fn carry_out(
         Effect::Nothing => Ok(true),
         Effect::Quit => Ok(false),
         Effect::Copy(text) => copy(rt, screen, text.as_str()),
-        Effect::Save {
-            name,
-            text,
-            overwrites,
-        } => {
-            let end = file.save(rt, name.as_str(), text.as_str(), overwrites);
+        Effect::Save { text, overwrites } => {
+            let name = editor.name().unwrap_or("");
+            let end = file.save(rt, name, text.as_str(), overwrites);
             Ok(editor.saved(end) != Effect::Quit)
         }
     }

@@ -1,4 +1,3 @@
-mod StatusRows
 mod Drafts
 mod EventRuns
 mod FileLines
