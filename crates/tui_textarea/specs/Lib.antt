@@ -9,8 +9,6 @@ pub mod DrawingPrelude
 pub mod State
 pub mod Drawing
 pub mod Edits
-pub mod Grouping
-pub mod GroupLaw
 pub mod Removals
 pub mod Selection
 pub mod Moves

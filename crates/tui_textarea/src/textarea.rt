@@ -2,7 +2,6 @@
 //! surround, and the state of drawing.
 mod constructors;
 mod edits;
-mod grouping;
 mod input;
 pub(crate) mod laws;
 mod layout;
