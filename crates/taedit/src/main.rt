@@ -152,6 +152,9 @@ fn take(
     if !events.is_empty() {
         show(rt, editor, screen)?;
     }
+    if editor.is_changed() {
+        file.make_hash(rt, editor.name().unwrap_or(""));
+    }
     Ok(true)
 }
 
@@ -167,9 +170,12 @@ fn carry_out(
         Effect::Nothing => Ok(true),
         Effect::Quit => Ok(false),
         Effect::Copy(text) => copy(rt, screen, text.as_str()),
-        Effect::Save { text, overwrites } => {
-            let name = editor.name().unwrap_or("");
-            let end = file.save(rt, name, text.as_str(), overwrites);
+        Effect::Save {
+            name,
+            text,
+            overwrites,
+        } => {
+            let end = file.save(rt, name.as_str(), text.as_str(), overwrites);
             Ok(editor.saved(end) != Effect::Quit)
         }
     }

@@ -20,7 +20,7 @@ failed_honest : (old new : Draft) (first : List Call) (IsAsked : List Call → T
 failed_honest old new first IsAsked (inl early) = early.honest
 failed_honest old new first IsAsked (inr fails) = fails.fails.honest
 
-step_honest : (old new : Editor) (now : Duration) (event : Event) (effect : Effect) → (Succeeds old now event new ⊎ FailsAt old now event effect new) → IsHonest old.draft new.draft
+step_honest : (old new : Editor) (now : Duration) (event : Event) (effect : Effect) → (Succeeds old now event effect new ⊎ FailsAt old now event effect new) → IsHonest old.draft new.draft
 step_honest old new now event effect (inl made) = made.makes.makes.honest
 step_honest old new now event effect (inr failed) = failed_honest old.draft new.draft (SetNow now ∷ []) (IsTimed old now event) failed.fails
 
@@ -42,7 +42,7 @@ quits_after saved old new moments now event steps step = may_quit saved old mome
 
 -- ---- the calls of events
 
-step_made : (old new : Editor) (now : Duration) (event : Event) (effect : Effect) → new.message ≢ Memory → (Succeeds old now event new ⊎ FailsAt old now event effect new) → MakesSome (IsTimed old now event) old.draft new.draft
+step_made : (old new : Editor) (now : Duration) (event : Event) (effect : Effect) → new.message ≢ Memory → (Succeeds old now event effect new ⊎ FailsAt old now event effect new) → MakesSome (IsTimed old now event) old.draft new.draft
 step_made old new now event effect other (inl made) = made.makes
 step_made old new now event effect other (inr failed) = absurd (other failed.message)
 

@@ -1,3 +1,4 @@
+mod StatusRows
 mod Drafts
 mod EventRuns
 mod FileLines

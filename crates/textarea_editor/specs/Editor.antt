@@ -8,6 +8,7 @@ use Rattle.textarea_editor.specs.declared.file_text.LineEnd.TheVariants.{LineFee
 use Rattle.textarea_editor.specs.declared.focus.Focus.TheVariants as focus
 use Rattle.textarea_editor.specs.declared.focus.Question.TheVariants.{SaveFirst}
 use Rattle.textarea_editor.specs.declared.message.Message.{Message}
+use Rattle.tui_textarea.specs.State.{State}
 
 -- the text area, and whether its text may differ from the saved one
 abbrev pub draft_of : Editor → Draft
@@ -24,6 +25,10 @@ new_ends closes = record { between = LineFeed; closes_last = closes }
 -- what decides what the next event does
 abbrev pub controls_of : Editor → Controls
 controls_of editor = editor.controls
+
+-- the text area of the prompt
+abbrev pub field_of : Editor → State
+field_of editor = editor.field
 
 -- the message of the status row
 abbrev pub message_of : Editor → Message

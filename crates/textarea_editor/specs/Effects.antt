@@ -1,5 +1,5 @@
 -- The effects of an editor's steps.
-use Rattle.std.specs.Prelude.{◌≡◌, ℕ, Bool, true, false, List, String, string_bytes}
+use Rattle.std.specs.Prelude.{◌≡◌, ℕ, Bool, true, false, List, [], Option, None, Some, String, string_bytes}
 use Rattle.std.specs.Str.{chars}
 use Rattle.std.specs.declared.alloc.Global.{Global}
 use Rattle.textarea_editor.specs.FileText.{file_bytes}
@@ -20,6 +20,7 @@ use Rattle.tui_textarea.specs.State.{State}
 abbrev pub is_saved : SaveEnd → Bool
 is_saved save_end.Saved = true
 is_saved save_end.SavedAnew = true
+is_saved save_end.Unsynced = true
 is_saved end = false
 
 -- these bytes are those of a file of the text's lines
@@ -28,23 +29,28 @@ pub record IsWritten (state : State) (ends : LineEnds) (bytes : List ℕ) : Type
   pub of_text : lines_of strings ≡ lines state.document.text
   pub joined : bytes ≡ file_bytes ends strings
 
--- the program saves the file, and overwrites a changed one or not; without a name it does nothing yet
-abbrev pub IsSaveAsked : Bool → Bool → Effect → Type 0
-IsSaveAsked true overwrites (Save text asked) = asked ≡ overwrites
-IsSaveAsked true overwrites effect = ⊥
-IsSaveAsked false overwrites effect = effect ≡ Nothing
+-- the bytes of a name, if there is one
+abbrev pub name_bytes : Option (String Global) → List ℕ
+name_bytes None = []
+name_bytes (Some name) = string_bytes name
+
+-- the program saves the file of this name, and overwrites a changed one or not; without a name it does nothing yet
+abbrev pub IsSaveAsked : Bool → List ℕ → Bool → Effect → Type 0
+IsSaveAsked true name overwrites (Save asked text asks) = (string_bytes asked ≡ name) × (asks ≡ overwrites)
+IsSaveAsked true name overwrites effect = ⊥
+IsSaveAsked false name overwrites effect = effect ≡ Nothing
 
 -- what the program does after a reply to a question; only `n` to the first one ends it
-abbrev pub IsAnswered : Question → KeyReply → Bool → Effect → Type 0
-IsAnswered SaveFirst reply.Yes named effect = IsSaveAsked named false effect
-IsAnswered SaveFirst reply.No named effect = effect ≡ Quit
-IsAnswered Overwrite reply.Yes named effect = IsSaveAsked named true effect
-IsAnswered question answer named effect = effect ≡ Nothing
+abbrev pub IsAnswered : Question → KeyReply → Bool → List ℕ → Effect → Type 0
+IsAnswered SaveFirst reply.Yes named name effect = IsSaveAsked named name false effect
+IsAnswered SaveFirst reply.No named name effect = effect ≡ Quit
+IsAnswered Overwrite reply.Yes named name effect = IsSaveAsked named name true effect
+IsAnswered question answer named name effect = effect ≡ Nothing
 
 -- a text to save is that of the text area, one to copy is what was yanked last, and the program
 -- ends only if it may
 abbrev pub Carries : Type 0 → State → LineEnds → Effect → Type 0
 Carries MayQuit state ends Nothing = Unit {0}
-Carries MayQuit state ends (Save text overwrites) = IsWritten state ends (string_bytes text)
+Carries MayQuit state ends (Save name text overwrites) = IsWritten state ends (string_bytes text)
 Carries MayQuit state ends (Copy text) = chars (string_bytes text) ≡ fragment_text state.yank
 Carries MayQuit state ends Quit = MayQuit

@@ -1,12 +1,13 @@
 -- The calls on the text area that each event makes, as a table: by what the next key is for, the
 -- key, and the command that it is bound to.
-use Rattle.std.specs.Prelude.{◌≡◌, ◌⊎◌, ◌<◌, ◌≤◌, ℕ, ◌-◌, ◌==◌, ◌&&◌, ◌||◌, nat_lt, not, Bool, true, false, List, [], ◌∷◌, ◌++◌, Option, Some, None, is_some, if◌then◌else◌, slice_index_or, string_bytes, All, Contains}
+use Rattle.std.specs.Prelude.{◌≡◌, ◌⊎◌, ◌<◌, ◌≤◌, ℕ, ◌-◌, ◌==◌, ◌&&◌, ◌||◌, nat_lt, not, Bool, true, false, List, [], ◌∷◌, ◌++◌, Option, Some, None, is_some, if◌then◌else◌, slice_index_or, string_bytes, All, Contains, codes, pos, negsuc}
 use Rattle.std.specs.Borrow.{Bor}
 use Rattle.std.specs.Str.{chars}
 use Rattle.textarea_calls.specs.declared.call.Call.{Call}
 use Rattle.textarea_calls.specs.declared.call.Call.TheVariants as call
 use Rattle.textarea_data.specs.declared.cursor.CursorMove.TheVariants as move
 use Rattle.textarea_data.specs.declared.input.Input.{Input}
+use Rattle.textarea_data.specs.declared.scroll.Scrolling.TheVariants as scrolling
 use Rattle.textarea_data.specs.declared.measure.TextAreaMeasure.{TextAreaMeasure}
 use Rattle.textarea_data.specs.declared.input.Key.{Key}
 use Rattle.textarea_data.specs.declared.input.Key.TheVariants.{Char, End, Esc, F, Home, MouseScrollDown, MouseScrollUp}
@@ -16,7 +17,6 @@ use Rattle.textarea_editor.specs.PromptKeys.{prompt_key}
 use Rattle.textarea_editor.specs.TypedInput.{typed_input}
 use Rattle.textarea_editor.specs.declared.controls.Controls.{Controls}
 use Rattle.textarea_editor.specs.declared.editor.Editor.{Editor}
-use Rattle.textarea_editor.specs.declared.editor.TheConstants.{WHEEL_DOWN, WHEEL_UP}
 use Rattle.textarea_editor.specs.declared.focus.Asked.{Asked}
 use Rattle.textarea_editor.specs.declared.focus.Asked.TheVariants as asks
 use Rattle.textarea_editor.specs.declared.focus.Focus.{Focus}
@@ -99,6 +99,10 @@ abbrev pub find_calls : Bool → List Call
 find_calls true = call.SearchForward false ∷ []
 find_calls false = call.SearchBack false ∷ []
 
+-- to the next control character but a tab, all of which are lit
+abbrev pub control_calls : List Call
+control_calls = call.SetSearchPattern (borrowed (codes "[[:cntrl:]&&[^\t]]")) ∷ call.SearchForward false ∷ []
+
 -- a command's calls; long lines are wrapped now or not, lines are numbered or not, a selection is
 -- open or not
 abbrev pub command_calls : Bool → Bool → Bool → KeyCommand → List Call
@@ -109,6 +113,7 @@ command_calls wraps numbers selecting command.Find = []
 command_calls wraps numbers selecting command.FindNext = find_calls true
 command_calls wraps numbers selecting command.FindPrevious = find_calls false
 command_calls wraps numbers selecting command.GoToLine = []
+command_calls wraps numbers selecting command.NextControl = control_calls
 command_calls wraps numbers selecting command.Undo = call.Undo ∷ []
 command_calls wraps numbers selecting command.Redo = call.Redo ∷ []
 command_calls wraps numbers selecting command.Cut = if selecting then call.Cut ∷ [] else []
@@ -132,12 +137,12 @@ typed_calls (Some mode) input = (step mode input).calls
 -- the wheel scrolls down by three rows, but not if all rows of the text are shown
 abbrev pub wheel_calls : Bool → List Call
 wheel_calls true = []
-wheel_calls false = call.Scroll WHEEL_DOWN ∷ []
+wheel_calls false = call.Scroll (scrolling.Delta (pos 3) (pos 0)) ∷ []
 
 -- a key that is bound to no command; all rows of the text fit into the screen or not
 abbrev pub unbound_calls : Bool → Option Mode → Key → Input → List Call
 unbound_calls fits modal MouseScrollDown input = wheel_calls fits
-unbound_calls fits modal MouseScrollUp input = call.Scroll WHEEL_UP ∷ []
+unbound_calls fits modal MouseScrollUp input = call.Scroll (scrolling.Delta (negsuc 2) (pos 0)) ∷ []
 unbound_calls fits modal other input = typed_calls modal input
 
 -- whether all rows of the text fit into this area; where it isn't laid out for this width, memory may

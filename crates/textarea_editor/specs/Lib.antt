@@ -5,6 +5,7 @@ pub mod Draft
 pub mod Editor
 pub mod Effects
 pub mod EventCalls
+pub mod EventEffects
 pub mod FileText
 pub mod HelpKeys
 pub mod LineNumber
@@ -17,6 +18,8 @@ pub mod SaveEnds
 pub mod Screen
 pub mod SetUp
 pub mod Shortened
+pub mod StatusRow
 pub mod Steps
 pub mod TerminalColors
+pub mod TerminalScreen
 pub mod TypedInput

@@ -2,11 +2,10 @@
 use Rattle.std.specs.Prelude.{ℕ, ◌==◌, ◌||◌, Bool, List, [], ◌∷◌, ◌++◌, codes, if◌then◌else◌}
 use Rattle.std.specs.Char.Unicode.Uppercase.{is_uppercase}
 use Rattle.std.specs.List.{flat_map, list_any}
-use Rattle.textarea_editor.specs.declared.pattern.TheConstants.{SPECIAL}
 
 -- whether a character has a meaning in a pattern
 abbrev pub is_special : ℕ → Bool
-is_special c = list_any (λ special. special == c) SPECIAL
+is_special c = list_any (λ special. special == c) (codes "\\.+*?()|[]{}^$#&-~")
 
 -- the pattern of a character: with a backslash, 92, before it if it has a meaning
 abbrev pub escaped : ℕ → List ℕ

@@ -3,7 +3,6 @@ use Rattle.std.specs.Prelude.{◌≡◌, Bool, true, List, Some}
 use Rattle.textarea_data.specs.declared.cursor.CursorRenderMode.TheVariants.{Hidden}
 use Rattle.textarea_document.specs.Prelude.{empty_log}
 use Rattle.textarea_editor.specs.EventCalls.{wrap_mode}
-use Rattle.textarea_editor.specs.declared.editor.parts.TheConstants.{UNDOS}
 use Rattle.textarea_screen.specs.Style.{empty_style, with_modifier}
 use Rattle.textarea_screen.specs.declared.screen.color.Color.TheVariants.{Black, Yellow}
 use Rattle.textarea_screen.specs.declared.screen.style.Style.{Style}
@@ -28,10 +27,10 @@ with_hidden_cursor area = with_look_set area (record area.drawing.look { cursor_
 abbrev pub IsShown : State → Type 0
 IsShown area = area ≡ with_hidden_cursor (new_state area.document.text)
 
--- one undo takes back a run of typing, and all undos at most `UNDOS` edits; Tab inserts a tab
+-- one undo takes back a run of typing, and all undos at most 10,000 edits; Tab inserts a tab
 abbrev pub set_up : State → State
 set_up area = with_hidden_cursor (record area {
-  document = record area.document { log = empty_log UNDOS };
+  document = record area.document { log = empty_log 10_000 };
   settings = record area.settings { undo_coalescing = true; hard_tab_indent = true };
   drawing = record area.drawing { look = record area.drawing.look { search_style = match_style; selection_style = selected_style } };
 })

@@ -7,7 +7,8 @@ use Rattle.textarea_editor.specs.Controls.{IsAfterEvent}
 use Rattle.textarea_editor.specs.Draft.{FailsIn, FailsInAsked, Makes, MakesSome}
 use Rattle.textarea_editor.specs.Editor.{MayQuit}
 use Rattle.textarea_editor.specs.Effects.{Carries}
-use Rattle.textarea_editor.specs.EventCalls.{IsEvent}
+use Rattle.textarea_editor.specs.EventCalls.{IsEvent, is_selecting}
+use Rattle.textarea_editor.specs.EventEffects.{IsEventEffect}
 use Rattle.textarea_editor.specs.declared.editor.Editor.{Editor}
 use Rattle.textarea_editor.specs.declared.effect.Effect.{Effect}
 use Rattle.textarea_editor.specs.declared.effect.Effect.TheVariants.{Nothing}
@@ -20,10 +21,11 @@ pub record IsTimed (old : Editor) (now : Duration) (event : Event) (calls : List
   pub asked : IsEvent old old.draft.area event later
   pub calls_are : calls ≡ SetNow now ∷ later
 
--- the calls of an event were made, and then the next event is for what the table says
-pub record Succeeds (old : Editor) (now : Duration) (event : Event) (new : Editor) : Type 0 where
+-- the calls of an event were made, then the next event is for what the table says, and the program does what the table says
+pub record Succeeds (old : Editor) (now : Duration) (event : Event) (effect : Effect) (new : Editor) : Type 0 where
   pub makes : MakesSome (IsTimed old now event) old.draft new.draft
   pub controls : IsAfterEvent old.controls (is_some old.name) new.draft.is_changed old.draft.area.document.cursor old.field event new.controls
+  pub effect_is : IsEventEffect old.controls old.name new.draft.is_changed (is_selecting old.draft.area) old.field event effect
 
 -- memory ran out in the calls of an event, or after the first before the others were known: the
 -- status row shows it, and the program does nothing
@@ -36,7 +38,7 @@ pub record FailsAt (old : Editor) (now : Duration) (event : Event) (effect : Eff
 -- a step by an event: its calls, and its effect; the file's line end stays. The program ends without
 -- a question only if the text counted as unchanged
 pub record IsStep (old : Editor) (now : Duration) (event : Event) (effect : Effect) (new : Editor) : Type 0 where
-  pub led : Succeeds old now event new ⊎ FailsAt old now event effect new
+  pub led : Succeeds old now event effect new ⊎ FailsAt old now event effect new
   pub carries : Carries (MayQuit old) new.draft.area new.line_end effect
   pub end : new.line_end ≡ old.line_end
 

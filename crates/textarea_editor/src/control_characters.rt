@@ -1,29 +1,48 @@
 //! Control characters of a text, which no cell shows.
-ghost use Rattle.std.specs.Prelude.{◌≡◌};
-ghost use Rattle.textarea_editor.specs.ControlCharacters.{is_control};
+ghost use Rattle.std.specs.Prelude.{◌≡◌, count_by, string_bytes};
+ghost use Rattle.textarea_editor.specs.ControlCharacters.{capped_sum, count_message, is_control, shown_count};
 
 use crate::message::Message;
 
-/// Returns the message for a text that was opened: the number of control characters in its lines,
-/// if there are any.
-pub fn opened_message(lines: &[String]) -> Message {
+/// Returns the message with the number of control characters in these lines, or another one if
+/// there are none. A number that doesn't fit is the greatest one.
+pub fn count_message(lines: &[String], none: Message) -> Message
+    ensures { result ≡ count_message (shown_count lines.now) none }
+{
     match control_characters(lines) {
-        0 => Message::Nothing,
+        0 => none,
         count => Message::ControlCharacters(count),
     }
 }
 
 // The number of control characters.
-fn control_characters(lines: &[String]) -> usize {
-    let mut count: usize = 0;
-    for line in lines {
-        for byte in line.as_bytes() {
-            if is_control(*byte) {
-                count = count.saturating_add(1);
-            }
-        }
+fn control_characters(lines: &[String]) -> usize
+    ensures { result ≡ shown_count lines.now }
+{
+    lines.iter().fold(
+        0,
+        |count, line| capped_sum(count, controls_in(line.as_str())),
+    )
+}
+
+// The sum of two numbers, or the greatest number.
+fn capped_sum(count: usize, more: usize) -> usize
+    ensures { result ≡ capped_sum count more }
+{
+    if more < usize::MAX - count {
+        count + more
+    } else {
+        usize::MAX
     }
-    count
+}
+
+fn controls_in(line: &str) -> usize
+    ensures { result ≡ count_by is_control line.now }
+{
+    line.as_bytes()
+        .iter()
+        .filter(|byte| is_control(**byte))
+        .count()
 }
 
 // Returns whether a byte is a control character other than a tab.

@@ -6,7 +6,7 @@ mod new_file;
 
 use crate::effect::SaveEnd;
 use crate::message::Trouble;
-use carrying_out::{Failure, Way, carry_out};
+use carrying_out::{Done, Failure, Way, carry_out};
 use std::fs::{File, Metadata};
 use std::io::{ErrorKind, Read};
 use std::os::unix::fs::MetadataExt;
@@ -30,7 +30,7 @@ struct Known {
     // The hash of its name.
     name: u64,
     stamp: Stamp,
-    // The hash of its bytes; none for a large file that wasn't saved yet.
+    // The hash of its bytes; none for a large file until its text is changed.
     content: Option<u64>,
 }
 
@@ -133,6 +133,23 @@ impl Known {
         }
     }
 
+    // What is known of a file without a hash, with that of its bytes if it is as it was. One that is
+    // not, or can't be read, has the hash of none, so that it counts as changed.
+    fn with_hash<R: Files>(self, rt: &R, name: &str) -> Known {
+        let is_same = match fs::metadata(rt, name) {
+            Ok(now) => self.stamp == stamp_of(&now),
+            Err(_) => false,
+        };
+        let content = match hash_on_disk(rt, name) {
+            Ok(hash) if is_same => hash,
+            _ => NEW_HASH,
+        };
+        Known {
+            content: Some(content),
+            ..self
+        }
+    }
+
     // What is known after a save failed. The file may have the known bytes, at another time if it
     // was grown and cut again, or those of the text, whose hash this is.
     fn after_failure<R: Files>(self, rt: &R, name: &str, text: u64) -> Known {
@@ -173,6 +190,16 @@ impl DiskFile {
         }
     }
 
+    /// Makes the hash of the bytes of the file of this name, if that is known without one. It is for
+    /// the first change of a large text, of which `read` makes none.
+    pub fn make_hash<R: Files>(&mut self, rt: &R, name: &str) {
+        if let Some(known) = self.known {
+            if known.content.is_none() && known.name == hash_of(name) {
+                self.known = Some(known.with_hash(rt, name));
+            }
+        }
+    }
+
     /// Saves a text as the file of this name, over links to it. A file that exists has to be as it
     /// was read or saved last, unless it is overwritten.
     ///
@@ -199,12 +226,12 @@ impl DiskFile {
         }
         let was_deleted = old.is_none() && self.knows(name);
         match save_steps(rt, name, text, &old) {
-            Ok(stamp) => {
-                self.known = Some(Known::new(name, stamp, Some(hash_of(text))));
-                if was_deleted {
-                    SaveEnd::SavedAnew
-                } else {
-                    SaveEnd::Saved
+            Ok(done) => {
+                self.known = Some(Known::new(name, done.stamp, Some(hash_of(text))));
+                match (done.is_synced, was_deleted) {
+                    (false, _) => SaveEnd::Unsynced,
+                    (true, true) => SaveEnd::SavedAnew,
+                    (true, false) => SaveEnd::Saved,
                 }
             }
             Err(trouble) => {
@@ -244,14 +271,14 @@ impl DiskFile {
     }
 }
 
-// Saves a text by the steps of a plan, and returns the state of the file after them. Where a way to
+// Saves a text by the steps of a plan, and returns what they did. Where a way to
 // save it can't be gone, the next one is tried.
 fn save_steps<R: Files + Env + AllocGlobal>(
     rt: &R,
     name: &str,
     text: &str,
     old: &Option<Metadata>,
-) -> Result<Stamp, Trouble> {
+) -> Result<Done, Trouble> {
     let target = match names::target_of(rt, name) {
         Ok(target) => target,
         Err(error) => return Err(trouble_of(&error)),
@@ -259,7 +286,7 @@ fn save_steps<R: Files + Env + AllocGlobal>(
     let mut way = Way::AsKept;
     for _ in 0..3 {
         match carry_out(rt, target.as_str(), text, old, way) {
-            Ok(stamp) => return Ok(stamp),
+            Ok(done) => return Ok(done),
             Err(
                 Failure {
                     next: Some(next),

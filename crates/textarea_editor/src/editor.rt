@@ -1,9 +1,10 @@
 //! The editor's state, and its step from an event to an effect.
 
-ghost use Rattle.std.specs.Prelude.{◌≡◌, ◌≢◌, ◌≤◌, ◌↔◌, ◌∷◌, [], false, true, IfOk, IfSome, IsTrue, None, OnErr, OnOk, length, string_bytes};
+ghost use Rattle.std.specs.Prelude.{◌≡◌, ◌≢◌, ◌^◌, ◌≤◌, ◌↔◌, ◌∷◌, [], false, true, IfOk, IfSome, IsTrue, None, OnErr, OnOk, length, string_bytes};
 ghost use Rattle.textarea_calls.specs.declared.call.Call.TheVariants.{GoTo};
+ghost use Rattle.textarea_editor.specs.ControlCharacters.{IsCountShown};
 ghost use Rattle.textarea_editor.specs.Draft.{Makes};
-ghost use Rattle.textarea_editor.specs.Editor.{draft_of, end_of, new_ends, numbers_of, wraps_of};
+ghost use Rattle.textarea_editor.specs.Editor.{draft_of, end_of, message_of, new_ends, numbers_of, wraps_of};
 ghost use Rattle.textarea_editor.specs.Effects.{IsWritten};
 ghost use Rattle.textarea_editor.specs.SetUp.{IsOpened, opened};
 ghost use Rattle.textarea_editor.specs.Steps.{IsStep};
@@ -19,7 +20,7 @@ mod prompt;
 mod saving;
 mod status;
 
-use crate::control_characters::opened_message;
+use crate::control_characters::count_message;
 use crate::controls::Controls;
 use crate::draft::Draft;
 use crate::editor::parts::{fields, file_draft, opened, replace};
@@ -53,6 +54,8 @@ pub struct Editor {
     /// The help.
     help: TextArea<'static>,
     name: Option<String>,
+    /// The name from before a save under another one, until a save succeeds.
+    former_name: Option<Option<String>>,
     line_end: LineEnds,
     controls: Controls,
     message: Message,
@@ -80,6 +83,7 @@ impl Editor {
             field,
             help,
             name: None,
+            former_name: None,
             line_end: LineEnds {
                 between: LineEnd::LineFeed,
                 closes_last: true,
@@ -111,10 +115,12 @@ impl Editor {
         ensures opened { OnOk result (IfSome text (λ text.
             IsOpened (draft_of self.new).area (wraps_of self.new))) }
         ensures wraps { OnOk result (IfSome text (λ text.
-            IsTrue (wraps_of self.new) ↔ (length (string_bytes text) ≤ WRAPPED_BYTES))) }
+            IsTrue (wraps_of self.new) ↔ (length (string_bytes text) ≤ 2 ^ 20))) }
         ensures unnumbered { OnOk result (IfSome text (λ text. numbers_of self.new ≡ false)) }
         ensures unchanged { OnOk result (IfSome text (λ text.
             (draft_of self.new).is_changed ≡ false)) }
+        ensures counted { OnOk result (IfSome text (λ text.
+            IsCountShown (draft_of self.new).area Message.Nothing (message_of self.new))) }
         ensures new_file { OnOk result (text ≡ None →
             (draft_of self.new ≡ draft_of self.old) × (end_of self.new ≡ end_of self.old)) }
         ensures err { OnErr result (self.new ≡ self.old) }
@@ -135,14 +141,16 @@ impl Editor {
             (IsWritten (draft_of self.new).area (end_of self.new) (string_bytes text)) }
         ensures opened { OnOk result (IsOpened (draft_of self.new).area (wraps_of self.new)) }
         ensures wraps { OnOk result
-            (IsTrue (wraps_of self.new) ↔ (length (string_bytes text) ≤ WRAPPED_BYTES)) }
+            (IsTrue (wraps_of self.new) ↔ (length (string_bytes text) ≤ 2 ^ 20)) }
         ensures unnumbered { OnOk result (numbers_of self.new ≡ false) }
         ensures unchanged { OnOk result ((draft_of self.new).is_changed ≡ false) }
+        ensures counted { OnOk result
+            (IsCountShown (draft_of self.new).area Message.Nothing (message_of self.new)) }
         ensures err { OnErr result (self.new ≡ self.old) }
     {
         let wraps = text.len() <= WRAPPED_BYTES;
         let (draft, line_end) = file_draft(self.allocator(), text, wraps)?;
-        self.message = opened_message(draft.area().lines());
+        self.message = count_message(draft.area().lines(), Message::Nothing);
         replace(&mut self.draft, draft);
         self.line_end = line_end;
         self.controls.wraps = wraps;
@@ -181,6 +189,13 @@ impl Editor {
             Some(name) => Some(name.as_str()),
             None => None,
         }
+    }
+
+    /// Returns whether the text may differ from the saved one.
+    pub fn is_changed(&self) -> bool
+        ensures { result ≡ (draft_of self.now).is_changed }
+    {
+        self.draft.is_changed()
     }
 
     /// Takes an event of the terminal, which came at this time since any start.

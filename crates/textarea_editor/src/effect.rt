@@ -10,6 +10,8 @@ pub enum Effect {
     /// Save the file with this text, and tell the editor by
     /// [`Editor::saved`](crate::Editor::saved).
     Save {
+        /// The file's name.
+        name: String,
         /// The text of the whole file.
         text: String,
         /// Whether to overwrite a file that changed on disk, or that was not opened.
@@ -28,6 +30,8 @@ pub enum SaveEnd {
     Saved,
     /// The same, after another program deleted the file.
     SavedAnew,
+    /// The file has the new bytes, but the disk failed to make sure of its name.
+    Unsynced,
     /// The file changed on disk since it was read or saved, and is as it was.
     ChangedOnDisk,
     /// There is a file of this name, which was not opened, and it is as it was.

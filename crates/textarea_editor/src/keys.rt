@@ -22,6 +22,8 @@ pub enum KeyCommand {
     FindPrevious,
     /// Opens the prompt for a line number.
     GoToLine,
+    /// Moves to the next control character, and shows how many there are.
+    NextControl,
     /// Undoes an edit.
     Undo,
     /// Redoes an edit.
@@ -87,7 +89,7 @@ macro_rules! binding {
 }
 
 /// The keys of the editor. Other keys are those of the text area, or of the modal editor.
-pub const BINDINGS: [Binding; 19] = [
+pub const BINDINGS: [Binding; 20] = [
     binding!(ctrl Key::Char('s'), KeyCommand::Save, true),
     binding!(ctrl Key::Char('o'), KeyCommand::SaveAs, true),
     binding!(ctrl Key::Char('q'), KeyCommand::Quit, true),
@@ -95,6 +97,7 @@ pub const BINDINGS: [Binding; 19] = [
     binding!(plain Key::F(3), KeyCommand::FindNext, true),
     binding!(shift Key::F(3), KeyCommand::FindPrevious, true),
     binding!(ctrl Key::Char('g'), KeyCommand::GoToLine, true),
+    binding!(plain Key::F(4), KeyCommand::NextControl, true),
     binding!(ctrl Key::Char('z'), KeyCommand::Undo, false),
     binding!(ctrl Key::Char('y'), KeyCommand::Redo, false),
     binding!(ctrl Key::Char('x'), KeyCommand::Cut, false),
@@ -120,6 +123,7 @@ impl KeyCommand {
             KeyCommand::FindNext => "next match",
             KeyCommand::FindPrevious => "match before",
             KeyCommand::GoToLine => "go to a line",
+            KeyCommand::NextControl => "next control character",
             KeyCommand::Undo => "undo",
             KeyCommand::Redo => "redo",
             KeyCommand::Cut => "cut",

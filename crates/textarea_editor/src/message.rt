@@ -67,6 +67,8 @@ pub enum Message {
     Saved,
     /// The file was saved after another program deleted it.
     SavedAnew,
+    /// The file was saved, but the disk failed to make sure of its name.
+    Unsynced,
     /// Nothing, but that the question whether to overwrite is for a file that was not opened.
     Exists,
     /// The file was not saved. The text is as it was.
@@ -88,6 +90,7 @@ impl Message {
             Message::ControlCharacters(_) => ("control characters: ", ""),
             Message::Saved => ("saved", ""),
             Message::SavedAnew => ("it was deleted; saved anew", ""),
+            Message::Unsynced => ("saved, but the disk failed to make sure of it", ""),
             Message::NotSaved(trouble) => ("not saved: ", trouble.text()),
             Message::NoMatch => ("no match", ""),
             Message::NoLine => ("not a line number", ""),

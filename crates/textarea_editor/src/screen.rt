@@ -1,6 +1,7 @@
 //! The terminal's side of an editor: its bytes as events, and frames as its bytes.
 
-ghost use Rattle.std.specs.Prelude.{◌≡◌, OnErr};
+ghost use Rattle.std.specs.Prelude.{◌≡◌, ◌++◌, OnErr, OnOk};
+ghost use Rattle.textarea_editor.specs.TerminalScreen.{clipboard_bytes};
 
 use crate::editor::Editor;
 use base64::engine::general_purpose::STANDARD;
@@ -83,7 +84,8 @@ impl Screen {
     /// Adds the bytes that give a text to the terminal's clipboard (OSC 52). If memory runs out, it
     /// adds none.
     pub fn copy(&self, text: &str, out: &mut Vec<u8>) -> Result<(), AllocError>
-        ensures { OnErr result (out.new.items ≡ out.old.items) }
+        ensures ok { OnOk result (out.new.items ≡ out.old.items ++ clipboard_bytes text.now) }
+        ensures err { OnErr result (out.new.items ≡ out.old.items) }
     {
         let encoded = STANDARD.encode(self.alloc, text.as_bytes())?;
         let sequence = format!(in self.alloc; "\x1b]52;c;{encoded}\x07")?;

@@ -28,6 +28,13 @@ pub(super) struct Failure {
     pub(super) next: Option<Way>,
 }
 
+// The file after a save, and whether the disk made sure of its name.
+#[derive(Clone, Copy, Debug, PartialEq, Eq)]
+pub(super) struct Done {
+    pub(super) stamp: Stamp,
+    pub(super) is_synced: bool,
+}
+
 // The files of a save, and what is saved. The file itself is open if it exists.
 #[derive(Drop)]
 struct Saving<'a, F: Drop> {
@@ -38,14 +45,14 @@ struct Saving<'a, F: Drop> {
     old: &'a Option<Metadata>,
 }
 
-// Saves a text as a file in this way, and returns the file's state.
+// Saves a text as a file in this way, and returns what that did.
 pub(super) fn carry_out<R: Files + Env + AllocGlobal>(
     rt: &R,
     target: &str,
     text: &str,
     old: &Option<Metadata>,
     way: Way,
-) -> Result<Stamp, Failure> {
+) -> Result<Done, Failure> {
     let file = open_old(rt, target, old)?;
     let copy = create_copy(rt, target, old, way)?;
     let plan = plan_of(old, &copy.file, way);
@@ -56,13 +63,16 @@ pub(super) fn carry_out<R: Files + Env + AllocGlobal>(
         text,
         old,
     };
-    make_steps(rt, &mut saving, plan)?;
+    let is_synced = make_steps(rt, &mut saving, plan)?;
     let metadata = match &saving.file {
         Some(file) if plan == SavePlan::InPlace => file.metadata(),
         _ => saving.copy.file.metadata(),
     };
     match metadata {
-        Ok(metadata) => Ok(stamp_of(&metadata)),
+        Ok(metadata) => Ok(Done {
+            stamp: stamp_of(&metadata),
+            is_synced,
+        }),
         Err(error) => Err(failed(&error)),
     }
 }
@@ -142,21 +152,25 @@ fn plan_of<F: OpenFile>(old: &Option<Metadata>, copy: &F, way: Way) -> SavePlan 
     }
 }
 
-// Makes the steps of a plan up to the first that fails.
+// Makes the steps of a plan up to the first that fails, and returns true if none does, or false if
+// the file is saved then: its folder is synced after its bytes, and it has its name.
 fn make_steps<R: Files>(
     rt: &R,
     saving: &mut Saving<'_, R::File>,
     plan: SavePlan,
-) -> Result<(), Failure> {
+) -> Result<bool, Failure> {
     for &step in plan.steps() {
         if let Err(error) = make_step(rt, saving, step) {
+            if step == DiskStep::SyncFolder(SaveFile::File) {
+                return Ok(false);
+            }
             if step.copy_is_removed() {
                 let _ = fs::remove_file(rt, saving.copy.name.as_str());
             }
             return Err(failure_at(step, &error));
         }
     }
-    Ok(())
+    Ok(true)
 }
 
 fn failure_at(step: DiskStep, error: &io::Error) -> Failure {

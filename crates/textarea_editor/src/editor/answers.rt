@@ -2,8 +2,9 @@
 ghost use Rattle.std.specs.Prelude.{◌≡◌, IfOk, OnErr, OnOk, is_some};
 ghost use Rattle.textarea_editor.specs.Controls.{after_reply, left};
 ghost use Rattle.textarea_editor.specs.Editor.{MayQuit};
-ghost use Rattle.textarea_editor.specs.Effects.{Carries, IsAnswered};
+ghost use Rattle.textarea_editor.specs.Effects.{Carries, IsAnswered, name_bytes};
 ghost use Rattle.textarea_editor.specs.Replies.{reply_of};
+ghost use Rattle.textarea_editor.specs.SaveEnds.{name_left};
 ghost use Rattle.textarea_editor.specs.declared.focus.Focus.TheVariants as focus;
 
 use super::Editor;
@@ -24,8 +25,8 @@ impl Editor {
         ensures draft { self.new.draft ≡ self.old.draft }
         ensures carries { IfOk result
             (Carries (MayQuit self.old) self.new.draft.area self.new.line_end) }
-        ensures effect { IfOk result
-            (IsAnswered question (reply_of input.now) (is_some self.old.name)) }
+        ensures effect { IfOk result (IsAnswered question (reply_of input.now)
+            (is_some self.old.name) (name_bytes self.old.name)) }
         ensures end { self.new.line_end ≡ self.old.line_end }
         ensures controls { OnOk result (self.new.controls ≡ after_reply question
             (reply_of input.now) self.old.controls (is_some self.old.name)
@@ -45,12 +46,30 @@ impl Editor {
                 self.controls.ends_when_saved = false;
                 Ok(Effect::Nothing)
             }
-            (_, KeyReply::Back) => {
+            (Question::SaveFirst, KeyReply::Back) => {
                 self.leave();
+                Ok(Effect::Nothing)
+            }
+            (Question::Overwrite, KeyReply::Back) => {
+                self.leave_prompt(Asked::Name);
                 Ok(Effect::Nothing)
             }
             (_, KeyReply::Other) => Ok(Effect::Nothing),
         }
+    }
+
+    // Goes back to the text from a prompt. A name that was tried and not saved is dropped.
+    pub(super) fn leave_prompt(&mut self, asked: Asked)
+        ensures draft { self.new.draft ≡ self.old.draft }
+        ensures end { self.new.line_end ≡ self.old.line_end }
+        ensures controls { self.new.controls ≡ left self.old.controls }
+        ensures name { self.new.name ≡ name_left asked self.old.former_name self.old.name }
+    {
+        match asked {
+            Asked::Name => self.restore_name(),
+            Asked::Text | Asked::Line => {}
+        }
+        self.leave();
     }
 
     // Goes back to the text. A save no longer ends the program.
@@ -58,6 +77,7 @@ impl Editor {
         ensures draft { self.new.draft ≡ self.old.draft }
         ensures end { self.new.line_end ≡ self.old.line_end }
         ensures controls { self.new.controls ≡ left self.old.controls }
+        ensures name { self.new.name ≡ self.old.name }
     {
         self.controls.focus = Focus::Text;
         self.controls.ends_when_saved = false;

@@ -2,13 +2,16 @@
 ghost use Rattle.std.specs.Prelude.{◌≡◌, ◌∷◌, [], IfOk, IsTrue, OnErr, OnOk, is_some};
 ghost use Rattle.std.specs.List.{list_all};
 ghost use Rattle.textarea_calls.specs.declared.call.Call.TheVariants as call;
+ghost use Rattle.textarea_editor.specs.ControlCharacters.{IsCountShown};
 ghost use Rattle.textarea_editor.specs.Controls.{after_command, prompt_opened};
 ghost use Rattle.textarea_editor.specs.Draft.{FailsIn, Makes, is_made, plain_calls};
 ghost use Rattle.textarea_editor.specs.Editor.{MayQuit};
 ghost use Rattle.textarea_editor.specs.Effects.{Carries};
-ghost use Rattle.textarea_editor.specs.EventCalls.{command_calls, find_calls, is_selecting, numbers_call, wrap_mode};
+ghost use Rattle.textarea_editor.specs.EventEffects.{IsCommandEffect, IsCopied, IsNothing, IsSelectionCopied};
+ghost use Rattle.textarea_editor.specs.EventCalls.{command_calls, control_calls, find_calls, is_selecting, numbers_call, wrap_mode};
 
 use super::Editor;
+use crate::control_characters::count_message;
 use crate::editor::parts::wrap_mode;
 use crate::effect::Effect;
 use crate::focus::{Asked, Focus};
@@ -19,6 +22,9 @@ use textarea_calls::Call;
 use textarea_data::cursor::CursorMove;
 use textarea_screen::screen::{Color, Style};
 
+// The pattern of control characters but tabs.
+const CONTROLS: &str = "[[:cntrl:]&&[^\t]]";
+
 impl Editor {
     // Does what a command says.
     pub(super) fn command(&mut self, command: KeyCommand) -> Result<Effect, AllocError>
@@ -28,6 +34,8 @@ impl Editor {
             self.old.controls.numbers (is_selecting self.old.draft.area) command) self.new.draft) }
         ensures carries { IfOk result
             (Carries (MayQuit self.old) self.new.draft.area self.new.line_end) }
+        ensures effect { IfOk result (IsCommandEffect self.old.name self.new.draft.is_changed
+            (is_selecting self.old.draft.area) command) }
         ensures end { self.new.line_end ≡ self.old.line_end }
         ensures controls { OnOk result (self.new.controls ≡ after_command self.old.controls
             (is_some self.old.name) self.new.draft.is_changed
@@ -40,6 +48,7 @@ impl Editor {
             KeyCommand::Quit => Ok(self.quit()),
             KeyCommand::Find => self.open_prompt(Asked::Text),
             KeyCommand::GoToLine => self.open_prompt(Asked::Line),
+            KeyCommand::NextControl => self.find_control(),
             KeyCommand::FindNext => self.find(true),
             KeyCommand::FindPrevious => self.find(false),
             KeyCommand::Undo => self.make(&[Call::Undo]),
@@ -75,6 +84,7 @@ impl Editor {
         ensures err { OnErr result (FailsIn self.old.draft (plain_calls calls.now) self.new.draft) }
         ensures carries { IfOk result
             (Carries (MayQuit self.old) self.new.draft.area self.new.line_end) }
+        ensures effect { IfOk result IsNothing }
         ensures end { self.new.line_end ≡ self.old.line_end }
         ensures controls { self.new.controls ≡ self.old.controls }
     {
@@ -86,6 +96,7 @@ impl Editor {
         ensures draft { self.new.draft ≡ self.old.draft }
         ensures carries { IfOk result
             (Carries (MayQuit self.old) self.new.draft.area self.new.line_end) }
+        ensures effect { IfOk result IsNothing }
         ensures end { self.new.line_end ≡ self.old.line_end }
         ensures controls { OnOk result (self.new.controls ≡ prompt_opened self.old.controls
             self.old.draft.area.document.cursor asked) }
@@ -103,6 +114,8 @@ impl Editor {
             self.old.controls.numbers (is_selecting self.old.draft.area) KeyCommand.Copy) self.new.draft) }
         ensures carries { IfOk result
             (Carries (MayQuit self.old) self.new.draft.area self.new.line_end) }
+        ensures effect { IfOk result
+            (IsSelectionCopied (is_selecting self.old.draft.area)) }
         ensures end { self.new.line_end ≡ self.old.line_end }
         ensures controls { self.new.controls ≡ self.old.controls }
     {
@@ -121,6 +134,8 @@ impl Editor {
             self.old.controls.numbers (is_selecting self.old.draft.area) KeyCommand.Cut) self.new.draft) }
         ensures carries { IfOk result
             (Carries (MayQuit self.old) self.new.draft.area self.new.line_end) }
+        ensures effect { IfOk result
+            (IsSelectionCopied (is_selecting self.old.draft.area)) }
         ensures end { self.new.line_end ≡ self.old.line_end }
         ensures controls { self.new.controls ≡ self.old.controls }
     {
@@ -134,7 +149,8 @@ impl Editor {
     // Gives the text that was yanked last to the program. If memory runs out, the terminal's
     // clipboard stays as it is.
     pub(super) fn clipboard(&self) -> Effect
-        ensures { Carries ⊥ self.now.draft.area self.now.line_end result }
+        ensures carries { Carries ⊥ self.now.draft.area self.now.line_end result }
+        ensures effect { IsCopied result }
     {
         match self.draft.area().yank_text() {
             Ok(text) => Effect::Copy(text),
@@ -148,6 +164,7 @@ impl Editor {
         ensures err { OnErr result (FailsIn self.old.draft (find_calls is_forward) self.new.draft) }
         ensures carries { IfOk result
             (Carries (MayQuit self.old) self.new.draft.area self.new.line_end) }
+        ensures effect { IfOk result IsNothing }
         ensures end { self.new.line_end ≡ self.old.line_end }
         ensures controls { self.new.controls ≡ self.old.controls }
     {
@@ -162,6 +179,23 @@ impl Editor {
         Ok(Effect::Nothing)
     }
 
+    // Moves to the next control character, and shows how many there are.
+    fn find_control(&mut self) -> Result<Effect, AllocError>
+        ensures ok { OnOk result (Makes self.old.draft control_calls self.new.draft) }
+        ensures err { OnErr result (FailsIn self.old.draft control_calls self.new.draft) }
+        ensures carries { IfOk result
+            (Carries (MayQuit self.old) self.new.draft.area self.new.line_end) }
+        ensures effect { IfOk result IsNothing }
+        ensures end { self.new.line_end ≡ self.old.line_end }
+        ensures controls { self.new.controls ≡ self.old.controls }
+        ensures message { OnOk result
+            (IsCountShown self.new.draft.area Message.NoMatch self.new.message) }
+    {
+        self.make(&[Call::SetSearchPattern(CONTROLS), Call::SearchForward(false)])?;
+        self.message = count_message(self.draft.area().lines(), Message::NoMatch);
+        Ok(Effect::Nothing)
+    }
+
     // Wraps long lines, or no longer does.
     fn set_wraps(&mut self, wraps: bool) -> Result<Effect, AllocError>
         ensures ok { OnOk result
@@ -170,6 +204,7 @@ impl Editor {
             (FailsIn self.old.draft (call.SetWrapMode (wrap_mode wraps) ∷ []) self.new.draft) }
         ensures carries { IfOk result
             (Carries (MayQuit self.old) self.new.draft.area self.new.line_end) }
+        ensures effect { IfOk result IsNothing }
         ensures end { self.new.line_end ≡ self.old.line_end }
         ensures controls { OnOk result
             (self.new.controls ≡ record self.old.controls { wraps = wraps }) }
@@ -188,6 +223,7 @@ impl Editor {
             (FailsIn self.old.draft (numbers_call numbers ∷ []) self.new.draft) }
         ensures carries { IfOk result
             (Carries (MayQuit self.old) self.new.draft.area self.new.line_end) }
+        ensures effect { IfOk result IsNothing }
         ensures end { self.new.line_end ≡ self.old.line_end }
         ensures controls { OnOk result
             (self.new.controls ≡ record self.old.controls { numbers = numbers }) }

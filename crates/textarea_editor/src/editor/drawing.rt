@@ -1,7 +1,12 @@
 // Drawing of a frame: the text or the help, and below it the status row.
-ghost use Rattle.std.specs.Prelude.{◌≡◌, ◌-◌, IfOk, OnOk};
-ghost use Rattle.textarea_editor.specs.Editor.{ShowsHelp, screen_columns_of, draft_of, end_of, screen_rows_of};
-ghost use Rattle.textarea_editor.specs.Screen.{IsPainted};
+ghost use Rattle.std.specs.Prelude.{◌≡◌, ◌≤◌, ◌-◌, IfOk, OnOk, length, string_bytes};
+ghost use Rattle.std.specs.Str.{chars};
+ghost use Rattle.textarea_editor.specs.Editor.{ShowsHelp, controls_of, draft_of, end_of, field_of, screen_columns_of, screen_rows_of};
+ghost use Rattle.textarea_editor.specs.Screen.{IsFrameCaret, IsPainted};
+ghost use Rattle.textarea_editor.specs.StatusRow.{IsAskedBefore, IsAskedInLast, IsAskedInRow, at_left, line_of_words, row_style};
+ghost use Rattle.textarea_paint.specs.Row.{row_cell};
+ghost use Rattle.textarea_screen.specs.Buffer.{Changes, KeepsOutside};
+ghost use Rattle.textarea_screen.specs.Rect.{contains};
 ghost use Rattle.tui_textarea.specs.Drawing.{IsRendered, widget_of};
 ghost use Rattle.tui_textarea.specs.Rendered.{IsDrawn};
 
@@ -40,24 +45,33 @@ impl Editor {
         ensures text { ¬ ShowsHelp self.old → IfOk result (λ frame. IsPainted
             (draft_of self.old).area (draft_of self.new).area (screen_columns_of self.old)
             (screen_rows_of self.old - 1) frame.buffer) }
+        ensures asked { IfOk result (λ frame. IsAskedInLast self.old frame.buffer) }
+        ensures caret { IfOk result (λ frame. IsFrameCaret (controls_of self.old).focus
+            (draft_of self.new).area (field_of self.new) frame.caret) }
     {
-        let above = Rect::new(0, 0, self.columns, self.text_rows());
-        let row = Rect::new(0, self.text_rows(), self.columns, self.rows.min(1));
+        let rows = self.text_rows();
+        let above = Rect::new(0, 0, self.columns, rows);
+        let row = Rect::new(0, rows, self.columns, self.rows.min(1));
         let mut buffer = Buffer::empty(self.allocator(), self.screen_area())?;
-        let prompt_caret = self.draw_status(row, &mut buffer)?;
+        self.draw_status(row, &mut buffer)?;
         self.draw_above(above, &mut buffer)?;
-        let caret = self.caret(prompt_caret);
-        Ok(DrawnFrame { buffer, caret })
+        let cursor = self.caret();
+        Ok(DrawnFrame {
+            buffer,
+            caret: cursor,
+        })
     }
 
     // Draws the text, or the help.
     fn draw_above(&mut self, above: Rect, buffer: &mut Buffer) -> Result<(), AllocError>
         ensures changed { self.new.draft.is_changed ≡ self.old.draft.is_changed }
         ensures end { self.new.line_end ≡ self.old.line_end }
+        ensures focus { self.new.controls.focus ≡ self.old.controls.focus }
         ensures rendered { ¬ ShowsHelp self.old → OnOk result
             (IsRendered self.old.draft.area above self.new.draft.area) }
         ensures cells { ¬ ShowsHelp self.old → OnOk result
             (IsDrawn (widget_of self.new.draft.area) above buffer.old buffer.new) }
+        ensures outside { KeepsOutside (contains above) buffer.old buffer.new }
     {
         match self.controls.focus {
             Focus::Help => self.help.render(above, buffer),
@@ -68,65 +82,99 @@ impl Editor {
     }
 
     // Returns the cell of the cursor: that of the text, or of the prompt.
-    fn caret(&self, prompt_caret: Option<Position>) -> Option<Position> {
+    fn caret(&self) -> Option<Position>
+        ensures { IsFrameCaret self.now.controls.focus self.now.draft.area self.now.field result }
+    {
         match self.controls.focus {
             Focus::Text => self.draft.area().rendered_cursor_position(),
-            Focus::Prompt(_) => prompt_caret,
+            Focus::Prompt(_) => self.field.rendered_cursor_position(),
             Focus::Question(_) | Focus::Help => None,
         }
     }
 
-    // Draws the status row, and returns the cell of the prompt's cursor.
-    fn draw_status(
-        &mut self,
-        row: Rect,
-        buffer: &mut Buffer,
-    ) -> Result<Option<Position>, AllocError>
+    // Draws the status row.
+    #[tactic(auto, using(crate::proofs::StatusRows::asked_here, crate::proofs::StatusRows::asked_beside))]
+    fn draw_status(&mut self, row: Rect, buffer: &mut Buffer) -> Result<(), AllocError>
         ensures draft { self.new.draft ≡ self.old.draft }
         ensures focus { self.new.controls.focus ≡ self.old.controls.focus }
         ensures end { self.new.line_end ≡ self.old.line_end }
+        ensures asked { OnOk result (IsAskedInRow self.old row buffer.new) }
+    {
+        let field = self.draw_words(row, buffer)?;
+        if matches!(self.controls.focus, Focus::Prompt(_)) {
+            self.draw_field(field, buffer)?;
+        }
+        Ok(())
+    }
+
+    // Draws the words of the status row, and returns the area of the prompt's text.
+    fn draw_words(&self, row: Rect, buffer: &mut Buffer) -> Result<Rect, AllocError>
+        ensures { IfOk result (λ field. IsAskedBefore self.now row field.x buffer.new) }
     {
         let alloc = self.allocator();
-        let style = Style::default().add_modifier(Modifier::REVERSED);
-        buffer.set_style(row, style);
+        buffer.set_style(row, row_style());
         let left = self.left_text(alloc, usize::from(row.width))?;
         let left_columns = columns_of(left.as_str());
         let room = usize::from(row.width.saturating_sub(left_columns));
         let right = self.right_text(alloc, room)?;
-        let right_columns = columns_of(right.as_str());
-        let room = row.width.saturating_sub(right_columns);
-        let left_area = Rect::new(0, row.y, room, row.height);
-        let right_area = Rect::new(room, row.y, row.width.saturating_sub(room), row.height);
-        draw_part(buffer, left_area, style, left)?;
-        draw_part(buffer, right_area, style, right)?;
-        if !matches!(self.controls.focus, Focus::Prompt(_)) {
-            return Ok(None);
-        }
-        let begin = left_columns.min(room);
-        let field_area = Rect::new(begin, row.y, room.saturating_sub(begin), row.height);
-        self.field.set_style(style);
-        self.field.render(field_area, buffer)?;
-        Ok(self.field.rendered_cursor_position())
+        let end = row.width.saturating_sub(columns_of(right.as_str()));
+        let begin = left_columns.min(end);
+        let left_area = Rect::new(0, row.y, end, row.height);
+        draw_part(buffer, left_area, left)?;
+        let right_area = Rect::new(end, row.y, row.width.saturating_sub(end), row.height);
+        draw_part(buffer, right_area, right)?;
+        let field = Rect::new(begin, row.y, end.saturating_sub(begin), row.height);
+        Ok(field)
+    }
+
+    // Draws the prompt's text.
+    fn draw_field(&mut self, area: Rect, buffer: &mut Buffer) -> Result<(), AllocError>
+        ensures draft { self.new.draft ≡ self.old.draft }
+        ensures focus { self.new.controls.focus ≡ self.old.controls.focus }
+        ensures end { self.new.line_end ≡ self.old.line_end }
+        ensures outside { KeepsOutside (contains area) buffer.old buffer.new }
+    {
+        self.field.set_style(row_style());
+        self.field.render(area, buffer)
     }
 }
 
-// The number of characters of a text, which for those of the status row is mostly that of columns.
-fn columns_of(text: &str) -> u16 {
-    u16::try_from(text.chars().count()).unwrap_or(u16::MAX)
+fn row_style() -> Style
+    ensures { result ≡ row_style }
+{
+    Style::default().add_modifier(Modifier::REVERSED)
 }
 
-// Draws a text into the row of an area.
-fn draw_part(
-    buffer: &mut Buffer,
-    area: Rect,
-    style: Style,
-    text: String,
-) -> Result<(), AllocError> {
+// The number of characters of a text, which for those of the status row is mostly that of columns.
+fn columns_of(text: &str) -> u16
+    ensures few { length (chars text.now) ≤ 65535 → result ≡ length (chars text.now) }
+    ensures many { 65535 ≤ length (chars text.now) → result ≡ 65535 }
+{
+    let characters = character_count(text);
+    if characters < 65535 {
+        characters as u16
+    } else {
+        65535
+    }
+}
+
+#[tactic(auto, using(std::proofs::lemmas::Str::chars_from_encodes))]
+fn character_count(text: &str) -> usize
+    ensures { result ≡ length (chars text.now) }
+{
+    text.chars().count()
+}
+
+// Draws words into the row of an area.
+fn draw_part(buffer: &mut Buffer, area: Rect, text: String) -> Result<(), AllocError>
+    ensures { OnOk result (Changes buffer.old buffer.new
+        (row_cell (at_left area) area.y (line_of_words (string_bytes text)))) }
+{
     let rows = RowArea {
         area,
         left: 0,
         alignment: Alignment::Left,
-        style,
+        style: row_style(),
     };
     let line = Line::raw(text)?;
     draw_row(buffer, rows, area.y, &line)

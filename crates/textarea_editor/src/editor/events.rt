@@ -5,7 +5,8 @@ ghost use Rattle.textarea_editor.specs.Controls.{IsAfterEvent, IsAfterInput, aft
 ghost use Rattle.textarea_editor.specs.Draft.{FailsIn, FailsInAsked, FailsInSome, MakesSome};
 ghost use Rattle.textarea_editor.specs.Editor.{MayQuit};
 ghost use Rattle.textarea_editor.specs.Effects.{Carries};
-ghost use Rattle.textarea_editor.specs.EventCalls.{IsEvent, IsInput, IsPaste};
+ghost use Rattle.textarea_editor.specs.EventEffects.{IsEventEffect, IsInputEffect, IsNothing, help_effect};
+ghost use Rattle.textarea_editor.specs.EventCalls.{IsEvent, IsInput, IsPaste, is_selecting};
 ghost use Rattle.textarea_editor.specs.HelpKeys.{IsHelpAfter, help_key};
 ghost use Rattle.textarea_editor.specs.Steps.{IsTimed};
 
@@ -27,6 +28,8 @@ impl Editor {
             ⊎ FailsInAsked (IsTimed self.old now event.now) self.old.draft self.new.draft) }
         ensures carries { IfOk result
             (Carries (MayQuit self.old) self.new.draft.area self.new.line_end) }
+        ensures effect { IfOk result (IsEventEffect self.old.controls self.old.name
+            self.new.draft.is_changed (is_selecting self.old.draft.area) self.old.field event.now) }
         ensures end { self.new.line_end ≡ self.old.line_end }
         ensures controls { OnOk result (IsAfterEvent self.old.controls (is_some self.old.name)
             self.new.draft.is_changed self.old.draft.area.document.cursor self.old.field event.now
@@ -45,6 +48,8 @@ impl Editor {
             self.old.draft self.new.draft) }
         ensures carries { IfOk result
             (Carries (MayQuit self.old) self.new.draft.area self.new.line_end) }
+        ensures effect { IfOk result (IsEventEffect self.old.controls self.old.name
+            self.new.draft.is_changed (is_selecting self.old.draft.area) self.old.field event.now) }
         ensures end { self.new.line_end ≡ self.old.line_end }
         ensures controls { OnOk result (IsAfterEvent self.old.controls (is_some self.old.name)
             self.new.draft.is_changed self.old.draft.area.document.cursor self.old.field event.now
@@ -85,6 +90,9 @@ impl Editor {
             self.old.draft self.new.draft) }
         ensures carries { IfOk result
             (Carries (MayQuit self.old) self.new.draft.area self.new.line_end) }
+        ensures effect { IfOk result (IsInputEffect self.old.controls.focus self.old.controls
+            self.old.name self.new.draft.is_changed (is_selecting self.old.draft.area)
+            self.old.field input.now) }
         ensures end { self.new.line_end ≡ self.old.line_end }
         ensures controls { OnOk result (IsAfterInput self.old.controls.focus self.old.controls
             (is_some self.old.name) self.new.draft.is_changed
@@ -111,6 +119,7 @@ impl Editor {
             self.old.draft self.new.draft) }
         ensures carries { IfOk result
             (Carries (MayQuit self.old) self.new.draft.area self.new.line_end) }
+        ensures effect { IfOk result IsNothing }
         ensures end { self.new.line_end ≡ self.old.line_end }
         ensures controls { self.new.controls ≡ self.old.controls }
     {
@@ -126,6 +135,7 @@ impl Editor {
         ensures draft { self.new.draft ≡ self.old.draft }
         ensures carries { Carries (self.old.draft.is_changed ≡ false) self.new.draft.area
             self.new.line_end result }
+        ensures effect { result ≡ help_effect (help_key input.now) self.new.draft.is_changed }
         ensures end { self.new.line_end ≡ self.old.line_end }
         ensures controls { self.new.controls
             ≡ after_help_key (help_key input.now) self.old.controls self.new.draft.is_changed }

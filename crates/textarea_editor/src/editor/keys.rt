@@ -4,7 +4,8 @@ ghost use Rattle.textarea_editor.specs.Controls.{IsAfterKey, after_modal_step, a
 ghost use Rattle.textarea_editor.specs.Draft.{FailsIn, FailsInSome, Makes, MakesSome};
 ghost use Rattle.textarea_editor.specs.Editor.{MayQuit};
 ghost use Rattle.textarea_editor.specs.Effects.{Carries};
-ghost use Rattle.textarea_editor.specs.EventCalls.{IsFit, IsKeyInText, paste_calls, typed_calls, unbound_calls};
+ghost use Rattle.textarea_editor.specs.EventEffects.{IsKeyEffect, IsModalEffect, IsNothing, IsTypedEffect, IsUnboundEffect};
+ghost use Rattle.textarea_editor.specs.EventCalls.{IsFit, IsKeyInText, is_selecting, paste_calls, typed_calls, unbound_calls};
 ghost use Rattle.textarea_modal.specs.Table.{step};
 
 use super::{Editor, WHEEL_DOWN, WHEEL_UP};
@@ -25,6 +26,8 @@ impl Editor {
             self.old.columns (self.old.rows - 1) input.now) self.old.draft self.new.draft) }
         ensures carries { IfOk result
             (Carries (MayQuit self.old) self.new.draft.area self.new.line_end) }
+        ensures effect { IfOk result (IsKeyEffect self.old.controls self.old.name
+            self.new.draft.is_changed (is_selecting self.old.draft.area) input.now) }
         ensures end { self.new.line_end ≡ self.old.line_end }
         ensures controls { OnOk result (IsAfterKey self.old.controls (is_some self.old.name)
             self.new.draft.is_changed self.old.draft.area.document.cursor input.now
@@ -58,6 +61,8 @@ impl Editor {
             (unbound_calls fits self.old.controls.modal input.now.key input.now) self.new.draft) }
         ensures carries { IfOk result
             (Carries (MayQuit self.old) self.new.draft.area self.new.line_end) }
+        ensures effect { IfOk result (IsUnboundEffect input.now.key self.old.controls.modal
+            self.new.draft.is_changed input.now) }
         ensures end { self.new.line_end ≡ self.old.line_end }
         ensures controls { OnOk result (self.new.controls ≡ after_unbound input.now.key
             self.old.controls self.new.draft.is_changed input.now) }
@@ -79,6 +84,8 @@ impl Editor {
             (FailsIn self.old.draft (typed_calls self.old.controls.modal input.now) self.new.draft) }
         ensures carries { IfOk result
             (Carries (MayQuit self.old) self.new.draft.area self.new.line_end) }
+        ensures effect { IfOk result (IsTypedEffect self.old.controls.modal
+            self.new.draft.is_changed input.now) }
         ensures end { self.new.line_end ≡ self.old.line_end }
         ensures controls { OnOk result (self.new.controls ≡ after_typed self.old.controls.modal
             self.old.controls self.new.draft.is_changed input.now) }
@@ -101,6 +108,8 @@ impl Editor {
             (FailsIn self.old.draft (step modal input.now).calls self.new.draft) }
         ensures carries { IfOk result
             (Carries (MayQuit self.old) self.new.draft.area self.new.line_end) }
+        ensures effect { IfOk result
+            (IsModalEffect (step modal input.now).quits self.new.draft.is_changed) }
         ensures end { self.new.line_end ≡ self.old.line_end }
         ensures controls { OnOk result (self.new.controls ≡ after_modal_step self.old.controls
             self.new.draft.is_changed (step modal input.now)) }
@@ -125,6 +134,7 @@ impl Editor {
         ensures err { OnErr result (FailsIn self.old.draft (paste_calls text.now) self.new.draft) }
         ensures carries { IfOk result
             (Carries (MayQuit self.old) self.new.draft.area self.new.line_end) }
+        ensures effect { IfOk result IsNothing }
         ensures end { self.new.line_end ≡ self.old.line_end }
         ensures controls { self.new.controls ≡ self.old.controls }
     {

@@ -3,6 +3,7 @@ ghost use Rattle.std.specs.Prelude.{◌≡◌, IfOk, OnErr, OnOk};
 ghost use Rattle.textarea_editor.specs.Draft.{FailsInSome, MakesSome};
 ghost use Rattle.textarea_editor.specs.Editor.{MayQuit};
 ghost use Rattle.textarea_editor.specs.Effects.{Carries};
+ghost use Rattle.textarea_editor.specs.EventEffects.{IsNothing};
 ghost use Rattle.textarea_editor.specs.EventCalls.{IsClick, IsMouse, click_of, is_selecting, selects_by};
 ghost use Rattle.tui_textarea.specs.Drawing.{widget_of};
 
@@ -26,6 +27,7 @@ impl Editor {
             self.old.draft self.new.draft) }
         ensures carries { IfOk result
             (Carries (MayQuit self.old) self.new.draft.area self.new.line_end) }
+        ensures effect { IfOk result IsNothing }
         ensures end { self.new.line_end ≡ self.old.line_end }
         ensures controls { self.new.controls ≡ self.old.controls }
     {
@@ -46,6 +48,7 @@ impl Editor {
             mouse.now.column mouse.now.row) self.old.draft self.new.draft) }
         ensures carries { IfOk result
             (Carries (MayQuit self.old) self.new.draft.area self.new.line_end) }
+        ensures effect { IfOk result IsNothing }
         ensures end { self.new.line_end ≡ self.old.line_end }
         ensures controls { self.new.controls ≡ self.old.controls }
     {

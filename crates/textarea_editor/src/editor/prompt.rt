@@ -4,6 +4,7 @@ ghost use Rattle.textarea_editor.specs.Controls.{IsAfterPromptKey, IsNameTaken, 
 ghost use Rattle.textarea_editor.specs.Draft.{FailsIn, FailsInSome, Makes, MakesSome};
 ghost use Rattle.textarea_editor.specs.Editor.{MayQuit};
 ghost use Rattle.textarea_editor.specs.Effects.{Carries};
+ghost use Rattle.textarea_editor.specs.EventEffects.{IsNameEffect, IsNothing, IsPromptEffect, IsTakenEffect};
 ghost use Rattle.textarea_editor.specs.EventCalls.{IsKeyInPrompt, IsLineAsked, IsLookingFor, IsPasteInPrompt, IsPromptChanged, IsPromptInput, IsPromptTaken, row_calls};
 ghost use Rattle.textarea_editor.specs.PromptKeys.{prompt_key};
 ghost use Rattle.textarea_editor.specs.PromptText.{IsPromptFilled, name_filled};
@@ -55,6 +56,8 @@ impl Editor {
             self.old.controls.origin self.old.field input.now) self.old.draft self.new.draft) }
         ensures carries { IfOk result
             (Carries (MayQuit self.old) self.new.draft.area self.new.line_end) }
+        ensures effect { IfOk result (IsPromptEffect (prompt_key asked input.now) asked
+            self.new.draft.is_changed self.old.field) }
         ensures end { self.new.line_end ≡ self.old.line_end }
         ensures controls { OnOk result (IsAfterPromptKey (prompt_key asked input.now) asked
             self.old.controls self.new.draft.is_changed self.old.field self.new.controls) }
@@ -62,7 +65,7 @@ impl Editor {
     {
         match prompt_key(asked, input) {
             PromptKey::Leave => {
-                self.leave();
+                self.leave_prompt(asked);
                 Ok(Effect::Nothing)
             }
             PromptKey::Next => self.find(true),
@@ -83,6 +86,7 @@ impl Editor {
             self.old.draft self.new.draft) }
         ensures carries { IfOk result
             (Carries (MayQuit self.old) self.new.draft.area self.new.line_end) }
+        ensures effect { IfOk result IsNothing }
         ensures end { self.new.line_end ≡ self.old.line_end }
         ensures controls { self.new.controls ≡ self.old.controls }
     {
@@ -104,6 +108,7 @@ impl Editor {
             self.old.draft self.new.draft) }
         ensures carries { IfOk result
             (Carries (MayQuit self.old) self.new.draft.area self.new.line_end) }
+        ensures effect { IfOk result IsNothing }
         ensures end { self.new.line_end ≡ self.old.line_end }
         ensures controls { self.new.controls ≡ self.old.controls }
     {
@@ -125,6 +130,7 @@ impl Editor {
             self.old.draft self.new.draft) }
         ensures carries { IfOk result
             (Carries (MayQuit self.old) self.new.draft.area self.new.line_end) }
+        ensures effect { IfOk result IsNothing }
         ensures end { self.new.line_end ≡ self.old.line_end }
         ensures controls { self.new.controls ≡ self.old.controls }
     {
@@ -143,6 +149,7 @@ impl Editor {
             self.old.draft self.new.draft) }
         ensures carries { IfOk result
             (Carries (MayQuit self.old) self.new.draft.area self.new.line_end) }
+        ensures effect { IfOk result IsNothing }
         ensures end { self.new.line_end ≡ self.old.line_end }
         ensures controls { self.new.controls ≡ self.old.controls }
     {
@@ -162,6 +169,7 @@ impl Editor {
             (FailsInSome (IsPromptTaken asked self.old.field) self.old.draft self.new.draft) }
         ensures carries { IfOk result
             (Carries (MayQuit self.old) self.new.draft.area self.new.line_end) }
+        ensures effect { IfOk result (IsTakenEffect asked self.old.field) }
         ensures end { self.new.line_end ≡ self.old.line_end }
         ensures controls { OnOk result
             (IsTaken asked self.old.controls self.old.field self.new.controls) }
@@ -183,6 +191,7 @@ impl Editor {
             (FailsInSome (IsLineAsked self.old.field) self.old.draft self.new.draft) }
         ensures carries { IfOk result
             (Carries (MayQuit self.old) self.new.draft.area self.new.line_end) }
+        ensures effect { IfOk result IsNothing }
         ensures end { self.new.line_end ≡ self.old.line_end }
         ensures controls { OnOk result
             (self.new.controls ≡ with_focus self.old.controls focus.Text) }
@@ -204,6 +213,7 @@ impl Editor {
         ensures err { OnErr result (FailsIn self.old.draft (row_calls (Some row)) self.new.draft) }
         ensures carries { IfOk result
             (Carries (MayQuit self.old) self.new.draft.area self.new.line_end) }
+        ensures effect { IfOk result IsNothing }
         ensures end { self.new.line_end ≡ self.old.line_end }
         ensures controls { OnOk result
             (self.new.controls ≡ with_focus self.old.controls focus.Text) }
@@ -219,16 +229,18 @@ impl Editor {
         ensures draft { self.new.draft ≡ self.old.draft }
         ensures carries { IfOk result
             (Carries (MayQuit self.old) self.new.draft.area self.new.line_end) }
+        ensures effect { IfOk result (IsNameEffect self.old.field) }
         ensures end { self.new.line_end ≡ self.old.line_end }
         ensures controls { OnOk result
             (IsNameTaken self.old.controls self.old.field self.new.controls) }
         ensures kept { OnErr result (self.new.controls ≡ self.old.controls) }
     {
         if self.field.is_empty() {
-            self.leave();
+            self.leave_prompt(Asked::Name);
             return Ok(Effect::Nothing);
         }
-        self.name = Some(self.field.lines()[0].clone()?);
+        let name = self.field.lines()[0].clone()?;
+        self.rename(name);
         self.save(false)
     }
 }

@@ -1,16 +1,18 @@
 // Saving the text, and ending the program.
-ghost use Rattle.std.specs.Prelude.{◌≡◌, false, true, IfOk, OnErr, OnOk, is_some};
+ghost use Rattle.std.specs.Prelude.{◌≡◌, false, true, IfOk, Some, OnErr, OnOk, is_some, string_bytes};
 ghost use Rattle.textarea_editor.specs.Controls.{quit_asked, save_asked, with_focus};
 ghost use Rattle.textarea_editor.specs.Editor.{MayQuit, controls_of, draft_of, end_of, message_of};
-ghost use Rattle.textarea_editor.specs.Effects.{Carries, IsSaveAsked, is_saved};
-ghost use Rattle.textarea_editor.specs.SaveEnds.{IsAfterSave, effect_after, message_after};
+ghost use Rattle.textarea_editor.specs.Effects.{Carries, IsSaveAsked, is_saved, name_bytes};
+ghost use Rattle.textarea_editor.specs.EventEffects.{quit_effect};
+ghost use Rattle.textarea_editor.specs.SaveEnds.{IsAfterSave, effect_after, message_after, name_restored};
 
 use super::Editor;
 use crate::effect::{Effect, SaveEnd};
 use crate::file_text::joined;
 use crate::focus::{Asked, Focus, Question};
 use crate::message::Message;
-use std::alloc::AllocError;
+use std::alloc::{AllocError, Global};
+use std::mem;
 
 impl Editor {
     // Asks the program to save the text, or first for a name if it has none.
@@ -19,7 +21,8 @@ impl Editor {
         ensures carries { IfOk result
             (Carries (MayQuit self.old) self.new.draft.area self.new.line_end) }
         ensures end { self.new.line_end ≡ self.old.line_end }
-        ensures effect { IfOk result (IsSaveAsked (is_some self.old.name) overwrites) }
+        ensures effect { IfOk result
+            (IsSaveAsked (is_some self.old.name) (name_bytes self.old.name) overwrites) }
         ensures controls { OnOk result (self.new.controls ≡ save_asked self.old.controls
             (is_some self.old.name) self.old.draft.area.document.cursor) }
         ensures kept { OnErr result (self.new.controls ≡ self.old.controls) }
@@ -28,9 +31,14 @@ impl Editor {
             self.ask(Asked::Name)?;
             return Ok(Effect::Nothing);
         }
+        let name = copied_name(self.allocator(), &self.name)?;
         let text = joined(self.allocator(), self.draft.area().lines(), self.line_end)?;
         self.controls.focus = Focus::Text;
-        Ok(Effect::Save { text, overwrites })
+        Ok(Effect::Save {
+            name,
+            text,
+            overwrites,
+        })
     }
 
     /// Takes how a save ended. The text has to be the one that was saved.
@@ -52,6 +60,10 @@ impl Editor {
         match end {
             SaveEnd::Saved => return self.end_save(Message::Saved),
             SaveEnd::SavedAnew => return self.end_save(Message::SavedAnew),
+            SaveEnd::Unsynced => {
+                self.controls.ends_when_saved = false;
+                return self.end_save(Message::Unsynced);
+            }
             SaveEnd::ChangedOnDisk => self.ask_to_overwrite(Message::Nothing),
             SaveEnd::Exists => self.ask_to_overwrite(Message::Exists),
             SaveEnd::Failed(trouble) => {
@@ -76,11 +88,37 @@ impl Editor {
         ensures effect { result ≡ effect_after SaveEnd.Saved self.old.controls.ends_when_saved }
     {
         self.draft.set_saved();
+        self.former_name = None;
         self.message = message;
         if self.controls.ends_when_saved {
             return Effect::Quit;
         }
         Effect::Nothing
+    }
+
+    // Gives the file a name, and keeps the one from before until a save succeeds.
+    pub(super) fn rename(&mut self, name: String)
+        ensures draft { self.new.draft ≡ self.old.draft }
+        ensures end { self.new.line_end ≡ self.old.line_end }
+        ensures controls { self.new.controls ≡ self.old.controls }
+        ensures name { self.new.name ≡ Some name }
+    {
+        let former = mem::replace(&mut self.name, Some(name));
+        if self.former_name.is_none() {
+            self.former_name = Some(former);
+        }
+    }
+
+    // Gives the file the name back that it had before a save that failed.
+    pub(super) fn restore_name(&mut self)
+        ensures draft { self.new.draft ≡ self.old.draft }
+        ensures end { self.new.line_end ≡ self.old.line_end }
+        ensures controls { self.new.controls ≡ self.old.controls }
+        ensures name { self.new.name ≡ name_restored self.old.former_name self.old.name }
+    {
+        if let Some(name) = self.former_name.take() {
+            self.name = name;
+        }
     }
 
     // Asks whether to overwrite the file; the message says which question it is.
@@ -102,6 +140,7 @@ impl Editor {
         ensures carries { Carries (self.old.draft.is_changed ≡ false) self.new.draft.area
             self.new.line_end result }
         ensures end { self.new.line_end ≡ self.old.line_end }
+        ensures effect { result ≡ quit_effect self.new.draft.is_changed }
         ensures controls { self.new.controls ≡ quit_asked self.old.controls
             self.new.draft.is_changed }
     {
@@ -110,5 +149,15 @@ impl Editor {
         }
         self.controls.focus = Focus::Question(Question::SaveFirst);
         Effect::Nothing
+    }
+}
+
+// A copy of a name, empty if there is none.
+fn copied_name(alloc: Global, name: &Option<String>) -> Result<String, AllocError>
+    ensures { IfOk result (λ copy. string_bytes copy ≡ name_bytes name.now) }
+{
+    match name {
+        Some(name) => name.clone(),
+        None => Ok(String::new(alloc)),
     }
 }

@@ -1,4 +1,6 @@
 // The status row.
+ghost use Rattle.std.specs.Prelude.{◌≡◌, IfOk, string_bytes};
+ghost use Rattle.textarea_editor.specs.StatusRow.{IsAskedBy, overwrite_question, short_name};
 
 use super::Editor;
 use crate::focus::{Asked, Focus, Question};
@@ -9,7 +11,10 @@ use textarea_modal::Mode;
 
 impl Editor {
     // The text at the left of the status row: a question, or the file's name and a message.
-    pub(super) fn left_text(&self, alloc: Global, columns: usize) -> Result<String, AllocError> {
+    pub(super) fn left_text(&self, alloc: Global, columns: usize) -> Result<String, AllocError>
+        ensures { IfOk result (λ text. IsAskedBy self.now.controls.focus self.now.message
+            self.now.name (string_bytes text)) }
+    {
         match self.controls.focus {
             Focus::Prompt(Asked::Text) => String::from_str(alloc, " Find: "),
             Focus::Prompt(Asked::Line) => String::from_str(alloc, " Go to line: "),
@@ -26,17 +31,20 @@ impl Editor {
         }
     }
 
-    // The question whether to overwrite the file. A long name would hide it.
-    fn overwrite_question(&self, alloc: Global) -> Result<String, AllocError> {
-        if self.message != Message::Exists {
-            let changed = " The file changed on disk. Overwrite it? y: yes  n: no";
-            return String::from_str(alloc, changed);
+    // The question whether to overwrite the file.
+    fn overwrite_question(&self, alloc: Global) -> Result<String, AllocError>
+        ensures { IfOk result
+            (λ text. string_bytes text ≡ overwrite_question self.now.message self.now.name) }
+    {
+        match self.message {
+            Message::Exists => exists_question(alloc, &self.name),
+            _ => {
+                String::from_str(
+                    alloc,
+                    " The file changed on disk. Overwrite it? y: yes  n: no",
+                )
+            }
         }
-        let name = match self.name() {
-            Some(name) if name.len() < 24 => name,
-            _ => "The file",
-        };
-        format!(in alloc; " {name} exists already. Overwrite it? y: yes  n: no")
     }
 
     // The file's name, the mark of a changed text, and a message. The name is shortened where the
@@ -106,5 +114,24 @@ impl Editor {
                 Mode::Operator(_) => "operator  ",
             },
         }
+    }
+}
+
+// The question whether to overwrite a file that was not opened.
+fn exists_question(alloc: Global, name: &Option<String>) -> Result<String, AllocError>
+    ensures { IfOk result
+        (λ text. string_bytes text ≡ overwrite_question Message.Exists name.now) }
+{
+    let name = short_name(name);
+    format!(in alloc; " {name} exists already. Overwrite it? y: yes  n: no")
+}
+
+// The file's name in a question, which a long one would hide.
+fn short_name(name: &Option<String>) -> &str
+    ensures { result.now ≡ short_name name.now }
+{
+    match name {
+        Some(name) if name.len() < 24 => name.as_str(),
+        _ => "The file",
     }
 }

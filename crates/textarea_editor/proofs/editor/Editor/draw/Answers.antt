@@ -1,12 +1,16 @@
-use Rattle.std.proofs.Common.{◌∙◌, arith, subst, sym}
+use Rattle.std.proofs.Common.{◌+◌, ◌≤◌, ◌∙◌, arith, subst, sym}
+use Rattle.textarea_editor.proofs.StatusRows.{asked_outside, below_area}
 use Rattle.textarea_editor.proofs.editor.Editor.draw.Goals as goal
 use Rattle.textarea_editor.specs.Editor.{ShowsHelp}
+use Rattle.textarea_editor.specs.Screen.{IsFrameCaret}
 use Rattle.textarea_editor.specs.declared.draft.Draft.{Draft}
+use Rattle.textarea_editor.specs.declared.focus.Focus.{Focus}
+use Rattle.textarea_screen.specs.Rect.{contains}
 use Rattle.tui_textarea.specs.Drawing.{IsRendered}
 
 pub returns-clause-text : goal.returns-clause-text
 returns-clause-text c = λ not_help.
-    let shows : ShowsHelp c.draw_status.new.self → ⊥ = λ is. not_help (sym c.in_ok-prompt_caret.ensures.focus ∙ is) in
+    let shows : ShowsHelp c.draw_status.new.self → ⊥ = λ is. not_help (sym c.in_ok-draw_status.ensures.focus ∙ is) in
     let above = c.new-above.result in
     let rendered = c.in_ok-draw_above.ensures.rendered shows in
     record {
@@ -14,8 +18,28 @@ returns-clause-text c = λ not_help.
       column = c.new-above.ensures.x;
       row = c.new-above.ensures.y;
       width = omega (arith, c.new-above.ensures.width);
-      height = omega (arith, c.new-above.ensures.height, c.text_rows.ensures);
-      rendered = subst (λ (d : Draft). IsRendered d.area above c.draw_above.new.self.draft.area) c.in_ok-prompt_caret.ensures.draft rendered;
+      height = omega (arith, c.new-above.ensures.height, c.text_rows-rows.ensures);
+      rendered = subst (λ (d : Draft). IsRendered d.area above c.draw_above.new.self.draft.area) c.in_ok-draw_status.ensures.draft rendered;
       before = c.draw_status.new.buffer;
       drawn = c.in_ok-draw_above.ensures.cells shows;
     }
+
+pub returns-clause-asked : goal.returns-clause-asked
+returns-clause-asked c =
+    let below : c.new-above.result.y + c.new-above.result.height ≤ c.new-row.result.y =
+    omega (arith, c.new-above.ensures.y, c.new-above.ensures.height, c.new-row.ensures.y) in
+    record {
+      row = c.new-row.result;
+      last = omega (arith, c.new-row.ensures.y, c.text_rows-rows.ensures);
+      height = omega (arith, c.new-row.ensures.height, c.min.ensures, c.text_rows-rows.ensures);
+      asked = record {
+        end = c.in_ok-draw_status.ensures.asked.end;
+        asked = asked_outside c.args.self.now c.new-row.result c.in_ok-draw_status.ensures.asked.end (contains c.new-above.result) _ _ c.in_ok-draw_above.ensures.outside
+            (λ x h. below_area c.new-above.result x c.new-row.result.y below) c.in_ok-draw_status.ensures.asked.asked;
+      };
+    }
+
+pub returns-clause-caret : goal.returns-clause-caret
+returns-clause-caret c =
+    subst (λ (f : Focus). IsFrameCaret f c.draw_above.new.self.draft.area c.draw_above.new.self.field c.caret-cursor.result)
+    (c.in_ok-draw_above.ensures.focus ∙ c.in_ok-draw_status.ensures.focus) c.caret-cursor.ensures
