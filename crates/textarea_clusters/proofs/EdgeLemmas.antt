@@ -85,6 +85,10 @@ offset_below (c ∷ cs) (suc i) (suc j) lt le =
     let rest = offset_below cs i j (omega arith) (omega arith) in
     omega (arith, length-append (encode_utf8 c) (encode_utf8_all (take i cs)), length-append (encode_utf8 c) (encode_utf8_all (take j cs)))
 
+-- a character begins at the byte offset of a column, or the line ends there
+pub boundary_of_column : (line : List ℕ) (column offset : ℕ) → IsUtf8 line → offset ≡ offset_in (chars line) column → IsCharBoundary line offset
+boundary_of_column line column offset text is = subst (IsCharBoundary line) (sym is) (IsCharBoundary-column line column text)
+
 -- the number of characters before a byte offset
 abbrev column_at : List ℕ → ℕ → ℕ
 column_at line at = length (chars (take at line))

@@ -4,7 +4,8 @@ use Rattle.std.proofs.lemmas.List.{append-nil, append_assoc, drop_at, take_all, 
 use Rattle.std.specs.List.{AllByRecursion}
 use Rattle.textarea_disk.specs.Disk.{Content, Disk, Entries, File, IsDisk, IsLeftByOne, IsLeftOf, Leaves, Durable, changed_at, changed_file, everything, nothing, up_to, with_entries, with_entry, with_file}
 use Rattle.textarea_disk.specs.Journal.{AreRead, IsSized, IsTorn, framed, journal_of}
-use Rattle.textarea_disk.specs.JournalSteps.{AtEachStep, HasJournal, HasNoJournal, IsGoneOrWhole, LeavesFirst, ReadsFirst, Writing, after_journal_step, after_writing, appended, made_at, made_sure, removing_steps, writing_steps}
+use Rattle.textarea_disk.specs.Save.{synced}
+use Rattle.textarea_disk.specs.JournalSteps.{AtEachStep, HasJournal, HasNoJournal, IsGoneOrWhole, LeavesFirst, ReadsFirst, Writing, after_journal_step, after_writing, appended, made_at, removing_steps, writing_steps}
 use Rattle.textarea_disk.specs.declared.journal_step.JournalStep.{JournalStep}
 use Rattle.textarea_disk.specs.declared.journal_step.JournalStep.TheVariants.{Append, Create, Remove, Sync, SyncFolder}
 use Rattle.textarea_disk.proofs.Disks.{all_torn, at_file, at_name, beside_file, beside_name, entries_of}
@@ -138,7 +139,7 @@ later_written writing disk stored written sized same b =
     let bytes = journal_of stored ++ writing.bytes in
     let b0 : Is writing.name b.file [] (journal_file (journal_of stored) b.mode) disk = record { named = b.named; has = b.whole } in
     let b1 = is_changed writing.name b.file [] (journal_file (journal_of stored) b.mode) disk (appended writing.bytes) b0 in
-    let b2 = is_changed writing.name b.file [] (appended writing.bytes (journal_file (journal_of stored) b.mode)) _ made_sure b1 in
+    let b2 = is_changed writing.name b.file [] (appended writing.bytes (journal_file (journal_of stored) b.mode)) _ synced b1 in
     let whole : journal_of stored ++ writing.bytes ≡ journal_of stored ++ journal_of written = ap (λ (x : List ℕ). journal_of stored ++ x) same in (
       leaves_is (ReadsFirst stored written) writing.name b.file _ disk b0 (λ left l. reads_stored stored written b.mode b.sized sized left l)
           & leaves_is (ReadsFirst stored written) writing.name b.file _ _ b1 (λ left l. reads_torn stored written writing.bytes b.mode b.sized sized same left l)
@@ -154,7 +155,7 @@ pub first_written : (writing : Writing) (disk : Disk) (written : List (List ℕ)
 first_written writing disk written sized same b =
     let b1 = is_made writing disk b in
     let b2 = is_changed writing.name disk.count (None ∷ []) (new_file writing) _ (appended writing.bytes) b1 in
-    let b3 = is_changed writing.name disk.count (None ∷ []) (appended writing.bytes (new_file writing)) _ made_sure b2 in
+    let b3 = is_changed writing.name disk.count (None ∷ []) (appended writing.bytes (new_file writing)) _ synced b2 in
     let b4 = is_settled writing.name disk.count (None ∷ []) (journal_file writing.bytes writing.mode) _ b3 in
     let whole = λ (left : Content) (l : left ≡ record { bytes = writing.bytes; mode = writing.mode }).
     reads_whole [] written writing.mode tt sized left (l ∙ ap (λ (x : List ℕ). record { bytes = x; mode = writing.mode }) same) in (
@@ -226,13 +227,13 @@ made_files (Some m) writing disk n there = refl
 pub other_names : (writing : Writing) (step : JournalStep) (disk : Disk) (name : List ℕ) → name ≢ writing.name → (after_journal_step writing step disk).names name ≡ disk.names name
 other_names writing Create disk name other = made_names (disk.names writing.name).now writing disk name other
 other_names writing Append disk name other = changed_names (disk.names writing.name).now (appended writing.bytes) disk name
-other_names writing Sync disk name other = changed_names (disk.names writing.name).now made_sure disk name
+other_names writing Sync disk name other = changed_names (disk.names writing.name).now synced disk name
 other_names writing SyncFolder disk name other = beside_name disk writing.name name (record { now = (disk.names writing.name).now; before = [] }) other
 other_names writing Remove disk name other = beside_name disk writing.name name (record { now = None; before = entries_of (disk.names writing.name) }) other
 
 pub other_files : (writing : Writing) (step : JournalStep) (disk : Disk) (n : ℕ) → n < disk.count → (disk.names writing.name).now ≢ Some n → (after_journal_step writing step disk).files n ≡ disk.files n
 other_files writing Create disk n there other = made_files (disk.names writing.name).now writing disk n there
 other_files writing Append disk n there other = changed_files (disk.names writing.name).now (appended writing.bytes) disk n other
-other_files writing Sync disk n there other = changed_files (disk.names writing.name).now made_sure disk n other
+other_files writing Sync disk n there other = changed_files (disk.names writing.name).now synced disk n other
 other_files writing SyncFolder disk n there other = refl
 other_files writing Remove disk n there other = refl

@@ -3,6 +3,7 @@ use Rattle.std.specs.Prelude.{◌≡◌, ◌≢◌, ◌⊎◌, ◌++◌, ℕ, Bo
 use Rattle.std.specs.List.{AllByRecursion}
 use Rattle.textarea_disk.specs.Disk.{Content, Disk, File, Leaves, Durable, changed_file, everything, nothing, up_to, with_entries, with_entry, with_new_file}
 use Rattle.textarea_disk.specs.Journal.{AreRead, IsSized, journal_of}
+use Rattle.textarea_disk.specs.Save.{synced}
 use Rattle.textarea_disk.specs.declared.journal_step.JournalStep.{JournalStep}
 use Rattle.textarea_disk.specs.declared.journal_step.JournalStep.TheVariants.{Append, Create, Remove, Sync, SyncFolder}
 
@@ -37,14 +38,11 @@ abbrev pub appended : List ℕ → File → File
 appended bytes file =
     record { content = record { bytes = file.content.bytes ++ bytes; mode = file.content.mode }; stored = sure_of file.stored (length file.content.bytes) }
 
-abbrev pub made_sure : File → File
-made_sure file = record { content = file.content; stored = everything }
-
 -- the disk after a step that doesn't fail
 abbrev pub after_journal_step : Writing → JournalStep → Disk → Disk
 after_journal_step writing Create disk = made_at (disk.names writing.name).now writing disk
 after_journal_step writing Append disk = changed_file disk writing.name (appended writing.bytes)
-after_journal_step writing Sync disk = changed_file disk writing.name made_sure
+after_journal_step writing Sync disk = changed_file disk writing.name synced
 after_journal_step writing SyncFolder disk = with_entries disk writing.name (record { now = (disk.names writing.name).now; before = [] })
 after_journal_step writing Remove disk = with_entry disk writing.name None
 

@@ -28,7 +28,8 @@ pub fn record_of(alloc: Global, payload: &[u8]) -> Result<Vec<u8>, AllocError>
 /// Returns the payloads of the records with which a journal begins, in order, up to the first that
 /// is cut off or damaged.
 pub fn records_in(alloc: Global, journal: &[u8]) -> Result<Vec<&[u8]>, AllocError>
-    ensures { IfOk result (λ payloads. AreRead (map (λ payload. payload.now) payloads.items) journal.now) }
+    ensures { IfOk result (λ payloads.
+        AreRead (map (λ payload. payload.now) payloads.items) journal.now) }
 {
     let mut payloads = Vec::new(alloc);
     let mut rest = journal;
@@ -41,7 +42,8 @@ pub fn records_in(alloc: Global, journal: &[u8]) -> Result<Vec<&[u8]>, AllocErro
 
 // The payload of the record with which bytes begin, and what comes after it.
 fn first_record(bytes: &[u8]) -> Option<(&[u8], &[u8])>
-    ensures { MatchOption result (HasNoRecord bytes.now) (λ first. BeginsWithRecord first.0.now first.1.now bytes.now) }
+    ensures { MatchOption result (HasNoRecord bytes.now)
+        (λ first. BeginsWithRecord first.0.now first.1.now bytes.now) }
 {
     if bytes.len() < FRAME {
         return None;

@@ -1,16 +1,15 @@
 use Rattle.std.proofs.Common.{◌≡◌, ◌∙◌, ◌+◌, ◌<◌, ap, arith, false, length, slice_range, subst, sym, true}
 use Rattle.std.specs.Str.{chars, IsCharBoundary}
 use Rattle.textarea_util.proofs.Characters.{length-chars}
-use Rattle.textarea_text.proofs.Columns.{IsCharBoundary-column, offset_in}
 use Rattle.unicode_segmentation.specs.Grapheme.{is_grapheme_break}
 use Rattle.unicode_segmentation.specs.Segments.{breaks_at}
 use Rattle.textarea_clusters.specs.Edges.{HasNoBreak}
-use Rattle.textarea_clusters.proofs.EdgeLemmas.{ahead_within, edge_ahead_is, edge_is, found_ahead, inside_end}
+use Rattle.textarea_clusters.proofs.EdgeLemmas.{ahead_within, boundary_of_column, edge_ahead_is, edge_is, found_ahead, inside_end}
 use Rattle.textarea_clusters.proofs.edges.edge_ahead.Goals as goal
 use Rattle.textarea_clusters.proofs.edges.edge_ahead.Goals.{After-byte_offset-offset, After-column_count}
 
 at_column : (c : After-byte_offset-offset) → IsCharBoundary c.args.line.now c.byte_offset-offset.result
-at_column c = subst (IsCharBoundary c.args.line.now) (sym c.byte_offset-offset.ensures) (IsCharBoundary-column c.args.line.now c.args.column c.utf8.line)
+at_column c = boundary_of_column c.args.line.now c.args.column c.byte_offset-offset.result c.utf8.line c.byte_offset-offset.ensures
 
 pub is_break-requires : goal.is_break-requires
 is_break-requires c = at_column (goal.at.is_break-requires c).After-byte_offset-offset
