@@ -106,7 +106,7 @@ fn make_line_or_row(
     match line.split_once(' ') {
         Some(("row", name)) => make_each(area, row_of(rows, name)?, borrows, results),
         Some(("apart", name)) => {
-            let alloc = *area.lines()[0].allocator();
+            let alloc = area.allocator();
             make_apart(
                 alloc,
                 row_of(rows, name)?,
@@ -211,7 +211,7 @@ fn make_words(
         return make_script(area, script, results);
     }
     let (times, line) = timed(line);
-    let alloc = *area.lines()[0].allocator();
+    let alloc = area.allocator();
     let text = expanded(alloc, line)?;
     match step_of(text.as_str(), borrows) {
         Some(step) => make_step(area, step, times, results),
@@ -226,7 +226,7 @@ fn make_repeated(
     times: usize,
     results: &mut Results,
 ) -> Result<(), EndReason> {
-    let alloc = *area.lines()[0].allocator();
+    let alloc = area.allocator();
     let script = repeated(alloc, times, line)?;
     make_script(area, script.as_str(), results)
 }
@@ -237,7 +237,7 @@ fn make_step(
     times: usize,
     results: &mut Results,
 ) -> Result<(), EndReason> {
-    let alloc = *area.lines()[0].allocator();
+    let alloc = area.allocator();
     for _ in 0..times {
         match make(area, step, &mut results.buffer) {
             Ok(answer) => results.take_last(alloc, &answer)?,
@@ -258,7 +258,7 @@ fn make_script(
         results.tally.take(answer)?;
     }
     if let Some(answer) = end.answers.last() {
-        results.last = result_text(*area.lines()[0].allocator(), answer)?;
+        results.last = result_text(area.allocator(), answer)?;
     }
     match end.refused {
         Some(_) => Err(EndReason::Wrong(Difference::Memory)),

@@ -125,7 +125,7 @@ fn judge_line(
         return make_script(area, script, judge);
     }
     if let Some(words) = line.strip_prefix("keys ") {
-        return judge_all_keys(*area.lines()[0].allocator(), words, judge);
+        return judge_all_keys(area.allocator(), words, judge);
     }
     match step_of(line, borrows) {
         Some(step) => judge_step(area, step, judge),
@@ -159,7 +159,7 @@ fn judge_script(
     script: &str,
     judge: &mut MemoryJudge,
 ) -> Result<(), EndReason> {
-    let alloc = *area.lines()[0].allocator();
+    let alloc = area.allocator();
     let commands = read(alloc, script.as_bytes())?;
     judge_commands(area, commands.as_slice(), judge)
 }
@@ -300,7 +300,7 @@ fn judge_run(
     script: &str,
     judge: &mut MemoryJudge,
 ) -> Result<(), EndReason> {
-    let alloc = *area.lines()[0].allocator();
+    let alloc = area.allocator();
     let commands = read(alloc, script.as_bytes())?;
     judge_run_commands(area, commands.as_slice(), judge)
 }
@@ -311,7 +311,7 @@ fn judge_run_commands(
     commands: &[Command],
     judge: &mut MemoryJudge,
 ) -> Result<(), EndReason> {
-    let alloc = *area.lines()[0].allocator();
+    let alloc = area.allocator();
     let calls = calls(alloc, commands)?;
     judge_calls(area, calls.as_slice(), judge)
 }

@@ -11,14 +11,14 @@ pub fn run_script(
     script: &str,
     buffer: &mut Buffer,
 ) -> Result<RunEnd, EndReason> {
-    let alloc = *area.lines()[0].allocator();
+    let alloc = area.allocator();
     let commands = read(alloc, script.as_bytes())?;
     run_commands(area, commands.as_slice(), buffer)
 }
 
 /// Makes the calls of a script in one run, which draws nowhere.
 pub fn run_silently(area: &mut TextArea<'_>, script: &str) -> Result<RunEnd, EndReason> {
-    let alloc = *area.lines()[0].allocator();
+    let alloc = area.allocator();
     let mut nowhere = Buffer::empty(alloc, Rect::default())?;
     let end = run_script(area, script, &mut nowhere);
     drop(nowhere);
@@ -31,7 +31,7 @@ fn run_commands(
     commands: &[Command],
     buffer: &mut Buffer,
 ) -> Result<RunEnd, EndReason> {
-    let alloc = *area.lines()[0].allocator();
+    let alloc = area.allocator();
     let calls = calls(alloc, commands)?;
     Ok(run(area, calls.as_slice(), buffer))
 }

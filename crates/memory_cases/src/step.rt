@@ -70,8 +70,8 @@ pub fn make(
     match step {
         Step::Call(call) => make_call(area, call, buffer),
         Step::SetAtomicRanges => set_atomic_ranges(area),
-        Step::Spans => Ok(Answer::Text(spans_of(*area.lines()[0].allocator())?)),
-        Step::Matches => Ok(Answer::Text(matches_of(*area.lines()[0].allocator())?)),
+        Step::Spans => Ok(Answer::Text(spans_of(area.allocator())?)),
+        Step::Matches => Ok(Answer::Text(matches_of(area.allocator())?)),
         _ => lines_of_another(area, step),
     }
 }
@@ -91,7 +91,7 @@ fn make_call(
 
 // Sets the ranges that are set already.
 fn set_atomic_ranges(area: &mut TextArea<'_>) -> Result<Answer, AllocError> {
-    let alloc = *area.lines()[0].allocator();
+    let alloc = area.allocator();
     let ranges = area.atomic_ranges().to_vec(alloc)?;
     area.set_atomic_ranges(ranges)?;
     Ok(Answer::Done)

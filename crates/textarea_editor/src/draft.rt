@@ -59,7 +59,7 @@ impl Draft {
 
     /// Returns the allocator of all memory of the text.
     pub fn allocator(&self) -> Global {
-        *self.area.lines()[0].allocator()
+        self.area.allocator()
     }
 
     /// Returns whether the text may differ from the saved one.

@@ -67,7 +67,7 @@ fn is_drawn_so(area: &mut TextArea<'_>, wanted: &Buffer) -> Result<bool, AllocEr
 }
 
 fn drawn(area: &mut TextArea<'_>) -> Result<Buffer, AllocError> {
-    let alloc = *area.lines()[0].allocator();
+    let alloc = area.allocator();
     let mut buffer = Buffer::empty(alloc, Rect::new(0, 0, COLUMNS + 2, ROWS + 2))?;
     area.render(Rect::new(1, 1, COLUMNS, ROWS), &mut buffer)?;
     Ok(buffer)

@@ -121,7 +121,7 @@ fn judge_area(
 
 // Makes the calls of a script on a text area.
 fn write(judge: &mut FrameJudge, area: &mut TextArea<'_>, script: &str) -> Result<(), EndReason> {
-    let alloc = *area.lines()[0].allocator();
+    let alloc = area.allocator();
     let commands = read(alloc, script.as_bytes())?;
     let written = write_commands(judge, area, commands.as_slice());
     drop(commands);
