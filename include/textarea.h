@@ -591,14 +591,14 @@ uint32_t ta_input_without_shortcuts(ta_handle_t *handle, const ta_input_t *input
 
 /* Undo and redo. */
 
-/** Undoes the newest edit, and returns whether there was one. The cursor is then after the restored
- * text, or where the removed text began, and nothing is selected.
+/** Undoes the newest edit, with all of its group, and returns whether there was one. The cursor is
+ * then after the restored text, or where the removed text began, and nothing is selected.
  *
  * Statuses: ok (true), false, out of memory, empty handle. */
 uint32_t ta_undo(ta_handle_t *handle);
 
-/** Redoes the edit that was undone last, and returns whether there was one. The cursor is then
- * where that edit left it, and nothing is selected.
+/** Redoes the edit that was undone last, with all of its group, and returns whether there was one.
+ * The cursor is then where that edit left it, and nothing is selected.
  *
  * Statuses: ok (true), false, out of memory, empty handle. */
 uint32_t ta_redo(ta_handle_t *handle);
@@ -613,6 +613,29 @@ uint32_t ta_set_max_histories(ta_handle_t *handle, size_t maximum);
  * Statuses: ok, empty handle. */
 uint32_t ta_set_undo_coalescing(ta_handle_t *handle, bool joins);
 
+/** Sets whether all edits of one call are one group, which is undone and redone at once. So an undo
+ * of a text that was typed or pasted over a selection brings the selected text back.
+ *
+ * Statuses: ok, empty handle. */
+uint32_t ta_set_undo_grouping(ta_handle_t *handle, bool groups);
+
+/** Begins a group, if none is open, and ends a run of typing. The edits until `ta_end_undo_group`
+ * are undone and redone together. If they are more than are remembered, all edits are forgotten.
+ *
+ * Statuses: ok, empty handle. */
+uint32_t ta_begin_undo_group(ta_handle_t *handle);
+
+/** Ends the open group, if one is open, and a run of typing. An undo or a redo of something, new
+ * lines and `ta_set_max_histories` close a group too.
+ *
+ * Statuses: ok, empty handle. */
+uint32_t ta_end_undo_group(ta_handle_t *handle);
+
+/** Ends a run of typing: the next edit is recorded separately.
+ *
+ * Statuses: ok, empty handle. */
+uint32_t ta_end_run(ta_handle_t *handle);
+
 /** Returns the greatest number of edits that are remembered, done and undone together.
  *
  * Statuses: ok, empty handle. */
@@ -622,6 +645,11 @@ uint32_t ta_max_histories(ta_handle_t *handle, size_t *max_histories);
  *
  * Statuses: ok (true), false, empty handle. */
 uint32_t ta_undo_coalescing(ta_handle_t *handle);
+
+/** Returns whether all edits of one call are one group.
+ *
+ * Statuses: ok (true), false, empty handle. */
+uint32_t ta_undo_grouping(ta_handle_t *handle);
 
 /** Sets the time of the edits that follow, in nanoseconds from any fixed time. A time before the
  * last edit's counts as no pause.

@@ -148,6 +148,14 @@ static void history(void) {
     CHECK(ta_redo(&area) == TA_OK && ta_redo(&area) == TA_OK && ta_redo(&area) == TA_FALSE);
     CHECK(has_lines(&area, "abc\n") && ta_set_max_histories(&area, 0) == TA_OK);
     CHECK(ta_undo(&area) == TA_FALSE && ta_max_histories(&area, &most) == TA_OK && most == 0);
+    CHECK(ta_undo_grouping(&area) == TA_FALSE && ta_set_undo_grouping(&area, true) == TA_OK);
+    CHECK(ta_undo_grouping(&area) == TA_OK && ta_set_max_histories(&area, 9) == TA_OK);
+    CHECK(ta_clear(&area) == TA_OK && ta_insert_char(&area, 'a') == TA_OK);
+    CHECK(ta_end_run(&area) == TA_OK && ta_select_all(&area) == TA_OK && ta_insert_char(&area, 'b') == TA_OK);
+    CHECK(ta_undo(&area) == TA_OK && has_lines(&area, "a\n"));
+    CHECK(ta_begin_undo_group(&area) == TA_OK && ta_insert_char(&area, 'c') == TA_OK);
+    CHECK(ta_insert_newline(&area) == TA_OK && ta_end_undo_group(&area) == TA_OK);
+    CHECK(ta_undo(&area) == TA_OK && has_lines(&area, "a\n"));
     ta_free(&area);
 }
 

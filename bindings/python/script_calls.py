@@ -18,6 +18,9 @@ METHODS = {
     "cut": (None, True),
     "undo": (None, True),
     "redo": (None, True),
+    "begin_undo_group": (None, False),
+    "end_undo_group": (None, False),
+    "end_run": (None, False),
     "start_selection": (None, False),
     "cancel_selection": (None, False),
     "select_all": (None, False),
@@ -30,6 +33,7 @@ METHODS = {
 SETTERS = {
     "set_max_histories": ("max_histories", "usize"),
     "set_undo_coalescing": ("undo_coalescing", "bool"),
+    "set_undo_grouping": ("undo_grouping", "bool"),
     "set_tab_length": ("tab_length", "u8"),
     "set_hard_tab_indent": ("hard_tab_indent", "bool"),
 }

@@ -69,6 +69,20 @@ class Calls(unittest.TestCase):
         area.max_histories = 0
         self.assertFalse(area.undo())
 
+    def test_undo_groups(self):
+        area = TextArea("one")
+        self.assertFalse(area.undo_grouping)
+        area.undo_grouping = True
+        area.select_all()
+        area.insert_char("x")
+        self.assertTrue(area.undo_grouping and area.undo() and area.text == "one")
+        area.begin_undo_group()
+        area.insert_newline()
+        area.insert_char("y")
+        area.end_undo_group()
+        area.end_run()
+        self.assertTrue(area.undo() and not area.undo() and area.redo() and area.text == "one\ny")
+
     def test_moves_and_selection(self):
         area = TextArea("one two\nthree")
         area.move_cursor(Move.WORD_FORWARD)

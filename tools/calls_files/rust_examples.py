@@ -97,6 +97,33 @@ area.set_search_pattern("o.e")?;
 assert!(area.search_back(false)); // past the start it begins at the end
 assert_eq!(area.cursor(), (0, 8));
 # Ok::<(), tui_textarea::SearchError>(())"""),
+    "set_undo_grouping": ("one", """\
+area.set_undo_grouping(true);
+area.select_all();
+area.insert_char('x');
+assert!(area.undo());
+assert_eq!(area.lines(), ["one"]);"""),
+    "begin_undo_group": ("one", """\
+area.begin_undo_group();
+area.insert_str("a");
+area.insert_newline();
+area.end_undo_group();
+assert!(area.undo());
+assert_eq!(area.lines(), ["one"]);"""),
+    "end_undo_group": ("one", """\
+area.begin_undo_group();
+area.insert_str("a");
+area.end_undo_group();
+area.insert_str("b");
+assert!(area.undo());
+assert_eq!(area.lines(), ["aone"]);"""),
+    "end_run": ("", """\
+area.set_undo_coalescing(true);
+area.insert_char('a');
+area.end_run(); // the next character is an edit of its own
+area.insert_char('b');
+assert!(area.undo());
+assert_eq!(area.lines(), ["a"]);"""),
     "set_tab_length": ("", """\
 area.set_tab_length(2);
 area.insert_tab();
@@ -143,6 +170,7 @@ area.start_selection();
 assert!(area.is_selecting());"""),
     "max_histories": ("one", "assert_eq!(area.max_histories(), 50);"),
     "undo_coalescing": ("one", "assert!(!area.undo_coalescing());"),
+    "undo_grouping": ("one", "assert!(!area.undo_grouping());"),
     "tab_length": ("one", "assert_eq!(area.tab_length(), 4);"),
     "hard_tab_indent": ("one", "assert!(!area.hard_tab_indent());"),
     "min_rows": ("one", "assert_eq!(area.min_rows(), 1);"),

@@ -86,14 +86,30 @@ class Calls(Core):
         return self._edit(lib.ta_cut)
 
     def undo(self) -> bool:
-        """Undoes the newest edit, and returns whether there was one. The cursor is then after the
-        restored text, or where the removed text began, and nothing is selected."""
+        """Undoes the newest edit, with all of its group, and returns whether there was one. The
+        cursor is then after the restored text, or where the removed text began, and nothing is
+        selected."""
         return self._edit(lib.ta_undo)
 
     def redo(self) -> bool:
-        """Redoes the edit that was undone last, and returns whether there was one. The cursor is
-        then where that edit left it, and nothing is selected."""
+        """Redoes the edit that was undone last, with all of its group, and returns whether there
+        was one. The cursor is then where that edit left it, and nothing is selected."""
         return self._edit(lib.ta_redo)
+
+    def begin_undo_group(self) -> None:
+        """Begins a group, if none is open, and ends a run of typing. The edits until
+        `end_undo_group` are undone and redone together. If they are more than are remembered, all
+        edits are forgotten."""
+        self._call(lib.ta_begin_undo_group)
+
+    def end_undo_group(self) -> None:
+        """Ends the open group, if one is open, and a run of typing. An undo or a redo of something,
+        new lines and `set_max_histories` close a group too."""
+        self._call(lib.ta_end_undo_group)
+
+    def end_run(self) -> None:
+        """Ends a run of typing: the next edit is recorded separately."""
+        self._call(lib.ta_end_run)
 
     def start_selection(self) -> None:
         """Begins an empty selection at the cursor."""
@@ -159,6 +175,16 @@ class Calls(Core):
     @undo_coalescing.setter
     def undo_coalescing(self, joins: bool) -> None:
         self._call(lib.ta_set_undo_coalescing, joins)
+
+    @property
+    def undo_grouping(self) -> bool:
+        """Whether all edits of one call are one group, which is undone and redone at once. So an
+        undo of a text that was typed or pasted over a selection brings the selected text back."""
+        return self._call(lib.ta_undo_grouping)
+
+    @undo_grouping.setter
+    def undo_grouping(self, groups: bool) -> None:
+        self._call(lib.ta_set_undo_grouping, groups)
 
     @property
     def tab_length(self) -> int:

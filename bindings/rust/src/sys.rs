@@ -298,8 +298,13 @@ unsafe extern "C" {
     pub fn ta_redo(handle: *mut Handle) -> u32;
     pub fn ta_set_max_histories(handle: *mut Handle, maximum: usize) -> u32;
     pub fn ta_set_undo_coalescing(handle: *mut Handle, joins: bool) -> u32;
+    pub fn ta_set_undo_grouping(handle: *mut Handle, groups: bool) -> u32;
+    pub fn ta_begin_undo_group(handle: *mut Handle) -> u32;
+    pub fn ta_end_undo_group(handle: *mut Handle) -> u32;
+    pub fn ta_end_run(handle: *mut Handle) -> u32;
     pub fn ta_max_histories(handle: *mut Handle, max_histories: *mut usize) -> u32;
     pub fn ta_undo_coalescing(handle: *mut Handle) -> u32;
+    pub fn ta_undo_grouping(handle: *mut Handle) -> u32;
     pub fn ta_set_now(handle: *mut Handle, nanoseconds: u64) -> u32;
     pub fn ta_move_cursor(handle: *mut Handle, cursor_move: u32) -> u32;
     pub fn ta_jump(handle: *mut Handle, row: u16, column: u16) -> u32;

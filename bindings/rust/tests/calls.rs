@@ -155,6 +155,24 @@ fn history() {
 }
 
 #[test]
+fn undo_groups() {
+    let mut area = TextArea::from(["one"]);
+    assert!(!area.undo_grouping());
+    area.set_undo_grouping(true);
+    area.select_all();
+    area.insert_char('x');
+    assert!(area.undo_grouping() && area.undo());
+    assert_eq!(area.lines(), ["one"]);
+    area.begin_undo_group();
+    area.insert_newline();
+    area.insert_char('y');
+    area.end_undo_group();
+    area.end_run();
+    assert!(area.undo() && !area.undo() && area.redo());
+    assert_eq!(area.lines(), ["one", "y"]);
+}
+
+#[test]
 fn searches() {
     let mut area = TextArea::from(["one two", "one"]);
     assert_eq!(area.search_pattern(), None);

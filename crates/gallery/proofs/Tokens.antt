@@ -30,6 +30,7 @@ use Rattle.tui_textarea.specs.CallSplices.{OfSplicesOutOfMemory}
 use Rattle.tui_textarea.specs.Drawing.{IsRendered}
 use Rattle.tui_textarea.specs.DrawnFrame.{WidgetState}
 use Rattle.tui_textarea.specs.Edits.{str_inserted}
+use Rattle.tui_textarea.specs.Grouping.{call_begun}
 use Rattle.tui_textarea.specs.Ranges.{ranges_accepted}
 use Rattle.tui_textarea.specs.RangesOverActions.{RangesFollowAction}
 use Rattle.tui_textarea.specs.Selection.{unselected}
@@ -102,10 +103,11 @@ pub covers_name : (state : State) (name : List ℕ) (range : AtomicRange) → 0 
     covered_characters (lines (str_inserted state (characters name)).document.text) range ≡ name
 covers_name state [] range some can row column start = absurd (omega arith)
 covers_name state (c ∷ cs) range some can row column start =
-    let document = (unselected state).document in
+    let begun = call_begun state in
+    let document = (unselected begun).document in
     let place = insertion_place document in
     let index = index_of document.text place in
-    let fits = fits_after state _ _ can in
+    let fits = fits_after begun _ _ (subst (λ (ss : List Splice). CanApply state.document.text ss) (sym (str_beside state (characters (c ∷ cs)))) can) in
     let after : end place (characters (c ∷ cs)) ≡ (place.0, place.1 + length (c ∷ cs)) = end-characters place.0 place.1 (c ∷ cs) in
     let rows : place.0 ≡ range.row = sym (row ∙ ap (λ (p : Place). p.0) after) in
     let columns : range.end_col ≡ place.1 + length (c ∷ cs) = column ∙ ap (λ (p : Place). p.1) after in
@@ -117,7 +119,7 @@ covers_name state (c ∷ cs) range some can row column start =
 pub fits_before : (state : State) (name : List ℕ) → 0 < length name → length name ≤ (str_inserted state (characters name)).document.cursor.1
 fits_before state [] some = omega arith
 fits_before state (c ∷ cs) some =
-    let place = insertion_place (unselected state).document in
+    let place = insertion_place (unselected (call_begun state)).document in
     omega (arith, ap (λ (p : Place). p.1) (end-characters place.0 place.1 (c ∷ cs)))
 
 -- the range of the characters before the cursor, after the insertion of a name, covers the name

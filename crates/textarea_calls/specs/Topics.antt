@@ -55,6 +55,10 @@ call_of_history history.Undo = call.Undo
 call_of_history history.Redo = call.Redo
 call_of_history (history.SetMaxHistories maximum) = call.SetMaxHistories maximum
 call_of_history (history.SetUndoCoalescing joins) = call.SetUndoCoalescing joins
+call_of_history (history.SetUndoGrouping groups) = call.SetUndoGrouping groups
+call_of_history history.BeginUndoGroup = call.BeginUndoGroup
+call_of_history history.EndUndoGroup = call.EndUndoGroup
+call_of_history history.EndRun = call.EndRun
 call_of_history (history.SetNow time) = call.SetNow time
 
 abbrev pub call_of_select : SelectCall → Call
@@ -121,6 +125,7 @@ call_of_read read.SelectionRange = call.SelectionRange
 call_of_read read.YankText = call.YankText
 call_of_read read.MaxHistories = call.MaxHistories
 call_of_read read.UndoCoalescing = call.UndoCoalescing
+call_of_read read.UndoGrouping = call.UndoGrouping
 call_of_read read.TabLength = call.TabLength
 call_of_read read.HardTabIndent = call.HardTabIndent
 call_of_read read.WrapMode = call.WrapMode

@@ -61,6 +61,14 @@ pub enum Call<'a> {
     SetMaxHistories(usize),
     /// `TextArea::set_undo_coalescing`
     SetUndoCoalescing(bool),
+    /// `TextArea::set_undo_grouping`
+    SetUndoGrouping(bool),
+    /// `TextArea::begin_undo_group`
+    BeginUndoGroup,
+    /// `TextArea::end_undo_group`
+    EndUndoGroup,
+    /// `TextArea::end_run`
+    EndRun,
     /// `TextArea::set_now`
     SetNow(Duration),
     /// `TextArea::start_selection`
@@ -170,6 +178,8 @@ pub enum Call<'a> {
     MaxHistories,
     /// `TextArea::undo_coalescing`
     UndoCoalescing,
+    /// `TextArea::undo_grouping`
+    UndoGrouping,
     /// `TextArea::tab_length`
     TabLength,
     /// `TextArea::hard_tab_indent`

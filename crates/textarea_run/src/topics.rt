@@ -83,6 +83,22 @@ pub(crate) fn history_call(area: &mut TextArea<'_>, call: HistoryCall) -> Result
             area.set_undo_coalescing(joins);
             Ok(Answer::Done)
         }
+        HistoryCall::SetUndoGrouping(groups) => {
+            area.set_undo_grouping(groups);
+            Ok(Answer::Done)
+        }
+        HistoryCall::BeginUndoGroup => {
+            area.begin_undo_group();
+            Ok(Answer::Done)
+        }
+        HistoryCall::EndUndoGroup => {
+            area.end_undo_group();
+            Ok(Answer::Done)
+        }
+        HistoryCall::EndRun => {
+            area.end_run();
+            Ok(Answer::Done)
+        }
         HistoryCall::SetNow(time) => {
             area.set_now(time);
             Ok(Answer::Done)
@@ -331,6 +347,7 @@ pub(crate) fn read_call(area: &mut TextArea<'_>, call: ReadCall) -> Result<Answe
         ReadCall::YankText => area.yank_text().map(Answer::Text),
         ReadCall::MaxHistories => Ok(Answer::Number(area.max_histories())),
         ReadCall::UndoCoalescing => Ok(Answer::Flag(area.undo_coalescing())),
+        ReadCall::UndoGrouping => Ok(Answer::Flag(area.undo_grouping())),
         ReadCall::TabLength => Ok(Answer::Number(area.tab_length() as usize)),
         ReadCall::HardTabIndent => Ok(Answer::Flag(area.hard_tab_indent())),
         ReadCall::WrapMode => Ok(Answer::WrapMode(area.wrap_mode())),

@@ -102,6 +102,7 @@ fn reading<'a>(name: &str) -> Option<Call<'a>>
         "hard_tab_indent" => Call::HardTabIndent,
         "max_histories" => Call::MaxHistories,
         "undo_coalescing" => Call::UndoCoalescing,
+        "undo_grouping" => Call::UndoGrouping,
         "wrap_mode" => Call::WrapMode,
         _ => return reading_look(name),
     })

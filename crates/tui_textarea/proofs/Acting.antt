@@ -9,7 +9,6 @@ use Rattle.textarea_calls.specs.declared.call.Call.{Call}
 use Rattle.textarea_calls.specs.declared.call.Call.TheVariants as call
 use Rattle.textarea_data.specs.declared.cursor.CursorMove.TheVariants as move
 use Rattle.textarea_data.specs.declared.range.AtomicCursorBias.TheVariants.{Forward as BiasForward}
-use Rattle.textarea_history.specs.Log.{newest, next}
 use Rattle.textarea_ranges.specs.Lookup.{moved_out}
 use Rattle.textarea_ranges.proofs.LookupLemmas.{IsPlaceOf-moved_out}
 use Rattle.textarea_search.specs.declared.search.direction.Direction.TheVariants as toward
@@ -26,7 +25,7 @@ use Rattle.textarea_document.specs.Sound.{IsSound}
 use Rattle.textarea_document.specs.Splices.{redo_splices, selected_splices, undo_splices}
 use Rattle.textarea_document.proofs.Inserts.{duplication_splits_none, selection_duplication_fits, sound_duplicated}
 use Rattle.textarea_document.proofs.Ranges.{valid_none}
-use Rattle.textarea_document.proofs.Sounds.{sound_fresh, start_is_place}
+use Rattle.textarea_document.proofs.Sounds.{sound_begun, sound_ended, sound_fresh, start_is_place}
 use Rattle.tui_textarea.specs.CallResults.{CallResult, PatternRejected}
 use Rattle.tui_textarea.specs.CallSplices.{OfSplicesOutOfMemory, splices_by, splices_of}
 use Rattle.tui_textarea.specs.Calls.{StateOutOfMemory, call_splices, rejected_ranges, state_after}
@@ -178,6 +177,13 @@ module _ (By Own : Fact) (by : Reckoning By) (past : Past Own) where
       (record { cursor = h.cursor; anchor = h.anchor; ranges = h.ranges; in_order = h.in_order; undo = tt; redo = tt; bounded = omega arith; marks = refl; whole = refl }))
   by_state old (call.SetUndoCoalescing joins) h =
       given _ (kept By by old.document (state_after old (call.SetUndoCoalescing joins)).document refl
+      (record { cursor = h.cursor; anchor = h.anchor; ranges = h.ranges; in_order = h.in_order; undo = h.undo; redo = h.redo; bounded = h.bounded; marks = h.marks; whole = h.whole }))
+  by_state old call.BeginUndoGroup h =
+      given _ (kept By by old.document (state_after old call.BeginUndoGroup).document refl (sound_begun old.document h))
+  by_state old call.EndUndoGroup h =
+      given _ (kept By by old.document (state_after old call.EndUndoGroup).document refl (sound_ended old.document h))
+  by_state old call.EndRun h =
+      given _ (kept By by old.document (state_after old call.EndRun).document refl
       (record { cursor = h.cursor; anchor = h.anchor; ranges = h.ranges; in_order = h.in_order; undo = h.undo; redo = h.redo; bounded = h.bounded; marks = h.marks; whole = h.whole }))
   by_state old (call.Input input) h = (tt, λ can. h)
   by_state old (call.InputWithoutShortcuts input) h = (tt, λ can. h)

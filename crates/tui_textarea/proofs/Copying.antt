@@ -10,6 +10,7 @@ use Rattle.textarea_document.specs.Edits.{insertion_place, has_symbols, between_
 use Rattle.textarea_document.specs.Selection.{is_selected, selected, selection_end, selection_start}
 use Rattle.tui_textarea.specs.State.{State, with_document}
 use Rattle.tui_textarea.specs.Edits.{symbols_or_none_inserted, str_inserted}
+use Rattle.tui_textarea.specs.Grouping.{call_begun, call_ended}
 use Rattle.tui_textarea.specs.TextAreaLaw.{PastesCopy, copied_and_pasted}
 use Rattle.tui_textarea.specs.Selection.{selection_copied, selection_cancelled}
 use Rattle.std.proofs.Math.Bool.{and-false}
@@ -51,19 +52,23 @@ pastes_copy state e place ordered =
     copied_is : selection_copied state ≡ after
     copied_is = ap (λ b. cond b (record (selection_cancelled state) { yank = selected state.document }) (selection_cancelled state)) e
 
-    reached : copied_and_pasted state ≡ symbols_or_none_inserted after (selected state.document)
+    begun : State
+    begun = call_begun after
+
+    reached : copied_and_pasted state ≡ call_ended after (symbols_or_none_inserted begun (selected state.document))
     reached =
         ap (λ (s : State). str_inserted s s.yank) copied_is
-        ∙ ap (λ b. symbols_or_none_inserted (with_document after (cond b (between_removed after.document (selection_start after.document) (selection_end after.document) after.time) after.document)) after.yank) (none_selected state.document)
+        ∙ ap (λ b. call_ended after (symbols_or_none_inserted (with_document begun (cond b (between_removed begun.document (selection_start begun.document) (selection_end begun.document) begun.time) begun.document)) after.yank))
+        (none_selected state.document)
 
     some : 0 < length (selected state.document)
     some = between_some state.document.text (selection_start state.document) (selection_end state.document) place ordered
 
-    text_of : (symbols : List Symbol) → 0 < length symbols → (symbols_or_none_inserted after symbols).document.text ≡ inserted state.document.text (insertion_place state.document) symbols
+    text_of : (symbols : List Symbol) → 0 < length symbols → (call_ended after (symbols_or_none_inserted begun symbols)).document.text ≡ inserted state.document.text (insertion_place state.document) symbols
     text_of [] h = absurd (omega (arith, h))
     text_of (symbol ∷ symbols) h = refl
 
-    cursor_of : (symbols : List Symbol) → 0 < length symbols → (symbols_or_none_inserted after symbols).document.cursor ≡ end (insertion_place state.document) symbols
+    cursor_of : (symbols : List Symbol) → 0 < length symbols → (call_ended after (symbols_or_none_inserted begun symbols)).document.cursor ≡ end (insertion_place state.document) symbols
     cursor_of [] h = absurd (omega (arith, h))
     cursor_of (symbol ∷ symbols) h = refl
 

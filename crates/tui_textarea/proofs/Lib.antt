@@ -12,6 +12,8 @@ mod Acting
 pub mod Ahead
 pub mod Copying
 mod Filled
+pub mod Grouping
+mod UndoneAtOnce
 pub mod FragmentTexts
 pub mod Searches
 mod OneTarget

@@ -22,6 +22,8 @@ use Rattle.textarea_document.specs.Sound.{IsSound}
 use Rattle.textarea_document.proofs.Ranges.{anchor_place}
 use Rattle.textarea_document.proofs.Sounds.{resound}
 use Rattle.tui_textarea.specs.Calls.{rejected_ranges, with_ranges_if}
+use Rattle.textarea_history.specs.declared.history.groups.Group.{Group}
+use Rattle.tui_textarea.specs.Grouping.{with_group}
 use Rattle.tui_textarea.specs.Moves.{after_move_by, anchor_with, bias_of, pushed}
 use Rattle.tui_textarea.specs.Search.{after_search}
 use Rattle.tui_textarea.specs.State.{State}
@@ -46,6 +48,20 @@ pub sound_from : (document : DocumentState) (anchor : Option Place) → IsSound 
 sound_from document anchor h from = record {
   cursor = h.cursor;
   anchor = from;
+  ranges = h.ranges;
+  in_order = h.in_order;
+  undo = h.undo;
+  redo = h.redo;
+  bounded = h.bounded;
+  marks = h.marks;
+  whole = h.whole;
+}
+
+-- which group is open has no influence on it
+pub sound_in_group : (state : State) (group : Group) → IsSound state.document → IsSound (with_group state group).document
+sound_in_group state group h = record {
+  cursor = h.cursor;
+  anchor = h.anchor;
   ranges = h.ranges;
   in_order = h.in_order;
   undo = h.undo;

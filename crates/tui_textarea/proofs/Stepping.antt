@@ -1,6 +1,6 @@
 -- The state after an edit is reached by the splices in the definitions, and is sound.
 use Rattle.std.proofs.Common.{◌≡◌, ℕ, ◌==◌, ◌<◌, nat_lt, Bool, true, false, if◌then◌else◌, List, [], ◌∷◌, ◌++◌, length, replicate}
-use Rattle.std.proofs.Common.{Option, None, Some, option_map, ap, refl, ◌∙◌, arith}
+use Rattle.std.proofs.Common.{Option, None, Some, option_map, ap, refl, subst, ◌∙◌, arith}
 use Rattle.textarea_data.specs.declared.cursor.CursorMove.{CursorMove}
 use Rattle.textarea_data.specs.declared.range.AtomicCursorBias.TheVariants.{Forward as BiasForward}
 use Rattle.textarea_data.specs.declared.range.AtomicDeleteDirection.{AtomicDeleteDirection}
@@ -26,7 +26,9 @@ use Rattle.textarea_document.specs.Splices.{removal_splices, selected_splices}
 use Rattle.textarea_document.specs.Target.{word_end_after, word_start_before}
 use Rattle.textarea_document.proofs.Sounds.{sound_edited}
 use Rattle.textarea_document.proofs.StepLaw.{step_keeps}
-use Rattle.tui_textarea.specs.Edits.{breaks_line, char_inserted, newline_inserted, spaces_to_stop, str_inserted, tab_inserted, typed_character_inserted}
+use Rattle.tui_textarea.specs.Edits.{breaks_line, char_inserted, char_or_break_inserted, line_broken, newline_inserted, spaces_to_stop, str_inserted, symbols_or_none_inserted}
+use Rattle.tui_textarea.specs.Edits.{tab_inserted, tab_or_spaces_inserted, typed_character_inserted}
+use Rattle.tui_textarea.specs.Grouping.{call_begun, call_ended}
 use Rattle.tui_textarea.specs.LayoutCalls.{tab_length}
 use Rattle.tui_textarea.specs.Moves.{IsMovedWith, after_move_by, pushed}
 use Rattle.tui_textarea.specs.Ranges.{atomic_range_removed}
@@ -37,8 +39,9 @@ use Rattle.tui_textarea.specs.Splices.{ahead_splices, char_splices, clear_splice
 use Rattle.tui_textarea.specs.Splices.{tab_splices, word_after_splices, word_before_splices}
 use Rattle.tui_textarea.specs.State.{State}
 use Rattle.tui_textarea.proofs.Cases.{apart, by_both, by_test}
+use Rattle.tui_textarea.proofs.Grouping.{char_beside, str_beside, tab_beside}
 use Rattle.tui_textarea.proofs.Removing.{ahead_made, range_removal_made, line_end_made, line_head_made, selected_made, whole_made, word_end_made, word_start_made}
-use Rattle.tui_textarea.proofs.SoundStates.{clipped, sound_cursor, sound_from, sound_unanchored}
+use Rattle.tui_textarea.proofs.SoundStates.{clipped, sound_cursor, sound_from, sound_in_group, sound_unanchored}
 
 -- the visible side of a document's text: its layout and ranges
 abbrev pub LayoutAndRanges : Type 0
@@ -263,27 +266,56 @@ module _ (By : DocumentState → List Splice → DocumentState → Type 0) (by :
       let after = k gone.1 in
       (by.two state.document (unselected state).document new.document (selected_splices state.document) splices gone.0 after.0, after.1)
 
-  pub str_by : (state : State) (symbols : List Symbol) → IsSound state.document → From state (str_splices state symbols) (str_inserted state symbols)
-  str_by state symbols h =
-      after_removal state (str_inserted state symbols) _ h (λ left. symbols_by (unselected state).document symbols state.time left)
+  str_replaced : (state : State) (symbols : List Symbol) → IsSound state.document → From state (str_splices state symbols) (symbols_or_none_inserted (unselected state) symbols)
+  str_replaced state symbols h =
+      after_removal state (symbols_or_none_inserted (unselected state) symbols) _ h (λ left. symbols_by (unselected state).document symbols state.time left)
 
-  pub newline_by : (state : State) → IsSound state.document → From state (str_splices state (Break ∷ [])) (newline_inserted state)
-  newline_by state h =
-      after_removal state (newline_inserted state) _ h (λ left. step_by (unselected state).document (Insert (Break ∷ [])) false state.time left (omega arith))
+  newline_replaced : (state : State) → IsSound state.document → From state (str_splices state (Break ∷ [])) (line_broken (unselected state))
+  newline_replaced state h =
+      after_removal state (line_broken (unselected state)) _ h (λ left. step_by (unselected state).document (Insert (Break ∷ [])) false state.time left (omega arith))
 
   typed_by : (state : State) (c : ℕ) → IsSound state.document → From state (str_splices state (Character c ∷ [])) (typed_character_inserted (unselected state) c)
   typed_by state c h =
       after_removal state (typed_character_inserted (unselected state) c) _ h
       (λ left. step_by (unselected state).document (Insert (Character c ∷ [])) state.settings.undo_coalescing state.time left (omega arith))
 
-  pub char_by : (state : State) (c : ℕ) → IsSound state.document → From state (char_splices state c) (char_inserted state c)
-  char_by state c h =
-      by_both (From state) (breaks_line c) _ _ _ _ (λ breaks. newline_by state h) (λ other. typed_by state c h)
+  char_replaced : (state : State) (c : ℕ) → IsSound state.document → From state (char_splices state c) (char_or_break_inserted (unselected state) c)
+  char_replaced state c h =
+      by_both (From state) (breaks_line c) _ _ _ _ (λ breaks. newline_replaced state h) (λ other. typed_by state c h)
 
-  pub tab_by : (state : State) → IsSound state.document → From state (tab_splices state) (tab_inserted state)
-  tab_by state h =
+  tab_replaced : (state : State) → IsSound state.document → From state (tab_splices state) (tab_or_spaces_inserted (unselected state) (tab_length state.document))
+  tab_replaced state h =
       let left = unselected state in
       let spaces = replicate (spaces_to_stop left.document (tab_length state.document)) (Character 32) in
       by_both (From state) (tab_length state.document == 0) _ _ _ _
       (λ none. after_removal state (selection_cancelled left) _ h (λ sound. unanchored_by left.document sound))
-      (λ some. by_both (From state) left.settings.hard_tab_indent _ _ _ _ (λ hard. typed_by state 9 h) (λ soft. str_by state spaces h))
+      (λ some. by_both (From state) left.settings.hard_tab_indent _ _ _ _ (λ hard. typed_by state 9 h) (λ soft. str_replaced state spaces h))
+
+  -- ---- in a group of their own
+
+  grouped : (state new : State) (splices ungrouped : List Splice) → splices ≡ ungrouped → IsSound state.document
+      → (IsSound (call_begun state).document → From (call_begun state) splices new) → From state ungrouped (call_ended state new)
+  grouped state new splices ungrouped same h k =
+      let begun = (call_begun state).document in
+      let after = k (sound_in_group state (call_begun state).document.log.group h) in
+      let ended = call_ended state new in
+      subst (λ (s : List Splice). From state s ended) same
+      (moved state.document new.document ended.document splices refl (sound_in_group new ended.document.log.group after.1)
+      (by.two state.document begun new.document [] splices (by.none state.document begun refl) after.0, after.1))
+
+  pub str_by : (state : State) (symbols : List Symbol) → IsSound state.document → From state (str_splices state symbols) (str_inserted state symbols)
+  str_by state symbols h =
+      grouped state (symbols_or_none_inserted (unselected (call_begun state)) symbols) _ _ (str_beside state symbols) h (λ begun. str_replaced (call_begun state) symbols begun)
+
+  pub newline_by : (state : State) → IsSound state.document → From state (str_splices state (Break ∷ [])) (newline_inserted state)
+  newline_by state h =
+      grouped state (line_broken (unselected (call_begun state))) _ _ (str_beside state (Break ∷ [])) h (λ begun. newline_replaced (call_begun state) begun)
+
+  pub char_by : (state : State) (c : ℕ) → IsSound state.document → From state (char_splices state c) (char_inserted state c)
+  char_by state c h =
+      grouped state (char_or_break_inserted (unselected (call_begun state)) c) _ _ (char_beside state c) h (λ begun. char_replaced (call_begun state) c begun)
+
+  pub tab_by : (state : State) → IsSound state.document → From state (tab_splices state) (tab_inserted state)
+  tab_by state h =
+      grouped state (tab_or_spaces_inserted (unselected (call_begun state)) (tab_length state.document)) _ _ (tab_beside state) h
+      (λ begun. tab_replaced (call_begun state) begun)

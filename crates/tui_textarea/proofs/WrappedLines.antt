@@ -1,5 +1,5 @@
 -- The lines that an edit wraps are those that its splices wrap.
-use Rattle.std.proofs.Common.{◌≡◌, ℕ, Bool, List, [], ◌∷◌, ◌++◌, ap, refl, sym, subst}
+use Rattle.std.proofs.Common.{ℕ, Bool, List, [], ◌∷◌, ◌++◌, ap, refl, sym, subst}
 use Rattle.textarea_lines.specs.LineWraps.{WrapsForSplices}
 use Rattle.textarea_lines.specs.TextLayout.{TextAndLayout}
 use Rattle.textarea_text.specs.Splice.{Fits, Splice}

@@ -22,6 +22,7 @@ use Rattle.textarea_document.specs.Splices.{after_splices, before_splices, break
 use Rattle.tui_textarea.specs.State.{State, with_document, with_other_lines}
 use Rattle.tui_textarea.specs.Splices.{ahead_splices, char_splices, clear_splices, line_end_splices, line_head_splices, selected_splices_or, str_splices, tab_splices, word_after_splices, word_before_splices}
 use Rattle.tui_textarea.specs.Edits.{inserts_tab, inserts_text, char_inserted, newline_inserted, tab_inserted, str_inserted}
+use Rattle.tui_textarea.specs.Grouping.{typing_ended, undo_group_begun, undo_group_ended}
 use Rattle.tui_textarea.specs.Removals.{break_before_removed, text_cleared, has_ahead, has_before, has_after, has_break_before, has_line_before, has_line_after, has_word_before}
 use Rattle.tui_textarea.specs.Removals.{has_word_after, line_end_removed, line_head_removed, removes_or, symbol_before_removed, symbol_after_removed, symbols_ahead_removed}
 use Rattle.tui_textarea.specs.Removals.{unselected_or, word_before_removed, word_after_removed}
@@ -102,6 +103,7 @@ result_of_call state call.TabLength = reported.Number (tab_length state.document
 result_of_call state call.HardTabIndent = Flag state.settings.hard_tab_indent
 result_of_call state call.MaxHistories = reported.Number state.document.log.maximum
 result_of_call state call.UndoCoalescing = Flag state.settings.undo_coalescing
+result_of_call state call.UndoGrouping = Flag state.settings.undo_grouping
 result_of_call state call.WrapMode = reported.WrapMode state.document.layout.settings.mode
 result_of_call state call.LineNumberStyle = reported.StyleIfVisible (number_style state)
 result_of_call state call.PlaceholderStyle = reported.StyleIfVisible (style_with_lines state.surround.placeholder.lines state.surround.placeholder.style)
@@ -168,6 +170,10 @@ state_after state (call.SetMaxHistories maximum) =
     with_document state (record state.document { log = empty_log maximum })
 state_after state (call.SetUndoCoalescing joins) =
     record state { document = record state.document { log = run_ended state.document.log }; settings = record state.settings { undo_coalescing = joins } }
+state_after state (call.SetUndoGrouping groups) = record state { settings = record state.settings { undo_grouping = groups } }
+state_after state call.BeginUndoGroup = undo_group_begun state
+state_after state call.EndUndoGroup = undo_group_ended state
+state_after state call.EndRun = typing_ended state
 state_after state (call.SetNow time) = record state { time = as_nanos time }
 state_after state call.ClearAtomicRanges = ranges_cleared state
 state_after state (call.SetStyle style) = with_look_set state (record state.drawing.look { style = style })

@@ -1,10 +1,12 @@
--- The states after insertions, which first remove the selected text, as its own edit.
+-- The states after insertions, which first remove the selected text, as its own edit; with grouping
+-- on, both edits are in one group.
 use Rattle.std.specs.Prelude.{ℕ, ◌-◌, ◌%◌, ◌==◌, ◌||◌, Bool, not, List, [], take, replicate, slice_index_or, if◌then◌else◌}
 use Rattle.textarea_text.specs.Text.{Symbol, Character, lines}
 use Rattle.textarea_document.specs.DocumentState.{DocumentState}
 use Rattle.textarea_document.specs.Edits.{insertion_place, has_symbols, break_inserted, character_inserted, symbols_inserted}
 use Rattle.textarea_document.specs.Selection.{is_selected}
 use Rattle.textarea_text.specs.Tab.{width_of}
+use Rattle.tui_textarea.specs.Grouping.{call_begun, call_ended}
 use Rattle.tui_textarea.specs.State.{State, with_document}
 use Rattle.tui_textarea.specs.Selection.{selection_cancelled, unselected}
 use Rattle.tui_textarea.specs.LayoutCalls.{tab_length}
@@ -48,20 +50,20 @@ tab_or_spaces_inserted state tab_length =
 -- ---- the calls
 
 abbrev pub char_inserted : State → ℕ → State
-char_inserted state c = char_or_break_inserted (unselected state) c
+char_inserted state c = call_ended state (char_or_break_inserted (unselected (call_begun state)) c)
 
 abbrev pub newline_inserted : State → State
-newline_inserted state = line_broken (unselected state)
+newline_inserted state = call_ended state (line_broken (unselected (call_begun state)))
 
 abbrev pub str_inserted : State → List Symbol → State
-str_inserted state symbols = symbols_or_none_inserted (unselected state) symbols
+str_inserted state symbols = call_ended state (symbols_or_none_inserted (unselected (call_begun state)) symbols)
 
 -- whether a text was inserted or a selection removed
 abbrev pub inserts_text : State → List Symbol → Bool
 inserts_text state symbols = is_selected state.document || has_symbols symbols
 
 abbrev pub tab_inserted : State → State
-tab_inserted state = tab_or_spaces_inserted (unselected state) (tab_length state.document)
+tab_inserted state = call_ended state (tab_or_spaces_inserted (unselected (call_begun state)) (tab_length state.document))
 
 abbrev pub inserts_tab : State → Bool
 inserts_tab state = not (tab_length state.document == 0) || is_selected state.document

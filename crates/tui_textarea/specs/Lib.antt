@@ -9,6 +9,8 @@ pub mod DrawingPrelude
 pub mod State
 pub mod Drawing
 pub mod Edits
+pub mod Grouping
+pub mod GroupLaw
 pub mod Removals
 pub mod Selection
 pub mod Moves

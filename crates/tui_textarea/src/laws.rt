@@ -4,8 +4,8 @@ ghost use Rattle.tui_textarea.specs.Prelude.{IsHitTest, IsLastArea, IsWithoutCel
 
 use crate::drawing::laws::{caret_hit_is_cursor, caret_is_visible, one_nearest_place};
 pub use crate::textarea::laws::{
-    copy_then_paste, cursor_and_anchor_are_places, edits_fit, is_sound, redo_restores_all,
-    rows_are_those_from_scratch, undos_restore,
+    calls_are_undone_at_once, copy_then_paste, cursor_and_anchor_are_places, edits_fit, is_sound,
+    redo_restores_all, rows_are_those_from_scratch, undos_restore,
 };
 use textarea_document::laws::{one_place_up_and_down, one_row_count};
 use textarea_lines::laws::{settings_stay, wrapped_as_measured};

@@ -2,6 +2,7 @@
 //! surround, and the state of drawing.
 mod constructors;
 mod edits;
+mod grouping;
 mod input;
 pub(crate) mod laws;
 mod layout;

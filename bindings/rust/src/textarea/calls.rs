@@ -283,8 +283,8 @@ impl TextArea<'_> {
         self.edit(|h| unsafe { sys::ta_cut(h) })
     }
 
-    /// Undoes the newest edit, and returns whether there was one. The cursor is then after the
-    /// restored text, or where the removed text began, and nothing is selected.
+    /// Undoes the newest edit, with all of its group, and returns whether there was one. The cursor
+    /// is then after the restored text, or where the removed text began, and nothing is selected.
     ///
     /// ```
     /// use tui_textarea::TextArea;
@@ -304,8 +304,8 @@ impl TextArea<'_> {
         self.edit(|h| unsafe { sys::ta_undo(h) })
     }
 
-    /// Redoes the edit that was undone last, and returns whether there was one. The cursor is then
-    /// where that edit left it, and nothing is selected.
+    /// Redoes the edit that was undone last, with all of its group, and returns whether there was
+    /// one. The cursor is then where that edit left it, and nothing is selected.
     ///
     /// ```
     /// use tui_textarea::TextArea;
@@ -340,6 +340,78 @@ impl TextArea<'_> {
     pub fn set_max_histories(&mut self, maximum: usize) {
         self.core
             .is(|h| unsafe { sys::ta_set_max_histories(h, maximum) });
+    }
+
+    /// Sets whether all edits of one call are one group, which is undone and redone at once. So an
+    /// undo of a text that was typed or pasted over a selection brings the selected text back.
+    ///
+    /// ```
+    /// use tui_textarea::TextArea;
+    ///
+    /// let mut area = TextArea::from(["one"]);
+    /// area.set_undo_grouping(true);
+    /// area.select_all();
+    /// area.insert_char('x');
+    /// assert!(area.undo());
+    /// assert_eq!(area.lines(), ["one"]);
+    /// ```
+    pub fn set_undo_grouping(&mut self, groups: bool) {
+        self.core
+            .is(|h| unsafe { sys::ta_set_undo_grouping(h, groups) });
+    }
+
+    /// Begins a group, if none is open, and ends a run of typing. The edits until `end_undo_group`
+    /// are undone and redone together. If they are more than are remembered, all edits are
+    /// forgotten.
+    ///
+    /// ```
+    /// use tui_textarea::TextArea;
+    ///
+    /// let mut area = TextArea::from(["one"]);
+    /// area.begin_undo_group();
+    /// area.insert_str("a");
+    /// area.insert_newline();
+    /// area.end_undo_group();
+    /// assert!(area.undo());
+    /// assert_eq!(area.lines(), ["one"]);
+    /// ```
+    pub fn begin_undo_group(&mut self) {
+        self.core.is(|h| unsafe { sys::ta_begin_undo_group(h) });
+    }
+
+    /// Ends the open group, if one is open, and a run of typing. An undo or a redo of something,
+    /// new lines and `set_max_histories` close a group too.
+    ///
+    /// ```
+    /// use tui_textarea::TextArea;
+    ///
+    /// let mut area = TextArea::from(["one"]);
+    /// area.begin_undo_group();
+    /// area.insert_str("a");
+    /// area.end_undo_group();
+    /// area.insert_str("b");
+    /// assert!(area.undo());
+    /// assert_eq!(area.lines(), ["aone"]);
+    /// ```
+    pub fn end_undo_group(&mut self) {
+        self.core.is(|h| unsafe { sys::ta_end_undo_group(h) });
+    }
+
+    /// Ends a run of typing: the next edit is recorded separately.
+    ///
+    /// ```
+    /// use tui_textarea::TextArea;
+    ///
+    /// let mut area = TextArea::from([""]);
+    /// area.set_undo_coalescing(true);
+    /// area.insert_char('a');
+    /// area.end_run(); // the next character is an edit of its own
+    /// area.insert_char('b');
+    /// assert!(area.undo());
+    /// assert_eq!(area.lines(), ["a"]);
+    /// ```
+    pub fn end_run(&mut self) {
+        self.core.is(|h| unsafe { sys::ta_end_run(h) });
     }
 
     /// Begins an empty selection at the cursor.
@@ -681,6 +753,18 @@ impl TextArea<'_> {
     /// ```
     pub fn undo_coalescing(&self) -> bool {
         self.core.is(|h| unsafe { sys::ta_undo_coalescing(h) })
+    }
+
+    /// Returns whether all edits of one call are one group.
+    ///
+    /// ```
+    /// use tui_textarea::TextArea;
+    ///
+    /// let area = TextArea::from(["one"]);
+    /// assert!(!area.undo_grouping());
+    /// ```
+    pub fn undo_grouping(&self) -> bool {
+        self.core.is(|h| unsafe { sys::ta_undo_grouping(h) })
     }
 
     /// Returns the distance of tab stops, in columns.

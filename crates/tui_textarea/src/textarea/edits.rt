@@ -1,10 +1,11 @@
 //! Insertions. Each but `duplicate_line` first removes the selected text, as its own edit, and then
-//! moves a cursor that is strictly inside an atomic range to the range's end.
-ghost use Rattle.std.specs.Prelude.{◌≡◌, ◌<◌, OnOk, OnErr, IsOk, IfOk, false, [], replicate, vec_len};
+//! moves a cursor that is strictly inside an atomic range to the range's end. With grouping on, both
+//! edits are one group.
+ghost use Rattle.std.specs.Prelude.{◌≡◌, ◌<◌, OnOk, OnErr, IsOk, IfOk, true, false, [], replicate, vec_len};
 ghost use Rattle.std.specs.Arc.{arc_value};
 ghost use Rattle.std.specs.Str.{chars};
 ghost use Rattle.textarea_document.specs.Selection.{first_selected_row, last_selected_row, lines_duplicated, with_lines_again};
-ghost use Rattle.tui_textarea.specs.Prelude.{Character, lines, with_document, text_of, has_symbols, is_selected, fragment_symbols, pasted_symbols, inserts_tab, inserts_text, symbols_or_none_inserted, spaces_to_stop, char_inserted, char_or_break_inserted, newline_inserted, tab_inserted, tab_or_spaces_inserted, str_inserted, IsInsertOutOfMemory, selection_cancelled, unselected};
+ghost use Rattle.tui_textarea.specs.Prelude.{Character, lines, with_document, text_of, has_symbols, is_selected, fragment_symbols, pasted_symbols, inserts_tab, inserts_text, symbols_or_none_inserted, spaces_to_stop, char_inserted, char_or_break_inserted, line_broken, newline_inserted, tab_inserted, tab_or_spaces_inserted, str_inserted, IsInsertOutOfMemory, selection_cancelled, unselected};
 
 use crate::textarea::TextArea;
 use std::alloc::{AllocError, Global};
@@ -19,6 +20,17 @@ impl TextArea<'_> {
     /// contains it, as typed; `\n` and `\r` break the line.
     pub fn insert_char(&mut self, c: char) -> Result<(), AllocError>
         ensures ok { OnOk result (self.new ≡ char_inserted self.old c) }
+        ensures err { OnErr result (IsInsertOutOfMemory self.old self.new) }
+    {
+        let opens = self.begin_call();
+        let inserted = self.replace_by_char(c);
+        self.end_call(opens);
+        inserted
+    }
+
+    // Replaces the selected text by the character, or by the break that it means.
+    fn replace_by_char(&mut self, c: char) -> Result<(), AllocError>
+        ensures ok { OnOk result (self.new ≡ char_or_break_inserted (unselected self.old) c) }
         ensures err { OnErr result (IsInsertOutOfMemory self.old self.new) }
     {
         self.document.remove_selection(self.time)?;
@@ -40,6 +52,17 @@ impl TextArea<'_> {
     /// Breaks the line at the cursor, or at the end of the atomic range that strictly contains it.
     pub fn insert_newline(&mut self) -> Result<(), AllocError>
         ensures ok { OnOk result (self.new ≡ newline_inserted self.old) }
+        ensures err { OnErr result (IsInsertOutOfMemory self.old self.new) }
+    {
+        let opens = self.begin_call();
+        let inserted = self.replace_by_break();
+        self.end_call(opens);
+        inserted
+    }
+
+    // Replaces the selected text by a line break.
+    fn replace_by_break(&mut self) -> Result<(), AllocError>
+        ensures ok { OnOk result (self.new ≡ line_broken (unselected self.old)) }
         ensures err { OnErr result (IsInsertOutOfMemory self.old self.new) }
     {
         self.document.remove_selection(self.time)?;
@@ -111,6 +134,21 @@ impl TextArea<'_> {
             (self.new ≡ str_inserted self.old (text_of (arc_value fragment_lines).items)) }
         ensures err { OnErr result (IsInsertOutOfMemory self.old self.new) }
     {
+        let opens = self.begin_call();
+        let inserted = self.replace_by_fragment(fragment_lines);
+        self.end_call(opens);
+        inserted
+    }
+
+    // The same, without a group of its own.
+    fn replace_by_fragment(&mut self, fragment_lines: Arc<Vec<String>>) -> Result<bool, AllocError>
+        ensures inserted { IfOk result
+            (λ inserted. inserted ≡ has_symbols (text_of (arc_value fragment_lines).items)) }
+        ensures ok { OnOk result
+            (self.new ≡ symbols_or_none_inserted (unselected self.old)
+            (text_of (arc_value fragment_lines).items)) }
+        ensures err { OnErr result (IsInsertOutOfMemory self.old self.new) }
+    {
         self.document.remove_selection(self.time)?;
         self.document.insert(fragment_lines, self.time)
     }
@@ -144,6 +182,20 @@ impl TextArea<'_> {
         if tab_length == 0 {
             return self.drop_selection();
         }
+        let opens = self.begin_call();
+        let inserted = self.replace_by_tab(tab_length);
+        self.end_call(opens);
+        inserted
+    }
+
+    // Replaces the selected text by a tab of this length, and returns true.
+    fn replace_by_tab(&mut self, tab_length: u8) -> Result<bool, AllocError>
+        requires some { 0 < tab_length }
+        ensures inserted { IfOk result (λ inserted. inserted ≡ true) }
+        ensures ok { OnOk result
+            (self.new ≡ tab_or_spaces_inserted (unselected self.old) tab_length) }
+        ensures err { OnErr result (IsInsertOutOfMemory self.old self.new) }
+    {
         self.document.remove_selection(self.time)?;
         self.insert_tab_or_spaces(tab_length)?;
         Ok(true)

@@ -6,8 +6,9 @@ use crate::textarea::TextArea;
 use std::alloc::AllocError;
 
 impl TextArea<'_> {
-    /// Undoes the newest edit, and returns whether there was one. The cursor is then after the
-    /// restored text, or where the removed text began, and nothing is selected.
+    /// Undoes the newest edit, with all of its group, and returns whether there was one. The cursor
+    /// is then after the restored text, or where the removed text began, and nothing is selected.
+    /// An undo of something closes an open group.
     pub fn undo(&mut self) -> Result<bool, AllocError>
         ensures undone { IfOk result (λ found. found ≡ is_some (newest self.old.document.log)) }
         ensures ok { OnOk result
@@ -18,8 +19,9 @@ impl TextArea<'_> {
         self.document.undo()
     }
 
-    /// Redoes the edit that was undone last, and returns whether there was one. The cursor is then
-    /// where that edit left it, and nothing is selected.
+    /// Redoes the edit that was undone last, with all of its group, and returns whether there was
+    /// one. The cursor is then where the last of them left it, and nothing is selected. A redo of
+    /// something closes an open group.
     pub fn redo(&mut self) -> Result<bool, AllocError>
         ensures redone { IfOk result (λ found. found ≡ is_some (next self.old.document.log)) }
         ensures ok { OnOk result

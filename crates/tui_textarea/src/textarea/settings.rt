@@ -14,16 +14,19 @@ pub struct Settings {
     pub hard_tab_indent: bool,
     /// Whether typed edits join into one edit, which is undone at once.
     pub undo_coalescing: bool,
+    /// Whether all edits of one call are one group, which is undone at once.
+    pub undo_grouping: bool,
 }
 
 impl Default for Settings {
-    /// Tabs as spaces, and typed edits do not join.
+    /// Tabs as spaces, typed edits do not join, and no edits are grouped.
     fn default() -> Settings
         ensures { result ≡ default_settings }
     {
         Settings {
             hard_tab_indent: false,
             undo_coalescing: false,
+            undo_grouping: false,
         }
     }
 }

@@ -11,8 +11,8 @@ use crate::handle::Handle;
 use std::alloc::Global;
 use textarea_c_data::status::{OK, flag, truth};
 
-/// Undoes the newest edit, and returns whether there was one. The cursor is then after the restored
-/// text, or where the removed text began, and nothing is selected.
+/// Undoes the newest edit, with all of its group, and returns whether there was one. The cursor is
+/// then after the restored text, or where the removed text began, and nothing is selected.
 ///
 /// Statuses: ok (true), false, out of memory, empty handle.
 #[unsafe(no_mangle)]
@@ -23,8 +23,8 @@ pub extern "C" fn ta_undo(handle: &mut Handle, alloc: Global) -> u32
     on!(handle, alloc, editor => flag(editor.area.undo()))
 }
 
-/// Redoes the edit that was undone last, and returns whether there was one. The cursor is then
-/// where that edit left it, and nothing is selected.
+/// Redoes the edit that was undone last, with all of its group, and returns whether there was one.
+/// The cursor is then where that edit left it, and nothing is selected.
 ///
 /// Statuses: ok (true), false, out of memory, empty handle.
 #[unsafe(no_mangle)]
@@ -63,6 +63,65 @@ pub extern "C" fn ta_set_undo_coalescing(handle: &mut Handle, alloc: Global, joi
     })
 }
 
+/// Sets whether all edits of one call are one group, which is undone and redone at once. So an undo
+/// of a text that was typed or pasted over a selection brings the selected text back.
+///
+/// Statuses: ok, empty handle.
+#[unsafe(no_mangle)]
+pub extern "C" fn ta_set_undo_grouping(handle: &mut Handle, alloc: Global, groups: bool) -> u32
+    ensures { Calls handle.old.stored.content result handle.new.stored.content
+        (λ a b. MakesSetting (call.SetUndoGrouping groups) result a b) }
+{
+    on!(handle, alloc, editor => {
+        editor.area.set_undo_grouping(groups);
+        OK
+    })
+}
+
+/// Begins a group, if none is open, and ends a run of typing. The edits until `ta_end_undo_group`
+/// are undone and redone together. If they are more than are remembered, all edits are forgotten.
+///
+/// Statuses: ok, empty handle.
+#[unsafe(no_mangle)]
+pub extern "C" fn ta_begin_undo_group(handle: &mut Handle, alloc: Global) -> u32
+    ensures { Calls handle.old.stored.content result handle.new.stored.content
+        (λ a b. MakesSetting call.BeginUndoGroup result a b) }
+{
+    on!(handle, alloc, editor => {
+        editor.area.begin_undo_group();
+        OK
+    })
+}
+
+/// Ends the open group, if one is open, and a run of typing. An undo or a redo of something, new
+/// lines and `ta_set_max_histories` close a group too.
+///
+/// Statuses: ok, empty handle.
+#[unsafe(no_mangle)]
+pub extern "C" fn ta_end_undo_group(handle: &mut Handle, alloc: Global) -> u32
+    ensures { Calls handle.old.stored.content result handle.new.stored.content
+        (λ a b. MakesSetting call.EndUndoGroup result a b) }
+{
+    on!(handle, alloc, editor => {
+        editor.area.end_undo_group();
+        OK
+    })
+}
+
+/// Ends a run of typing: the next edit is recorded separately.
+///
+/// Statuses: ok, empty handle.
+#[unsafe(no_mangle)]
+pub extern "C" fn ta_end_run(handle: &mut Handle, alloc: Global) -> u32
+    ensures { Calls handle.old.stored.content result handle.new.stored.content
+        (λ a b. MakesSetting call.EndRun result a b) }
+{
+    on!(handle, alloc, editor => {
+        editor.area.end_run();
+        OK
+    })
+}
+
 /// Returns the greatest number of edits that are remembered, done and undone together.
 ///
 /// Statuses: ok, empty handle.
@@ -96,4 +155,15 @@ pub extern "C" fn ta_undo_coalescing(handle: &mut Handle, alloc: Global) -> u32
         (λ a b. Answers (flag_of (result_of_call a.area call.UndoCoalescing)) result a b) }
 {
     on!(handle, alloc, editor => truth(editor.area.undo_coalescing()))
+}
+
+/// Returns whether all edits of one call are one group.
+///
+/// Statuses: ok (true), false, empty handle.
+#[unsafe(no_mangle)]
+pub extern "C" fn ta_undo_grouping(handle: &mut Handle, alloc: Global) -> u32
+    ensures { Calls handle.old.stored.content result handle.new.stored.content
+        (λ a b. Answers (flag_of (result_of_call a.area call.UndoGrouping)) result a b) }
+{
+    on!(handle, alloc, editor => truth(editor.area.undo_grouping()))
 }

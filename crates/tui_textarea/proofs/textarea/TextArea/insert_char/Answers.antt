@@ -1,11 +1,15 @@
-use Rattle.std.proofs.Common.{◌≡◌, subst}
-use Rattle.std.specs.Result.{OnOk}
 use Rattle.tui_textarea.specs.Edits.{char_or_break_inserted}
+use Rattle.tui_textarea.specs.Selection.{unselected}
 use Rattle.tui_textarea.specs.State.{State}
-use Rattle.tui_textarea.proofs.Unselected.{unselected_is}
+use Rattle.tui_textarea.proofs.Grouping.{ended_err, ended_ok}
 use Rattle.tui_textarea.proofs.textarea.TextArea.insert_char.Goals as goal
 
 pub returns-clause-ok : goal.returns-clause-ok
 returns-clause-ok c =
-    subst (λ (s : State). OnOk c.insert_char_or_break.result (c.insert_char_or_break.new.self ≡ char_or_break_inserted s c.args.c))
-    (unselected_is c.self.view_is c.remove_selection.new.self c.in_ok-remove_selection.ensures.ok) c.insert_char_or_break.ensures.ok
+    ended_ok c.replace_by_char-inserted.result (λ (s : State). char_or_break_inserted (unselected s) c.args.c) c.args.self.now
+    c.replace_by_char-inserted.new.self c.begin_call-opens.ensures.opens c.begin_call-opens.ensures.begun c.end_call.ensures
+    c.replace_by_char-inserted.ensures.ok
+
+pub returns-clause-err : goal.returns-clause-err
+returns-clause-err c =
+    ended_err c.replace_by_char-inserted.result c.args.self.now c.replace_by_char-inserted.new.self c.begin_call-opens.ensures.opens c.begin_call-opens.ensures.begun c.end_call.ensures c.replace_by_char-inserted.ensures.err

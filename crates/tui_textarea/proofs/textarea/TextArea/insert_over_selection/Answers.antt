@@ -1,11 +1,16 @@
-use Rattle.std.proofs.Common.{ℕ}
 use Rattle.textarea_text.specs.Text.{text_of}
-use Rattle.textarea_document.specs.Edits.{symbols_inserted}
-use Rattle.textarea_document.specs.DocumentState.{DocumentState}
-use Rattle.tui_textarea.proofs.Lifted.{unselected_lifted}
+use Rattle.tui_textarea.specs.Edits.{symbols_or_none_inserted}
+use Rattle.tui_textarea.specs.Selection.{unselected}
+use Rattle.tui_textarea.specs.State.{State}
+use Rattle.tui_textarea.proofs.Grouping.{ended_err, ended_ok}
 use Rattle.tui_textarea.proofs.textarea.TextArea.insert_over_selection.Goals as goal
 
 pub returns-clause-ok : goal.returns-clause-ok
 returns-clause-ok c =
-    unselected_lifted c.insert.result (λ (d : DocumentState) (m : ℕ). symbols_inserted d (text_of c.args.fragment_lines.value.items) m) c.self.view_is
-    c.remove_selection.new.self c.insert.new.self c.in_ok-remove_selection.ensures.ok c.insert.ensures.ok
+    ended_ok c.replace_by_fragment-inserted.result (λ (s : State). symbols_or_none_inserted (unselected s) (text_of c.args.fragment_lines.value.items)) c.args.self.now
+    c.replace_by_fragment-inserted.new.self c.begin_call-opens.ensures.opens
+    c.begin_call-opens.ensures.begun c.end_call.ensures c.replace_by_fragment-inserted.ensures.ok
+
+pub returns-clause-err : goal.returns-clause-err
+returns-clause-err c =
+    ended_err c.replace_by_fragment-inserted.result c.args.self.now c.replace_by_fragment-inserted.new.self c.begin_call-opens.ensures.opens c.begin_call-opens.ensures.begun c.end_call.ensures c.replace_by_fragment-inserted.ensures.err
