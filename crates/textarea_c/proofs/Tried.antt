@@ -11,7 +11,8 @@ use Rattle.textarea_text.specs.Text.{lines}
 use Rattle.tui_textarea.specs.Ranges.{ranges_accepted}
 use Rattle.tui_textarea.specs.State.{State}
 use Rattle.textarea_c.specs.declared.editor.Editor.{Editor}
-use Rattle.textarea_c.specs.Calls.{Calls, SetsValidRanges, Tells, Tries, with_area}
+use Rattle.tui_textarea.specs.Selection.{IsInsertOutOfMemory}
+use Rattle.textarea_c.specs.Calls.{Calls, Inserts, SetsValidRanges, Tells, Tries, TriesToInsert, with_area}
 use Rattle.textarea_c_data.specs.Ranges.{IsRangeOut}
 use Rattle.textarea_c_data.specs.declared.range.CRange.{CRange}
 use Rattle.textarea_util.proofs.Options.{none_of_test}
@@ -29,6 +30,30 @@ tried (Err e) status found area new a removed ok err nothing said refused = (
   (λ less. absurd (omega arith)),
   (λ _. (refused, ap (with_area a) err)),
   ((λ none. absurd (omega arith)), (λ one. absurd (omega arith)), (λ none more. let never : false ≡ true = nothing none in cc)),
+)
+
+-- an insertion
+pub inserted : {T E : Type 0} (answer : Result T E) (status : ℕ) (area new : State) (a : Editor)
+    → OnOk answer (new ≡ area) → OnErr answer (IsInsertOutOfMemory a.area new) → OnOk answer (status ≡ 0) → OnErr answer (status ≡ 2)
+    → Inserts area status a (with_area a new)
+inserted (Ok value) status area new a ok err said refused = ((λ _. ap (with_area a) ok), (λ more. absurd (more said)))
+inserted (Err e) status area new a ok err said refused = ((λ none. absurd (omega (arith, none, refused))), (λ _. (refused, err, refl)))
+
+-- an insertion that returns whether there was something to insert
+pub tried_insertion : {E : Type 0} (answer : Result Bool E) (status : ℕ) (found : Bool) (area new : State) (a : Editor)
+    → IfOk answer (λ inserted. inserted ≡ found) → OnOk answer (new ≡ area) → OnErr answer (IsInsertOutOfMemory a.area new) → (found ≡ false → IsOk answer)
+    → IfOk answer (λ flag. status ≡ (if flag then 0 else 1)) → OnErr answer (status ≡ 2)
+    → TriesToInsert found found area status a (with_area a new)
+tried_insertion (Ok true) status found area new a made ok err nothing said refused =
+    ((λ _. ap (with_area a) ok), (λ more. absurd (omega arith)), (λ _. sym made), (λ one. absurd (omega arith)), (λ none more. omega arith))
+tried_insertion (Ok false) status found area new a made ok err nothing said refused =
+    ((λ _. ap (with_area a) ok), (λ more. absurd (omega arith)), (λ none. absurd (omega arith)), (λ _. sym made), (λ none more. omega arith))
+tried_insertion (Err e) status found area new a made ok err nothing said refused = (
+  (λ less. absurd (omega arith)),
+  (λ _. (refused, err, refl)),
+  (λ none. absurd (omega arith)),
+  (λ one. absurd (omega arith)),
+  (λ none more. let never : false ≡ true = nothing none in cc),
 )
 
 -- the status of a range that was found, or not

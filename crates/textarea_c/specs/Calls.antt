@@ -11,6 +11,7 @@ use Rattle.textarea_screen.specs.declared.screen.style.Style.{Style}
 use Rattle.tui_textarea.specs.CallResults as reported
 use Rattle.tui_textarea.specs.CallResults.{CallResult}
 use Rattle.tui_textarea.specs.Calls.{NeedsMemory, result_of_call, state_after}
+use Rattle.tui_textarea.specs.Edits.{char_inserted}
 use Rattle.tui_textarea.specs.Input.{flag_of}
 use Rattle.tui_textarea.specs.Patterns.{IsNewPattern, MayRejectPattern}
 use Rattle.tui_textarea.specs.Ranges.{ranges_accepted}
@@ -130,6 +131,10 @@ style_in result = None
 abbrev pub Inserts : State → ℕ → Editor → Editor → Type 0
 Inserts area status a b =
     (status ≡ 0 → b ≡ with_area a area) × (status ≢ 0 → (status ≡ 2) × IsInsertOutOfMemory a.area b.area × (b ≡ with_area a b.area))
+
+-- the insertion of this character, or of the break that it means, as typed
+unfoldable pub InsertsCharacter : ℕ → ℕ → Editor → Editor → Type 0
+InsertsCharacter c status a b = Inserts (char_inserted a.area c) status a b
 
 -- one that returns whether there was something to insert, and needs no memory where it does nothing
 abbrev pub TriesToInsert : Bool → Bool → State → ℕ → Editor → Editor → Type 0

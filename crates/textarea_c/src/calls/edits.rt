@@ -3,12 +3,13 @@
 ghost use Rattle.std.specs.Str.{chars};
 ghost use Rattle.textarea_document.specs.Edits.{has_symbols};
 ghost use Rattle.textarea_text.specs.Fragment.{fragment_symbols, pasted_symbols};
-ghost use Rattle.tui_textarea.specs.Edits.{char_inserted, inserts_tab, inserts_text, newline_inserted, str_inserted, tab_inserted};
-ghost use Rattle.textarea_c.specs.Calls.{Calls, Given, Inserts, TriesToInsert};
+ghost use Rattle.tui_textarea.specs.Edits.{inserts_tab, inserts_text, newline_inserted, str_inserted, tab_inserted};
+ghost use Rattle.textarea_c.specs.Calls.{Calls, Given, Inserts, InsertsCharacter, TriesToInsert};
 ghost use Rattle.textarea_c_data.specs.Inputs.{character_of_number};
 ghost use Rattle.textarea_c_data.specs.Texts.{text_in};
 
 use crate::calls::on;
+use crate::editor::Editor;
 use crate::handle::Handle;
 use std::alloc::Global;
 use textarea_c_data::slices::text_of;
@@ -22,12 +23,19 @@ use textarea_c_data::status::{INVALID_ARGUMENT, done, flag};
 #[unsafe(no_mangle)]
 pub extern "C" fn ta_insert_char(handle: &mut Handle, alloc: Global, character: u32) -> u32
     ensures { Calls handle.old.stored.content result handle.new.stored.content
-        (λ a b. Given (character_of_number character) (λ c. Inserts (char_inserted a.area c)) result a b) }
+        (λ a b. Given (character_of_number character) InsertsCharacter result a b) }
 {
     on!(handle, alloc, editor => match char::from_u32(character) {
-        Some(c) => done(editor.area.insert_char(c)),
+        Some(c) => insert_character(&mut editor, c),
         None => INVALID_ARGUMENT,
     })
+}
+
+// Inserts the character, and returns the status.
+fn insert_character(editor: &mut Editor, c: char) -> u32
+    ensures { InsertsCharacter c result editor.old editor.new }
+{
+    done(editor.area.insert_char(c))
 }
 
 /// Breaks the line at the cursor, or at the end of the atomic range that strictly contains it.
