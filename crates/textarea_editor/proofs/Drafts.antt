@@ -106,6 +106,10 @@ short_before a b calls more short = record {
 pub fails_before : (a b : Draft) (calls more : List Call) → FailsIn a calls b → FailsIn a (calls ++ more) b
 fails_before a b calls more fails = record { short = short_before a.area b.area calls more fails.short; honest = fails.honest }
 
+-- all calls were made, and memory ran out for what comes after them
+pub fails_after : (a b : Draft) (calls : List Call) → Makes a calls b → FailsIn a calls b
+fails_after a b calls makes = subst (λ (l : List Call). FailsIn a l b) (append-nil calls) (fails_then a b b calls [] makes (fails_first b []))
+
 -- ---- calls of a kind
 
 -- memory ran out before any call

@@ -1,3 +1,4 @@
+mod Screens
 mod StatusRows
 mod Drafts
 mod EventRuns

@@ -1,5 +1,6 @@
 -- Control characters.
-use Rattle.std.specs.Prelude.{◌≡◌, ℕ, ◌+◌, ◌-◌, ◌^◌, ◌==◌, ◌&&◌, ◌||◌, nat_lt, not, Bool, List, String, count_by, fold, if◌then◌else◌, string_bytes}
+use Rattle.std.specs.List.{sum_by}
+use Rattle.std.specs.Prelude.{◌≡◌, ℕ, ◌-◌, ◌^◌, ◌==◌, ◌&&◌, ◌||◌, nat_lt, not, Bool, List, String, count_by, if◌then◌else◌, min, string_bytes}
 use Rattle.std.specs.declared.alloc.Global.{Global}
 use Rattle.textarea_text.specs.Text.{lines, lines_of}
 use Rattle.tui_textarea.specs.State.{State}
@@ -14,13 +15,9 @@ is_control byte = (nat_lt byte 32 && not (byte == 9)) || byte == 127
 abbrev pub controls_in : String Global → ℕ
 controls_in line = count_by is_control (string_bytes line)
 
--- the sum of two numbers of 64 bits, or the greatest one
-abbrev pub capped_sum : ℕ → ℕ → ℕ
-capped_sum count more = if nat_lt more (2 ^ 64 - 1 - count) then count + more else 2 ^ 64 - 1
-
--- the number of control characters in lines, or the greatest number
+-- the number of control characters in lines, or the greatest number of 64 bits
 abbrev pub shown_count : List (String Global) → ℕ
-shown_count lines = fold (λ count line. capped_sum count (controls_in line)) 0 lines
+shown_count lines = min (sum_by controls_in lines) (2 ^ 64 - 1)
 
 -- the message with a number, or another one if it is 0
 abbrev pub count_message : ℕ → Message → Message

@@ -1,8 +1,11 @@
 -- What each event asks the program to do, as a table: by what the next key is for, the key, and the
 -- command that it is bound to.
+use Rattle.std.specs.List.{list_any}
 use Rattle.std.specs.Prelude.{◌≡◌, ◌≢◌, ℕ, Bool, true, false, List, [], Option, None, Some, String, if◌then◌else◌, is_some}
 use Rattle.std.specs.Str.{chars}
 use Rattle.std.specs.declared.alloc.Global.{Global}
+use Rattle.textarea_calls.specs.declared.call.Call.{Call}
+use Rattle.textarea_calls.specs.declared.call.Call.TheVariants as call
 use Rattle.textarea_data.specs.declared.input.Input.{Input}
 use Rattle.textarea_data.specs.declared.input.Key.{Key}
 use Rattle.textarea_data.specs.declared.input.Key.TheVariants.{MouseScrollDown, MouseScrollUp}
@@ -25,8 +28,10 @@ use Rattle.textarea_editor.specs.declared.focus.PromptKey.{PromptKey}
 use Rattle.textarea_editor.specs.declared.focus.PromptKey.TheVariants as prompt
 use Rattle.textarea_editor.specs.declared.keys.KeyCommand.{KeyCommand}
 use Rattle.textarea_editor.specs.declared.keys.KeyCommand.TheVariants as command
+use Rattle.textarea_modal.specs.Calls.{key_call}
 use Rattle.textarea_modal.specs.Table.{Step, step}
 use Rattle.textarea_modal.specs.declared.mode.Mode.{Mode}
+use Rattle.textarea_modal.specs.declared.step.KeyCall.{KeyCall}
 use Rattle.textarea_terminal.specs.declared.input.event.Event.{Event}
 use Rattle.textarea_terminal.specs.declared.input.event.Event.TheVariants as event
 use Rattle.tui_textarea.specs.State.{State}
@@ -39,16 +44,15 @@ abbrev pub quit_effect : Bool → Effect
 quit_effect true = Nothing
 quit_effect false = Quit
 
--- a text is copied, or memory ran out for that
+-- a text is given to the clipboard; `Carries` says which
 abbrev pub IsCopied : Effect → Type 0
 IsCopied (Copy text) = Unit {0}
-IsCopied Nothing = Unit {0}
 IsCopied effect = ⊥
 
--- the same if a selection was open, and else nothing
-pub record IsSelectionCopied (selecting : Bool) (effect : Effect) : Type 0 where
-  pub some : selecting ≡ true → IsCopied effect
-  pub none : selecting ≡ false → effect ≡ Nothing
+-- the same if there is something to copy, and else nothing
+abbrev pub IsCopiedIf : Bool → Effect → Type 0
+IsCopiedIf true effect = IsCopied effect
+IsCopiedIf false effect = effect ≡ Nothing
 
 -- ---- keys in the text
 
@@ -56,19 +60,32 @@ pub record IsSelectionCopied (selecting : Bool) (effect : Effect) : Type 0 where
 abbrev pub IsCommandEffect : Option (String Global) → Bool → Bool → KeyCommand → Effect → Type 0
 IsCommandEffect name changed selecting command.Save effect = IsSaveAsked (is_some name) (name_bytes name) false effect
 IsCommandEffect name changed selecting command.Quit effect = effect ≡ quit_effect changed
-IsCommandEffect name changed selecting command.Cut effect = IsSelectionCopied selecting effect
-IsCommandEffect name changed selecting command.Copy effect = IsSelectionCopied selecting effect
+IsCommandEffect name changed selecting command.Cut effect = IsCopiedIf selecting effect
+IsCommandEffect name changed selecting command.Copy effect = IsCopiedIf selecting effect
 IsCommandEffect name changed selecting other effect = effect ≡ Nothing
 
--- a step of the modal editor, which quits or may copy
-pub record IsModalEffect (quits changed : Bool) (effect : Effect) : Type 0 where
-  pub ends : quits ≡ true → effect ≡ quit_effect changed
-  pub stays : quits ≡ false → IsCopied effect
+-- the call puts the selected text into the yank
+abbrev pub is_yanking : Call → Bool
+is_yanking call.Cut = true
+is_yanking call.Copy = true
+is_yanking other = false
+
+-- the same of a call of a key in the modal editor
+abbrev pub is_yank : KeyCall → Bool
+is_yank key = is_yanking (key_call key)
+
+-- a step of the modal editor, which quits, or copies exactly where it yanks
+abbrev pub IsStepEffect : Bool → Bool → Bool → Effect → Type 0
+IsStepEffect true copies changed effect = effect ≡ quit_effect changed
+IsStepEffect false copies changed effect = IsCopiedIf copies effect
+
+abbrev pub IsModalEffect : Step → Bool → Effect → Type 0
+IsModalEffect made changed effect = IsStepEffect made.quits (list_any is_yanking made.calls) changed effect
 
 -- a key of the modal editor, if there is one, or of the text area
 abbrev pub IsTypedEffect : Option Mode → Bool → Input → Effect → Type 0
 IsTypedEffect None changed input effect = effect ≡ Nothing
-IsTypedEffect (Some mode) changed input effect = IsModalEffect (step mode input).quits changed effect
+IsTypedEffect (Some mode) changed input effect = IsModalEffect (step mode input) changed effect
 
 -- a key that is bound to no command
 abbrev pub IsUnboundEffect : Key → Option Mode → Bool → Input → Effect → Type 0

@@ -1,6 +1,6 @@
 //! Control characters of a text, which no cell shows.
 ghost use Rattle.std.specs.Prelude.{◌≡◌, count_by, string_bytes};
-ghost use Rattle.textarea_editor.specs.ControlCharacters.{capped_sum, count_message, is_control, shown_count};
+ghost use Rattle.textarea_editor.specs.ControlCharacters.{count_message, is_control, shown_count};
 
 use crate::message::Message;
 
@@ -19,21 +19,11 @@ pub fn count_message(lines: &[String], none: Message) -> Message
 fn control_characters(lines: &[String]) -> usize
     ensures { result ≡ shown_count lines.now }
 {
-    lines.iter().fold(
-        0,
-        |count, line| capped_sum(count, controls_in(line.as_str())),
-    )
-}
-
-// The sum of two numbers, or the greatest number.
-fn capped_sum(count: usize, more: usize) -> usize
-    ensures { result ≡ capped_sum count more }
-{
-    if more < usize::MAX - count {
-        count + more
-    } else {
-        usize::MAX
+    let mut count: usize = 0;
+    for line in lines {
+        count = count.saturating_add(controls_in(line.as_str()));
     }
+    count
 }
 
 fn controls_in(line: &str) -> usize

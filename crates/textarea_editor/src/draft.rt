@@ -13,7 +13,9 @@ ghost use Rattle.textarea_screen.specs.Rect.{contains};
 ghost use Rattle.tui_textarea.specs.Drawing.{IsRendered, widget_of};
 ghost use Rattle.tui_textarea.specs.Measure.{reads_rows};
 ghost use Rattle.tui_textarea.specs.Rendered.{IsDrawn};
+ghost use Rattle.textarea_modal.specs.declared.mode.Mode.{Mode};
 ghost use Rattle.textarea_editor.specs.Draft.{FailsIn, IsMeasuredRows, IsUndrawn, Makes, is_made, plain_calls};
+ghost use Rattle.textarea_editor.specs.EventEffects.{is_yank, is_yanking};
 
 pub mod moving;
 
@@ -186,13 +188,27 @@ fn any_edits(calls: &[Call<'_>]) -> bool
     calls.iter().any(|call| call.edits())
 }
 
-/// Returns whether what a key does in the modal editor copies text.
-pub fn copies(reaction: &Reaction) -> bool {
+/// Returns whether a call of what a key does in the modal editor puts the selected text into the
+/// yank.
+pub fn copies(reaction: &Reaction) -> bool
+    ensures { (mode : Mode) → OfStep mode reaction.now
+        (λ step. result ≡ list_any is_yanking step.calls) }
+{
     match reaction {
-        Reaction::Step(step) => step
-            .calls
-            .iter()
-            .any(|call| matches!(call, KeyCall::Cut | KeyCall::Copy)),
+        Reaction::Step(step) => any_yanks(step.calls),
         Reaction::PassOn(_) => false,
     }
+}
+
+fn any_yanks(calls: &[KeyCall]) -> bool
+    ensures { result ≡ list_any is_yank calls.now }
+{
+    calls.iter().any(|call| is_yank(*call))
+}
+
+// Whether the call puts the selected text into the yank.
+fn is_yank(call: KeyCall) -> bool
+    ensures { result ≡ is_yank call }
+{
+    matches!(call, KeyCall::Cut | KeyCall::Copy)
 }

@@ -2,6 +2,7 @@
 
 ghost use Rattle.std.specs.Prelude.{◌≡◌};
 ghost use Rattle.textarea_editor.specs.SaveEnds.{asks_for_name};
+ghost use Rattle.textarea_editor.specs.StatusRow.{message_reason, message_start, reason_words};
 
 /// Why a file can't be read or saved.
 #[derive(Clone, Copy, Debug, PartialEq, Eq)]
@@ -38,7 +39,9 @@ impl Trouble {
     }
 
     /// Returns the reason as a part of a sentence.
-    pub fn text(self) -> &'static str {
+    pub fn text(self) -> &'static str
+        ensures { result.now ≡ reason_words self }
+    {
         match self {
             Trouble::NotText => "it is not UTF-8 text",
             Trouble::Folder => "it is a folder",
@@ -83,7 +86,10 @@ pub enum Message {
 
 impl Message {
     /// Returns the message, and the reason that follows it, if there is one.
-    pub fn components(self) -> (&'static str, &'static str) {
+    pub fn components(self) -> (&'static str, &'static str)
+        ensures start { result.0.now ≡ message_start self }
+        ensures reason { result.1.now ≡ message_reason self }
+    {
         match self {
             Message::Nothing | Message::Exists => ("", ""),
             Message::NewFile => ("new file", ""),

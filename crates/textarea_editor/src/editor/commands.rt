@@ -7,7 +7,7 @@ ghost use Rattle.textarea_editor.specs.Controls.{after_command, prompt_opened};
 ghost use Rattle.textarea_editor.specs.Draft.{FailsIn, Makes, is_made, plain_calls};
 ghost use Rattle.textarea_editor.specs.Editor.{MayQuit};
 ghost use Rattle.textarea_editor.specs.Effects.{Carries};
-ghost use Rattle.textarea_editor.specs.EventEffects.{IsCommandEffect, IsCopied, IsNothing, IsSelectionCopied};
+ghost use Rattle.textarea_editor.specs.EventEffects.{IsCommandEffect, IsCopied, IsCopiedIf, IsNothing};
 ghost use Rattle.textarea_editor.specs.EventCalls.{command_calls, control_calls, find_calls, is_selecting, numbers_call, wrap_mode};
 
 use super::Editor;
@@ -107,6 +107,7 @@ impl Editor {
     }
 
     // Copies the selected text, if a selection is open, and gives it to the program.
+    #[tactic(auto, using(crate::proofs::Drafts::fails_after))]
     fn copy(&mut self) -> Result<Effect, AllocError>
         ensures ok { OnOk result (Makes self.old.draft (command_calls self.old.controls.wraps
             self.old.controls.numbers (is_selecting self.old.draft.area) KeyCommand.Copy) self.new.draft) }
@@ -115,7 +116,7 @@ impl Editor {
         ensures carries { IfOk result
             (Carries (MayQuit self.old) self.new.draft.area self.new.line_end) }
         ensures effect { IfOk result
-            (IsSelectionCopied (is_selecting self.old.draft.area)) }
+            (IsCopiedIf (is_selecting self.old.draft.area)) }
         ensures end { self.new.line_end ≡ self.old.line_end }
         ensures controls { self.new.controls ≡ self.old.controls }
     {
@@ -123,10 +124,11 @@ impl Editor {
             return Ok(Effect::Nothing);
         }
         self.draft.make(&[Call::Copy])?;
-        Ok(self.clipboard())
+        self.clipboard()
     }
 
     // Removes the selected text, if a selection is open, and gives it to the program.
+    #[tactic(auto, using(crate::proofs::Drafts::fails_after))]
     fn cut(&mut self) -> Result<Effect, AllocError>
         ensures ok { OnOk result (Makes self.old.draft (command_calls self.old.controls.wraps
             self.old.controls.numbers (is_selecting self.old.draft.area) KeyCommand.Cut) self.new.draft) }
@@ -135,7 +137,7 @@ impl Editor {
         ensures carries { IfOk result
             (Carries (MayQuit self.old) self.new.draft.area self.new.line_end) }
         ensures effect { IfOk result
-            (IsSelectionCopied (is_selecting self.old.draft.area)) }
+            (IsCopiedIf (is_selecting self.old.draft.area)) }
         ensures end { self.new.line_end ≡ self.old.line_end }
         ensures controls { self.new.controls ≡ self.old.controls }
     {
@@ -143,19 +145,16 @@ impl Editor {
             return Ok(Effect::Nothing);
         }
         self.draft.make(&[Call::Cut])?;
-        Ok(self.clipboard())
+        self.clipboard()
     }
 
-    // Gives the text that was yanked last to the program. If memory runs out, the terminal's
-    // clipboard stays as it is.
-    pub(super) fn clipboard(&self) -> Effect
-        ensures carries { Carries ⊥ self.now.draft.area self.now.line_end result }
-        ensures effect { IsCopied result }
+    // Gives the text that was yanked last to the program.
+    pub(super) fn clipboard(&self) -> Result<Effect, AllocError>
+        ensures carries { IfOk result (Carries ⊥ self.now.draft.area self.now.line_end) }
+        ensures effect { IfOk result IsCopied }
     {
-        match self.draft.area().yank_text() {
-            Ok(text) => Effect::Copy(text),
-            Err(_) => Effect::Nothing,
-        }
+        let text = self.draft.area().yank_text()?;
+        Ok(Effect::Copy(text))
     }
 
     // Moves to the next or the previous match, and shows a message if there is none.

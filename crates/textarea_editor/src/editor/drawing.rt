@@ -3,7 +3,7 @@ ghost use Rattle.std.specs.Prelude.{◌≡◌, ◌≤◌, ◌-◌, IfOk, OnOk, l
 ghost use Rattle.std.specs.Str.{chars};
 ghost use Rattle.textarea_editor.specs.Editor.{ShowsHelp, controls_of, draft_of, end_of, field_of, screen_columns_of, screen_rows_of};
 ghost use Rattle.textarea_editor.specs.Screen.{IsFrameCaret, IsPainted};
-ghost use Rattle.textarea_editor.specs.StatusRow.{IsAskedBefore, IsAskedInLast, IsAskedInRow, at_left, line_of_words, row_style};
+ghost use Rattle.textarea_editor.specs.StatusRow.{IsStatusIn, IsStatusInLast, IsWordedBeside, at_left, line_of_words, row_style};
 ghost use Rattle.textarea_paint.specs.Row.{row_cell};
 ghost use Rattle.textarea_screen.specs.Buffer.{Changes, KeepsOutside};
 ghost use Rattle.textarea_screen.specs.Rect.{contains};
@@ -11,6 +11,7 @@ ghost use Rattle.tui_textarea.specs.Drawing.{IsRendered, widget_of};
 ghost use Rattle.tui_textarea.specs.Rendered.{IsDrawn};
 
 use super::Editor;
+use super::status::character_count;
 use crate::focus::Focus;
 use std::alloc::AllocError;
 use textarea_paint::paint::{RowArea, draw_row};
@@ -45,7 +46,7 @@ impl Editor {
         ensures text { ¬ ShowsHelp self.old → IfOk result (λ frame. IsPainted
             (draft_of self.old).area (draft_of self.new).area (screen_columns_of self.old)
             (screen_rows_of self.old - 1) frame.buffer) }
-        ensures asked { IfOk result (λ frame. IsAskedInLast self.old frame.buffer) }
+        ensures status { IfOk result (λ frame. IsStatusInLast self.old frame.buffer) }
         ensures caret { IfOk result (λ frame. IsFrameCaret (controls_of self.old).focus
             (draft_of self.new).area (field_of self.new) frame.caret) }
     {
@@ -93,12 +94,12 @@ impl Editor {
     }
 
     // Draws the status row.
-    #[tactic(auto, using(crate::proofs::StatusRows::asked_here, crate::proofs::StatusRows::asked_beside))]
+    #[tactic(auto, using(crate::proofs::StatusRows::status_here, crate::proofs::StatusRows::status_beside))]
     fn draw_status(&mut self, row: Rect, buffer: &mut Buffer) -> Result<(), AllocError>
         ensures draft { self.new.draft ≡ self.old.draft }
         ensures focus { self.new.controls.focus ≡ self.old.controls.focus }
         ensures end { self.new.line_end ≡ self.old.line_end }
-        ensures asked { OnOk result (IsAskedInRow self.old row buffer.new) }
+        ensures status { OnOk result (IsStatusIn self.old row buffer.new) }
     {
         let field = self.draw_words(row, buffer)?;
         if matches!(self.controls.focus, Focus::Prompt(_)) {
@@ -109,21 +110,27 @@ impl Editor {
 
     // Draws the words of the status row, and returns the area of the prompt's text.
     fn draw_words(&self, row: Rect, buffer: &mut Buffer) -> Result<Rect, AllocError>
-        ensures { IfOk result (λ field. IsAskedBefore self.now row field.x buffer.new) }
+        ensures { IfOk result (λ field. IsWordedBeside self.now row field buffer.new) }
     {
         let alloc = self.allocator();
         buffer.set_style(row, row_style());
-        let left = self.left_text(alloc, usize::from(row.width))?;
+        let width = usize::from(row.width);
+        let left = self.left_text(alloc, width)?;
         let left_columns = columns_of(left.as_str());
-        let room = usize::from(row.width.saturating_sub(left_columns));
+        let rest = row.width.saturating_sub(left_columns);
+        let room = usize::from(rest);
         let right = self.right_text(alloc, room)?;
-        let end = row.width.saturating_sub(columns_of(right.as_str()));
+        let right_words = right.as_str();
+        let right_columns = columns_of(right_words);
+        let end = row.width.saturating_sub(right_columns);
         let begin = left_columns.min(end);
         let left_area = Rect::new(0, row.y, end, row.height);
         draw_part(buffer, left_area, left)?;
-        let right_area = Rect::new(end, row.y, row.width.saturating_sub(end), row.height);
+        let right_width = row.width.saturating_sub(end);
+        let right_area = Rect::new(end, row.y, right_width, row.height);
         draw_part(buffer, right_area, right)?;
-        let field = Rect::new(begin, row.y, end.saturating_sub(begin), row.height);
+        let field_width = end.saturating_sub(begin);
+        let field = Rect::new(begin, row.y, field_width, row.height);
         Ok(field)
     }
 
@@ -156,13 +163,6 @@ fn columns_of(text: &str) -> u16
     } else {
         65535
     }
-}
-
-#[tactic(auto, using(std::proofs::lemmas::Str::chars_from_encodes))]
-fn character_count(text: &str) -> usize
-    ensures { result ≡ length (chars text.now) }
-{
-    text.chars().count()
 }
 
 // Draws words into the row of an area.

@@ -4,7 +4,7 @@ ghost use Rattle.textarea_editor.specs.Controls.{IsAfterKey, after_modal_step, a
 ghost use Rattle.textarea_editor.specs.Draft.{FailsIn, FailsInSome, Makes, MakesSome};
 ghost use Rattle.textarea_editor.specs.Editor.{MayQuit};
 ghost use Rattle.textarea_editor.specs.Effects.{Carries};
-ghost use Rattle.textarea_editor.specs.EventEffects.{IsKeyEffect, IsModalEffect, IsNothing, IsTypedEffect, IsUnboundEffect};
+ghost use Rattle.textarea_editor.specs.EventEffects.{IsCopiedIf, IsKeyEffect, IsModalEffect, IsNothing, IsTypedEffect, IsUnboundEffect};
 ghost use Rattle.textarea_editor.specs.EventCalls.{IsFit, IsKeyInText, is_selecting, paste_calls, typed_calls, unbound_calls};
 ghost use Rattle.textarea_modal.specs.Table.{step};
 
@@ -101,6 +101,7 @@ impl Editor {
     }
 
     // Takes a key of the modal editor. What it copies is given to the program.
+    #[tactic(auto, using(crate::proofs::Drafts::fails_after))]
     fn take_modal(&mut self, modal: Modal, input: &Input) -> Result<Effect, AllocError>
         ensures ok { OnOk result
             (Makes self.old.draft (step modal input.now).calls self.new.draft) }
@@ -109,7 +110,7 @@ impl Editor {
         ensures carries { IfOk result
             (Carries (MayQuit self.old) self.new.draft.area self.new.line_end) }
         ensures effect { IfOk result
-            (IsModalEffect (step modal input.now).quits self.new.draft.is_changed) }
+            (IsModalEffect (step modal input.now) self.new.draft.is_changed) }
         ensures end { self.new.line_end ≡ self.old.line_end }
         ensures controls { OnOk result (self.new.controls ≡ after_modal_step self.old.controls
             self.new.draft.is_changed (step modal input.now)) }
@@ -117,12 +118,24 @@ impl Editor {
     {
         let mut modal = modal;
         let reaction = modal.reaction(input);
+        let yanks = copies(&reaction);
         let quits = self.draft.react(&mut modal, reaction)?;
-        self.controls.modal = Some(modal);
         if quits {
-            Ok(self.quit())
-        } else if copies(&reaction) {
-            Ok(self.clipboard())
+            self.controls.modal = Some(modal);
+            return Ok(self.quit());
+        }
+        let effect = self.copied(yanks)?;
+        self.controls.modal = Some(modal);
+        Ok(effect)
+    }
+
+    // Gives the text that was yanked last to the program, if one was.
+    fn copied(&self, copies: bool) -> Result<Effect, AllocError>
+        ensures carries { IfOk result (Carries ⊥ self.now.draft.area self.now.line_end) }
+        ensures effect { IfOk result (IsCopiedIf copies) }
+    {
+        if copies {
+            self.clipboard()
         } else {
             Ok(Effect::Nothing)
         }

@@ -1,5 +1,5 @@
 use Rattle.std.proofs.Common.{◌+◌, ◌≤◌, ◌∙◌, arith, subst, sym}
-use Rattle.textarea_editor.proofs.StatusRows.{asked_outside, below_area}
+use Rattle.textarea_editor.proofs.StatusRows.{below_area, status_outside}
 use Rattle.textarea_editor.proofs.editor.Editor.draw.Goals as goal
 use Rattle.textarea_editor.specs.Editor.{ShowsHelp}
 use Rattle.textarea_editor.specs.Screen.{IsFrameCaret}
@@ -24,19 +24,17 @@ returns-clause-text c = λ not_help.
       drawn = c.in_ok-draw_above.ensures.cells shows;
     }
 
-pub returns-clause-asked : goal.returns-clause-asked
-returns-clause-asked c =
+pub returns-clause-status : goal.returns-clause-status
+returns-clause-status c =
     let below : c.new-above.result.y + c.new-above.result.height ≤ c.new-row.result.y =
     omega (arith, c.new-above.ensures.y, c.new-above.ensures.height, c.new-row.ensures.y) in
     record {
       row = c.new-row.result;
       last = omega (arith, c.new-row.ensures.y, c.text_rows-rows.ensures);
       height = omega (arith, c.new-row.ensures.height, c.min.ensures, c.text_rows-rows.ensures);
-      asked = record {
-        end = c.in_ok-draw_status.ensures.asked.end;
-        asked = asked_outside c.args.self.now c.new-row.result c.in_ok-draw_status.ensures.asked.end (contains c.new-above.result) _ _ c.in_ok-draw_above.ensures.outside
-            (λ x h. below_area c.new-above.result x c.new-row.result.y below) c.in_ok-draw_status.ensures.asked.asked;
-      };
+      width = omega (arith, c.new-row.ensures.width);
+      shown = status_outside c.args.self.now c.new-row.result (contains c.new-above.result) _ _ c.in_ok-draw_above.ensures.outside
+          (λ x. below_area c.new-above.result x c.new-row.result.y below) c.in_ok-draw_status.ensures.status;
     }
 
 pub returns-clause-caret : goal.returns-clause-caret
