@@ -3,3 +3,4 @@ pub mod JournalSteps
 pub mod Journals
 pub mod Recoveries
 pub mod Saves
+pub mod TextChanges

@@ -5,3 +5,4 @@ pub mod JournalSteps
 pub mod Plan
 pub mod Recovery
 pub mod Save
+pub mod TextChange

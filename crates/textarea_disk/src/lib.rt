@@ -9,9 +9,11 @@ pub mod journal_step;
 pub mod laws;
 pub mod recovery;
 pub mod step;
+pub mod text_change;
 
 pub use content_hash::{NEW_HASH, hash_with};
 pub use journal::{record_of, records_in};
 pub use journal_step::JournalStep;
 pub use recovery::header;
 pub use step::{DiskStep, Ownership, SaveFile, SavePlan};
+pub use text_change::{Recovery, change_between, recovered};

@@ -1,0 +1,147 @@
+//! Changes of a text as the payloads of records, and the text that they make of a file.
+
+ghost use Rattle.std.specs.Prelude.{◌≡◌, ◌≤◌, ◌-◌, IfOk, drop, length, map, min, take};
+ghost use Rattle.std.specs.Str.{bytes_eq};
+ghost use Rattle.std.specs.Int.{from_le_bytes, w64};
+ghost use Rattle.textarea_disk.specs.Recovery.{header_of, text_after};
+ghost use Rattle.textarea_disk.specs.TextChange.{IsReadFor, change_bytes, changed, is_of, text_with};
+
+use crate::content_hash::{NEW_HASH, hash_with};
+use crate::journal::{number_in, records_in};
+use crate::recovery::header;
+use std::alloc::{AllocError, Global};
+
+/// Returns the payload of a record that changes one text to another, by what is between the bytes
+/// with which both begin and those with which both end.
+pub fn change_between(alloc: Global, old: &[u8], new: &[u8]) -> Result<Vec<u8>, AllocError>
+    ensures { IfOk result (λ made. changed old.now made.items ≡ new.now) }
+{
+    let first = common_start(old, new);
+    let last = common_end(&old[first..], &new[first..]);
+    let end = new.len() - last;
+    payload_of(alloc, first, last, &new[first..end])
+}
+
+// The payload that puts bytes between the first and the last ones of a text.
+fn payload_of(
+    alloc: Global,
+    first: usize,
+    last: usize,
+    middle: &[u8],
+) -> Result<Vec<u8>, AllocError>
+    ensures { IfOk result (λ made. made.items ≡ change_bytes first last middle.now) }
+{
+    let mut payload = (first as u64).to_le_bytes().to_vec(alloc)?;
+    payload.extend_from_slice(&(last as u64).to_le_bytes())?;
+    payload.extend_from_slice(middle)?;
+    Ok(payload)
+}
+
+// The number of bytes with which both begin.
+fn common_start(old: &[u8], new: &[u8]) -> usize
+    ensures within_old { result ≤ length old.now }
+    ensures within_new { result ≤ length new.now }
+    ensures same { take result old.now ≡ take result new.now }
+{
+    let most = old.len().min(new.len());
+    for count in 0..most {
+        if old[count] != new[count] {
+            return count;
+        }
+    }
+    most
+}
+
+// The number of bytes with which both end.
+fn common_end(old: &[u8], new: &[u8]) -> usize
+    ensures within_old { result ≤ length old.now }
+    ensures within_new { result ≤ length new.now }
+    ensures same { drop (length old.now - result) old.now
+        ≡ drop (length new.now - result) new.now }
+{
+    let most = old.len().min(new.len());
+    for count in 0..most {
+        if old[old.len() - count - 1] != new[new.len() - count - 1] {
+            return count;
+        }
+    }
+    most
+}
+
+/// Returns a text after the change of a payload. One of less than 16 bytes changes nothing.
+pub fn changed(alloc: Global, text: &[u8], payload: &[u8]) -> Result<Vec<u8>, AllocError>
+    ensures { IfOk result (λ made. made.items ≡ changed text.now payload.now) }
+{
+    if payload.len() < 16 {
+        return text.to_vec(alloc);
+    }
+    let first = count_in(payload, text.len());
+    let last = count_in(&payload[8..], text.len());
+    let mut made = text[..first].to_vec(alloc)?;
+    made.extend_from_slice(&payload[16..])?;
+    made.extend_from_slice(&text[text.len() - last..])?;
+    Ok(made)
+}
+
+// The number in the first eight bytes, but at most this one.
+fn count_in(bytes: &[u8], most: usize) -> usize
+    requires { 8 ≤ length bytes.now }
+    ensures { result ≡ min (from_le_bytes w64 (take 8 bytes.now)) most }
+{
+    number_in(bytes).min(most as u64) as usize
+}
+
+/// What a journal makes of a file.
+#[derive(Drop)]
+pub struct Recovery {
+    /// The text of the file with the journal's changes.
+    pub text: Vec<u8>,
+    /// Whether the file is the one that the journal was begun for, by its size and hash.
+    pub is_of_file: bool,
+}
+
+/// Returns what a journal makes of a file's bytes: the bytes as they are if no change can be read.
+pub fn recovered(alloc: Global, bytes: &[u8], journal: &[u8]) -> Result<Recovery, AllocError>
+    ensures { IfOk result (IsReadFor bytes.now journal.now) }
+{
+    let payloads = records_in(alloc, journal)?;
+    recovery_of(alloc, bytes, payloads.as_slice())
+}
+
+fn recovery_of(alloc: Global, bytes: &[u8], payloads: &[&[u8]]) -> Result<Recovery, AllocError>
+    ensures text { IfOk result (λ found. found.text.items
+        ≡ text_with bytes.now (map (λ payload. payload.now) payloads.now)) }
+    ensures file { IfOk result (λ found. found.is_of_file
+        ≡ is_of bytes.now (map (λ payload. payload.now) payloads.now)) }
+{
+    match payloads.split_first() {
+        Some((first, changes)) => Ok(Recovery {
+            is_of_file: is_header_of(alloc, first, bytes)?,
+            text: after_changes(alloc, bytes, changes)?,
+        }),
+        None => Ok(Recovery {
+            is_of_file: false,
+            text: bytes.to_vec(alloc)?,
+        }),
+    }
+}
+
+// Whether a payload is the header of a journal of a file with these bytes.
+fn is_header_of(alloc: Global, payload: &[u8], bytes: &[u8]) -> Result<bool, AllocError>
+    ensures { IfOk result (λ is. is ≡ bytes_eq payload.now (header_of bytes.now)) }
+{
+    let wanted = header(alloc, bytes.len() as u64, hash_with(NEW_HASH, bytes))?;
+    Ok(payload == wanted.as_slice())
+}
+
+// The text after the changes of payloads.
+fn after_changes(alloc: Global, bytes: &[u8], changes: &[&[u8]]) -> Result<Vec<u8>, AllocError>
+    ensures { IfOk result (λ text. text.items
+        ≡ text_after changed bytes.now (map (λ payload. payload.now) changes.now)) }
+{
+    let mut text = bytes.to_vec(alloc)?;
+    for payload in changes {
+        text = changed(alloc, text.as_slice(), payload)?;
+    }
+    Ok(text)
+}
