@@ -1,8 +1,8 @@
 -- A change of a text, as the payload of a record.
-use Rattle.std.specs.Prelude.{◌≡◌, ◌++◌, ◌-◌, ℕ, Bool, false, List, [], ◌∷◌, drop, if◌then◌else◌, length, nat_lt, take}
+use Rattle.std.specs.Prelude.{◌≡◌, ◌++◌, ◌-◌, ◌^◌, ℕ, Bool, false, List, [], ◌∷◌, drop, if◌then◌else◌, length, min, nat_lt, take}
 use Rattle.std.specs.Int.{w64, from_le_bytes, to_le_bytes}
 use Rattle.std.specs.Str.{bytes_eq}
-use Rattle.textarea_disk.specs.Journal.{AreRead}
+use Rattle.textarea_disk.specs.Journal.{AreRead, journal_of}
 use Rattle.textarea_disk.specs.Recovery.{header_of, text_after}
 use Rattle.textarea_disk.specs.declared.text_change.Recovery.{Recovery}
 
@@ -35,3 +35,4 @@ pub record IsReadFor (bytes journal : List ℕ) (found : Recovery) : Type 0 wher
   pub read : AreRead payloads journal
   pub text_is : found.text.items ≡ text_with bytes payloads
   pub file_is : found.is_of_file ≡ is_of bytes payloads
+  pub size_is : found.size ≡ min (length (journal_of payloads)) (2 ^ 64 - 1)

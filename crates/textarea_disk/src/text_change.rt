@@ -1,8 +1,9 @@
 //! Changes of a text as the payloads of records, and the text that they make of a file.
 
-ghost use Rattle.std.specs.Prelude.{◌≡◌, ◌≤◌, ◌-◌, IfOk, drop, length, map, min, take};
+ghost use Rattle.std.specs.Prelude.{◌≡◌, ◌≤◌, ◌-◌, ◌^◌, IfOk, drop, length, map, min, take};
 ghost use Rattle.std.specs.Str.{bytes_eq};
 ghost use Rattle.std.specs.Int.{from_le_bytes, w64};
+ghost use Rattle.textarea_disk.specs.Journal.{journal_of};
 ghost use Rattle.textarea_disk.specs.Recovery.{header_of, text_after};
 ghost use Rattle.textarea_disk.specs.TextChange.{IsReadFor, change_bytes, changed, is_of, text_with};
 
@@ -10,6 +11,9 @@ use crate::content_hash::{NEW_HASH, hash_with};
 use crate::journal::{number_in, records_in};
 use crate::recovery::header;
 use std::alloc::{AllocError, Global};
+
+// The bytes of a record beside its payload.
+const FRAME: u64 = 17;
 
 /// Returns the payload of a record that changes one text to another, by what is between the bytes
 /// with which both begin and those with which both end.
@@ -98,6 +102,8 @@ pub struct Recovery {
     pub text: Vec<u8>,
     /// Whether the file is the one that the journal was begun for, by its size and hash.
     pub is_of_file: bool,
+    /// The number of the journal's bytes that could be read. Records are to be added after these.
+    pub size: u64,
 }
 
 /// Returns what a journal makes of a file's bytes: the bytes as they are if no change can be read.
@@ -108,18 +114,36 @@ pub fn recovered(alloc: Global, bytes: &[u8], journal: &[u8]) -> Result<Recovery
     recovery_of(alloc, bytes, payloads.as_slice())
 }
 
+// The number of bytes of the records with these payloads.
+fn size_of_records(payloads: &[&[u8]]) -> u64
+    ensures { result ≡ min (length (journal_of (map (λ payload. payload.now) payloads.now))) (2 ^ 64 - 1) }
+{
+    let mut size: u64 = 0;
+    for payload in payloads {
+        size = size
+            .saturating_add(payload.len() as u64)
+            .saturating_add(FRAME);
+    }
+    size
+}
+
 fn recovery_of(alloc: Global, bytes: &[u8], payloads: &[&[u8]]) -> Result<Recovery, AllocError>
     ensures text { IfOk result (λ found. found.text.items
         ≡ text_with bytes.now (map (λ payload. payload.now) payloads.now)) }
     ensures file { IfOk result (λ found. found.is_of_file
         ≡ is_of bytes.now (map (λ payload. payload.now) payloads.now)) }
+    ensures size { IfOk result (λ found. found.size
+        ≡ min (length (journal_of (map (λ payload. payload.now) payloads.now))) (2 ^ 64 - 1)) }
 {
+    let size = size_of_records(payloads);
     match payloads.split_first() {
         Some((first, changes)) => Ok(Recovery {
+            size,
             is_of_file: is_header_of(alloc, first, bytes)?,
             text: after_changes(alloc, bytes, changes)?,
         }),
         None => Ok(Recovery {
+            size,
             is_of_file: false,
             text: bytes.to_vec(alloc)?,
         }),

@@ -9,7 +9,7 @@ use Rattle.textarea_editor.specs.declared.focus.Asked.{Asked}
 use Rattle.textarea_editor.specs.declared.focus.Asked.TheVariants as asks
 use Rattle.textarea_editor.specs.declared.focus.Focus.{Focus}
 use Rattle.textarea_editor.specs.declared.focus.Focus.TheVariants as focus
-use Rattle.textarea_editor.specs.declared.focus.Question.TheVariants.{Overwrite, SaveFirst}
+use Rattle.textarea_editor.specs.declared.focus.Question.TheVariants.{Overwrite, Recover, SaveFirst}
 use Rattle.textarea_editor.specs.declared.message.Message.{Message}
 use Rattle.textarea_editor.specs.declared.message.Message.TheVariants as message
 use Rattle.textarea_editor.specs.declared.message.Trouble.{Trouble}
@@ -52,6 +52,9 @@ message_start message.Saved = codes "saved"
 message_start message.SavedAnew = codes "it was deleted; saved anew"
 message_start message.Unsynced = codes "saved, but the disk failed to make sure of it"
 message_start message.Exists = []
+message_start message.OldJournal = []
+message_start message.Busy = codes "another editor has unsaved changes to it"
+message_start message.NoJournal = codes "no journal: changes last only once saved"
 message_start (message.NotSaved failed) = codes "not saved: "
 message_start message.NoMatch = codes "no match"
 message_start message.NoLine = codes "not a line number"
@@ -78,6 +81,11 @@ short_name (Some name) = if nat_lt (length (string_bytes name)) 24 then string_b
 abbrev pub overwrite_question : Message → Option (String Global) → List ℕ
 overwrite_question message.Exists name = codes " " ++ short_name name ++ codes " exists already. Overwrite it? y: yes  n: no"
 overwrite_question other name = codes " The file changed on disk. Overwrite it? y: yes  n: no"
+
+-- the question whether to go on with the changes of a journal, which is that of the file as it is, or of an older one
+abbrev pub recover_question : Message → List ℕ
+recover_question message.OldJournal = codes " Unsaved changes to an older file. Recover? y: yes  n: no"
+recover_question other = codes " Unsaved changes were found. Recover? y: yes  n: no"
 
 abbrev pub prompt_words : Asked → List ℕ
 prompt_words asks.Text = codes " Find: "
@@ -116,6 +124,7 @@ abbrev pub IsLeftBy : Focus → Editor → ℕ → List ℕ → Type 0
 IsLeftBy (focus.Prompt asked) editor columns words = words ≡ prompt_words asked
 IsLeftBy (focus.Question SaveFirst) editor columns words = words ≡ codes " Save the changes? y: yes  n: no  Esc: back to the text"
 IsLeftBy (focus.Question Overwrite) editor columns words = words ≡ overwrite_question editor.message editor.name
+IsLeftBy (focus.Question Recover) editor columns words = words ≡ recover_question editor.message
 IsLeftBy focus.Help editor columns words = words ≡ codes " Keys  (arrows scroll, Esc: back to the text)"
 IsLeftBy focus.Text editor columns words = IsFileShown editor columns words
 

@@ -1,6 +1,7 @@
 //! Files: read whole, and saved by a list of steps that never leaves a part of a text alone.
 
 mod carrying_out;
+pub(crate) mod journal_file;
 mod names;
 mod new_file;
 
@@ -197,6 +198,17 @@ impl DiskFile {
             if known.content.is_none() && known.name == hash_of(name) {
                 self.known = Some(known.with_hash(rt, name));
             }
+        }
+    }
+
+    /// Returns the size and hash of the file of this name, as it was read or saved last; those of no
+    /// bytes if it wasn't there.
+    pub fn identity(&self, name: &str) -> (u64, u64) {
+        match self.known {
+            Some(known) if known.name == hash_of(name) => {
+                (known.stamp.size, known.content.unwrap_or(NEW_HASH))
+            }
+            _ => (0, NEW_HASH),
         }
     }
 

@@ -4,7 +4,8 @@ ghost use Rattle.std.specs.Prelude.{◌≡◌, ◌≢◌, ◌^◌, ◌≤◌, �
 ghost use Rattle.textarea_calls.specs.declared.call.Call.TheVariants.{GoTo};
 ghost use Rattle.textarea_editor.specs.ControlCharacters.{IsCountShown};
 ghost use Rattle.textarea_editor.specs.Draft.{Makes};
-ghost use Rattle.textarea_editor.specs.Editor.{draft_of, end_of, message_of, new_ends, numbers_of, wraps_of};
+ghost use Rattle.textarea_editor.specs.Controls.{with_focus};
+ghost use Rattle.textarea_editor.specs.Editor.{controls_of, draft_of, end_of, message_of, new_ends, numbers_of, wraps_of};
 ghost use Rattle.textarea_editor.specs.Effects.{IsWritten};
 ghost use Rattle.textarea_editor.specs.SetUp.{IsOpened, opened};
 ghost use Rattle.textarea_editor.specs.Steps.{IsStep};
@@ -25,8 +26,8 @@ use crate::controls::Controls;
 use crate::draft::Draft;
 use crate::editor::parts::{fields, file_draft, opened, replace};
 use crate::effect::Effect;
-use crate::file_text::{LineEnd, LineEnds};
-use crate::focus::Focus;
+use crate::file_text::{LineEnd, LineEnds, joined};
+use crate::focus::{Focus, Question};
 use crate::message::Message;
 pub use drawing::DrawnFrame;
 use std::alloc::{AllocError, Global};
@@ -156,6 +157,47 @@ impl Editor {
         self.controls.wraps = wraps;
         self.controls.numbers = false;
         Ok(())
+    }
+
+    /// Asks whether to go on with the unsaved changes of a journal, which is that of the file as it is
+    /// or of an older one. The reply is [`Effect::Recover`] or [`Effect::GiveUp`].
+    pub fn ask_to_recover(&mut self, is_of_file: bool)
+        ensures draft { draft_of self.new ≡ draft_of self.old }
+        ensures end { end_of self.new ≡ end_of self.old }
+        ensures focus { controls_of self.new
+            ≡ with_focus (controls_of self.old) (Focus.Question Question.Recover) }
+        ensures message { message_of self.new
+            ≡ (if is_of_file then Message.Nothing else Message.OldJournal) }
+    {
+        self.controls.focus = Focus::Question(Question::Recover);
+        self.message = if is_of_file {
+            Message::Nothing
+        } else {
+            Message::OldJournal
+        };
+    }
+
+    /// Replaces the text by one with unsaved changes, as [`open`](Editor::open) does, but the text
+    /// counts as changed.
+    ///
+    /// If memory runs out, the editor is as before.
+    pub fn recover(&mut self, text: String) -> Result<(), AllocError>
+        ensures written { OnOk result
+            (IsWritten (draft_of self.new).area (end_of self.new) (string_bytes text)) }
+        ensures changed { OnOk result ((draft_of self.new).is_changed ≡ true) }
+        ensures err { OnErr result (self.new ≡ self.old) }
+    {
+        self.take_text(text)?;
+        self.draft.set_changed();
+        Ok(())
+    }
+
+    /// Returns the bytes that a save would give the file.
+    pub fn text(&self) -> Result<String, AllocError>
+        ensures { IfOk result (λ text.
+            IsWritten (draft_of self.now).area (end_of self.now) (string_bytes text)) }
+    {
+        joined(self.allocator(), self.draft.area().lines(), self.line_end)
     }
 
     /// Has the last line of a new file get a line end when the file is saved, as at first, or not.

@@ -28,6 +28,8 @@ pub enum Question {
     SaveFirst,
     /// Whether to overwrite a file that changed on disk, or that was not opened.
     Overwrite,
+    /// Whether to go on with the unsaved changes that a journal has.
+    Recover,
 }
 
 /// What a key answers to a question.

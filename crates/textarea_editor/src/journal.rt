@@ -45,6 +45,19 @@ impl Journal {
         }
     }
 
+    /// Returns a journal on the disk whose records make this text.
+    pub fn restored(text: String) -> Journal
+        ensures events { result.events ≡ None }
+        ensures written { string_bytes result.written ≡ string_bytes text }
+        ensures begun { result.is_begun ≡ true }
+    {
+        Journal {
+            events: None,
+            written: text,
+            is_begun: true,
+        }
+    }
+
     /// Notes an event at this time, after which the text may be another one.
     pub fn note(&mut self, now: Duration)
         ensures { self.new ≡ record self.old { events = noted self.old.events (as_nanos now) } }
@@ -105,7 +118,13 @@ impl Journal {
     }
 
     // The bytes of the records that bring the journal to this text.
-    fn records(&self, alloc: Global, text: &str, size: u64, hash: u64) -> Result<Vec<u8>, AllocError>
+    fn records(
+        &self,
+        alloc: Global,
+        text: &str,
+        size: u64,
+        hash: u64,
+    ) -> Result<Vec<u8>, AllocError>
         ensures { IfOk result (λ bytes. AreRecordsOf self.now.is_begun size hash
             (string_bytes self.now.written) text.now bytes.items) }
     {

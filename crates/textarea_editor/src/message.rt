@@ -74,6 +74,13 @@ pub enum Message {
     Unsynced,
     /// Nothing, but that the question whether to overwrite is for a file that was not opened.
     Exists,
+    /// Nothing, but that the question whether to go on with a journal's changes is about one of an
+    /// older file.
+    OldJournal,
+    /// Another editor has a journal of the file.
+    Busy,
+    /// No journal can be written.
+    NoJournal,
     /// The file was not saved. The text is as it was.
     NotSaved(Trouble),
     /// The searched text has no match.
@@ -91,7 +98,9 @@ impl Message {
         ensures reason { result.1.now ≡ message_reason self }
     {
         match self {
-            Message::Nothing | Message::Exists => ("", ""),
+            Message::Nothing | Message::Exists | Message::OldJournal => ("", ""),
+            Message::Busy => ("another editor has unsaved changes to it", ""),
+            Message::NoJournal => ("no journal: changes last only once saved", ""),
             Message::NewFile => ("new file", ""),
             Message::ControlCharacters(_) => ("control characters: ", ""),
             Message::Saved => ("saved", ""),

@@ -7,6 +7,7 @@ use crate::effect::SaveEnd;
 use crate::journal::Journal;
 use crate::message::{Message, Trouble};
 use std::alloc::{AllocError, Global};
+use std::io::ErrorKind;
 use std::time::Duration;
 use textarea_disk::{Recovery, recovered};
 
@@ -19,6 +20,8 @@ pub struct Storage {
     /// The text with the changes of a journal that was found, until it is known whether to go on
     /// with it.
     offered: Option<String>,
+    /// The number of the bytes of its journal that could be read.
+    size: u64,
     /// No journal is written: another editor has it, or a write of it failed.
     is_off: bool,
 }
@@ -31,6 +34,7 @@ impl Storage {
             journal: Journal::new(alloc),
             journal_file: JournalFile::default(),
             offered: None,
+            size: 0,
             is_off: false,
         }
     }
@@ -76,6 +80,7 @@ impl Storage {
     // it is.
     fn offer(&mut self, editor: &mut Editor, found: Recovery) {
         let is_of_file = found.is_of_file;
+        self.size = found.size;
         match String::from_utf8(found.text) {
             Ok(text) => {
                 self.offered = Some(text);
@@ -86,11 +91,19 @@ impl Storage {
     }
 
     /// Has the editor go on with the text that was offered. Its changes count as unsaved, and its
-    /// journal is begun anew.
-    pub fn recover(&mut self, rt: &HostRuntime, editor: &mut Editor) -> Result<(), AllocError> {
-        if let Some(text) = self.offered.take() {
-            editor.recover(text)?;
-            self.write(rt, editor);
+    /// journal goes on after the records that could be read.
+    ///
+    /// If memory runs out, the editor is as before, and the journal stays.
+    pub fn recover(&mut self, editor: &mut Editor) -> Result<(), AllocError> {
+        let Some(text) = self.offered.take() else {
+            return Ok(());
+        };
+        let written = text.clone()?;
+        editor.recover(text)?;
+        if self.journal_file.cut(self.size).is_ok() {
+            self.journal = Journal::restored(written);
+        } else {
+            self.turn_off(editor, Message::NoJournal);
         }
         Ok(())
     }
@@ -112,13 +125,31 @@ impl Storage {
         if self.is_off || !editor.is_changed() {
             return;
         }
-        let Some(name) = editor.name() else {
-            return;
-        };
-        if !self.has_written(rt, editor, name) {
-            self.is_off = true;
-            editor.show_message(Message::NoJournal);
+        if let Some(message) = self.written(rt, editor) {
+            self.turn_off(editor, message);
         }
+    }
+
+    // Brings the journal to the editor's text, and returns why that failed, if it did.
+    fn written(&mut self, rt: &HostRuntime, editor: &Editor) -> Option<Message> {
+        let name = editor.name()?;
+        let Ok(text) = editor.text() else {
+            return Some(Message::NoJournal);
+        };
+        let (size, hash) = self.file.identity(name);
+        let Ok(write) = self.journal.write(text, size, hash) else {
+            return Some(Message::NoJournal);
+        };
+        match self.journal_file.carry_out(rt, name, &write?) {
+            Ok(()) => None,
+            Err(error) if error.kind() == ErrorKind::AlreadyExists => Some(Message::Busy),
+            Err(_) => Some(Message::NoJournal),
+        }
+    }
+
+    fn turn_off(&mut self, editor: &mut Editor, message: Message) {
+        self.is_off = true;
+        editor.show_message(message);
     }
 
     /// Removes the journal: the changes are saved, or given up.
@@ -129,14 +160,8 @@ impl Storage {
         self.is_off = false;
     }
 
-    /// Saves a text as the file of this name, as [`DiskFile::save`] does.
-    pub fn save(
-        &mut self,
-        rt: &HostRuntime,
-        name: &str,
-        text: &str,
-        overwrites: bool,
-    ) -> SaveEnd {
+    /// Saves a text as the file of this name, as [`DiskFile::save`] does, and removes the journal.
+    pub fn save(&mut self, rt: &HostRuntime, name: &str, text: &str, overwrites: bool) -> SaveEnd {
         let end = self.file.save(rt, name, text, overwrites);
         if end.is_saved() {
             self.give_up(rt);

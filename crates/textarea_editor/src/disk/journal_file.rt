@@ -146,8 +146,7 @@ fn create(rt: &HostRuntime, name: &str) -> io::Result<OpenJournal> {
                 ErrorKind::PermissionDenied
                     | ErrorKind::ReadOnlyFilesystem
                     | ErrorKind::InvalidFilename
-            ) =>
-        {
+            ) => {
             let folder = state_folder(rt)?;
             fs::create_dir_all(rt, folder.as_str())?;
             create_new(rt, elsewhere(rt, name)?)

@@ -54,6 +54,15 @@ impl Editor {
                 self.leave_prompt(Asked::Name);
                 Ok(Effect::Nothing)
             }
+            (Question::Recover, KeyReply::Yes) => {
+                self.leave();
+                Ok(Effect::Recover)
+            }
+            (Question::Recover, KeyReply::No) => {
+                self.leave();
+                Ok(Effect::GiveUp)
+            }
+            (Question::Recover, KeyReply::Back) => Ok(Effect::Nothing),
             (_, KeyReply::Other) => Ok(Effect::Nothing),
         }
     }

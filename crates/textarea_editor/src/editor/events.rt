@@ -99,8 +99,8 @@ impl Editor {
             self.old.draft.area.document.cursor self.old.field input.now self.new.controls) }
         ensures kept { OnErr result (self.new.controls ≡ self.old.controls) }
     {
-        // The question whether to overwrite goes on being asked of the same file.
-        if self.message != Message::Exists {
+        // A question goes on being asked of the same file.
+        if self.message != Message::Exists && self.message != Message::OldJournal {
             self.message = Message::Nothing;
         }
         match self.controls.focus {

@@ -1,7 +1,7 @@
 // The words of the status row.
 ghost use Rattle.std.specs.Prelude.{◌≡◌, IfOk, length, string_bytes};
 ghost use Rattle.std.specs.Str.{chars};
-ghost use Rattle.textarea_editor.specs.StatusRow.{IsFileShown, IsLeftBy, beside_prompt, counted, fitted, mark, mark_and_message, message_words, mode_words, overwrite_question, right_by, short_name, short_place, shown_name, whole_place, wrap_words};
+ghost use Rattle.textarea_editor.specs.StatusRow.{IsFileShown, IsLeftBy, beside_prompt, counted, fitted, mark, mark_and_message, message_words, mode_words, overwrite_question, recover_question, right_by, short_name, short_place, shown_name, whole_place, wrap_words};
 
 use super::Editor;
 use crate::focus::{Asked, Focus, Question};
@@ -30,6 +30,7 @@ impl Editor {
                 )
             }
             Focus::Question(Question::Overwrite) => self.overwrite_question(alloc),
+            Focus::Question(Question::Recover) => self.recover_question(alloc),
             Focus::Help => String::from_str(alloc, " Keys  (arrows scroll, Esc: back to the text)"),
             Focus::Text => self.name_and_message(alloc, columns),
         }
@@ -48,6 +49,21 @@ impl Editor {
                     " The file changed on disk. Overwrite it? y: yes  n: no",
                 )
             }
+        }
+    }
+
+    // The question whether to go on with the changes of a journal.
+    fn recover_question(&self, alloc: Global) -> Result<String, AllocError>
+        ensures { IfOk result (λ text. string_bytes text ≡ recover_question self.now.message) }
+    {
+        match self.message {
+            Message::OldJournal => {
+                String::from_str(
+                    alloc,
+                    " Unsaved changes to an older file. Recover? y: yes  n: no",
+                )
+            }
+            _ => String::from_str(alloc, " Unsaved changes were found. Recover? y: yes  n: no"),
         }
     }
 
