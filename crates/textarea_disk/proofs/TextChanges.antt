@@ -1,7 +1,7 @@
 -- Lemmas on changes of a text.
-use Rattle.std.proofs.Common.{◌≡◌, ◌++◌, ◌<◌, ◌≤◌, ◌+◌, ◌-◌, ◌^◌, ◌∙◌, ℕ, Bool, true, false, if◌then◌else◌, List, [], ◌∷◌, length, take, drop, get_or, min, refl, sym, ap, arith}
+use Rattle.std.proofs.Common.{◌≡◌, ◌++◌, ◌<◌, ◌≤◌, ◌+◌, ◌-◌, ◌^◌, ◌∙◌, ℕ, Bool, true, false, if◌then◌else◌, List, [], ◌∷◌, length, take, drop, drop-cons, get_or, min, refl, sym, ap, arith}
 use Rattle.std.proofs.lemmas.Bool.Decides.{nat_tests}
-use Rattle.std.proofs.lemmas.List.{append_assoc, drop-drop, drop_at, length-append, length-drop, take-append-drop, take_at, take_min, take_more}
+use Rattle.std.proofs.lemmas.List.{drop-drop, drop_all, drop_at, length-append, length-drop, take-append-drop, take_at, take_min, take_more}
 use Rattle.std.proofs.lemmas.Nat.{from_le_bytes-to_le_bytes_8}
 use Rattle.std.specs.Prelude.{nat_lt}
 use Rattle.std.specs.Int.{w64, from_le_bytes, to_le_bytes}
@@ -53,6 +53,22 @@ pub one_more_first : (old new : List ℕ) (count : ℕ) → count < length old �
     take (count + 1) old ≡ take (count + 1) new
 one_more_first old new count ho hn same before =
     take_more old count 0 ho ∙ ap (λ (t : List ℕ). t ++ get_or old count 0 ∷ []) before ∙ ap (λ (b : ℕ). take count new ++ b ∷ []) same ∙ sym (take_more new count 0 hn)
+
+pub no_last : (old new : List ℕ) → drop (length old - 0) old ≡ drop (length new - 0) new
+no_last old new = drop_all (length old - 0) old (omega arith) ∙ sym (drop_all (length new - 0) new (omega arith))
+
+-- the last bytes, by the one before them
+last_by_one : (bytes : List ℕ) (count : ℕ) → count < length bytes → drop (length bytes - (count + 1)) bytes ≡ get_or bytes (length bytes - count - 1) 0 ∷ drop (length bytes - count) bytes
+last_by_one bytes count h =
+    ap (λ (n : ℕ). drop n bytes) (omega arith) ∙ drop-cons bytes (length bytes - count - 1) 0 (omega (arith, h))
+    ∙ ap (λ (n : ℕ). get_or bytes (length bytes - count - 1) 0 ∷ drop n bytes) (omega (arith, h))
+
+pub one_more_last : (old new : List ℕ) (count : ℕ) → count < length old → count < length new →
+    get_or old (length old - count - 1) 0 ≡ get_or new (length new - count - 1) 0 → drop (length old - count) old ≡ drop (length new - count) new →
+    drop (length old - (count + 1)) old ≡ drop (length new - (count + 1)) new
+one_more_last old new count ho hn same after =
+    last_by_one old count ho ∙ ap (λ (b : ℕ). b ∷ drop (length old - count) old) same
+    ∙ ap (λ (t : List ℕ). get_or new (length new - count - 1) 0 ∷ t) after ∙ sym (last_by_one new count hn)
 
 -- the text after the change is the new one
 pub is_new : (old new : List ℕ) (first last : ℕ) → first ≤ length old → first ≤ length new → last ≤ length (drop first old) → last ≤ length (drop first new) →

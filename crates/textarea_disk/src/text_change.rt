@@ -42,21 +42,22 @@ fn payload_of(
 }
 
 // The number of bytes with which both begin.
+#[tactic(auto, using(crate::proofs::TextChanges::one_more_first))]
 fn common_start(old: &[u8], new: &[u8]) -> usize
     ensures within_old { result ≤ length old.now }
     ensures within_new { result ≤ length new.now }
     ensures same { take result old.now ≡ take result new.now }
 {
     let most = old.len().min(new.len());
-    for count in 0..most {
-        if old[count] != new[count] {
-            return count;
-        }
+    let mut count = 0;
+    'same: while count < most && old[count] == new[count] {
+        count += 1;
     }
-    most
+    count
 }
 
 // The number of bytes with which both end.
+#[tactic(auto, using(crate::proofs::TextChanges::no_last, crate::proofs::TextChanges::one_more_last))]
 fn common_end(old: &[u8], new: &[u8]) -> usize
     ensures within_old { result ≤ length old.now }
     ensures within_new { result ≤ length new.now }
@@ -64,12 +65,11 @@ fn common_end(old: &[u8], new: &[u8]) -> usize
         ≡ drop (length new.now - result) new.now }
 {
     let most = old.len().min(new.len());
-    for count in 0..most {
-        if old[old.len() - count - 1] != new[new.len() - count - 1] {
-            return count;
-        }
+    let mut count = 0;
+    'same: while count < most && old[old.len() - count - 1] == new[new.len() - count - 1] {
+        count += 1;
     }
-    most
+    count
 }
 
 /// Returns a text after the change of a payload. One of less than 16 bytes changes nothing.
