@@ -6,7 +6,7 @@ use Rattle.std.proofs.lemmas.Nat.{from_le_bytes-to_le_bytes_8}
 use Rattle.std.specs.Prelude.{nat_lt}
 use Rattle.std.specs.Int.{w64, from_le_bytes, to_le_bytes}
 use Rattle.textarea_disk.proofs.Journals.{eight}
-use Rattle.textarea_disk.specs.TextChange.{change_bytes, changed, put_between}
+use Rattle.textarea_disk.specs.TextChange.{change_bytes, changed_by, put_between}
 
 -- ---- a payload
 
@@ -39,7 +39,7 @@ by_length length_is text other h = by_test (nat_lt length_is 16) refl
     by_test false e = refl
 
 -- what a payload does to a text
-pub changed_so : (first last : ℕ) (middle text : List ℕ) → first < 2 ^ 64 → last < 2 ^ 64 → changed text (change_bytes first last middle) ≡ put_between first last middle text
+pub changed_so : (first last : ℕ) (middle text : List ℕ) → first < 2 ^ 64 → last < 2 ^ 64 → changed_by text (change_bytes first last middle) ≡ put_between first last middle text
 changed_so first last middle text hf hl =
     let payload = change_bytes first last middle in
     by_length (length payload) text _ (omega (arith, payload_length first last middle))

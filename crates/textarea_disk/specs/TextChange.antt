@@ -14,15 +14,15 @@ abbrev pub put_between : ℕ → ℕ → List ℕ → List ℕ → List ℕ
 put_between first last middle text = take first text ++ middle ++ drop (length text - last) text
 
 -- the text after the change of a payload; one that is too short changes nothing
-abbrev pub changed : List ℕ → List ℕ → List ℕ
-changed text payload =
+abbrev pub changed_by : List ℕ → List ℕ → List ℕ
+changed_by text payload =
     if nat_lt (length payload) 16 then text
     else put_between (from_le_bytes w64 (take 8 payload)) (from_le_bytes w64 (take 8 (drop 8 payload))) (drop 16 payload) text
 
 -- the text of a file's bytes with the changes after the header of a journal
 abbrev pub text_with : List ℕ → List (List ℕ) → List ℕ
 text_with bytes [] = bytes
-text_with bytes (header ∷ changes) = text_after changed bytes changes
+text_with bytes (header ∷ changes) = text_after changed_by bytes changes
 
 -- the first payload is the header of a journal of a file with these bytes
 abbrev pub is_of : List ℕ → List (List ℕ) → Bool

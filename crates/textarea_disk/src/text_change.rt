@@ -5,7 +5,7 @@ ghost use Rattle.std.specs.Str.{bytes_eq};
 ghost use Rattle.std.specs.Int.{from_le_bytes, w64};
 ghost use Rattle.textarea_disk.specs.Journal.{journal_of};
 ghost use Rattle.textarea_disk.specs.Recovery.{header_of, text_after};
-ghost use Rattle.textarea_disk.specs.TextChange.{IsReadFor, change_bytes, changed, is_of, text_with};
+ghost use Rattle.textarea_disk.specs.TextChange.{IsReadFor, change_bytes, changed_by, is_of, text_with};
 
 use crate::content_hash::{NEW_HASH, hash_with};
 use crate::journal::{number_in, records_in};
@@ -18,7 +18,7 @@ const FRAME: u64 = 17;
 /// Returns the payload of a record that changes one text to another, by what is between the bytes
 /// with which both begin and those with which both end.
 pub fn change_between(alloc: Global, old: &[u8], new: &[u8]) -> Result<Vec<u8>, AllocError>
-    ensures { IfOk result (λ made. changed old.now made.items ≡ new.now) }
+    ensures { IfOk result (λ made. changed_by old.now made.items ≡ new.now) }
 {
     let first = common_start(old, new);
     let last = common_end(&old[first..], &new[first..]);
@@ -73,8 +73,8 @@ fn common_end(old: &[u8], new: &[u8]) -> usize
 }
 
 /// Returns a text after the change of a payload. One of less than 16 bytes changes nothing.
-pub fn changed(alloc: Global, text: &[u8], payload: &[u8]) -> Result<Vec<u8>, AllocError>
-    ensures { IfOk result (λ made. made.items ≡ changed text.now payload.now) }
+pub fn changed_by(alloc: Global, text: &[u8], payload: &[u8]) -> Result<Vec<u8>, AllocError>
+    ensures { IfOk result (λ made. made.items ≡ changed_by text.now payload.now) }
 {
     if payload.len() < 16 {
         return text.to_vec(alloc);
@@ -161,11 +161,11 @@ fn is_header_of(alloc: Global, payload: &[u8], bytes: &[u8]) -> Result<bool, All
 // The text after the changes of payloads.
 fn after_changes(alloc: Global, bytes: &[u8], changes: &[&[u8]]) -> Result<Vec<u8>, AllocError>
     ensures { IfOk result (λ text. text.items
-        ≡ text_after changed bytes.now (map (λ payload. payload.now) changes.now)) }
+        ≡ text_after changed_by bytes.now (map (λ payload. payload.now) changes.now)) }
 {
     let mut text = bytes.to_vec(alloc)?;
     for payload in changes {
-        text = changed(alloc, text.as_slice(), payload)?;
+        text = changed_by(alloc, text.as_slice(), payload)?;
     }
     Ok(text)
 }

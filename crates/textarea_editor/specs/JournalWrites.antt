@@ -3,7 +3,7 @@ use Rattle.std.specs.Prelude.{◌≡◌, ◌||◌, ◌×◌, ◌-◌, ℕ, Bool,
 use Rattle.textarea_disk.specs.Journal.{journal_of}
 use Rattle.textarea_disk.specs.JournalSteps.{writing_steps}
 use Rattle.textarea_disk.specs.Recovery.{header_bytes}
-use Rattle.textarea_disk.specs.TextChange.{changed}
+use Rattle.textarea_disk.specs.TextChange.{changed_by}
 use Rattle.textarea_editor.specs.declared.journal.JournalWrite.{JournalWrite}
 
 -- the times in nanoseconds of the first event since the last record, and of the last event, if one came
@@ -24,7 +24,7 @@ first_payloads false size hash = header_bytes size hash ∷ []
 -- these bytes bring a journal, which there is already or not, from this text to that
 pub record AreRecordsOf (begun : Bool) (size hash : ℕ) (written text bytes : List ℕ) : Type 0 where
   pub payload : List ℕ
-  pub leads : changed written payload ≡ text
+  pub leads : changed_by written payload ≡ text
   pub bytes_are : bytes ≡ journal_of (first_payloads begun size hash ++ payload ∷ [])
 
 pub record IsWriteOf (begun : Bool) (size hash : ℕ) (written text : List ℕ) (write : JournalWrite) : Type 0 where

@@ -1,7 +1,7 @@
 //! What is kept of a text on disk: its file, and the journal of its unsaved changes.
 
 use crate::disk::DiskFile;
-use crate::disk::journal_file::{Found, JournalFile};
+use crate::disk::journal_file::{FoundJournal, JournalFile};
 use crate::editor::Editor;
 use crate::effect::SaveEnd;
 use crate::journal::Journal;
@@ -52,13 +52,13 @@ impl Storage {
             Err(trouble) => return Ok(Some(trouble)),
         };
         match self.journal_file.find(rt, name) {
-            Found::Nothing => editor.open(name, text)?,
-            Found::Busy => {
+            FoundJournal::Nothing => editor.open(name, text)?,
+            FoundJournal::Busy => {
                 self.is_off = true;
                 editor.open(name, text)?;
                 editor.show_message(Message::Busy);
             }
-            Found::Bytes(journal) => {
+            FoundJournal::Bytes(journal) => {
                 let bytes = match &text {
                     Some(text) => text.as_bytes(),
                     None => b"",

@@ -25,7 +25,7 @@ pub struct JournalFile {
 
 /// What there is of a file's journal.
 #[derive(Drop)]
-pub enum Found {
+pub enum FoundJournal {
     /// There is none, or it can't be read.
     Nothing,
     /// Another editor has it.
@@ -36,14 +36,14 @@ pub enum Found {
 
 impl JournalFile {
     /// Opens the journal of the file of this name, if there is one, and returns its bytes.
-    pub fn find(&mut self, rt: &HostRuntime, name: &str) -> Found {
+    pub fn find(&mut self, rt: &HostRuntime, name: &str) -> FoundJournal {
         match self.find_beside(rt, name) {
-            Ok(bytes) => Found::Bytes(bytes),
-            Err(error) if error.kind() == ErrorKind::ResourceBusy => Found::Busy,
+            Ok(bytes) => FoundJournal::Bytes(bytes),
+            Err(error) if error.kind() == ErrorKind::ResourceBusy => FoundJournal::Busy,
             Err(_) => match self.find_elsewhere(rt, name) {
-                Ok(bytes) => Found::Bytes(bytes),
-                Err(error) if error.kind() == ErrorKind::ResourceBusy => Found::Busy,
-                Err(_) => Found::Nothing,
+                Ok(bytes) => FoundJournal::Bytes(bytes),
+                Err(error) if error.kind() == ErrorKind::ResourceBusy => FoundJournal::Busy,
+                Err(_) => FoundJournal::Nothing,
             },
         }
     }
