@@ -4,7 +4,7 @@ use Rattle.std.proofs.Common.{refl, sym, ap, ap₂, subst, ◌∙◌, arith}
 use Rattle.std.proofs.lemmas.Bool.{and_parts, cond-true, cond-false, eqb-true, false≢true}
 use Rattle.std.proofs.lemmas.Bool.Decides.{nat_tests}
 use Rattle.std.proofs.lemmas.List.{append-nil, append_assoc, length-append, length-map}
-use Rattle.std.proofs.lemmas.Str.{IsCharBoundary-past_char, IsUtf8-past_char, chars-encodes, chars_past_char, encodes-chars, length-encode, scalars-chars}
+use Rattle.std.proofs.lemmas.Str.{IsCharBoundary-past_char, IsUtf8-past_char, chars-encodes, chars_past_char, length-encode, scalars-chars}
 use Rattle.std.proofs.Math.Seq.{drop-append_seam, take-append_seam}
 use Rattle.std.specs.Char.{len_utf8}
 use Rattle.std.specs.List.{AllByRecursion}
@@ -210,8 +210,8 @@ more_letters b few = record {
 pub goes_on-start : (columns : ℕ) (text : List ℕ) → GoesOn columns 0 text text
 goes_on-start columns text = λ more after between. more_letters between (omega arith)
 
-pub goes_on-next : {columns count : ℕ} {text rest after : List ℕ} → GoesOn columns count text rest → BeginsWithLetter columns rest after → GoesOn columns (count + 1) text after
-goes_on-next {columns} {count} {text} {rest} {after} on begins = λ more end between.
+pub goes_on-next : {columns : ℕ} (count : ℕ) {text rest after : List ℕ} → GoesOn columns count text rest → BeginsWithLetter columns rest after → GoesOn columns (count + 1) text after
+goes_on-next {columns} count {text} {rest} {after} on begins = λ more end between.
     let here : AreBetween columns (suc more) rest end = record {
       letters = begins.letter ∷ between.letters;
       parts = begins.parts ∙ ap (λ t. encode_utf8 begins.letter ++ t) between.parts ∙ sym (append_assoc (encode_utf8 begins.letter) (encode_utf8_all between.letters) end);
@@ -221,8 +221,8 @@ goes_on-next {columns} {count} {text} {rest} {after} on begins = λ more end bet
     } in
     more_letters (on (suc more) end here) (omega arith)
 
-pub goes_on-longer : {columns count : ℕ} {text rest : List ℕ} → GoesOn columns count text rest → GoesOn columns (count + 1) text rest
-goes_on-longer on = λ more after between. more_letters (on more after between) (omega arith)
+pub goes_on-longer : {columns : ℕ} (count : ℕ) {text rest : List ℕ} → GoesOn columns count text rest → GoesOn columns (count + 1) text rest
+goes_on-longer count on = λ more after between. more_letters (on more after between) (omega arith)
 
 -- the walk ends before a text with which a cluster begins
 pub goes_on-end : {columns count most : ℕ} {text rest : List ℕ} → GoesOn columns count text rest → begins_apart (chars rest) ≡ true → count ≤ most → AreBetween columns most text rest
@@ -306,7 +306,7 @@ module _ {columns most : ℕ} {text after : List ℕ} (utf8 : IsUtf8 text) (b : 
   some_letters (c ∷ letters) is less = omega arith
 
   count_of : (front : List ℕ) → front ≡ take (length text - length after) text → length (letter_texts front) ≡ length b.letters
-  count_of front is = length-map encode_utf8 (chars front) ∙ ap length (front_is front is)
+  count_of front is = length-map (chars front) encode_utf8 ∙ ap length (front_is front is)
 
   pub split-some : {X : Type 0} (r : Option X) (front : X → List ℕ) → length after < length text → IfSome r (λ x. front x ≡ take (length text - length after) text) →
       IfSome r (λ x. 0 < length (letter_texts (front x)))
@@ -317,6 +317,19 @@ module _ {columns most : ℕ} {text after : List ℕ} (utf8 : IsUtf8 text) (b : 
       IfSome r (λ x. length (letter_texts (front x)) ≤ most)
   split-most None front is_front = tt
   split-most (Some x) front is_front = omega (arith, count_of (front x) is_front, b.few)
+
+  one_text : (letters : List ℕ) → length letters ≤ 1 → 0 < length letters → map encode_utf8 letters ≡ encode_utf8_all letters ∷ []
+  one_text [] few some = absurd (omega (arith, some))
+  one_text (c ∷ []) few some = ap (λ (t : List ℕ). t ∷ []) (sym (append-nil (encode_utf8 c)))
+  one_text (c ∷ d ∷ letters) few some = absurd (omega (arith, few))
+
+  pub split-one : {X : Type 0} (r : Option X) (front : X → List ℕ) → length after < length text → IfSome r (λ x. front x ≡ take (length text - length after) text) →
+      IfSome r (λ x. length (letter_texts (front x)) ≤ 1 → letter_texts (front x) ≡ front x ∷ [])
+  split-one None front less is_front = tt
+  split-one (Some x) front less is_front = λ few.
+      ap (map encode_utf8) (front_is (front x) is_front)
+      ∙ one_text b.letters (omega (arith, count_of (front x) is_front, few)) (some_letters b.letters b.parts less)
+      ∙ ap (λ (t : List ℕ). t ∷ []) (sym (is_front ∙ taken))
 
 -- ---- the first letter of a text
 
@@ -331,16 +344,9 @@ first-letter text letter after c utf8 is letter_is = record {
 }
 
 pub letter-boundary : (text after : List ℕ) (c : ℕ) → IsUtf8 text → text ≡ encode_utf8 c ++ after → IsCharBoundary text (len_utf8 c)
-letter-boundary text after c utf8 is = IsCharBoundary-past_char text after 0 c (omega arith) utf8 is
+letter-boundary text after c utf8 is =
+    let same : 0 + len_utf8 c ≡ len_utf8 c = omega arith in
+    subst (λ n. IsCharBoundary text n) same (IsCharBoundary-past_char text after 0 c (omega arith) utf8 is)
 
 pub letter-taken : (text after : List ℕ) (c : ℕ) → text ≡ encode_utf8 c ++ after → take (len_utf8 c) text ≡ encode_utf8 c
 letter-taken text after c is = ap₂ (λ (n : ℕ) (t : List ℕ). take n t) (sym (length-encode c)) is ∙ take-append_seam (encode_utf8 c) after
-
--- a run of one letter is one cluster
-pub one-letter : (text : List ℕ) → IsUtf8 text → 0 < length (letter_texts text) → length (letter_texts text) ≤ 1 → letter_texts text ≡ text ∷ []
-one-letter text utf8 some few = by (chars text) (encodes-chars text utf8) some few
-  where
-    by : (cs : List ℕ) → encode_utf8_all cs ≡ text → 0 < length (map encode_utf8 cs) → length (map encode_utf8 cs) ≤ 1 → map encode_utf8 cs ≡ text ∷ []
-    by [] is some few = absurd (omega (arith, some))
-    by (c ∷ []) is some few = ap (λ (t : List ℕ). t ∷ []) (sym (append-nil (encode_utf8 c)) ∙ is)
-    by (c ∷ d ∷ cs) is some few = absurd (omega (arith, few))

@@ -55,8 +55,8 @@ first-columns {columns} {rest} {letter} {after} letters f =
     sym (f.columns_are columns (subst (AllByRecursion (IsLetter columns)) f.chars_are letters).0)
 
 -- and is short
-pub first-short : {style : Style} {rest letter after : List ℕ} → AreInline (letter_clusters style rest) → IsFirstLetter rest letter after → length letter ≤ INLINE_BYTES
-first-short {style} {rest} {letter} {after} short f =
+pub first-short : (style : Style) {rest letter after : List ℕ} → AreInline (letter_clusters style rest) → IsFirstLetter rest letter after → length letter ≤ INLINE_BYTES
+first-short style {rest} {letter} {after} short f =
     All-head (λ (c : Cluster). length c.text ≤ INLINE_BYTES) (in_style style letter) (letter_clusters style after)
     (subst AreInline (next_clusters style rest letter after f) short)
 

@@ -37,11 +37,13 @@ FitsKind One columns text = columns ≡ columns_of text
 FitsKind Plain columns text = All IsPrintable text
 FitsKind Letters columns text = AreLetters columns text
 
--- what is known of a run: it has a cluster and at most `most`, and its text is of its kind
+-- what is known of a run: it has a cluster and at most `most`, its text is of its kind, and that is
+-- the whole cluster if there is one
 pub record IsClusterRun (most : ℕ) (run : ClusterRun) : Type 0 where
   pub fits : FitsKind run.kind run.columns run.text.now
   pub some : 0 < length (run_clusters run)
   pub bound : length (run_clusters run) ≤ most
+  pub single : length (run_clusters run) ≤ 1 → run_clusters run ≡ in_style run.style run.text.now ∷ []
 
 -- the clusters of a span's rest
 abbrev pub rest_clusters : SpanRest → List (List ℕ)

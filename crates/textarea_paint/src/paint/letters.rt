@@ -1,6 +1,6 @@
 //! Letters: each is a grapheme cluster by itself before another one, and its number tells its
 //! columns, without a table.
-ghost use Rattle.std.specs.Prelude.{◌≡◌, ◌≤◌, ◌<◌, ◌++◌, true, length, IfSome};
+ghost use Rattle.std.specs.Prelude.{◌≡◌, ◌≤◌, ◌<◌, ◌++◌, ◌∷◌, [], true, length, IfSome};
 ghost use Rattle.textarea_paint.specs.Letters.{AreLetters, BeginsWithLetter, IsAfterLetters, IsFirstLetter, letter_columns, letter_texts, european_letters, ideographs, is_narrow, is_wide, other_narrow_letters, other_wide_letters};
 ghost use Rattle.textarea_paint.specs.Prelude.{graphemes, in_ranges};
 
@@ -14,6 +14,8 @@ pub(super) fn split_letters<'a>(text: &'a str, most: usize) -> Option<Front<'a>>
     ensures letters { IfSome result (λ front. AreLetters front.columns front.text.now) }
     ensures some { IfSome result (λ front. 0 < length (letter_texts front.text.now)) }
     ensures most { IfSome result (λ front. length (letter_texts front.text.now) ≤ most) }
+    ensures one { IfSome result (λ front. length (letter_texts front.text.now) ≤ 1
+        → letter_texts front.text.now ≡ front.text.now ∷ []) }
 {
     let columns = letter_columns(text.chars().next()?);
     if columns == 0 {

@@ -8,33 +8,33 @@ use Rattle.textarea_paint.specs.Row.{clusters_width}
 use Rattle.textarea_paint.proofs.LetterRowLemmas.{first-columns, first-short, walk-all, walk-next, walk-outside, walk-start}
 use Rattle.textarea_paint.proofs.paint.cells.draw_letters.Goals as goal
 
-pub loop-letters-init : goal.loop-letters-init
-loop-letters-init c = walk-start c.args.cells c.args.letters.style c.args.columns c.args.pen c.args.letters.text.now c.args.buffer.now c.requires.within c.requires.letters
+pub letters-init : goal.letters-init
+letters-init c = walk-start c.args.cells c.args.letters.style c.args.columns c.args.pen c.args.letters.text.now c.args.buffer.now c.requires.within c.requires.letters
 
-pub loop-letters-preserved : goal.loop-letters-preserved
-loop-letters-preserved c =
-    walk-next c.loop-letters.invariant c.split_letter.ensures (λ left column at. c.in_ok-pen.ensures.moved left column at)
+pub letters-preserved : goal.letters-preserved
+letters-preserved c =
+    walk-next c.letters.invariant c.split_letter.ensures (λ left column at. c.in_ok-pen.ensures.moved left column at)
     (λ left column at. c.in_ok-pen.ensures.drawn left column at) c.in_ok-pen.ensures.within
 
 pub returns-in_err-pen-clause-inline : goal.returns-in_err-pen-clause-inline
-returns-in_err-pen-clause-inline c = λ short. cc (c.in_err-pen.ensures.inline (first-short (c.loop-letters.invariant.short short) c.split_letter.ensures))
+returns-in_err-pen-clause-inline c = λ short. cc (c.in_err-pen.ensures.inline (first-short c.args.letters.style (c.letters.invariant.short short) c.split_letter.ensures))
 
 pub returns-in_err-pen-clause-err : goal.returns-in_err-pen-clause-err
-returns-in_err-pen-clause-err c = KeepsOutside-then (walk-outside c.loop-letters.invariant c.requires.pen) c.in_err-pen.ensures.err
+returns-in_err-pen-clause-err c = KeepsOutside-then (walk-outside c.letters.invariant c.requires.pen) c.in_err-pen.ensures.err
 
-pub returns-after-loop-letters-clause-moved : goal.returns-after-loop-letters-clause-moved
-returns-after-loop-letters-clause-moved c = λ left column at.
-    let all = walk-all c.loop-letters.invariant (nil_from_length _ (eqb-true _ _ (sym c.is_empty.ensures ∙ c.loop-letters.false))) in
-    subst (λ cs. IsPenAt c.args.cells left (column + clusters_width cs) c.loop-letters.pen) all (c.loop-letters.invariant.at left column at)
+pub returns-after-letters-clause-moved : goal.returns-after-letters-clause-moved
+returns-after-letters-clause-moved c = λ left column at.
+    let all = walk-all c.letters.invariant (nil_from_length _ (eqb-true _ _ (sym c.is_empty.ensures ∙ c.letters.false))) in
+    subst (λ cs. IsPenAt c.args.cells left (column + clusters_width cs) c.letters.pen) all (c.letters.invariant.at left column at)
 
-pub returns-after-loop-letters-clause-drawn : goal.returns-after-loop-letters-clause-drawn
-returns-after-loop-letters-clause-drawn c = λ left column at.
-    let all = walk-all c.loop-letters.invariant (nil_from_length _ (eqb-true _ _ (sym c.is_empty.ensures ∙ c.loop-letters.false))) in
-    subst (λ cs. Changes c.args.buffer.now c.loop-letters.buffer (row_change c.args.cells left (place_from column cs))) all (c.loop-letters.invariant.drawn left column at)
+pub returns-after-letters-clause-drawn : goal.returns-after-letters-clause-drawn
+returns-after-letters-clause-drawn c = λ left column at.
+    let all = walk-all c.letters.invariant (nil_from_length _ (eqb-true _ _ (sym c.is_empty.ensures ∙ c.letters.false))) in
+    subst (λ cs. Changes c.args.buffer.now c.letters.buffer (row_change c.args.cells left (place_from column cs))) all (c.letters.invariant.drawn left column at)
 
 pub draw_cluster-requires : goal.draw_cluster-requires
 draw_cluster-requires c = record {
   edge = c.requires.edge;
-  columns = first-columns c.loop-letters.invariant.letters c.split_letter.ensures;
-  within = c.loop-letters.invariant.within;
+  columns = first-columns c.letters.invariant.letters c.split_letter.ensures;
+  within = c.letters.invariant.within;
 }

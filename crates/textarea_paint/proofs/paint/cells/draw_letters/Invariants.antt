@@ -2,8 +2,8 @@ use Rattle.std.proofs.Common.{length}
 use Rattle.textarea_paint.proofs.LetterRowLemmas.{IsLetterWalk}
 use Rattle.textarea_paint.proofs.paint.cells.draw_letters.Given as goal
 
-abbrev pub invariant-loop-letters : goal.invariant-loop-letters
-invariant-loop-letters l = IsLetterWalk l.cells l.style l.columns l.fn.pen l.pen l.fn.letters.text.now l.rest l.fn.buffer l.buffer
+abbrev pub invariant-letters : goal.invariant-letters
+invariant-letters l = IsLetterWalk l.cells l.style l.columns l.fn.pen l.pen l.fn.letters.text.now l.rest l.fn.buffer l.buffer
 
-abbrev pub decreases-loop-letters : goal.decreases-loop-letters
-decreases-loop-letters l = length l.rest
+abbrev pub decreases-letters : goal.decreases-letters
+decreases-letters l = length l.rest
