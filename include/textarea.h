@@ -509,6 +509,24 @@ uint32_t ta_insert_tab(ta_handle_t *handle);
  * empty handle. */
 uint32_t ta_paste(ta_handle_t *handle);
 
+/* Replacements of text, each one group of edits. */
+
+/** Returns the text between two positions, in either order, with a line feed for each line break.
+ * Positions beyond the text count as the nearest ones in it. `out` gets the first of its bytes, as
+ * many as there is room for, and `needed` the number of all.
+ *
+ * Statuses: ok, out of memory, empty handle. */
+uint32_t ta_text_range(ta_handle_t *handle, size_t from_row, size_t from_column, size_t to_row, size_t to_column, uint8_t *out, size_t out_len, size_t *needed);
+
+/** Replaces the text between two positions, in either order, by this one; one undo takes both back.
+ * Positions beyond the text count as the nearest ones in it. Each atomic range that the replaced
+ * text overlaps is removed, and each line feed of the text breaks the line. The cursor is then
+ * after what was inserted, and nothing is selected.
+ *
+ * Statuses: ok (it removed or inserted something), false, out of memory (nothing changed), invalid
+ * argument (the text is not UTF-8), empty handle. */
+uint32_t ta_replace_range(ta_handle_t *handle, size_t from_row, size_t from_column, size_t to_row, size_t to_column, const uint8_t *text, size_t text_len);
+
 /* Removals. If text is selected, each of them but `ta_clear` removes only that. */
 
 /** Removes the atomic range that ends at the cursor or strictly contains it, or else the character
@@ -750,6 +768,27 @@ uint32_t ta_set_yank_text(ta_handle_t *handle, const uint8_t *text, size_t text_
  * Statuses: ok, out of memory, pattern rejected, invalid argument (the pattern is not UTF-8),
  * empty handle. Where it is not ok, the pattern stays. */
 uint32_t ta_set_search_pattern(ta_handle_t *handle, const uint8_t *pattern, size_t pattern_len);
+
+/** Sets a search pattern that finds the text as it is: each character that has a meaning in the
+ * syntax of patterns is escaped. The empty text removes the pattern. With `ignore_case`, letters
+ * of either case match. With `whole_word`, each end of the text that is a word's character must be
+ * an end of a word.
+ *
+ * Statuses: ok, out of memory, pattern rejected (it is too large), invalid argument (the text is
+ * not UTF-8), empty handle. Where it is not ok, the pattern stays. */
+uint32_t ta_set_search_text(ta_handle_t *handle, const uint8_t *text, size_t text_len, bool ignore_case, bool whole_word);
+
+/** Writes the number of the search pattern's matches in the whole text; 0 without a pattern.
+ *
+ * Statuses: ok, out of memory, empty handle. */
+uint32_t ta_match_count(ta_handle_t *handle, size_t *count);
+
+/** Writes the number, counted from 0 in the order of the text, of the match that starts at the
+ * cursor.
+ *
+ * Statuses: ok, false (no match starts at the cursor, or no pattern is set), out of memory, empty
+ * handle. */
+uint32_t ta_match_index(ta_handle_t *handle, size_t *index);
 
 /** Returns why a pattern was rejected last, in words; empty if none was. `out` gets the first of
  * its bytes, as many as there is room for, and `needed` the number of all.

@@ -2,8 +2,8 @@
  *
  *     replay < script
  *
- * The commands are those of script_calls.h, insert_char of ASCII, insert_str, move and
- * set_search_pattern. Texts have no escape \u{..}. */
+ * The commands are those of script_calls.h, insert_char of ASCII, insert_str, move,
+ * set_search_pattern and set_search_text. Texts have no escape \u{..}. */
 #include "check.h"
 
 /* A command: whether its call returns whether it did something, and the call, by its argument. */
@@ -61,6 +61,13 @@ static uint32_t made_otherwise(ta_handle_t *area, const char *name, char *words)
         uint32_t number = 0;
         while (number < 14 && strcmp(words, moves[number]) != 0) number++;
         return ta_move_cursor(area, number);
+    }
+    if (strcmp(name, "set_search_text") == 0) {
+        char *second = strchr(words, ' ') + 1, *text = strchr(second, ' ');
+        char none[1] = "";
+        bool ignore_case = strncmp(words, "true", 4) == 0, whole_word = strncmp(second, "true", 4) == 0;
+        text = text ? text + 1 : none;
+        return ta_set_search_text(area, (uint8_t *)text, unescape(text), ignore_case, whole_word);
     }
     size_t length = unescape(words);
     if (strcmp(name, "insert_char") == 0) return ta_insert_char(area, (uint8_t)words[0]);

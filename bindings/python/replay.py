@@ -80,6 +80,12 @@ class Replay:
             return "text " + escaped(area.text)
         elif name == "yank_text":
             return "text " + escaped(area.yank_text)
+        elif name == "text_range":
+            return "text " + escaped(area.text_range(tuple(numbers[:2]), tuple(numbers[2:])))
+        elif name == "replace_range":
+            *places, text = (words + " ").split(" ", 4)
+            row, column, end_row, end_column = map(int, places)
+            return truth(area.replace_range((row, column), (end_row, end_column), unescaped(text.removesuffix(" "))))
         elif name == "set_yank_text":
             area.yank_text = unescaped(words)
         elif name == "set_search_pattern":
@@ -87,6 +93,13 @@ class Replay:
                 area.search_pattern = unescaped(words)
             except PatternRejected:
                 return "pattern"
+        elif name == "set_search_text":
+            ignore_case, whole_word, *text = words.split(" ", 2)
+            area.set_search_text(unescaped(text[0] if text else ""), ignore_case == "true", whole_word == "true")
+        elif name == "match_count":
+            return str(area.match_count)
+        elif name == "match_index":
+            return "none" if area.match_index is None else str(area.match_index)
         elif name == "ranges":
             try:
                 area.atomic_ranges = [Range(*numbers[i:i + 3]) for i in range(0, len(numbers), 3)]

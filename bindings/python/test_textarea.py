@@ -36,6 +36,15 @@ class Calls(unittest.TestCase):
         with self.assertRaises(ValueError):
             area.set_lines([])
 
+    def test_replacements(self):
+        area = TextArea.from_text("one two\nthree")
+        self.assertEqual(area.text_range((1, 2), (0, 5)), "wo\nth")
+        self.assertTrue(area.replace_range((9, 9), (0, 4), "2\n3"))
+        self.assertEqual((area.lines, area.cursor), (["one 2", "3"], (1, 1)))
+        self.assertTrue(area.undo())
+        self.assertEqual(area.lines, ["one two", "three"])
+        self.assertFalse(area.replace_range((0, 1), (0, 1), ""))
+
     def test_edits(self):
         area = TextArea()
         area.insert_char("a")
@@ -129,6 +138,16 @@ class Calls(unittest.TestCase):
             area.search_pattern = "("
         self.assertEqual(area.search_pattern, "o.e")
         area.search_pattern = None
+        self.assertIsNone(area.search_pattern)
+        self.assertEqual((area.match_count, area.match_index), (0, None))
+
+    def test_search_of_a_text(self):
+        area = TextArea("a.b axb\nA.B")
+        area.set_search_text("a.b")
+        self.assertEqual((area.match_count, area.match_index), (1, 0))
+        area.set_search_text("a.b", ignore_case=True, whole_word=True)
+        self.assertTrue(area.match_count == 2 and area.search_forward() and area.match_index == 1)
+        area.set_search_text("")
         self.assertIsNone(area.search_pattern)
 
     def test_ranges(self):

@@ -24,7 +24,8 @@ def new_rows(table):
     for call in table.calls:
         if call.is_new:
             types = ", ".join(type for _, type in call.arguments)
-            result = f"Result<{call.result or '()'}>" if call.memory else call.result
+            wraps = call.memory and not (call.result or "").startswith("Result<")
+            result = f"Result<{call.result or '()'}>" if wraps else call.result
             rows.append(f"| `{call.name}({types}){f' -> {result}' if result else ''}` | {call.doc} |")
     return ["| Here | What it does |", "|---|---|", *rows]
 

@@ -72,6 +72,11 @@ class TextArea(Calls):
         """The lines, with a line feed between two."""
         return self._text(lib.ta_text)
 
+    def text_range(self, start: Tuple[int, int], end: Tuple[int, int]) -> str:
+        """The text between two positions, in either order, with a line feed for each line break.
+        Positions beyond the text count as the nearest ones in it."""
+        return self._text(lib.ta_text_range, *start, *end)
+
     def line(self, row: int) -> Optional[str]:
         """The line of this row, or None if there is none."""
         return self._text_if_any(lib.ta_line, row)
@@ -100,6 +105,12 @@ class TextArea(Calls):
         return and line feed breaks the line. Returns whether it inserted something or removed a
         selection."""
         return self._edit(lib.ta_insert_pasted, *passed_text(text))
+
+    def replace_range(self, start: Tuple[int, int], end: Tuple[int, int], text: str) -> bool:
+        """Replaces the text between two positions, in either order, by this one; one undo takes both
+        back. Returns whether it removed or inserted something. Positions beyond the text count as
+        the nearest ones in it. Atomic ranges that the replaced text overlaps are removed."""
+        return self._edit(lib.ta_replace_range, *start, *end, *passed_text(text))
 
     def input(self, input: Input) -> bool:
         """Makes the call that the key table with shortcuts has for the input. Returns whether the
@@ -170,6 +181,25 @@ class TextArea(Calls):
     @search_pattern.setter
     def search_pattern(self, pattern: Optional[str]) -> None:
         self._call(lib.ta_set_search_pattern, *passed_text(pattern or ""))
+
+    def set_search_text(self, text: str, ignore_case: bool = False, whole_word: bool = False) -> None:
+        """Sets a search pattern that finds the text as it is: each character that has a meaning in
+        the syntax of patterns is escaped. The empty text removes the pattern. With `ignore_case`,
+        letters of either case match. With `whole_word`, each end of the text that is a word's
+        character must be an end of a word."""
+        self._call(lib.ta_set_search_text, *passed_text(text), ignore_case, whole_word)
+
+    @property
+    def match_count(self) -> int:
+        """The number of the search pattern's matches in the whole text; 0 without a pattern."""
+        return self._numbers(ctypes.c_size_t, 1, lib.ta_match_count)[0]
+
+    @property
+    def match_index(self) -> Optional[int]:
+        """The number, counted from 0 in the order of the text, of the match that starts at the
+        cursor; None if none does, and without a pattern."""
+        found = self._numbers(ctypes.c_size_t, 1, lib.ta_match_index)
+        return found and found[0]
 
     # ---- Atomic ranges
 

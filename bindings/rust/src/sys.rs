@@ -282,6 +282,8 @@ unsafe extern "C" {
     pub fn ta_insert_pasted(handle: *mut Handle, text: *const u8, text_len: usize) -> u32;
     pub fn ta_insert_tab(handle: *mut Handle) -> u32;
     pub fn ta_paste(handle: *mut Handle) -> u32;
+    pub fn ta_text_range(handle: *mut Handle, from_row: usize, from_column: usize, to_row: usize, to_column: usize, out: *mut u8, out_len: usize, needed: *mut usize) -> u32;
+    pub fn ta_replace_range(handle: *mut Handle, from_row: usize, from_column: usize, to_row: usize, to_column: usize, text: *const u8, text_len: usize) -> u32;
     pub fn ta_delete_char(handle: *mut Handle) -> u32;
     pub fn ta_delete_next_char(handle: *mut Handle) -> u32;
     pub fn ta_delete_newline(handle: *mut Handle) -> u32;
@@ -321,6 +323,9 @@ unsafe extern "C" {
     pub fn ta_yank_text(handle: *mut Handle, out: *mut u8, out_len: usize, needed: *mut usize) -> u32;
     pub fn ta_set_yank_text(handle: *mut Handle, text: *const u8, text_len: usize) -> u32;
     pub fn ta_set_search_pattern(handle: *mut Handle, pattern: *const u8, pattern_len: usize) -> u32;
+    pub fn ta_set_search_text(handle: *mut Handle, text: *const u8, text_len: usize, ignore_case: bool, whole_word: bool) -> u32;
+    pub fn ta_match_count(handle: *mut Handle, count: *mut usize) -> u32;
+    pub fn ta_match_index(handle: *mut Handle, index: *mut usize) -> u32;
     pub fn ta_pattern_error(handle: *mut Handle, out: *mut u8, out_len: usize, needed: *mut usize) -> u32;
     pub fn ta_search_pattern(handle: *mut Handle, out: *mut u8, out_len: usize, needed: *mut usize) -> u32;
     pub fn ta_search_forward(handle: *mut Handle, match_cursor: bool) -> u32;

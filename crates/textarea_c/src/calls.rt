@@ -30,6 +30,7 @@ pub mod painter;
 pub mod plain;
 pub mod ranges;
 pub mod removals;
+pub mod replacing;
 pub mod screen;
 pub mod search;
 pub mod selection;

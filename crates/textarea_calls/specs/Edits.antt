@@ -18,6 +18,7 @@ edits (call.InsertPasted text) = true
 edits call.InsertTab = true
 edits call.Paste = true
 edits call.DuplicateLine = true
+edits (call.ReplaceRange from to text) = true
 edits (call.SetLines lines cursor) = true
 edits call.DeleteChar = true
 edits call.DeleteNextChar = true

@@ -36,6 +36,7 @@ call_of_insert (insert.InsertPasted text) = call.InsertPasted text
 call_of_insert insert.InsertTab = call.InsertTab
 call_of_insert insert.Paste = call.Paste
 call_of_insert insert.DuplicateLine = call.DuplicateLine
+call_of_insert (insert.ReplaceRange from to text) = call.ReplaceRange from to text
 call_of_insert (insert.SetLines lines cursor) = call.SetLines lines cursor
 
 abbrev pub call_of_remove : RemoveCall → Call
@@ -75,6 +76,7 @@ call_of_move (move.Scroll scrolling) = call.Scroll scrolling
 
 abbrev pub call_of_search : SearchCall → Call
 call_of_search (search.SetSearchPattern pattern) = call.SetSearchPattern pattern
+call_of_search (search.SetSearchText text ignore_case whole_word) = call.SetSearchText text ignore_case whole_word
 call_of_search (search.SearchForward match_cursor) = call.SearchForward match_cursor
 call_of_search (search.SearchBack match_cursor) = call.SearchBack match_cursor
 
@@ -118,10 +120,13 @@ call_of_keys (keys.InputWithoutShortcuts input) = call.InputWithoutShortcuts inp
 
 abbrev pub call_of_read : ReadCall → Call
 call_of_read read.Text = call.Text
+call_of_read (read.TextRange from to) = call.TextRange from to
 call_of_read read.Cursor = call.Cursor
 call_of_read read.IsEmpty = call.IsEmpty
 call_of_read read.IsSelecting = call.IsSelecting
 call_of_read read.SelectionRange = call.SelectionRange
+call_of_read read.MatchCount = call.MatchCount
+call_of_read read.MatchIndex = call.MatchIndex
 call_of_read read.YankText = call.YankText
 call_of_read read.MaxHistories = call.MaxHistories
 call_of_read read.UndoCoalescing = call.UndoCoalescing

@@ -44,4 +44,6 @@ pub enum Answer {
     StyleIfVisible(Option<Style>),
     /// How lines are wrapped.
     WrapMode(WrapMode),
+    /// A number, if there is one.
+    NumberIfAny(Option<usize>),
 }

@@ -26,6 +26,15 @@ pub enum Call<'a> {
     Paste,
     /// `TextArea::duplicate_line`
     DuplicateLine,
+    /// `TextArea::replace_range`
+    ReplaceRange {
+        /// The one end of the text that is replaced (row, column).
+        from: (usize, usize),
+        /// The other end; the two may be in either order.
+        to: (usize, usize),
+        /// What replaces it.
+        text: &'a str,
+    },
     /// `TextArea::set_lines`, with a copy of these lines; there is at least one
     SetLines {
         /// The lines that are copied.
@@ -89,6 +98,15 @@ pub enum Call<'a> {
     Scroll(Scrolling),
     /// `TextArea::set_search_pattern`
     SetSearchPattern(&'a str),
+    /// `TextArea::set_search_text`
+    SetSearchText {
+        /// The text to find; the empty one removes the pattern.
+        text: &'a str,
+        /// Whether letters of either case match.
+        ignore_case: bool,
+        /// Whether each end of the text that is a word's character must be an end of a word.
+        whole_word: bool,
+    },
     /// `TextArea::search_forward`
     SearchForward(bool),
     /// `TextArea::search_back`
@@ -164,6 +182,13 @@ pub enum Call<'a> {
     InputWithoutShortcuts(&'a Input),
     /// `TextArea::text`
     Text,
+    /// `TextArea::text_range`
+    TextRange {
+        /// The one end of the text (row, column).
+        from: (usize, usize),
+        /// The other end; the two may be in either order.
+        to: (usize, usize),
+    },
     /// `TextArea::cursor`
     Cursor,
     /// `TextArea::is_empty`
@@ -172,6 +197,10 @@ pub enum Call<'a> {
     IsSelecting,
     /// `TextArea::selection_range`
     SelectionRange,
+    /// `TextArea::match_count`
+    MatchCount,
+    /// `TextArea::match_index`
+    MatchIndex,
     /// `TextArea::yank_text`
     YankText,
     /// `TextArea::max_histories`

@@ -22,6 +22,7 @@ impl Call<'_> {
             | Call::InsertTab
             | Call::Paste
             | Call::DuplicateLine
+            | Call::ReplaceRange { .. }
             | Call::SetLines { .. }
             | Call::DeleteChar
             | Call::DeleteNextChar

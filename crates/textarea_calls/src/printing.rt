@@ -24,14 +24,17 @@ impl fmt::Display for Answer {
                 measure.content_rows, measure.preferred_rows, measure.min_rows, measure.max_rows
             ),
             Answer::PatternRejected => write!(f, "pattern"),
-            Answer::Place(None) | Answer::Position(None) => write!(f, "none"),
+            Answer::Place(None) | Answer::Position(None) | Answer::NumberIfAny(None) => write!(
+                f,
+                "none"
+            ),
             Answer::Place(Some((row, column))) => write!(f, "{row} {column}"),
             Answer::Position(Some(position)) => write!(f, "{} {}", position.x, position.y),
             Answer::Style(style) => write!(f, "{style:?}"),
             Answer::Character(character) => write!(f, "{character:?}"),
             Answer::CursorRenderMode(mode) => write!(f, "{mode:?}"),
             Answer::Alignment(alignment) => write!(f, "{alignment:?}"),
-            Answer::Number(number) => write!(f, "{number}"),
+            Answer::Number(number) | Answer::NumberIfAny(Some(number)) => write!(f, "{number}"),
             Answer::Cursor((row, column)) => write!(f, "{row} {column}"),
             Answer::Selection(ends) => write!(f, "{ends:?}"),
             Answer::StyleIfVisible(style) => write!(f, "{style:?}"),

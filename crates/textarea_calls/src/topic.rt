@@ -38,6 +38,11 @@ pub enum InsertCall<'a> {
     InsertTab,
     Paste,
     DuplicateLine,
+    ReplaceRange {
+        from: (usize, usize),
+        to: (usize, usize),
+        text: &'a str,
+    },
     SetLines {
         lines: &'a [String],
         cursor: (usize, usize),
@@ -95,6 +100,11 @@ pub enum MoveCall {
 #[derive(Clone, Copy)]
 pub enum SearchCall<'a> {
     SetSearchPattern(&'a str),
+    SetSearchText {
+        text: &'a str,
+        ignore_case: bool,
+        whole_word: bool,
+    },
     SearchForward(bool),
     SearchBack(bool),
 }
@@ -157,10 +167,16 @@ pub enum KeysCall<'a> {
 #[derive(Clone, Copy)]
 pub enum ReadCall {
     Text,
+    TextRange {
+        from: (usize, usize),
+        to: (usize, usize),
+    },
     Cursor,
     IsEmpty,
     IsSelecting,
     SelectionRange,
+    MatchCount,
+    MatchIndex,
     YankText,
     MaxHistories,
     UndoCoalescing,
@@ -198,6 +214,11 @@ pub fn topic_of(call: Call<'_>) -> Topic<'_>
         Call::InsertTab => Topic::Insert(InsertCall::InsertTab),
         Call::Paste => Topic::Insert(InsertCall::Paste),
         Call::DuplicateLine => Topic::Insert(InsertCall::DuplicateLine),
+        Call::ReplaceRange { from, to, text } => Topic::Insert(InsertCall::ReplaceRange {
+            from,
+            to,
+            text,
+        }),
         Call::SetLines { lines, cursor } => Topic::Insert(InsertCall::SetLines { lines, cursor }),
         Call::DeleteChar => Topic::Remove(RemoveCall::DeleteChar),
         Call::DeleteNextChar => Topic::Remove(RemoveCall::DeleteNextChar),
@@ -227,6 +248,15 @@ pub fn topic_of(call: Call<'_>) -> Topic<'_>
         Call::GoTo(place) => Topic::Move(MoveCall::GoTo(place)),
         Call::Scroll(scrolling) => Topic::Move(MoveCall::Scroll(scrolling)),
         Call::SetSearchPattern(pattern) => Topic::Search(SearchCall::SetSearchPattern(pattern)),
+        Call::SetSearchText {
+            text,
+            ignore_case,
+            whole_word,
+        } => Topic::Search(SearchCall::SetSearchText {
+            text,
+            ignore_case,
+            whole_word,
+        }),
         Call::SearchForward(match_cursor) => Topic::Search(SearchCall::SearchForward(match_cursor)),
         Call::SearchBack(match_cursor) => Topic::Search(SearchCall::SearchBack(match_cursor)),
         Call::TrySetAtomicRanges(ranges) => Topic::Ranges(RangesCall::TrySetAtomicRanges(ranges)),
@@ -286,10 +316,13 @@ pub fn topic_of(call: Call<'_>) -> Topic<'_>
         Call::Input(input) => Topic::Keys(KeysCall::Input(input)),
         Call::InputWithoutShortcuts(input) => Topic::Keys(KeysCall::InputWithoutShortcuts(input)),
         Call::Text => Topic::Read(ReadCall::Text),
+        Call::TextRange { from, to } => Topic::Read(ReadCall::TextRange { from, to }),
         Call::Cursor => Topic::Read(ReadCall::Cursor),
         Call::IsEmpty => Topic::Read(ReadCall::IsEmpty),
         Call::IsSelecting => Topic::Read(ReadCall::IsSelecting),
         Call::SelectionRange => Topic::Read(ReadCall::SelectionRange),
+        Call::MatchCount => Topic::Read(ReadCall::MatchCount),
+        Call::MatchIndex => Topic::Read(ReadCall::MatchIndex),
         Call::YankText => Topic::Read(ReadCall::YankText),
         Call::MaxHistories => Topic::Read(ReadCall::MaxHistories),
         Call::UndoCoalescing => Topic::Read(ReadCall::UndoCoalescing),

@@ -1,5 +1,6 @@
 //! Edits of lines, each between two positions, and the changes that make or undo them.
 mod change;
+mod copied;
 mod fragment;
 mod grouped;
 mod run;

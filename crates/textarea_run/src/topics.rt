@@ -36,6 +36,9 @@ pub(crate) fn insert_call(
         InsertCall::InsertTab => area.insert_tab().map(Answer::Flag),
         InsertCall::Paste => area.paste().map(Answer::Flag),
         InsertCall::DuplicateLine => area.duplicate_line().map(|()| Answer::Done),
+        InsertCall::ReplaceRange { from, to, text } => area
+            .replace_range(from, to, text)
+            .map(Answer::Flag),
         InsertCall::SetLines { lines, cursor } => {
             special::set_lines(area, lines, cursor).map(|()| Answer::Done)
         }
@@ -172,6 +175,11 @@ pub(crate) fn search_call(
 {
     match call {
         SearchCall::SetSearchPattern(pattern) => special::set_search_pattern(area, pattern),
+        SearchCall::SetSearchText {
+            text,
+            ignore_case,
+            whole_word,
+        } => special::set_search_text(area, text, ignore_case, whole_word),
         SearchCall::SearchForward(match_cursor) => area
             .search_forward(match_cursor)
             .map(Answer::Flag),
@@ -340,10 +348,13 @@ pub(crate) fn read_call(area: &mut TextArea<'_>, call: ReadCall) -> Result<Answe
 {
     match call {
         ReadCall::Text => area.text().map(Answer::Text),
+        ReadCall::TextRange { from, to } => area.text_range(from, to).map(Answer::Text),
         ReadCall::Cursor => Ok(Answer::Cursor(area.cursor())),
         ReadCall::IsEmpty => Ok(Answer::Flag(area.is_empty())),
         ReadCall::IsSelecting => Ok(Answer::Flag(area.is_selecting())),
         ReadCall::SelectionRange => Ok(Answer::Selection(area.selection_range())),
+        ReadCall::MatchCount => area.match_count().map(Answer::Number),
+        ReadCall::MatchIndex => area.match_index().map(Answer::NumberIfAny),
         ReadCall::YankText => area.yank_text().map(Answer::Text),
         ReadCall::MaxHistories => Ok(Answer::Number(area.max_histories())),
         ReadCall::UndoCoalescing => Ok(Answer::Flag(area.undo_coalescing())),

@@ -74,6 +74,10 @@ two_short_numbers = both short_number short_number
 abbrev pub two_numbers : List ℕ → Option (ℕ × ℕ)
 two_numbers = both number number
 
+-- two positions, each a row and a column
+abbrev pub two_places : List ℕ → Option ((ℕ × ℕ) × (ℕ × ℕ))
+two_places text = option_map (λ p. ((p.0, p.1.0), p.1.1)) (both number (both number two_numbers) text)
+
 -- an area: its left column, top row, width and height, clipped so that it ends at 65535 or before
 abbrev pub Sides : Type 0
 Sides = ℕ × ℕ × ℕ × ℕ

@@ -53,6 +53,8 @@ bare_commands =
     ∷ (codes "copy", without_arguments call.Copy)
     ∷ (codes "clear_mask_char", without_arguments call.ClearMaskChar)
     ∷ (codes "text", without_arguments call.Text)
+    ∷ (codes "match_count", without_arguments call.MatchCount)
+    ∷ (codes "match_index", without_arguments call.MatchIndex)
     ∷ (codes "yank_text", without_arguments call.YankText)
     ∷ []
 

@@ -45,6 +45,8 @@ pub fn call_without_arguments(name: &str) -> Option<Call<'static>>
         "copy" => Some(Call::Copy),
         "clear_mask_char" => Some(Call::ClearMaskChar),
         "text" => Some(Call::Text),
+        "match_count" => Some(Call::MatchCount),
+        "match_index" => Some(Call::MatchIndex),
         "yank_text" => Some(Call::YankText),
         _ => None,
     }

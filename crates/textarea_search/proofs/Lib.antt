@@ -1,3 +1,4 @@
+mod CountLemmas
 mod FailureLemmas
 mod FromMatchLemmas
 mod OccurrenceLemmas
@@ -6,4 +7,6 @@ mod AscendingLemmas
 pub mod ColumnLemmas
 mod ListedLemmas
 mod PlaceLemmas
+mod PlainTextLemmas
+mod PlainTextReading
 mod StartLemmas

@@ -57,6 +57,10 @@ each_byte [] h k = omega arith
 each_byte (b ∷ bs) h zero = h 0 0 (omega arith)
 each_byte (b ∷ bs) h (suc k) = each_byte bs (λ i d lt. h (suc i) d (omega arith)) k
 
+-- each byte of a text is one
+pub byte_of_text : (bs : List ℕ) → IsUtf8 bs → (k : ℕ) → get_or bs k 0 < 256
+byte_of_text bs text = each_byte bs (bytes_of_text bs text)
+
 -- ---- the matches
 
 as_read : (o : Option (Nested Re × Names)) (most : ℕ) (tree : Re) (names : Names) (line : List ℕ) → AreBytes line →
@@ -139,10 +143,14 @@ spans_as_text : (line word : List ℕ) (o : Option (Nested Re × Names)) → Are
 spans_as_text line word None bytes h = absurd h
 spans_as_text line word (Some found) bytes h = spans_alike h.1 line (each_byte line bytes) true ∙ sym (ap (map span) (matches_after_text (literal word) line))
 
+-- the matches of a pattern that is read as a text are those of the text
+pub matches_of_text : (pattern text : List ℕ) → ReadsAsText pattern text → ListsMatchesOf pattern (literal text)
+unfolding match_spans ReadsAsText
+matches_of_text pattern text plain line utf8 = sym (spans_as_text line text _ (bytes_of_text line utf8) (plain default_config refl refl))
+
 -- the pattern is the needle
 pub needle_of_plain : (pattern : List ℕ) → ReadsAsText pattern pattern → ListsMatchesOf pattern (literal pattern)
-unfolding match_spans ReadsAsText
-needle_of_plain pattern plain line text = sym (spans_as_text line pattern _ (bytes_of_text line text) (plain default_config refl refl))
+needle_of_plain pattern plain = matches_of_text pattern pattern plain
 
 -- a line without listed matches has no start
 pub no_columns : (tree : Re) (line : List ℕ) (direction : Direction) → spans_after tree line 0 ≡ [] → None ≡ slice_get (along direction (columns_in tree line)) 0

@@ -123,7 +123,7 @@ map_reverse f (x ∷ xs) =
     grind (arith, common_steps, reverse-append (x ∷ []) xs, map-append f (reverse xs) (x ∷ []), map_reverse f xs, reverse-append (f x ∷ []) (map f xs))
 
 -- the starts of the lines up to the line at i
-starts_more : (columns : List ℕ → List ℕ) (row : ℕ) (lines : List (List ℕ)) (i : ℕ) (d : List ℕ) → i < length lines →
+pub starts_more : (columns : List ℕ → List ℕ) (row : ℕ) (lines : List (List ℕ)) (i : ℕ) (d : List ℕ) → i < length lines →
     starts_from columns row (take (i + 1) lines) ≡ starts_from columns row (take i lines) ++ map (λ c. (row + i, c)) (columns (get_or lines i d))
 starts_more columns row lines i d within = rw (take_more lines i d within, starts-append, length-take-le i lines (omega arith), append-nil) refl
 

@@ -5,3 +5,5 @@ pub mod Spans
 pub mod ListedMatches
 pub mod Starts
 pub mod BytePairs
+pub mod Counts
+pub mod PlainTexts

@@ -22,6 +22,10 @@ IsNoPattern text =
 abbrev pub IsPatternFailure : List ℕ → SearchError → Type 0
 IsPatternFailure text error = (e : parser.Error) → error ≡ Pattern (Syntax e) → IsNoPattern text
 
+-- the error isn't one of syntax
+abbrev pub IsNoSyntaxError : SearchError → Type 0
+IsNoSyntaxError error = (e : parser.Error) → error ≢ Pattern (Syntax e)
+
 -- an error of `regex` is one that `regex` returns for this text, and not an internal failure
 abbrev pub IsErrorFor : List ℕ → SearchError → Type 0
 IsErrorFor text error = (e : Error) → error ≡ Pattern e → IsDefaultFailure text e × (e ≢ Internal)

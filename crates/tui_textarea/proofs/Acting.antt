@@ -11,6 +11,7 @@ use Rattle.textarea_data.specs.declared.cursor.CursorMove.TheVariants as move
 use Rattle.textarea_data.specs.declared.range.AtomicCursorBias.TheVariants.{Forward as BiasForward}
 use Rattle.textarea_ranges.specs.Lookup.{moved_out}
 use Rattle.textarea_ranges.proofs.LookupLemmas.{IsPlaceOf-moved_out}
+use Rattle.textarea_search.specs.PlainTexts.{text_pattern}
 use Rattle.textarea_search.specs.declared.search.direction.Direction.TheVariants as toward
 use Rattle.textarea_text.specs.Between.{clip}
 use Rattle.textarea_text.specs.Fragment.{fragment_symbols, pasted_symbols}
@@ -18,14 +19,15 @@ use Rattle.textarea_text.specs.Place.{Place, place_of}
 use Rattle.textarea_text.specs.Splice.{Splice}
 use Rattle.textarea_text.specs.Text.{characters_of, lines, lines_of, text_of}
 use Rattle.textarea_text.proofs.Befores.{text_place}
-use Rattle.textarea_document.specs.DocumentState.{DocumentState}
+use Rattle.textarea_document.specs.Changes.{with_lines_replaced}
+use Rattle.textarea_document.specs.DocumentState.{DocumentState, fresh_document}
 use Rattle.textarea_document.specs.Outcomes.{after_edit, after_redo, after_undo}
 use Rattle.textarea_document.specs.Selection.{lines_duplicated, selection_duplication}
 use Rattle.textarea_document.specs.Sound.{IsSound}
 use Rattle.textarea_document.specs.Splices.{redo_splices, selected_splices, undo_splices}
 use Rattle.textarea_document.proofs.Inserts.{duplication_splits_none, selection_duplication_fits, sound_duplicated}
 use Rattle.textarea_document.proofs.Ranges.{valid_none}
-use Rattle.textarea_document.proofs.Sounds.{sound_begun, sound_ended, sound_fresh, start_is_place}
+use Rattle.textarea_document.proofs.Sounds.{sound_begun, sound_ended, sound_fresh, start_is_place, sound_changes}
 use Rattle.tui_textarea.specs.CallResults.{CallResult, PatternRejected}
 use Rattle.tui_textarea.specs.CallSplices.{OfSplicesOutOfMemory, splices_by, splices_of}
 use Rattle.tui_textarea.specs.Calls.{StateOutOfMemory, call_splices, rejected_ranges, state_after}
@@ -39,6 +41,7 @@ use Rattle.tui_textarea.specs.Search.{after_search, next_match, previous_match}
 use Rattle.tui_textarea.specs.Selection.{IsInsertOutOfMemory, unselected}
 use Rattle.tui_textarea.specs.State.{State}
 use Rattle.tui_textarea.proofs.FoundPlaces.{match_is_place}
+use Rattle.tui_textarea.proofs.Replacing.{range_by}
 use Rattle.tui_textarea.proofs.SoundStates.{sound_at, sound_cursor, sound_from, sound_goes, sound_ranges, sound_search, sound_settings, sound_unanchored}
 use Rattle.textarea_document.proofs.UndoGroups.{sound_redo, sound_undo}
 use Rattle.tui_textarea.proofs.Stepping.{Reckoning, after_by, ahead_by, before_by, break_by, char_by, cleared_by, copied_by, cursor_range_by, cut_by, edited, kept, moved}
@@ -134,6 +137,7 @@ module _ (By Own : Fact) (by : Reckoning By) (past : Past Own) where
       let once = edited By by document (selection_duplication document) false old.time h fits (duplication_splits_none document h) in
       given _ (moved By by document (after_edit document (selection_duplication document) false old.time) (lines_duplicated document old.time) (selection_duplication document ∷ []) refl
       (sound_duplicated document old.time h) once)
+  by_state old (call.ReplaceRange from to text) h = given _ (range_by By by old.document from to (fragment_symbols (chars text.now)) old.time h)
   by_state old (call.DeleteStr count) h = given _ (unselected_by By by old (symbols_ahead_removed old count) _ h (ahead_by By by old count h))
   by_state old call.DeleteNewline h = given _ (unselected_by By by old (break_before_removed old) _ h (break_by By by old.document old.time h))
   by_state old call.DeleteChar h =
@@ -190,8 +194,10 @@ module _ (By Own : Fact) (by : Reckoning By) (past : Past Own) where
   by_state old (call.SetLines items cursor) h =
       let place = clip (lines_of items.now) cursor in (
         tt,
-        λ can. sound_fresh (text_of items.now) old.document.layout.settings old.document.layout.count place old.document.log.maximum
-            (text_place items.now place (clip_is_place (lines_of items.now) cursor (omega (arith, can, length-map items.now characters_of)))),
+        λ can. sound_changes (fresh_document (text_of items.now) old.document.layout.settings old.document.layout.count place old.document.log.maximum)
+            (with_lines_replaced old.document.changes old.document.text (lines_of items.now))
+            (sound_fresh (text_of items.now) old.document.layout.settings old.document.layout.count place old.document.log.maximum
+            (text_place items.now place (clip_is_place (lines_of items.now) cursor (omega (arith, can, length-map items.now characters_of))))),
       )
   by_state old (call.SetTabLength columns) h = (tt, λ can. sound_settings old.document (tab_length_set old columns) h)
   by_state old (call.SetWrapMode mode) h = (tt, λ can. sound_settings old.document (mode_set old mode) h)
@@ -224,6 +230,8 @@ module _ (By Own : Fact) (by : Reckoning By) (past : Past Own) where
   calls_by old new (call.Scroll scrolling) returned h k = acts_by old new (action.Scroll scrolling) h k
   calls_by old new (call.SetSearchPattern text) returned h k =
       by.none old.document new.document (ap (λ (s : State). layout_and_ranges s.document) k ∙ pattern_unchanged old text.now returned)
+  calls_by old new (call.SetSearchText text ignore_case whole_word) returned h k =
+      by.none old.document new.document (ap (λ (s : State). layout_and_ranges s.document) k ∙ pattern_unchanged old (text_pattern text.now ignore_case whole_word) returned)
   calls_by old new (call.Render area) returned h k = tt
   calls_by old new made returned h k = as_outcome (ByState By Own made) old new (state_after old made) (splices_of old made) k (by_state old made h).0
 

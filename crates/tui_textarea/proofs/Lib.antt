@@ -24,9 +24,11 @@ mod Targets
 mod FoundPlaces
 mod StaysSound
 mod SoundStates
+mod TextFailures
 mod Cases
 mod WrappedLines
 mod Stepping
+mod Replacing
 mod RangesOverActions
 mod Lifted
 mod Unedited
@@ -35,4 +37,6 @@ mod CursorLine
 pub mod CallWraps
 mod RangesOverCalls
 mod RangesOverRuns
+mod ChangesOverCalls
+mod ChangesOverRuns
 pub mod Runs

@@ -115,4 +115,5 @@ module _ (laws : TheLaws) where
   call_fits state (call.Move cursor_move) h = (tt, λ no. tt)
   call_fits state (call.Scroll scrolling) h = (tt, λ no. tt)
   call_fits state (call.SetSearchPattern text) h = (tt, λ no. tt)
+  call_fits state (call.SetSearchText text ignore_case whole_word) h = (tt, λ no. tt)
   call_fits state made h = uncut state _ _ (ranges_follow state (state_after state made) made Done h refl)

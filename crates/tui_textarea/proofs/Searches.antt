@@ -18,7 +18,7 @@ bytes_of (s ∷ strings) =
     ∙ ap (λ (rest : List (List ℕ)). encode_utf8_all (characters_of s) ∷ rest) (bytes_of strings)
 
 -- the starts in a text are those in its lines
-starts_are : (pattern : Option (List ℕ)) (strings : List (String Global)) (text : List Symbol) → lines_of strings ≡ lines text → starts_of pattern strings ≡ starts_in pattern text
+pub starts_are : (pattern : Option (List ℕ)) (strings : List (String Global)) (text : List Symbol) → lines_of strings ≡ lines text → starts_of pattern strings ≡ starts_in pattern text
 starts_are None strings text e = refl
 starts_are (Some pattern) strings text e =
     ap (starts_from (match_columns pattern) 0) (bytes_of strings ∙ ap (map encode_utf8_all) e)

@@ -19,7 +19,8 @@ use Rattle.textarea_calls.specs.declared.answer.Answer.TheVariants as returned
 -- any; the rejected ranges; the measured heights; that the pattern is rejected; the position that a
 -- cell shows, if any; the column and row of the caret, if it is shown; a style; the mask, if there
 -- is one; how the cursor is drawn; the alignment of rows; a number that is set; the cursor; the two
--- ends of the selection, if one is open; a style, if its part is shown; or how lines are wrapped
+-- ends of the selection, if one is open; a style, if its part is shown; how lines are wrapped; or a
+-- number, if there is one
 pub data CallResult : Type 0 where
   Done : CallResult
   Flag : Bool → CallResult
@@ -39,6 +40,7 @@ pub data CallResult : Type 0 where
   Selection : Option (places.Place × places.Place) → CallResult
   StyleIfVisible : Option styles.Style → CallResult
   WrapMode : modes_of_wrapping.WrapMode → CallResult
+  NumberIfAny : Option ℕ → CallResult
 
 abbrev pub call_result : Answer → CallResult
 call_result returned.Done = Done
@@ -59,3 +61,4 @@ call_result (returned.Cursor cursor) = Cursor cursor
 call_result (returned.Selection selection) = Selection selection
 call_result (returned.StyleIfVisible style) = StyleIfVisible style
 call_result (returned.WrapMode mode) = WrapMode mode
+call_result (returned.NumberIfAny number) = NumberIfAny number

@@ -17,6 +17,7 @@ pub mod Moves
 pub mod Input
 pub mod Ranges
 pub mod Search
+pub mod Replacing
 pub mod LayoutCalls
 pub mod Measure
 pub mod TextAreaLaw

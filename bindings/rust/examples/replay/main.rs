@@ -2,8 +2,8 @@
 //!
 //!     cargo run --example replay < script
 //!
-//! The commands are those of calls.rs, `insert_char`, `insert_str`, `move` and `set_search_pattern`.
-//! Texts have no escape `\u{..}`.
+//! The commands are those of calls.rs, `insert_char`, `insert_str`, `move`, `set_search_pattern` and
+//! `set_search_text`. Texts have no escape `\u{..}`.
 
 #![allow(clippy::unit_arg)] // a call without a result is passed to `done`
 
@@ -72,6 +72,13 @@ fn result_of(area: &mut TextArea, line: &str) -> &'static str {
             Ok(()) => "ok",
             Err(_) => "pattern",
         },
+        "set_search_text" => {
+            let (ignore_case, rest) = words.split_once(' ').unwrap();
+            let (whole_word, text) = rest.split_once(' ').unwrap_or((rest, ""));
+            let is_set =
+                area.set_search_text(unescaped(text), ignore_case == "true", whole_word == "true");
+            done(is_set.unwrap())
+        }
         _ => panic!("no command: {line}"),
     }
 }

@@ -119,6 +119,41 @@ impl TextArea<'_> {
         self.edit(|h| unsafe { sys::ta_insert_pasted(h, text.as_ptr(), text.len()) })
     }
 
+    /// Replaces the text between two positions, in either order, by this one, and returns whether it
+    /// removed or inserted something; one undo takes both back. Positions beyond the text count as
+    /// the nearest ones in it. Atomic ranges that the replaced text overlaps are removed.
+    ///
+    /// ```
+    /// use tui_textarea::TextArea;
+    ///
+    /// let mut area = TextArea::from(["one two"]);
+    /// area.replace_range((0, 4), (0, 7), "2\n3");
+    /// assert_eq!(area.lines(), ["one 2", "3"]);
+    /// area.undo();
+    /// assert_eq!(area.lines(), ["one two"]);
+    /// ```
+    pub fn replace_range<S: AsRef<str>>(
+        &mut self,
+        from: (usize, usize),
+        to: (usize, usize),
+        s: S,
+    ) -> bool {
+        must(self.try_replace_range(from, to, s))
+    }
+
+    /// As `replace_range`, but returns that memory ran out.
+    pub fn try_replace_range<S: AsRef<str>>(
+        &mut self,
+        from: (usize, usize),
+        to: (usize, usize),
+        s: S,
+    ) -> Result<bool, OutOfMemory> {
+        let text = s.as_ref();
+        self.edit(|h| unsafe {
+            sys::ta_replace_range(h, from.0, from.1, to.0, to.1, text.as_ptr(), text.len())
+        })
+    }
+
     /// Moves the cursor to the position (row, column), or to the nearest one in the text. An open
     /// selection follows it, and a run of typing ends. Unlike `CursorMove::Jump` it reaches every
     /// row.

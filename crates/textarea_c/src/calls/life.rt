@@ -1,6 +1,6 @@
 //! Making, copying and freeing text areas.
 ghost use Rattle.std.specs.Prelude.{◌≡◌, [], IfOk, MatchOption, None, Some};
-ghost use Rattle.tui_textarea.specs.State.{new_state};
+ghost use Rattle.tui_textarea.specs.State.{new_state, with_changes_taken};
 ghost use Rattle.textarea_c.specs.Calls.{Calls};
 ghost use Rattle.textarea_c.specs.Fresh.{IsEditorOf, Loads, state_of_file};
 ghost use Rattle.textarea_c.specs.Made.{MakesBehind};
@@ -51,7 +51,7 @@ fn editor_with(alloc: Global, text: &str) -> Result<Box<Editor>, AllocError>
 
 // Returns an editor of a copy of the text area.
 fn copied_editor(alloc: Global, area: &TextArea<'static>) -> Result<Box<Editor>, AllocError>
-    ensures { IfOk result (λ editor. IsEditorOf area.now editor.value) }
+    ensures { IfOk result (λ editor. IsEditorOf (with_changes_taken area.now) editor.value) }
 {
     editor_of(alloc, area.clone()?)
 }
@@ -124,7 +124,8 @@ pub extern "C" fn ta_clone(handle: &mut Handle, alloc: Global, copy: &mut Handle
         (λ a b. b ≡ a) }
     ensures copy { MatchOption handle.old.stored.content
         (copy.new.stored.content ≡ copy.old.stored.content)
-        (λ a. MakesBehind (IsEditorOf a.area) copy.old.stored.content result copy.new.stored.content) }
+        (λ a. MakesBehind (IsEditorOf (with_changes_taken a.area)) copy.old.stored.content result
+        copy.new.stored.content) }
 {
     on!(handle, alloc, editor => match copied_editor(alloc, &editor.area) {
         Ok(copied) => {

@@ -1,6 +1,7 @@
 //! A pattern to search for, its matches in a line, and the search from a cursor to the next match.
 mod cache_key;
 mod caching_matcher;
+mod counts;
 mod direction;
 mod line_matcher;
 mod line_starts;
@@ -9,6 +10,7 @@ mod listed;
 mod listed_match;
 mod match_cache;
 mod matches;
+pub mod plain_text;
 mod sparse_matches;
 mod state;
 

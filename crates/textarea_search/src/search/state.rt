@@ -5,13 +5,16 @@ ghost use Rattle.regex_hir.specs.Re.{literal};
 ghost use Rattle.textarea_search.specs.PatternErrors.{IsPatternFailure, IsErrorFor, IsOwnFailure};
 ghost use Rattle.textarea_search.specs.Matches.{match_columns, match_spans};
 ghost use Rattle.textarea_search.specs.Spans.{ListsMatchesOf};
-ghost use Rattle.textarea_search.specs.Starts.{IsFound, along, bytes_at, is_ahead_in_line};
+ghost use Rattle.textarea_search.specs.Counts.{index_at};
+ghost use Rattle.textarea_search.specs.Starts.{IsFound, along, bytes_at, is_ahead_in_line, starts_of};
+ghost use Rattle.textarea_text.specs.Prelude.{size_limit, size_of};
 ghost use Rattle.textarea_search.specs.declared.search.direction.Direction.TheVariants.{Forward, Back};
 
 use crate::error::SearchError;
 use crate::line_finder::LineFinder;
 use crate::pattern::Pattern;
 use crate::search::caching_matcher::CachingMatcher;
+use crate::search::counts::{count_in_lines, index_in_lines};
 use crate::search::direction::Direction;
 use crate::search::line_matcher::LineMatcher;
 use crate::search::lines::{found_start, start_beyond};
@@ -180,6 +183,39 @@ impl Search {
             Some(here) => find_known(pattern, &finder, direction, lines, row, here),
             None => find_and_store(pattern, cached, direction, lines, cursor, match_cursor),
         }
+    }
+
+    /// Returns the number of matches in the lines, or 0 without a pattern.
+    pub fn count(&self, lines: &[String]) -> Result<usize, AllocError>
+        requires limit { size_of lines.now ≤ size_limit }
+        ensures count { IfOk result (λ count. count ≡ length (starts_of self.now lines.now)) }
+        ensures no_pattern { IsNone self.now → IsOk result }
+    {
+        let Some(pattern) = &self.pattern else {
+            return Ok(0);
+        };
+        let mut matcher = pattern.matcher()?;
+        Ok(count_in_lines(&mut matcher, lines))
+    }
+
+    /// Returns the number, counted from 0 in the order of the text, of the match that starts at the
+    /// cursor (row, column in characters), if one does.
+    pub fn index(
+        &self,
+        lines: &[String],
+        cursor: (usize, usize),
+    ) -> Result<Option<usize>, AllocError>
+        requires row { cursor.0 < length lines.now }
+        requires limit { size_of lines.now ≤ size_limit }
+        ensures index { IfOk result
+            (λ index. index ≡ index_at cursor (starts_of self.now lines.now)) }
+        ensures no_pattern { IsNone self.now → IsOk result }
+    {
+        let Some(pattern) = &self.pattern else {
+            return Ok(None);
+        };
+        let mut matcher = pattern.matcher()?;
+        Ok(index_in_lines(&mut matcher, lines, cursor))
     }
 
     /// Returns a search for the same pattern; the two share it.

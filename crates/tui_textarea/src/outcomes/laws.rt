@@ -1,10 +1,12 @@
 //! Laws of runs of calls, each the contract of a function that does nothing.
 ghost use Rattle.std.specs.Prelude.{◌≡◌, ◌≤◌, ℕ, false, [], All, List, Option};
-ghost use Rattle.tui_textarea.specs.Prelude.{Answer, CanApply, CanBeMade, RangesOfRun, Run, SplicedBy, SplitNoRange, RangesStayWhole, IsSound, Buffer, State, WrapsByCall, Call, RangesFollowCall, IsUndoOrRedo, IsResultOf, IsAfterCall, IsAfterOutOfMemory, Leads, ShowsSame, CallResult, OfSplicesOutOfMemory, edits, splices_of};
+ghost use Rattle.tui_textarea.specs.Prelude.{Answer, CanApply, CanBeMade, ChangesLead, RangesOfRun, Run, SplicedBy, SplitNoRange, RangesStayWhole, IsSound, Buffer, State, WrapsByCall, Call, RangesFollowCall, IsUndoOrRedo, IsResultOf, IsAfterCall, IsAfterOutOfMemory, Leads, ShowsSame, CallResult, OfSplicesOutOfMemory, edits, splices_of};
 
 use crate::drawing::laws::{one_drawing, one_rendering};
 use crate::laws::{one_input, one_move};
-use textarea_document::laws::{edits_wrap, layout_changes_wrap, ranges_follow_splices};
+use textarea_document::laws::{
+    changes_lead, edits_wrap, layout_changes_wrap, ranges_follow_splices,
+};
 use textarea_screen_map::laws::look_up_leads_back;
 
 /// Calls with these results lead to one state of the text area, whatever the buffers.
@@ -123,5 +125,30 @@ pub fn ranges_follow_each_run()
         RangesOfRun old buffer calls answers new }
 {
     ranges_follow_each_call();
+    each_call_stays_sound();
+}
+
+/// How the changes in the log lead from the text before each call to the text after it, in every
+/// state that a text area has: after those of the old log the new one has more, which, applied to the
+/// old text one after another, give the new one. So do those of a call that runs out of memory.
+pub fn changes_follow_each_call()
+    ensures made { (old new : State) (call : Call) (returned : CallResult) → IsSound old.document →
+        IsAfterCall old call returned new → ChangesLead old.document new.document }
+    ensures out_of_memory { (old new : State) (call : Call) → IsSound old.document →
+        IsAfterOutOfMemory old call new → ChangesLead old.document new.document }
+{
+    changes_lead();
+}
+
+/// The same over every run of calls that can be made: after the changes of the log at the start, the
+/// log at the end has more, which, applied one after another to the text at the start, give the text
+/// at the end.
+pub fn changes_follow_each_run()
+    ensures { (calls : List Call) (answers : List Answer) (refused : Option ℕ) (old new : State)
+        (buffer displayed : Buffer) → IsSound old.document → All CanBeMade calls →
+        Run old buffer calls answers refused new displayed →
+        ChangesLead old.document new.document }
+{
+    changes_follow_each_call();
     each_call_stays_sound();
 }
