@@ -8,6 +8,7 @@ pub mod textarea;
 pub mod util;
 
 pub use textarea::TextArea;
+pub use textarea_change::{ChangeUnit, TextChange};
 pub use textarea_data::cursor::{CursorMove, CursorRenderMode, DataCursor};
 pub use textarea_data::input::{Input, Key};
 pub use textarea_data::measure::TextAreaMeasure;
