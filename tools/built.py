@@ -61,18 +61,26 @@ def absent_libraries(crate, root=ROOT):
     return sorted(it for it in below(crate, listed(root)) if not (library(it, root) / "format").exists())
 
 
-def build_command(crate, out, root=ROOT, flags=()):
-    """The command that proves a crate and builds its archive, or its program's object file, to `out`. It runs
-    in the crate's folder."""
+def crate_words(command, crate, root=ROOT):
+    """The words of a `rattle` command on a crate, over the libraries that stand in crates/*/out of `root`. It
+    runs in the crate's folder."""
     crates, is_program = listed(root), (root / "crates" / crate / "src/main.rt").exists()
-    words = [kit() / "bin/rattle", "build", "--crate-name", crate, f"src/{'main' if is_program else 'lib'}.rt"]
-    words += ["--links", f"{crate}="] if is_program else ["--crate-type", "staticlib"]
+    words = [kit() / "bin/rattle", command, "--crate-name", crate, f"src/{'main' if is_program else 'lib'}.rt"]
     for name in ["std", *crates[crate]]:
         path = library(name, root) if name in crates else kit() / f"rlibs/{name}.rlib"
         words += ["--extern", f"{name}={path}"]
     for folder in [kit() / "rlibs", *sorted(library(it, root).parent for it in below(crate, crates))]:
         words += ["-L", f"dependency={folder}"]
     words += ["--antt-project", kit() / "rattle/logic/antt-project.json", "--logic-built", kit() / "logic_built"]
+    return [str(it) for it in words]
+
+
+def build_command(crate, out, root=ROOT, flags=()):
+    """The command that proves a crate and builds its archive, or its program's object file, to `out`. It runs
+    in the crate's folder."""
+    is_program = (root / "crates" / crate / "src/main.rt").exists()
+    words = crate_words("build", crate, root)
+    words += ["--links", f"{crate}="] if is_program else ["--crate-type", "staticlib"]
     words += [] if "--jobs" in flags else ["--jobs", "4"]
     words += ["--toolchain", kit() / "toolchain", "--backend", "llvm", "-o", out, *flags]
     return [str(it) for it in words]

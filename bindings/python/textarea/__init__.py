@@ -33,7 +33,7 @@ from ._enums import (
     Alignment, Borders, CursorRenderMode, Key, Modifier, Move, Page, Reason, Side, WrapMode,
 )
 
-__version__ = "0.14.0"
+__version__ = "0.15.0"
 __all__ = [
     "TextArea", "Input", "Key", "Move", "Page", "Side", "Range", "Reason", "RangesRejected",
     "PatternRejected", "WrapMode", "Alignment", "Measure", "Viewport", "Area", "Cell",
