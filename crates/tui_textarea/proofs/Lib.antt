@@ -14,6 +14,7 @@ pub mod Copying
 mod Filled
 pub mod Grouping
 mod UndoneAtOnce
+mod ReplacedAtOnce
 pub mod FragmentTexts
 pub mod Searches
 mod OneTarget

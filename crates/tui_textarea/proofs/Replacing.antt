@@ -20,7 +20,7 @@ use Rattle.tui_textarea.proofs.Stepping.{Reckoning, between_by, kept, moved, sym
 use Rattle.tui_textarea.proofs.Targets.{clip_is_place}
 
 -- the ends of the text between two positions
-stretch_is : (document : DocumentState) (from to : Place) → IsSound document
+pub stretch_is : (document : DocumentState) (from to : Place) → IsSound document
     → IsPlace document.text (stretch_start document.text from to) × IsPlace document.text (stretch_end document.text from to)
 stretch_is document from to h =
     let rows = lines document.text in

@@ -1,14 +1,18 @@
 -- With grouping on, one undo takes a whole call back.
-use Rattle.std.specs.Prelude.{◌≡◌, ◌<◌, ℕ, Bool, true, false, length}
+use Rattle.std.specs.Prelude.{◌≡◌, ◌<◌, ℕ, Bool, true, false, List, length}
+use Rattle.textarea_text.specs.Place.{Place}
 use Rattle.textarea_text.specs.Splice.{Fits, Splice}
+use Rattle.textarea_text.specs.Text.{Symbol}
 use Rattle.textarea_history.specs.Groups.{is_open}
 use Rattle.textarea_history.specs.Log.{joins}
 use Rattle.textarea_document.specs.DocumentState.{DocumentState}
 use Rattle.textarea_document.specs.Outcomes.{after_edit, after_undo}
+use Rattle.textarea_document.specs.Replacing.{replaces}
 use Rattle.textarea_document.specs.Selection.{is_selected}
 use Rattle.textarea_calls.specs.declared.call.Call.{Call}
 use Rattle.textarea_calls.specs.declared.call.Call.TheVariants as call
 use Rattle.tui_textarea.specs.Calls.{call_splices, state_after}
+use Rattle.tui_textarea.specs.Replacing.{with_range_replaced}
 use Rattle.tui_textarea.specs.State.{State}
 
 -- the call inserts, over the selected text if there is any
@@ -36,3 +40,10 @@ abbrev pub IsEditUndoneAtOnce : DocumentState → Splice → Bool → ℕ → Ty
 IsEditUndoneAtOnce document splice typed now =
     Fits document.text splice → 0 < document.log.maximum → is_open document.log.group ≡ false → joins document.log splice typed now ≡ false →
     (after_undo (after_edit document splice typed now)).text ≡ document.text
+
+-- If no group is open and at least two edits are remembered, one undo after a replacement that
+-- removes or inserts a symbol gives the text from before it.
+abbrev pub IsReplacementUndoneAtOnce : State → Place → Place → List Symbol → Type 0
+IsReplacementUndoneAtOnce state from to symbols =
+    is_open state.document.log.group ≡ false → 1 < state.document.log.maximum → replaces state.document.text from to symbols ≡ true →
+    (after_undo (with_range_replaced state from to symbols).document).text ≡ state.document.text

@@ -1,6 +1,7 @@
 //! Laws of text areas, each the contract of a function that does nothing.
-ghost use Rattle.std.specs.Prelude.{ℕ, ◌≡◌, ◌<◌, ◌≤◌, Bool, true, IfSome};
-ghost use Rattle.tui_textarea.specs.Prelude.{Call, IsEditUndoneAtOnce, IsInsertion, IsPlace, IsUndoneAtOnce, Fits, Splice, done_groups, RestoresAll, RestoresDocument, ListsFit, after_edit, is_selected, IsSound, HasRowsFromScratch, PastesCopy};
+ghost use Rattle.std.specs.Prelude.{ℕ, ◌≡◌, ◌<◌, ◌≤◌, Bool, true, IfSome, List};
+ghost use Rattle.textarea_text.specs.Text.{Symbol};
+ghost use Rattle.tui_textarea.specs.Prelude.{Call, IsEditUndoneAtOnce, IsInsertion, IsPlace, IsReplacementUndoneAtOnce, IsUndoneAtOnce, Place, Fits, Splice, done_groups, RestoresAll, RestoresDocument, ListsFit, after_edit, is_selected, IsSound, HasRowsFromScratch, PastesCopy};
 
 use crate::textarea::TextArea;
 use textarea_lines::laws::one_list_of_rows;
@@ -30,11 +31,14 @@ pub fn redo_restores_all(area: &TextArea<'_>)
 /// The law of one undo, for every text area, if no group is open. With `undo_grouping`, and if at
 /// least two edits are remembered, it takes back an insertion that changed the text, also over a
 /// selection; without a selection no run of typing may be open, since what is typed may join it,
-/// and is then undone with it. It takes back any other edit that joins none.
+/// and is then undone with it. It takes back any other edit that joins none, and, if at least two
+/// edits are remembered, a replacement by `replace_range`.
 pub fn calls_are_undone_at_once(area: &TextArea<'_>)
     ensures insertions { (made : Call) → IsInsertion made → IsUndoneAtOnce area.now made }
     ensures edits { (splice : Splice) (typed : Bool) (now : ℕ) →
         IsEditUndoneAtOnce area.now.document splice typed now }
+    ensures replacements { (from to : Place) (symbols : List Symbol) →
+        IsReplacementUndoneAtOnce area.now from to symbols }
 {
     area.document.is_sound();
 }
