@@ -39,7 +39,7 @@ ended_edits before document =
     by_test (λ (d : DocumentState). HasEdits d document.text document.log) (is_open before.log.group) document (record document { log = group_ended document.log })
     (λ outer. in_log document document.log refl refl)
     (λ own. by_test (λ (l : Log). HasEdits (record document { log = l }) document.text document.log) (is_open document.log.group) (record document.log { run_open = false; group = Closed }) document.log
-    (λ open. in_log document (record document.log { run_open = false; group = Closed }) refl refl) (λ none. in_log document document.log refl refl))
+    (λ ends. in_log document (record document.log { run_open = false; group = Closed }) refl refl) (λ none. in_log document document.log refl refl))
 
 -- the removal and the insertion, one of them, but not none
 stretch_back : (document new : DocumentState) (start stop : Place) (symbols : List Symbol) (now : ℕ) → Starts document → IsPlace document.text start → IsPlace document.text stop →
