@@ -32,5 +32,7 @@ edits call.Clear = true
 edits call.Cut = true
 edits call.Undo = true
 edits call.Redo = true
+edits (call.ReplaceMatch text) = true
+edits (call.ReplaceAll text) = true
 edits (call.DeleteAtomicRangeAtCursor direction) = true
 edits other = false

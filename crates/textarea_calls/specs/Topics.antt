@@ -79,6 +79,8 @@ call_of_search (search.SetSearchPattern pattern) = call.SetSearchPattern pattern
 call_of_search (search.SetSearchText text ignore_case whole_word) = call.SetSearchText text ignore_case whole_word
 call_of_search (search.SearchForward match_cursor) = call.SearchForward match_cursor
 call_of_search (search.SearchBack match_cursor) = call.SearchBack match_cursor
+call_of_search (search.ReplaceMatch text) = call.ReplaceMatch text
+call_of_search (search.ReplaceAll text) = call.ReplaceAll text
 
 abbrev pub call_of_ranges : RangesCall → Call
 call_of_ranges (ranges.TrySetAtomicRanges ranges) = call.TrySetAtomicRanges ranges

@@ -111,6 +111,10 @@ pub enum Call<'a> {
     SearchForward(bool),
     /// `TextArea::search_back`
     SearchBack(bool),
+    /// `TextArea::replace_match`
+    ReplaceMatch(&'a str),
+    /// `TextArea::replace_all`
+    ReplaceAll(&'a str),
     /// `TextArea::try_set_atomic_ranges`, with a copy of these ranges
     TrySetAtomicRanges(&'a [AtomicRange]),
     /// `TextArea::clear_atomic_ranges`

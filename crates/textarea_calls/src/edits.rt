@@ -36,6 +36,8 @@ impl Call<'_> {
             | Call::Cut
             | Call::Undo
             | Call::Redo
+            | Call::ReplaceMatch(_)
+            | Call::ReplaceAll(_)
             | Call::DeleteAtomicRangeAtCursor(_) => true,
             _ => false,
         }

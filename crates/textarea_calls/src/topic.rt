@@ -107,6 +107,8 @@ pub enum SearchCall<'a> {
     },
     SearchForward(bool),
     SearchBack(bool),
+    ReplaceMatch(&'a str),
+    ReplaceAll(&'a str),
 }
 
 /// Atomic ranges.
@@ -259,6 +261,8 @@ pub fn topic_of(call: Call<'_>) -> Topic<'_>
         }),
         Call::SearchForward(match_cursor) => Topic::Search(SearchCall::SearchForward(match_cursor)),
         Call::SearchBack(match_cursor) => Topic::Search(SearchCall::SearchBack(match_cursor)),
+        Call::ReplaceMatch(text) => Topic::Search(SearchCall::ReplaceMatch(text)),
+        Call::ReplaceAll(text) => Topic::Search(SearchCall::ReplaceAll(text)),
         Call::TrySetAtomicRanges(ranges) => Topic::Ranges(RangesCall::TrySetAtomicRanges(ranges)),
         Call::ClearAtomicRanges => Topic::Ranges(RangesCall::ClearAtomicRanges),
         Call::NormalizeCursorAroundAtomicRanges(bias) => Topic::Ranges(

@@ -184,6 +184,8 @@ pub(crate) fn search_call(
             .search_forward(match_cursor)
             .map(Answer::Flag),
         SearchCall::SearchBack(match_cursor) => area.search_back(match_cursor).map(Answer::Flag),
+        SearchCall::ReplaceMatch(text) => area.replace_match(text).map(Answer::Flag),
+        SearchCall::ReplaceAll(text) => area.replace_all(text).map(Answer::Number),
     }
 }
 

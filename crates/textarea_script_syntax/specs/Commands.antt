@@ -8,7 +8,7 @@ use Rattle.textarea_script_syntax.specs.Arguments.{both, has_space, is_separator
 use Rattle.textarea_script_syntax.specs.CallCommands.{call_commands}
 use Rattle.textarea_script_syntax.specs.Escapes.{unescaped, unescaped_lines}
 use Rattle.textarea_script_syntax.specs.Inputs.{input_named}
-use Rattle.textarea_script_syntax.specs.Meaning.{Meaning, SetNow, Render, InsertStr, InsertPasted, SetYankText, TrySetAtomicRanges, SetSearchPattern, SetLines, ReplaceRange, Press, meaning_by, plain_command, with_arguments, with_text, SetSearchText}
+use Rattle.textarea_script_syntax.specs.Meaning.{Meaning, SetNow, Render, InsertStr, InsertPasted, SetYankText, TrySetAtomicRanges, SetSearchPattern, SetLines, ReplaceRange, Press, meaning_by, plain_command, with_arguments, with_text, SetSearchText, ReplaceMatch, ReplaceAll}
 use Rattle.textarea_script_syntax.specs.Ranges.{ranges_after_space}
 use Rattle.textarea_calls.specs.declared.call.Call.{Call}
 use Rattle.textarea_calls.specs.declared.call.Call.TheVariants as call
@@ -83,6 +83,8 @@ borrowing_commands =
     ∷ (codes "ranges", some_ranges)
     ∷ (codes "set_lines", set_lines_meaning)
     ∷ (codes "replace_range", replace_range_meaning)
+    ∷ (codes "replace_match", with_text ReplaceMatch)
+    ∷ (codes "replace_all", with_text ReplaceAll)
     ∷ (codes "input", with_arguments input_named Press)
     ∷ []
 

@@ -21,6 +21,8 @@ pub data Meaning : Type 0 where
   SetSearchText : List ℕ → Bool → Bool → Meaning
   SetLines : List (List ℕ) → ℕ × ℕ → Meaning
   ReplaceRange : ℕ × ℕ → ℕ × ℕ → List ℕ → Meaning
+  ReplaceMatch : List ℕ → Meaning
+  ReplaceAll : List ℕ → Meaning
   Press : Input → Meaning
 
 -- a command without arguments

@@ -12,7 +12,7 @@ use Rattle.textarea_script_syntax.specs.Arguments.{sides_of_area}
 use Rattle.textarea_script_syntax.specs.Commands.{line_meaning}
 use Rattle.textarea_script_syntax.specs.Meaning as meaning
 use Rattle.textarea_script_syntax.specs.Meaning.{Meaning}
-use Rattle.textarea_script_syntax.specs.declared.commands.CommandContent.TheVariants.{Plain, InsertStr, InsertPasted, SetYankText, TrySetAtomicRanges, SetLines, SetSearchPattern, ReplaceRange, Input, SetSearchText}
+use Rattle.textarea_script_syntax.specs.declared.commands.CommandContent.TheVariants.{Plain, InsertStr, InsertPasted, SetYankText, TrySetAtomicRanges, SetLines, SetSearchPattern, ReplaceRange, Input, SetSearchText, ReplaceMatch, ReplaceAll}
 use Rattle.textarea_script_syntax.specs.declared.commands.ReadError.{ReadError}
 use Rattle.textarea_script_syntax.specs.declared.commands.ReadError.TheVariants.{Line, Memory}
 
@@ -67,6 +67,8 @@ IsCallReady (SetSearchPattern text) = Unit {0}
 IsCallReady (SetSearchText text ignore_case whole_word) = Unit {0}
 IsCallReady (SetLines lines cursor) = 0 < vec_len lines
 IsCallReady (ReplaceRange from to text) = Unit {0}
+IsCallReady (ReplaceMatch text) = Unit {0}
+IsCallReady (ReplaceAll text) = Unit {0}
 IsCallReady (Input input) = Unit {0}
 
 pub IsReady-prop : (content : CommandContent) → IsProp (IsCallReady content)
@@ -79,6 +81,8 @@ IsReady-prop (SetSearchPattern text) = Unit-prop
 IsReady-prop (SetSearchText text ignore_case whole_word) = Unit-prop
 IsReady-prop (SetLines lines cursor) = le_prop
 IsReady-prop (ReplaceRange from to text) = Unit-prop
+IsReady-prop (ReplaceMatch text) = Unit-prop
+IsReady-prop (ReplaceAll text) = Unit-prop
 IsReady-prop (Input input) = Unit-prop
 
 -- the meaning of a command's content
@@ -94,6 +98,8 @@ meaning_of (SetSearchPattern text) = meaning.SetSearchPattern (string_bytes text
 meaning_of (SetSearchText text ignore_case whole_word) = meaning.SetSearchText (string_bytes text) ignore_case whole_word
 meaning_of (SetLines lines cursor) = meaning.SetLines (map string_bytes lines.items) cursor
 meaning_of (ReplaceRange from to text) = meaning.ReplaceRange from to (string_bytes text)
+meaning_of (ReplaceMatch text) = meaning.ReplaceMatch (string_bytes text)
+meaning_of (ReplaceAll text) = meaning.ReplaceAll (string_bytes text)
 meaning_of (Input input) = meaning.Press input
 
 -- an unread line has no meaning
@@ -119,6 +125,8 @@ IsCallOf (SetSearchText text ignore_case whole_word) (call.SetSearchText borrowe
 IsCallOf (SetLines lines cursor) (call.SetLines borrowed place) = (borrowed.now ≡ lines.items) × (place ≡ cursor)
 IsCallOf (ReplaceRange start stop text) (call.ReplaceRange from to borrowed) =
     (from ≡ start) × (to ≡ stop) × (borrowed.now ≡ string_bytes text)
+IsCallOf (ReplaceMatch text) (call.ReplaceMatch borrowed) = borrowed.now ≡ string_bytes text
+IsCallOf (ReplaceAll text) (call.ReplaceAll borrowed) = borrowed.now ≡ string_bytes text
 IsCallOf (Input input) (call.Input borrowed) = borrowed.now ≡ input
 IsCallOf content other = ⊥
 

@@ -73,6 +73,8 @@ enum CommandContent {
         to: (usize, usize),
         text: String,
     },
+    ReplaceMatch(String),
+    ReplaceAll(String),
     Input(Input),
 }
 
@@ -109,6 +111,8 @@ impl Command {
                 to: *to,
                 text: text.as_str(),
             },
+            CommandContent::ReplaceMatch(text) => Call::ReplaceMatch(text.as_str()),
+            CommandContent::ReplaceAll(text) => Call::ReplaceAll(text.as_str()),
             CommandContent::Input(input) => Call::Input(input),
         }
     }
@@ -193,6 +197,8 @@ fn content_named(
         "ranges" => Ok(CommandContent::TrySetAtomicRanges(some_ranges(alloc, arguments)?)),
         "set_lines" => set_lines(alloc, arguments),
         "replace_range" => replace_range(alloc, arguments),
+        "replace_match" => Ok(CommandContent::ReplaceMatch(text(alloc, arguments)?)),
+        "replace_all" => Ok(CommandContent::ReplaceAll(text(alloc, arguments)?)),
         "input" => Ok(CommandContent::Input(input(arguments).ok_or(Unparsed::NoCommand)?)),
         _ => Ok(CommandContent::Plain(plain(name, arguments).ok_or(Unparsed::NoCommand)?)),
     }

@@ -37,11 +37,12 @@ use Rattle.tui_textarea.specs.LayoutCalls.{alignment_set, line_numbers_set, mode
 use Rattle.tui_textarea.specs.Outcomes.{IsAfterCall, IsAfterOutOfMemory, after_pattern}
 use Rattle.tui_textarea.specs.Removals.{break_before_removed, line_end_removed, line_head_removed, symbol_after_removed, symbol_before_removed, symbols_ahead_removed}
 use Rattle.tui_textarea.specs.Removals.{word_after_removed, word_before_removed}
+use Rattle.tui_textarea.specs.Replacing.{match_at_cursor, replaceable}
 use Rattle.tui_textarea.specs.Search.{after_search, next_match, previous_match}
 use Rattle.tui_textarea.specs.Selection.{IsInsertOutOfMemory, unselected}
 use Rattle.tui_textarea.specs.State.{State}
 use Rattle.tui_textarea.proofs.FoundPlaces.{match_is_place}
-use Rattle.tui_textarea.proofs.Replacing.{range_by}
+use Rattle.tui_textarea.proofs.Replacing.{all_by, match_by, range_by, search_unchanged}
 use Rattle.tui_textarea.proofs.SoundStates.{sound_at, sound_cursor, sound_from, sound_goes, sound_ranges, sound_search, sound_settings, sound_unanchored}
 use Rattle.textarea_document.proofs.UndoGroups.{sound_redo, sound_undo}
 use Rattle.tui_textarea.proofs.Stepping.{Reckoning, after_by, ahead_by, before_by, break_by, char_by, cleared_by, copied_by, cursor_range_by, cut_by, edited, kept, moved}
@@ -109,10 +110,6 @@ pattern_unchanged : (state : State) (text : List ℕ) (returned : CallResult) �
 pattern_unchanged state text PatternRejected = refl
 pattern_unchanged state text returned = refl
 
-search_unchanged : (state : State) (found : Option Place) → layout_and_ranges (after_search state found).document ≡ layout_and_ranges state.document
-search_unchanged state None = refl
-search_unchanged state (Some place) = refl
-
 -- what has no condition is also true under one
 given : {A B : Type 0} (Condition : Type 0) → A × B → A × (Condition → B)
 given Condition both = (both.0, λ condition. both.1)
@@ -138,6 +135,8 @@ module _ (By Own : Fact) (by : Reckoning By) (past : Past Own) where
       given _ (moved By by document (after_edit document (selection_duplication document) false old.time) (lines_duplicated document old.time) (selection_duplication document ∷ []) refl
       (sound_duplicated document old.time h) once)
   by_state old (call.ReplaceRange from to text) h = given _ (range_by By by old.document from to (fragment_symbols (chars text.now)) old.time h)
+  by_state old (call.ReplaceMatch text) h = given _ (match_by By by old (match_at_cursor old) (fragment_symbols (chars text.now)) h)
+  by_state old (call.ReplaceAll text) h = given _ (all_by By by old.document (replaceable old) (fragment_symbols (chars text.now)) old.time h)
   by_state old (call.DeleteStr count) h = given _ (unselected_by By by old (symbols_ahead_removed old count) _ h (ahead_by By by old count h))
   by_state old call.DeleteNewline h = given _ (unselected_by By by old (break_before_removed old) _ h (break_by By by old.document old.time h))
   by_state old call.DeleteChar h =

@@ -1,5 +1,5 @@
 -- What each call does: its result, the state after it, its splices, and where it may run out of memory.
-use Rattle.std.specs.Prelude.{◌≡◌, ◌≢◌, true, false, List, [], ◌∷◌, is_some, not, None, Some, String}
+use Rattle.std.specs.Prelude.{◌≡◌, ◌≢◌, true, false, List, [], ◌∷◌, is_some, length, not, None, Some, String}
 use Rattle.std.specs.Duration.{as_nanos}
 use Rattle.std.specs.Str.{chars}
 use Rattle.textarea_text.specs.Place.{Place}
@@ -39,7 +39,7 @@ use Rattle.tui_textarea.specs.Moves.{gone_to}
 use Rattle.tui_textarea.specs.Measure.{reads_rows, with_surround}
 use Rattle.tui_textarea.specs.Search.{match_count, match_index, next_match, previous_match, after_search, with_pattern, with_search_text}
 use Rattle.tui_textarea.specs.Patterns.{IsNewPattern}
-use Rattle.tui_textarea.specs.Replacing.{with_range_replaced}
+use Rattle.tui_textarea.specs.Replacing.{match_at_cursor, match_replaced, match_splices, matches_replaced, matches_splices, replaceable, with_range_replaced}
 use Rattle.tui_textarea.specs.Ranges.{cursor_normalized, atomic_range_removed, ranges_accepted, ranges_cleared}
 use Rattle.tui_textarea.specs.CallResults as reported
 use Rattle.tui_textarea.specs.CallResults.{CallResult, Done, Flag, Range, Rejected, Text}
@@ -66,6 +66,8 @@ abbrev pub result_of_call : State → Call → CallResult
 result_of_call state (call.InsertStr text) = Flag (inserts_text state (fragment_symbols (chars text.now)))
 result_of_call state (call.InsertPasted text) = Flag (inserts_text state (pasted_symbols (chars text.now)))
 result_of_call state (call.ReplaceRange from to text) = Flag (replaces state.document.text from to (fragment_symbols (chars text.now)))
+result_of_call state (call.ReplaceMatch text) = Flag (is_some (match_at_cursor state))
+result_of_call state (call.ReplaceAll text) = reported.Number (length (replaceable state))
 result_of_call state call.InsertTab = Flag (inserts_tab state)
 result_of_call state (call.DeleteStr count) = Flag (removes_or state (has_ahead state count))
 result_of_call state call.DeleteNewline = Flag (removes_or state (has_break_before state))
@@ -132,6 +134,8 @@ state_after state call.InsertTab = tab_inserted state
 state_after state call.InsertNewline = newline_inserted state
 state_after state call.DuplicateLine = with_document state (lines_duplicated state.document state.time)
 state_after state (call.ReplaceRange from to text) = with_range_replaced state from to (fragment_symbols (chars text.now))
+state_after state (call.ReplaceMatch text) = match_replaced state (fragment_symbols (chars text.now))
+state_after state (call.ReplaceAll text) = matches_replaced state (fragment_symbols (chars text.now))
 state_after state (call.DeleteStr count) = unselected_or state (symbols_ahead_removed state count)
 state_after state call.DeleteNewline = unselected_or state (break_before_removed state)
 state_after state call.DeleteChar = unselected_or state (symbol_before_removed state)
@@ -197,8 +201,9 @@ state_after state call.ClearCustomHighlight = unhighlighted state
 state_after state call = state
 
 -- The splices of the call in this state, one after another. An insertion over selected text has
--- two, first the removal of that text, and so may a replacement; any other edit has one; an undo or
--- a redo has those of a group; a call that changes nothing in the text has none. The call that sets lines replaces the text, and has none. Those of
+-- two, first the removal of that text; a replacement has at most two, and one of several matches at
+-- most two for each of them; any other edit, undo or redo has one, or those of a group; a call that
+-- changes nothing in the text has none. The call that sets lines replaces the text, and has none. Those of
 -- inputs are defined elsewhere.
 abbrev pub call_splices : State → Call → List Splice
 call_splices state (call.InsertChar c) = char_splices state c
@@ -209,6 +214,8 @@ call_splices state call.InsertNewline = str_splices state (Break ∷ [])
 call_splices state call.Paste = str_splices state state.yank
 call_splices state call.DuplicateLine = selection_duplication state.document ∷ []
 call_splices state (call.ReplaceRange from to text) = range_splices state.document from to (fragment_symbols (chars text.now)) state.time
+call_splices state (call.ReplaceMatch text) = match_splices state (fragment_symbols (chars text.now))
+call_splices state (call.ReplaceAll text) = matches_splices state (fragment_symbols (chars text.now))
 call_splices state (call.DeleteStr count) = selected_splices_or state.document (ahead_splices state.document count)
 call_splices state call.DeleteNewline = selected_splices_or state.document (break_splices state.document)
 call_splices state call.DeleteChar = selected_splices_or state.document (before_splices state.document)
@@ -236,6 +243,8 @@ NeedsMemory state call.InsertTab = inserts_tab state ≢ false
 NeedsMemory state call.InsertNewline = Unit {0}
 NeedsMemory state call.DuplicateLine = Unit {0}
 NeedsMemory state (call.ReplaceRange from to text) = Unit {0}
+NeedsMemory state (call.ReplaceMatch text) = state.pattern ≢ None
+NeedsMemory state (call.ReplaceAll text) = state.pattern ≢ None
 NeedsMemory state (call.DeleteStr count) = removes_or state (has_ahead state count) ≢ false
 NeedsMemory state call.DeleteNewline = removes_or state (has_break_before state) ≢ false
 NeedsMemory state call.DeleteChar = removes_or state (has_before state) ≢ false

@@ -3,6 +3,7 @@
 
 mod drawing;
 pub mod laws;
+mod matches;
 pub mod outcomes;
 pub mod textarea;
 pub mod util;
