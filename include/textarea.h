@@ -527,6 +527,23 @@ uint32_t ta_text_range(ta_handle_t *handle, size_t from_row, size_t from_column,
  * argument (the text is not UTF-8), empty handle. */
 uint32_t ta_replace_range(ta_handle_t *handle, size_t from_row, size_t from_column, size_t to_row, size_t to_column, const uint8_t *text, size_t text_len);
 
+/** Replaces the match of the search pattern that begins at the cursor by this text, and moves the
+ * cursor to the next match at or after what was inserted; after an empty match at least one
+ * character later. Without such a match it searches as `ta_search_forward` does.
+ *
+ * Statuses: ok (it replaced a match), false, out of memory (nothing changed, and a pattern is set),
+ * invalid argument (the text is not UTF-8), empty handle. */
+uint32_t ta_replace_match(ta_handle_t *handle, const uint8_t *text, size_t text_len);
+
+/** Replaces each match of the search pattern in the text as it is now by this text; one undo takes
+ * all back. Matches in what is inserted are left, and so is a match of which an end is strictly
+ * inside an atomic range. An empty match inserts the text. The cursor is then after the last one
+ * that was replaced, and `count` is their number; without matches nothing changes.
+ *
+ * Statuses: ok, out of memory (nothing changed, and a pattern is set), invalid argument (the text is
+ * not UTF-8), empty handle. */
+uint32_t ta_replace_all(ta_handle_t *handle, const uint8_t *text, size_t text_len, size_t *count);
+
 /* Removals. If text is selected, each of them but `ta_clear` removes only that. */
 
 /** Removes the atomic range that ends at the cursor or strictly contains it, or else the character

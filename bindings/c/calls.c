@@ -87,6 +87,14 @@ static void replacements(void) {
     CHECK(has_cursor(&area, 1, 1) && ta_undo(&area) == TA_OK && has_lines(&area, "one two\nthree"));
     CHECK(ta_replace_range(&area, 0, 1, 0, 1, TEXT("")) == TA_FALSE && has_cursor(&area, 0, 1));
     CHECK(ta_replace_range(&area, 0, 0, 0, 1, (const uint8_t *)"\xff", 1) == TA_INVALID_ARGUMENT);
+    size_t count = 9;
+    CHECK(ta_replace_match(&area, TEXT("x")) == TA_FALSE && ta_replace_all(&area, TEXT("x"), &count) == TA_OK && count == 0);
+    CHECK(ta_set_search_text(&area, TEXT("t"), false, false) == TA_OK && ta_search_forward(&area, false) == TA_OK);
+    CHECK(ta_replace_match(&area, TEXT("tt")) == TA_OK && has_lines(&area, "one ttwo\nthree") && has_cursor(&area, 1, 0));
+    CHECK(ta_replace_all(&area, TEXT("\n"), &count) == TA_OK && count == 3 && has_lines(&area, "one \n\nwo\n\nhree"));
+    CHECK(ta_undo(&area) == TA_OK && has_lines(&area, "one ttwo\nthree"));
+    CHECK(ta_replace_match(&area, (const uint8_t *)"\xff", 1) == TA_INVALID_ARGUMENT);
+    CHECK(ta_replace_all(&area, (const uint8_t *)"\xff", 1, &count) == TA_INVALID_ARGUMENT && count == 3);
     ta_free(&area);
 }
 

@@ -51,6 +51,7 @@ def command(r):
         lambda: "text",
         lambda: f"text_range {small()} {small()} {small()} {small()}",
         lambda: f"replace_range {small()} {small()} {small()} {small()} {pick(TEXTS)}",
+        lambda: f"{pick(['replace_match', 'replace_all'])} {pick(TEXTS)}",
         lambda: f"scroll {r.randrange(-4, 5)} {r.randrange(-2, 3)}",
         lambda: f"page {pick(['PageDown', 'PageUp', 'HalfPageDown', 'HalfPageUp'])}",
         lambda: f"set_search_pattern {pick(PATTERNS)}",
@@ -86,7 +87,8 @@ def plain_command(r):
     if kind < 11:
         name = pick(list(WITH_ARGUMENTS))
         return f"{name} {pick(OWN_VALUES.get(name, VALUES[WITH_ARGUMENTS[name]]))}"
-    return pick(["set_search_pattern " + pick(PATTERNS), search_text(r)])
+    text = pick([text for text in TEXTS if "u{" not in text])
+    return pick(["set_search_pattern " + pick(PATTERNS), search_text(r), "replace_match " + text, "replace_all " + text])
 
 
 def main():

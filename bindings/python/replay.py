@@ -72,7 +72,7 @@ class Replay:
             setattr(area, what, value_of(words, kind))
         elif name == "insert_char":
             area.insert_char(unescaped(words))
-        elif name in ("insert_str", "insert_pasted"):
+        elif name in ("insert_str", "insert_pasted", "replace_match"):
             return truth(getattr(area, name)(unescaped(words)))
         elif name == "input":
             return truth(area.input(input_of(words)))
@@ -96,6 +96,8 @@ class Replay:
         elif name == "set_search_text":
             ignore_case, whole_word, *text = words.split(" ", 2)
             area.set_search_text(unescaped(text[0] if text else ""), ignore_case == "true", whole_word == "true")
+        elif name == "replace_all":
+            return str(area.replace_all(unescaped(words)))
         elif name == "match_count":
             return str(area.match_count)
         elif name == "match_index":

@@ -45,6 +45,16 @@ class Calls(unittest.TestCase):
         self.assertEqual(area.lines, ["one two", "three"])
         self.assertFalse(area.replace_range((0, 1), (0, 1), ""))
 
+    def test_replaced_matches(self):
+        area = TextArea.from_text("one two\nthree")
+        self.assertEqual((area.replace_match("x"), area.replace_all("x")), (False, 0))
+        area.set_search_text("t")
+        self.assertTrue(area.search_forward() and area.replace_match("tt"))
+        self.assertEqual((area.lines, area.cursor), (["one ttwo", "three"], (1, 0)))
+        self.assertEqual((area.replace_all("\n"), area.lines), (3, ["one ", "", "wo", "", "hree"]))
+        self.assertTrue(area.undo())
+        self.assertEqual(area.lines, ["one ttwo", "three"])
+
     def test_edits(self):
         area = TextArea()
         area.insert_char("a")

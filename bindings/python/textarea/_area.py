@@ -182,6 +182,20 @@ class TextArea(Calls):
     def search_pattern(self, pattern: Optional[str]) -> None:
         self._call(lib.ta_set_search_pattern, *passed_text(pattern or ""))
 
+    def replace_match(self, text: str) -> bool:
+        """Replaces the match of the search pattern that begins at the cursor by this text, and moves
+        the cursor to the next match at or after what was inserted; after an empty match at least one
+        character later. Returns whether there was such a match; without one it searches forward."""
+        return self._edit(lib.ta_replace_match, *passed_text(text))
+
+    def replace_all(self, text: str) -> int:
+        """Replaces each match of the search pattern in the text as it is now by this text, and
+        returns their number; one undo takes all back. Matches in what is inserted are left, and so
+        is one of which an end is strictly inside an atomic range. An empty match inserts the text."""
+        count = ctypes.c_size_t()
+        self._edit(lib.ta_replace_all, *passed_text(text), count)
+        return count.value
+
     def set_search_text(self, text: str, ignore_case: bool = False, whole_word: bool = False) -> None:
         """Sets a search pattern that finds the text as it is: each character that has a meaning in
         the syntax of patterns is escaped. The empty text removes the pattern. With `ignore_case`,

@@ -227,6 +227,8 @@ def declare(library):
     declare_call(library, "ta_paste", [POINTER(Handle)], c_uint32)
     declare_call(library, "ta_text_range", [POINTER(Handle), c_size_t, c_size_t, c_size_t, c_size_t, POINTER(c_uint8), c_size_t, POINTER(c_size_t)], c_uint32)
     declare_call(library, "ta_replace_range", [POINTER(Handle), c_size_t, c_size_t, c_size_t, c_size_t, POINTER(c_uint8), c_size_t], c_uint32)
+    declare_call(library, "ta_replace_match", [POINTER(Handle), POINTER(c_uint8), c_size_t], c_uint32)
+    declare_call(library, "ta_replace_all", [POINTER(Handle), POINTER(c_uint8), c_size_t, POINTER(c_size_t)], c_uint32)
     declare_call(library, "ta_delete_char", [POINTER(Handle)], c_uint32)
     declare_call(library, "ta_delete_next_char", [POINTER(Handle)], c_uint32)
     declare_call(library, "ta_delete_newline", [POINTER(Handle)], c_uint32)

@@ -284,6 +284,8 @@ unsafe extern "C" {
     pub fn ta_paste(handle: *mut Handle) -> u32;
     pub fn ta_text_range(handle: *mut Handle, from_row: usize, from_column: usize, to_row: usize, to_column: usize, out: *mut u8, out_len: usize, needed: *mut usize) -> u32;
     pub fn ta_replace_range(handle: *mut Handle, from_row: usize, from_column: usize, to_row: usize, to_column: usize, text: *const u8, text_len: usize) -> u32;
+    pub fn ta_replace_match(handle: *mut Handle, text: *const u8, text_len: usize) -> u32;
+    pub fn ta_replace_all(handle: *mut Handle, text: *const u8, text_len: usize, count: *mut usize) -> u32;
     pub fn ta_delete_char(handle: *mut Handle) -> u32;
     pub fn ta_delete_next_char(handle: *mut Handle) -> u32;
     pub fn ta_delete_newline(handle: *mut Handle) -> u32;

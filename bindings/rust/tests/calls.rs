@@ -96,6 +96,19 @@ fn replacements() {
 }
 
 #[test]
+fn replaced_matches() {
+    let mut area = TextArea::from(["one two", "three"]);
+    assert_eq!((area.replace_match("x"), area.replace_all("x")), (false, 0));
+    area.set_search_text("t", false, false).unwrap();
+    assert!(area.search_forward(false) && area.replace_match("tt"));
+    assert_eq!((area.text().as_str(), area.cursor()), ("one ttwo\nthree", (1, 0)));
+    assert_eq!(area.try_replace_all("\n"), Ok(3));
+    assert_eq!(area.text(), "one \n\nwo\n\nhree");
+    assert!(area.undo());
+    assert_eq!(area.text(), "one ttwo\nthree");
+}
+
+#[test]
 fn moves_and_selection() {
     let mut area = TextArea::from(["one two", "three"]);
     area.move_cursor(CursorMove::WordForward);

@@ -1,14 +1,15 @@
 //! Replacements of text, each one group of edits.
-ghost use Rattle.std.specs.Prelude.{◌≡◌, ◌≢◌, IfSome};
+ghost use Rattle.std.specs.Prelude.{◌≡◌, ◌≢◌, IfSome, None, is_some, length};
 ghost use Rattle.std.specs.Str.{chars};
 ghost use Rattle.textarea_document.specs.Replacing.{replaces, stretch_symbols};
 ghost use Rattle.textarea_text.specs.Fragment.{fragment_symbols, fragment_text};
-ghost use Rattle.tui_textarea.specs.Replacing.{with_range_replaced};
-ghost use Rattle.textarea_c.specs.Calls.{Calls, Copies, Given, Replaces};
+ghost use Rattle.tui_textarea.specs.Replacing.{match_at_cursor, match_replaced, matches_replaced, replaceable, with_range_replaced};
+ghost use Rattle.textarea_c.specs.Calls.{Calls, ChangesArea, Copies, Given, Replaces};
 ghost use Rattle.textarea_c_data.specs.Lines.{AreCharactersOut};
 ghost use Rattle.textarea_c_data.specs.Texts.{text_in};
 
 use crate::calls::on;
+use crate::editor::Editor;
 use crate::handle::Handle;
 use std::alloc::Global;
 use textarea_c_data::slices::{copied_text, text_of};
@@ -81,4 +82,70 @@ pub extern "C" fn ta_replace_range(
         )),
         None => INVALID_ARGUMENT,
     })
+}
+
+/// Replaces the match of the search pattern that begins at the cursor by this text, and moves the
+/// cursor to the next match at or after what was inserted; after an empty match at least one
+/// character later. Without such a match it searches as `ta_search_forward` does.
+///
+/// Statuses: ok (it replaced a match), false, out of memory (nothing changed, and a pattern is set),
+/// invalid argument (the text is not UTF-8), empty handle.
+#[unsafe(no_mangle)]
+pub extern "C" fn ta_replace_match(handle: &mut Handle, alloc: Global, text: &[u8]) -> u32
+    ensures replaced { Calls handle.old.stored.content result handle.new.stored.content
+        (λ a b. Given (text_in text.now) (λ t. Replaces (is_some (match_at_cursor a.area))
+        (match_replaced a.area (fragment_symbols (chars t)))) result a b) }
+    ensures no_pattern { IfSome handle.old.stored.content
+        (λ a. a.area.pattern ≡ None → result ≢ 2) }
+{
+    on!(handle, alloc, editor => match text_of(text) {
+        Some(text) => flag(editor.area.replace_match(text)),
+        None => INVALID_ARGUMENT,
+    })
+}
+
+/// Replaces each match of the search pattern in the text as it is now by this text; one undo takes
+/// all back. Matches in what is inserted are left, and so is a match of which an end is strictly
+/// inside an atomic range. An empty match inserts the text. The cursor is then after the last one
+/// that was replaced, and `count` is their number; without matches nothing changes.
+///
+/// Statuses: ok, out of memory (nothing changed, and a pattern is set), invalid argument (the text is
+/// not UTF-8), empty handle.
+#[unsafe(no_mangle)]
+pub extern "C" fn ta_replace_all(
+    handle: &mut Handle,
+    alloc: Global,
+    text: &[u8],
+    count: &mut usize,
+) -> u32
+    ensures replaced { Calls handle.old.stored.content result handle.new.stored.content
+        (λ a b. Given (text_in text.now) (λ t. ChangesArea
+        (matches_replaced a.area (fragment_symbols (chars t)))) result a b) }
+    ensures value { result ≡ 0 → IfSome handle.old.stored.content
+        (λ a. count.new ≡ length (replaceable a.area)) }
+    ensures no_pattern { IfSome handle.old.stored.content
+        (λ a. a.area.pattern ≡ None → result ≢ 2) }
+    ensures unwritten { result ≢ 0 → count.new ≡ count.old }
+{
+    on!(handle, alloc, editor => match text_of(text) {
+        Some(text) => replace_matches(&mut editor, text, count),
+        None => INVALID_ARGUMENT,
+    })
+}
+
+// Replaces each match, writes their number, and returns the status.
+fn replace_matches(editor: &mut Editor, text: &str, count: &mut usize) -> u32
+    ensures replaced { ChangesArea (matches_replaced editor.old.area (fragment_symbols (chars text.now)))
+        result editor.old editor.new }
+    ensures value { result ≡ 0 → count.new ≡ length (replaceable editor.old.area) }
+    ensures no_pattern { editor.old.area.pattern ≡ None → result ≢ 2 }
+    ensures unwritten { result ≢ 0 → count.new ≡ count.old }
+{
+    match editor.area.replace_all(text) {
+        Ok(number) => {
+            *count = number;
+            OK
+        }
+        Err(_) => OUT_OF_MEMORY,
+    }
 }
