@@ -116,6 +116,13 @@ enum {
     TA_FORWARD = 1,
 };
 
+/** `ChangeUnit`. */
+enum {
+    TA_UNIT_CHARACTERS = 0,
+    TA_UNIT_BYTES = 1,
+    TA_UNIT_UTF16 = 2,
+};
+
 /** `WrapMode`. */
 enum {
     TA_WRAP_NONE = 0,
@@ -414,8 +421,8 @@ uint32_t ta_from_text(ta_handle_t *handle, const uint8_t *text, size_t text_len)
 void ta_free(ta_handle_t *handle);
 
 /** Makes a copy of the text area, with its history, behind another handle, `copy`. A text area that
- * was behind that one is freed. The copy's screen has no cells, and it has no rejected ranges or
- * pattern.
+ * was behind that one is freed. The copy's screen has no cells, it has no rejected ranges or
+ * pattern, and its log of changes is empty.
  *
  * Statuses: ok, out of memory, empty handle. Where it is not ok, `copy` stays as it was. */
 uint32_t ta_clone(ta_handle_t *handle, ta_handle_t *copy);
@@ -691,6 +698,39 @@ uint32_t ta_undo_grouping(ta_handle_t *handle);
  *
  * Statuses: ok, empty handle. */
 uint32_t ta_set_now(ta_handle_t *handle, uint64_t nanoseconds);
+
+/* What changed in the text. */
+
+/** Begins a log of what changes in the text, with columns in the unit: `TA_UNIT_CHARACTERS`,
+ * `TA_UNIT_BYTES` of UTF-8, or `TA_UNIT_UTF16`. The changes in the log before are forgotten.
+ *
+ * Statuses: ok, invalid argument (there is no such unit), empty handle. */
+uint32_t ta_set_change_log(ta_handle_t *handle, uint32_t unit);
+
+/** Ends the log of what changes in the text, and forgets its changes.
+ *
+ * Statuses: ok, empty handle. */
+uint32_t ta_remove_change_log(ta_handle_t *handle);
+
+/** Takes the changes out of the log; `count` gets their number. `ta_change` and `ta_change_line`
+ * return them, in place of those that were taken before.
+ *
+ * Statuses: ok, empty handle. */
+uint32_t ta_take_changes(ta_handle_t *handle, size_t *count);
+
+/** Returns one of the changes that were taken last, by its index, from 0 in the order in which they
+ * were made: its start, the end of what it removed, both in the text just before it, and the number
+ * of the inserted lines, at least one.
+ *
+ * Statuses: ok, false (there is no such change), empty handle. */
+uint32_t ta_change(ta_handle_t *handle, size_t index, size_t *start_row, size_t *start_column, size_t *end_row, size_t *end_column, size_t *lines);
+
+/** Returns one of the inserted lines of a change that was taken last, by its row in it, from 0. `out`
+ * gets the first of its bytes, as many as there is room for, and `needed` the number of all. A line
+ * feed in it is a character of the line.
+ *
+ * Statuses: ok, false (there is no such change, or no such line), empty handle. */
+uint32_t ta_change_line(ta_handle_t *handle, size_t index, size_t row, uint8_t *out, size_t out_len, size_t *needed);
 
 /* Moves of the cursor, and scrolls. */
 

@@ -69,6 +69,9 @@ def command(r):
         lambda: f"set_mask_char {pick(CHARS[:2] + ['•'])}",
         lambda: f"line_numbers {pick(['true', 'false'])}",
         lambda: f"now {r.randrange(5000)}",
+        lambda: f"set_change_log {pick(['Characters', 'Bytes', 'Utf16', 'Utf16', 'None'])}",
+        lambda: "take_changes",
+        lambda: "take_changes",
         *[lambda name=name, kind=kind: f"{name} {pick(OWN_VALUES.get(name, VALUES[kind]))}" for name, kind in WITH_ARGUMENTS.items()],
     ])()
 

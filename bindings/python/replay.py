@@ -10,7 +10,8 @@ import sys
 
 from script_calls import METHODS, SETTERS
 from textarea import (
-    Area, Input, Key, Move, Page, PatternRejected, Range, RangesRejected, Style, TextArea, WrapMode,
+    Area, ChangeUnit, Input, Key, Move, Page, PatternRejected, Range, RangesRejected, Style, TextArea,
+    WrapMode,
 )
 
 ESCAPES = {"\\": "\\\\", "\n": "\\n", "\r": "\\r", "\t": "\\t"}
@@ -50,6 +51,11 @@ def truth(value):
 def value_of(words, kind):
     """The value of this type of Rust that the words of a command write."""
     return words == "true" if kind == "bool" else int(words)
+
+
+def change_in_words(change):
+    (row, column), (end_row, end_column) = change.start, change.end
+    return f"{row}:{column}..{end_row}:{end_column}" + "".join("|" + escaped(line) for line in change.lines)
 
 
 class Replay:
@@ -139,6 +145,10 @@ class Replay:
             area.mask_char = None
         elif name == "line_numbers":
             area.line_number_style = Style() if words == "true" else None
+        elif name == "set_change_log":
+            area.set_change_log(None if words == "None" else ChangeUnit[words.upper()])
+        elif name == "take_changes":
+            return " ".join(["changes", *map(change_in_words, area.take_changes())])
         elif name == "now":
             area.set_now(numbers[0] * 1_000_000)
         else:

@@ -9,8 +9,8 @@ import unittest
 
 import textarea
 from textarea import (
-    Alignment, Area, Block, Borders, Color, CursorRenderMode, Input, Key, Line, Modifier, Move,
-    Padding, Page, PatternRejected, Range, RangesRejected, Reason, Side, Span, Style, TextArea,
+    Alignment, Area, Block, Borders, ChangeUnit, Color, CursorRenderMode, Input, Key, Line, Modifier,
+    Move, Padding, Page, PatternRejected, Range, RangesRejected, Reason, Side, Span, Style, TextArea,
     WrapMode, in_curses,
 )
 from textarea.terminal import LEFT, RIGHT, Mouse, MouseKind, Paste
@@ -174,6 +174,22 @@ class Calls(unittest.TestCase):
         self.assertEqual((area.lines[0], area.atomic_ranges), (" two", [(1, 0, 5)]))
         area.clear_atomic_ranges()
         self.assertEqual(area.atomic_ranges, [])
+
+    def test_changes(self):
+        area = TextArea("é\nx")
+        area.insert_char("a")
+        self.assertEqual(area.take_changes(), [])
+        area.set_change_log(ChangeUnit.BYTES)
+        area.go_to(0, 2)
+        area.insert_str("b\nc")
+        area.delete_str(2)
+        self.assertEqual(area.take_changes(), [((0, 3), (0, 3), ["b", "c"]), ((1, 1), (2, 1), [""])])
+        area.set_lines(["one\ntwo", ""])
+        self.assertEqual(area.copy_area().take_changes(), [])
+        self.assertEqual(area.take_changes(), [((0, 0), (1, 1), ["one\ntwo", ""])])
+        area.set_change_log(None)
+        area.insert_char("a")
+        self.assertEqual(area.take_changes(), [])
 
     def test_settings(self):
         area = TextArea("one two three")

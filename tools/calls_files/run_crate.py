@@ -21,6 +21,7 @@ ANSWERS = {
     "WrapMode": "WrapMode",
     "usize": "Number",
     "Option<usize>": "NumberIfAny",
+    "Vec<TextChange>": "Changes",
 }
 
 

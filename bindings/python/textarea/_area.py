@@ -10,9 +10,11 @@ from . import _sys
 from ._calls import Calls
 from ._core import lines_of, passed_lines, passed_list, passed_text, sizes
 from ._data import (
-    Area, Block, Cell, Color, Input, Line, Measure, Padding, Range, Span, Style, Viewport,
+    Area, Block, Cell, Change, Color, Input, Line, Measure, Padding, Range, Span, Style, Viewport,
 )
-from ._enums import Alignment, Borders, CursorRenderMode, Modifier, Move, Page, Side, WrapMode
+from ._enums import (
+    Alignment, Borders, ChangeUnit, CursorRenderMode, Modifier, Move, Page, Side, WrapMode,
+)
 from ._library import lib
 
 
@@ -127,6 +129,28 @@ class TextArea(Calls):
         """Sets the time of the edits that follow, from any fixed time, instead of a clock's."""
         self._start = None
         self._call(lib.ta_set_now, nanoseconds)
+
+    # ---- What changed
+
+    def set_change_log(self, unit: Optional[ChangeUnit]) -> None:
+        """Begins a log of what changes in the text, with columns in this unit, or ends it for None.
+        The changes in the log before are forgotten."""
+        if unit is None:
+            self._call(lib.ta_remove_change_log)
+        else:
+            self._call(lib.ta_set_change_log, unit)
+
+    def take_changes(self) -> List[Change]:
+        """Returns what changed in the text since this was last called, or since the log began;
+        nothing without a log. The changes, one after another, lead from the text then to the text
+        now."""
+        (count,) = self._numbers(ctypes.c_size_t, 1, lib.ta_take_changes)
+        return [self._change(index) for index in range(count)]
+
+    def _change(self, index: int) -> Change:
+        found = self._numbers(ctypes.c_size_t, 5, lib.ta_change, index)
+        lines = [self._text(lib.ta_change_line, index, row) for row in range(found[4])]
+        return Change(found[:2], found[2:4], lines)
 
     # ---- Moves and selection
 

@@ -18,6 +18,7 @@ macro_rules! on {
 pub(crate) use on;
 
 pub mod appearance;
+pub mod changes;
 pub mod decoder;
 pub mod edits;
 pub mod history;

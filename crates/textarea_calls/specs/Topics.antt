@@ -11,6 +11,8 @@ use Rattle.textarea_calls.specs.declared.topic.RemoveCall.{RemoveCall}
 use Rattle.textarea_calls.specs.declared.topic.RemoveCall.TheVariants as remove
 use Rattle.textarea_calls.specs.declared.topic.HistoryCall.{HistoryCall}
 use Rattle.textarea_calls.specs.declared.topic.HistoryCall.TheVariants as history
+use Rattle.textarea_calls.specs.declared.topic.ChangesCall.{ChangesCall}
+use Rattle.textarea_calls.specs.declared.topic.ChangesCall.TheVariants as changes
 use Rattle.textarea_calls.specs.declared.topic.SelectCall.{SelectCall}
 use Rattle.textarea_calls.specs.declared.topic.SelectCall.TheVariants as select
 use Rattle.textarea_calls.specs.declared.topic.MoveCall.{MoveCall}
@@ -61,6 +63,10 @@ call_of_history history.BeginUndoGroup = call.BeginUndoGroup
 call_of_history history.EndUndoGroup = call.EndUndoGroup
 call_of_history history.EndRun = call.EndRun
 call_of_history (history.SetNow time) = call.SetNow time
+
+abbrev pub call_of_changes : ChangesCall → Call
+call_of_changes (changes.SetChangeLog unit) = call.SetChangeLog unit
+call_of_changes changes.TakeChanges = call.TakeChanges
 
 abbrev pub call_of_select : SelectCall → Call
 call_of_select select.StartSelection = call.StartSelection
@@ -157,6 +163,7 @@ abbrev pub call_of : Topic → Call
 call_of (topic.Insert asked) = call_of_insert asked
 call_of (topic.Remove asked) = call_of_remove asked
 call_of (topic.History asked) = call_of_history asked
+call_of (topic.Changes asked) = call_of_changes asked
 call_of (topic.Select asked) = call_of_select asked
 call_of (topic.Move asked) = call_of_move asked
 call_of (topic.Search asked) = call_of_search asked

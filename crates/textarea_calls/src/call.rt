@@ -2,6 +2,7 @@
 //! The calls of a text area, as data.
 
 use std::time::Duration;
+use textarea_change::ChangeUnit;
 use textarea_data::cursor::{CursorMove, CursorRenderMode};
 use textarea_data::input::Input;
 use textarea_data::range::{AtomicCursorBias, AtomicDeleteDirection, AtomicRange};
@@ -80,6 +81,10 @@ pub enum Call<'a> {
     EndRun,
     /// `TextArea::set_now`
     SetNow(Duration),
+    /// `TextArea::set_change_log`
+    SetChangeLog(Option<ChangeUnit>),
+    /// `TextArea::take_changes`
+    TakeChanges,
     /// `TextArea::start_selection`
     StartSelection,
     /// `TextArea::cancel_selection`

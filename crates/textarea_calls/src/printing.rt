@@ -1,6 +1,7 @@
 //! Prints the results of calls.
 use crate::answer::Answer;
 use std::fmt;
+use textarea_change::TextChange;
 use textarea_data::range::{AtomicRange, AtomicRangeRejectReason};
 
 impl fmt::Display for Answer {
@@ -39,8 +40,22 @@ impl fmt::Display for Answer {
             Answer::Selection(ends) => write!(f, "{ends:?}"),
             Answer::StyleIfVisible(style) => write!(f, "{style:?}"),
             Answer::WrapMode(mode) => write!(f, "{mode:?}"),
+            Answer::Changes(changes) => write_changes(f, changes.as_slice()),
         }
     }
+}
+
+// Writes each change as its start, its end, and the inserted lines, each after a bar.
+fn write_changes<W: fmt::Write>(f: &mut fmt::Formatter<W>, changes: &[TextChange]) -> fmt::Result {
+    write!(f, "changes")?;
+    for change in changes {
+        let ((row, column), end) = (change.start, change.end);
+        write!(f, " {row}:{column}..{}:{}", end.0, end.1)?;
+        for line in &change.lines {
+            write!(f, "|{}", Escaped(line.as_str()))?;
+        }
+    }
+    Ok(())
 }
 
 // A range, printed as its row, its first column and the column after its last one.

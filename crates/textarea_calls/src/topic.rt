@@ -5,6 +5,7 @@ ghost use Rattle.textarea_calls.specs.Topics.{call_of, draws};
 
 use crate::call::Call;
 use std::time::Duration;
+use textarea_change::ChangeUnit;
 use textarea_data::cursor::{CursorMove, CursorRenderMode};
 use textarea_data::input::Input;
 use textarea_data::range::{AtomicCursorBias, AtomicDeleteDirection, AtomicRange};
@@ -18,6 +19,7 @@ pub enum Topic<'a> {
     Insert(InsertCall<'a>),
     Remove(RemoveCall),
     History(HistoryCall),
+    Changes(ChangesCall),
     Select(SelectCall<'a>),
     Move(MoveCall),
     Search(SearchCall<'a>),
@@ -76,6 +78,13 @@ pub enum HistoryCall {
     EndUndoGroup,
     EndRun,
     SetNow(Duration),
+}
+
+/// What changed in the text.
+#[derive(Clone, Copy)]
+pub enum ChangesCall {
+    SetChangeLog(Option<ChangeUnit>),
+    TakeChanges,
 }
 
 /// The selection, and what is yanked.
@@ -241,6 +250,8 @@ pub fn topic_of(call: Call<'_>) -> Topic<'_>
         Call::EndUndoGroup => Topic::History(HistoryCall::EndUndoGroup),
         Call::EndRun => Topic::History(HistoryCall::EndRun),
         Call::SetNow(time) => Topic::History(HistoryCall::SetNow(time)),
+        Call::SetChangeLog(unit) => Topic::Changes(ChangesCall::SetChangeLog(unit)),
+        Call::TakeChanges => Topic::Changes(ChangesCall::TakeChanges),
         Call::StartSelection => Topic::Select(SelectCall::StartSelection),
         Call::CancelSelection => Topic::Select(SelectCall::CancelSelection),
         Call::SelectAll => Topic::Select(SelectCall::SelectAll),

@@ -2,7 +2,7 @@
 // The calls of each topic, made on a text area.
 ghost use Rattle.std.specs.Prelude.{◌≡◌, IfOk, OnErr};
 ghost use Rattle.textarea_calls.specs.Possible.{CanBeMade};
-ghost use Rattle.textarea_calls.specs.Topics.{call_of_appearance, call_of_history, call_of_insert, call_of_keys, call_of_move, call_of_options, call_of_ranges, call_of_read, call_of_remove, call_of_search, call_of_select};
+ghost use Rattle.textarea_calls.specs.Topics.{call_of_appearance, call_of_changes, call_of_history, call_of_insert, call_of_keys, call_of_move, call_of_options, call_of_ranges, call_of_read, call_of_remove, call_of_search, call_of_select};
 ghost use Rattle.tui_textarea.specs.CallResults.{call_result};
 ghost use Rattle.tui_textarea.specs.Outcomes.{IsAfterCall, IsResultOf, RanOutOfMemory};
 
@@ -11,8 +11,8 @@ use crate::special;
 use std::alloc::AllocError;
 use textarea_calls::Answer;
 use textarea_calls::topic::{
-    AppearanceCall, HistoryCall, InsertCall, KeysCall, MoveCall, OptionsCall, RangesCall, ReadCall,
-    RemoveCall, SearchCall, SelectCall,
+    AppearanceCall, ChangesCall, HistoryCall, InsertCall, KeysCall, MoveCall, OptionsCall,
+    RangesCall, ReadCall, RemoveCall, SearchCall, SelectCall,
 };
 use tui_textarea::TextArea;
 
@@ -106,6 +106,23 @@ pub(crate) fn history_call(area: &mut TextArea<'_>, call: HistoryCall) -> Result
             area.set_now(time);
             Ok(Answer::Done)
         }
+    }
+}
+
+/// What changed in the text.
+pub(crate) fn changes_call(area: &mut TextArea<'_>, call: ChangesCall) -> Result<Answer, AllocError>
+    ensures answer { IfOk result
+        (λ answer. IsResultOf area.old (call_of_changes call) (call_result answer)) }
+    ensures ok { IfOk result
+        (λ answer. IsAfterCall area.old (call_of_changes call) (call_result answer) area.new) }
+    ensures err { OnErr result (RanOutOfMemory area.old (call_of_changes call) area.new) }
+{
+    match call {
+        ChangesCall::SetChangeLog(unit) => {
+            area.set_change_log(unit);
+            Ok(Answer::Done)
+        }
+        ChangesCall::TakeChanges => Ok(Answer::Changes(area.take_changes())),
     }
 }
 

@@ -19,7 +19,7 @@ use Rattle.textarea_text.specs.Place.{Place, place_of}
 use Rattle.textarea_text.specs.Splice.{Splice}
 use Rattle.textarea_text.specs.Text.{characters_of, lines, lines_of, text_of}
 use Rattle.textarea_text.proofs.Befores.{text_place}
-use Rattle.textarea_document.specs.Changes.{with_lines_replaced}
+use Rattle.textarea_document.specs.Changes.{no_changes, with_lines_replaced}
 use Rattle.textarea_document.specs.DocumentState.{DocumentState, fresh_document}
 use Rattle.textarea_document.specs.Outcomes.{after_edit, after_redo, after_undo}
 use Rattle.textarea_document.specs.Selection.{lines_duplicated, selection_duplication}
@@ -79,7 +79,8 @@ pub record Past (Own : Fact) : Type 0 where
 -- ---- calls
 
 -- the fact of a call, by its splices and the state after it: an undo and a redo have one of their
--- own, and of calls that replace lines, ranges or the layout, and of inputs, nothing is stated
+-- own, and of calls that replace lines, ranges, the log of changes or the layout, and of inputs,
+-- nothing is stated
 abbrev pub ByState : Fact → Fact → Call → DocumentState → List Splice → DocumentState → Type 0
 ByState By Past call.Undo old splices new = Past old splices new
 ByState By Past call.Redo old splices new = Past old splices new
@@ -93,6 +94,8 @@ ByState By Past call.RemoveLineNumber old splices new = Unit {0}
 ByState By Past (call.SetAlignment alignment) old splices new = Unit {0}
 ByState By Past (call.TrySetAtomicRanges ranges) old splices new = Unit {0}
 ByState By Past call.ClearAtomicRanges old splices new = Unit {0}
+ByState By Past (call.SetChangeLog unit) old splices new = Unit {0}
+ByState By Past call.TakeChanges old splices new = Unit {0}
 ByState By Past (call.Render area) old splices new = Unit {0}
 ByState By Past made old splices new = By old splices new
 
@@ -206,6 +209,8 @@ module _ (By Own : Fact) (by : Reckoning By) (past : Past Own) where
   by_state old (call.TrySetAtomicRanges ranges) h = (tt, λ can. sound_ranges (rejected_ranges old ranges.now) old ranges.now h refl)
   by_state old call.ClearAtomicRanges h =
       (tt, λ can. record { cursor = h.cursor; anchor = h.anchor; ranges = valid_none (lines old.document.text); in_order = refl; undo = h.undo; redo = h.redo; bounded = h.bounded; marks = h.marks; whole = h.whole })
+  by_state old (call.SetChangeLog unit) h = (tt, λ can. sound_changes old.document (no_changes unit) h)
+  by_state old call.TakeChanges h = (tt, λ can. sound_changes old.document (no_changes old.document.changes.unit) h)
   by_state old (call.Render area) h = (tt, λ can. h)
   by_state old made h = given _ (kept By by old.document (state_after old made).document refl h)
 

@@ -19,7 +19,7 @@ use Rattle.textarea_document.specs.Replacing.{range_splices, replaces, stretch_s
 use Rattle.textarea_document.specs.Selection.{is_selected, lines_duplicated, selection_duplication}
 use Rattle.textarea_document.specs.Selection as document_selection
 use Rattle.textarea_document.specs.Splices.{after_splices, before_splices, break_splices, cursor_range_splices, redo_splices, selected_splices, undo_splices}
-use Rattle.tui_textarea.specs.State.{State, with_document, with_other_lines}
+use Rattle.tui_textarea.specs.State.{State, with_change_log, with_changes_taken, with_document, with_other_lines}
 use Rattle.tui_textarea.specs.Splices.{ahead_splices, char_splices, clear_splices, line_end_splices, line_head_splices, selected_splices_or, str_splices, tab_splices, word_after_splices, word_before_splices}
 use Rattle.tui_textarea.specs.Edits.{inserts_tab, inserts_text, char_inserted, newline_inserted, tab_inserted, str_inserted}
 use Rattle.tui_textarea.specs.Grouping.{typing_ended, undo_group_begun, undo_group_ended}
@@ -82,6 +82,7 @@ result_of_call state call.Cut = Flag (is_selected state.document)
 result_of_call state call.Paste = Flag (has_symbols state.yank)
 result_of_call state call.Undo = Flag (is_some (newest state.document.log))
 result_of_call state call.Redo = Flag (is_some (next state.document.log))
+result_of_call state call.TakeChanges = reported.Changes state.document.changes.made
 result_of_call state call.Text = Text (fragment_text state.document.text)
 result_of_call state (call.TextRange from to) = Text (fragment_text (stretch_symbols state.document.text from to))
 result_of_call state call.YankText = Text (fragment_text state.yank)
@@ -150,6 +151,8 @@ state_after state call.Copy = selection_copied state
 state_after state call.Paste = str_inserted state state.yank
 state_after state call.Undo = with_document state (after_undo state.document)
 state_after state call.Redo = with_document state (after_redo state.document)
+state_after state (call.SetChangeLog unit) = with_change_log state unit
+state_after state call.TakeChanges = with_changes_taken state
 state_after state (call.SetYankText text) = record state { yank = fragment_symbols (chars text.now) }
 state_after state call.YankText = state
 state_after state (call.TrySetAtomicRanges ranges) = with_ranges_if (rejected_ranges state ranges.now) state ranges.now

@@ -32,4 +32,5 @@ pub mod Patterns
 pub mod Run
 pub mod CallSplices
 pub mod CallResults
+pub mod ChangesOverCalls
 pub mod Prelude

@@ -55,6 +55,7 @@ pub use Rattle.tui_textarea.specs.CallSplices.{OfSplicesOutOfMemory, splices_of}
 pub use Rattle.tui_textarea.specs.CallWraps.{WrapsByCall}
 pub use Rattle.tui_textarea.specs.CaretHit.{IsCaretHit, IsCursorAtCaret}
 pub use Rattle.tui_textarea.specs.CaretVisible.{IsCaretVisible}
+pub use Rattle.tui_textarea.specs.ChangesOverCalls.{ChangesFollow, ChangesOfRun, SetsLog, taken_by}
 pub use Rattle.tui_textarea.specs.Drawing.{IsRendered, widget_of}
 pub use Rattle.tui_textarea.specs.DrawnFrame.{frame_of}
 pub use Rattle.tui_textarea.specs.Edits.{char_inserted, char_or_break_inserted, inserts_tab, inserts_text, line_broken, newline_inserted, spaces_to_stop, str_inserted, symbols_or_none_inserted, tab_inserted, tab_or_spaces_inserted}

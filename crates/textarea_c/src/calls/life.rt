@@ -15,7 +15,8 @@ use textarea_c_data::status::{INVALID_ARGUMENT, OK, OUT_OF_MEMORY};
 use textarea_screen::screen::{Buffer, Rect};
 use tui_textarea::TextArea;
 
-// Returns an editor of this text area, on the heap, with an empty screen and nothing rejected.
+// Returns an editor of this text area, on the heap, with an empty screen, nothing rejected, and no
+// changes taken.
 fn editor_of(alloc: Global, area: TextArea<'static>) -> Result<Box<Editor>, AllocError>
     ensures { IfOk result (λ editor. IsEditorOf area.entry editor.value) }
 {
@@ -31,6 +32,7 @@ fn editor_of(alloc: Global, area: TextArea<'static>) -> Result<Box<Editor>, Allo
         screen,
         rejected: Vec::new(alloc),
         pattern_error: String::new(alloc),
+        changes: Vec::new(alloc),
     };
     Ok(Box::new(alloc, editor)?)
 }
@@ -114,8 +116,8 @@ pub extern "C" fn ta_free(handle: &mut Handle, alloc: Global)
 }
 
 /// Makes a copy of the text area, with its history, behind another handle, `copy`. A text area that
-/// was behind that one is freed. The copy's screen has no cells, and it has no rejected ranges or
-/// pattern.
+/// was behind that one is freed. The copy's screen has no cells, it has no rejected ranges or
+/// pattern, and its log of changes is empty.
 ///
 /// Statuses: ok, out of memory, empty handle. Where it is not ok, `copy` stays as it was.
 #[unsafe(no_mangle)]

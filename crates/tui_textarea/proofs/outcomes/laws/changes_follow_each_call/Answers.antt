@@ -1,4 +1,4 @@
-use Rattle.tui_textarea.proofs.ChangesOverCalls.{TheLaws, call_leads, left_leads}
+use Rattle.tui_textarea.proofs.ChangesOverCalls.{TheLaws, call_follows, left_leads}
 use Rattle.tui_textarea.proofs.outcomes.laws.changes_follow_each_call.Goals as goal
 
 pub returns : goal.returns
@@ -9,4 +9,4 @@ returns c =
       redone = c.changes_lead.ensures.redone;
       lines = c.changes_lead.ensures.lines;
     } in
-    record { made = call_leads laws; out_of_memory = left_leads laws }
+    record { made = call_follows laws; out_of_memory = left_leads laws }
