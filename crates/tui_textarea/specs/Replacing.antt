@@ -20,8 +20,8 @@ is_outside ranges place = not (is_some (range_around ranges place))
 
 -- Neither end of the match is strictly inside an atomic range: it overlaps none, or contains each
 -- that it overlaps.
-abbrev pub is_whole : List AtomicRange → TextMatch → Bool
-is_whole ranges found =
+abbrev pub cuts_no_range : List AtomicRange → TextMatch → Bool
+cuts_no_range ranges found =
     is_outside ranges (found.row, found.columns.0) && is_outside ranges (found.row, found.columns.1)
 
 -- the matches of the pattern in these lines that can be replaced; the first line has this row, and
@@ -29,7 +29,7 @@ is_whole ranges found =
 abbrev pub whole_matches : List AtomicRange → Option (List ℕ) → ℕ → List (List ℕ) → List TextMatch
 whole_matches ranges None row lines = []
 whole_matches ranges (Some pattern) row lines =
-    filter (is_whole ranges) (matches_from (match_column_pairs pattern) row 0 (map encode_utf8_all lines))
+    filter (cuts_no_range ranges) (matches_from (match_column_pairs pattern) row 0 (map encode_utf8_all lines))
 
 -- for each match of the text that can be replaced, the numbers of symbols before its start and
 -- before its end

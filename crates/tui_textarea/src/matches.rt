@@ -2,7 +2,7 @@
 ghost use Rattle.std.specs.Prelude.{◌≡◌, ◌≤◌, ◌+◌, length, IfOk, IsOk, None};
 ghost use Rattle.textarea_ranges.specs.Lookup.{AreApart};
 ghost use Rattle.tui_textarea.specs.Prelude.{lines_of, size_limit, size_of};
-ghost use Rattle.tui_textarea.specs.Replacing.{is_outside, is_whole, whole_matches};
+ghost use Rattle.tui_textarea.specs.Replacing.{is_outside, cuts_no_range, whole_matches};
 
 use std::alloc::{AllocError, Global};
 use textarea_data::range::AtomicRange;
@@ -29,13 +29,13 @@ pub(crate) fn whole_matches(
         return Ok(Vec::new(alloc));
     };
     let mut matches = matcher.text_matches(first_row, lines)?;
-    matches.retain(|found| is_whole(ranges, *found));
+    matches.retain(|found| cuts_no_range(ranges, *found));
     Ok(matches)
 }
 
-fn is_whole(ranges: &[AtomicRange], found: TextMatch) -> bool
+fn cuts_no_range(ranges: &[AtomicRange], found: TextMatch) -> bool
     requires { AreApart ranges.now }
-    ensures { result ≡ is_whole ranges.now found }
+    ensures { result ≡ cuts_no_range ranges.now found }
 {
     is_outside(ranges, (found.row, found.columns.0))
         && is_outside(ranges, (found.row, found.columns.1))
