@@ -9,7 +9,8 @@ use Rattle.textarea_text.specs.Place.{Place}
 use Rattle.textarea_text.specs.Splice.{Fits, Splice}
 use Rattle.textarea_text.specs.Text.{Symbol, lines_of}
 use Rattle.textarea_change.specs.declared.change.ChangeUnit.{ChangeUnit}
-use Rattle.textarea_document.specs.Changes.{ChangeView, Changes as Log}
+use Rattle.textarea_search.specs.PlainTexts.{text_pattern}
+use Rattle.textarea_document.specs.Changes.{ChangeView, LoggedChanges as Log}
 use Rattle.textarea_document.specs.ChangesLead.{ChangesLead}
 use Rattle.textarea_document.specs.DocumentState.{DocumentState, changes_taken, lines_replaced}
 use Rattle.textarea_document.specs.Outcomes.{after_edit, after_redo, after_undo}
@@ -67,6 +68,7 @@ pattern_taken state text returned h = ap taken_by h
 none_taken : (state : State) (made : Call) (returned : CallResult) → ¬ Takes made → IsResultOf state made returned → taken_by returned ≡ []
 none_taken state call.TakeChanges returned none h = absurd (none tt)
 none_taken state (call.SetSearchPattern text) returned none h = pattern_taken state text.now returned h
+none_taken state (call.SetSearchText text ignore_case whole_word) returned none h = pattern_taken state (text_pattern text.now ignore_case whole_word) returned h
 none_taken state (call.Measure width) (Measured measure) none h = refl
 none_taken state (call.Measure width) returned none h = absurd h
 none_taken state (call.CursorAtPosition cell) (PlaceFound place) none h = refl

@@ -10,7 +10,7 @@ use Rattle.textarea_calls.specs.declared.call.Call.{Call}
 use Rattle.textarea_change.specs.declared.change.ChangeUnit.{ChangeUnit}
 use Rattle.textarea_screen.specs.declared.screen.buffer.Buffer.{Buffer}
 use Rattle.textarea_text.specs.Text.{Symbol}
-use Rattle.textarea_document.specs.Changes.{ChangeView, Changes as Log, changed_by_all}
+use Rattle.textarea_document.specs.Changes.{ChangeView, LoggedChanges as Log, changed_by_all}
 use Rattle.textarea_document.specs.ChangesLead.{ChangesLead}
 use Rattle.textarea_document.specs.DocumentState.{DocumentState}
 use Rattle.textarea_document.specs.Sound.{IsSound}
