@@ -1,4 +1,3 @@
-mod EachSymbol
 mod Ends
 mod Halves
 mod Heights
@@ -10,5 +9,4 @@ mod Playing
 mod Reverting
 mod Saving
 mod Sending
-mod TypedLines
 mod Written

@@ -5,11 +5,17 @@ use Rattle.std.proofs.lemmas.List.{append-nil, drop_more, map-append}
 use Rattle.std.specs.Option.{option_map, option_to_list}
 use Rattle.textarea_data.specs.declared.input.Key.{Key}
 use Rattle.textarea_data.specs.declared.input.Key.TheVariants as keys
-use Rattle.textarea_text.specs.Text.{characters_of, lines_of}
+use Rattle.textarea_text.specs.Fragment.{fragment_text}
+use Rattle.textarea_text.specs.Text.{characters, characters_of, lines_of}
 use Rattle.tui_textarea.specs.Edits.{breaks_line}
 use Rattle.tui_textarea.specs.State.{State}
 use Rattle.textarea_uses.specs.Prompt.{sent, sent_by, typed_after}
-use Rattle.textarea_uses.specs.TypedLine.{IsTypedLine}
+use Rattle.tui_textarea.specs.TypedLine.{IsTypedLine}
+
+-- the characters of a line, as they are written
+pub written_characters : (typed : List ℕ) → fragment_text (characters typed) ≡ typed
+written_characters [] = refl
+written_characters (c ∷ cs) = ap (λ (rest : List ℕ). c ∷ rest) (written_characters cs)
 
 pub sent_first : (key : Key) (typed : List ℕ) (keys : List Key) → sent typed (key ∷ keys) ≡ option_to_list (sent_by key typed) ++ sent (typed_after key typed) keys
 sent_first keys.Enter typed rest = refl

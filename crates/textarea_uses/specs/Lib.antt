@@ -7,4 +7,3 @@ pub mod Prompt
 pub mod Recorder
 pub mod Save
 pub mod SideBySide
-pub mod TypedLine

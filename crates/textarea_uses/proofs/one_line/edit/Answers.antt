@@ -3,7 +3,7 @@ use Rattle.textarea_calls.specs.declared.call.Call.TheVariants as call
 use Rattle.tui_textarea.specs.Calls.{result_of_call}
 use Rattle.tui_textarea.specs.CallSplices.{splices_of}
 use Rattle.textarea_uses.specs.OneLine.{StaysInLine}
-use Rattle.textarea_uses.proofs.EachSymbol.{only_after_call, only_delete_char, only_delete_next_char, only_tab}
+use Rattle.tui_textarea.proofs.EachSymbol.{only_after_call, only_delete_char, only_delete_next_char, only_tab}
 use Rattle.textarea_uses.proofs.one_line.edit.Goals as goal
 
 pub returns-in-InsertTab : goal.returns-in-InsertTab

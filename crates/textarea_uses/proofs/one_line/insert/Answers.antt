@@ -5,7 +5,7 @@ use Rattle.tui_textarea.specs.CallResults.{Done}
 use Rattle.tui_textarea.specs.CallSplices.{splices_of}
 use Rattle.tui_textarea.specs.Edits.{breaks_line}
 use Rattle.textarea_uses.specs.OneLine.{StaysInLine}
-use Rattle.textarea_uses.proofs.EachSymbol.{only_after_call, only_char}
+use Rattle.tui_textarea.proofs.EachSymbol.{only_after_call, only_char}
 use Rattle.textarea_uses.proofs.one_line.insert.Goals as goal
 
 pub returns-in_err-insert_char : goal.returns-in_err-insert_char
