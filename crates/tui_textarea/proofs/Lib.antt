@@ -16,6 +16,10 @@ pub mod Grouping
 mod UndoneAtOnce
 pub mod FragmentTexts
 pub mod Searches
+pub mod EachSymbol
+mod TypedLines
+mod MatchOrder
+mod MatchSteps
 mod OneTarget
 pub mod Frames
 mod OneAct

@@ -11,7 +11,7 @@ use Rattle.textarea_document.specs.DocumentState.{DocumentState}
 use Rattle.tui_textarea.specs.Search.{starts_in}
 
 -- the bytes of lines, by their characters
-bytes_of : (strings : List (String Global)) → map string_bytes strings ≡ map encode_utf8_all (lines_of strings)
+pub bytes_of : (strings : List (String Global)) → map string_bytes strings ≡ map encode_utf8_all (lines_of strings)
 bytes_of [] = refl
 bytes_of (s ∷ strings) =
     ap (λ (line : List ℕ). line ∷ map string_bytes strings) (sym (encodes-chars (string_bytes s) (IsUtf8-string_bytes s)))

@@ -32,4 +32,6 @@ pub mod Patterns
 pub mod Run
 pub mod CallSplices
 pub mod CallResults
+pub mod TypedLine
+pub mod Matches
 pub mod Prelude

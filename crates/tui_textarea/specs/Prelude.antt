@@ -57,7 +57,8 @@ pub use Rattle.tui_textarea.specs.CaretHit.{IsCaretHit, IsCursorAtCaret}
 pub use Rattle.tui_textarea.specs.CaretVisible.{IsCaretVisible}
 pub use Rattle.tui_textarea.specs.Drawing.{IsRendered, widget_of}
 pub use Rattle.tui_textarea.specs.DrawnFrame.{frame_of}
-pub use Rattle.tui_textarea.specs.Edits.{char_inserted, char_or_break_inserted, inserts_tab, inserts_text, line_broken, newline_inserted, spaces_to_stop, str_inserted, symbols_or_none_inserted, tab_inserted, tab_or_spaces_inserted}
+pub use Rattle.tui_textarea.specs.Edits.{breaks_line, char_inserted, char_or_break_inserted, inserts_tab, inserts_text}
+pub use Rattle.tui_textarea.specs.Edits.{line_broken, newline_inserted, spaces_to_stop, str_inserted, symbols_or_none_inserted, tab_inserted, tab_or_spaces_inserted}
 pub use Rattle.tui_textarea.specs.Frames.{HasLayoutFor}
 pub use Rattle.tui_textarea.specs.GroupLaw.{IsEditUndoneAtOnce, IsInsertion, IsUndoneAtOnce}
 pub use Rattle.tui_textarea.specs.Grouping.{call_begun, call_ended, closed_if, opens_group, typing_ended, undo_group_begun, undo_group_ended, with_group}
@@ -76,7 +77,9 @@ pub use Rattle.tui_textarea.specs.Removals.{symbol_after_removed, symbol_before_
 pub use Rattle.tui_textarea.specs.Removals.{word_before_removed, yanked}
 pub use Rattle.tui_textarea.specs.Rendered.{IsDrawn}
 pub use Rattle.tui_textarea.specs.Run.{Leads, Run, ShowsSame}
-pub use Rattle.tui_textarea.specs.Search.{after_search, found_match, match_count, match_index, next_match, previous_match, with_pattern, with_search_text}
+pub use Rattle.tui_textarea.specs.Search.{after_search, found_match, match_count, match_index, next_match, previous_match, starts_in, with_pattern, with_search_text}
 pub use Rattle.tui_textarea.specs.Selection.{IsInsertOutOfMemory, all_selected, selection_cancelled, selection_copied, selection_cut, selection_started, unselected}
 pub use Rattle.tui_textarea.specs.State.{State, default_settings, new_state, text_of_each, with_change_log, with_changes_taken, with_document, with_other_lines}
 pub use Rattle.tui_textarea.specs.TextAreaLaw.{HasRowsFromScratch, PastesCopy}
+pub use Rattle.tui_textarea.specs.Matches.{AreInTextOrder, LeadsToFirstMatch, LeadsToMatchAfter}
+pub use Rattle.tui_textarea.specs.TypedLine.{IsTypedLine}

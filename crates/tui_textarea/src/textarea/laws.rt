@@ -1,6 +1,6 @@
 //! Laws of text areas, each the contract of a function that does nothing.
 ghost use Rattle.std.specs.Prelude.{ℕ, ◌≡◌, ◌<◌, ◌≤◌, Bool, true, IfSome};
-ghost use Rattle.tui_textarea.specs.Prelude.{Call, IsEditUndoneAtOnce, IsInsertion, IsPlace, IsUndoneAtOnce, Fits, Splice, done_groups, RestoresAll, RestoresDocument, ListsFit, after_edit, is_selected, IsSound, HasRowsFromScratch, PastesCopy};
+ghost use Rattle.tui_textarea.specs.Prelude.{Call, IsEditUndoneAtOnce, IsInsertion, IsPlace, IsUndoneAtOnce, Fits, Splice, done_groups, RestoresAll, RestoresDocument, ListsFit, AreInTextOrder, LeadsToFirstMatch, LeadsToMatchAfter, starts_in, after_edit, is_selected, IsSound, HasRowsFromScratch, PastesCopy};
 
 use crate::textarea::TextArea;
 use textarea_lines::laws::one_list_of_rows;
@@ -37,6 +37,17 @@ pub fn calls_are_undone_at_once(area: &TextArea<'_>)
         IsEditUndoneAtOnce area.now.document splice typed now }
 {
     area.document.is_sound();
+}
+
+/// The law of matches, for every text area: their starts are in the order of the text, each once. A
+/// search from one of them goes to the next, and from the last one to the first; a search from the
+/// text's start that may stay there goes to the first.
+pub fn matches_in_order(area: &TextArea<'_>)
+    ensures order { AreInTextOrder (starts_in area.now.pattern area.now.document.text) }
+    ensures after { LeadsToMatchAfter area.now }
+    ensures first { LeadsToFirstMatch area.now }
+{
+    let _ = area.lines();
 }
 
 /// The law of both history lists, for every text area: the done edits can be undone one after
