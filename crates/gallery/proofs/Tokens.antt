@@ -36,6 +36,7 @@ use Rattle.tui_textarea.specs.RangesOverActions.{RangesFollowAction}
 use Rattle.tui_textarea.specs.Selection.{unselected}
 use Rattle.tui_textarea.specs.Splices.{str_splices}
 use Rattle.tui_textarea.specs.State.{State}
+use Rattle.tui_textarea.proofs.Grouping.{str_beside}
 use Rattle.gallery.specs.Mentions.{AreWhole, names}
 
 -- a reference to a value
