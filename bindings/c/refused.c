@@ -74,7 +74,7 @@ static uint32_t wrong(ta_handle_t *a) {
 }
 static uint32_t found(ta_handle_t *a) { return ta_search_forward(a, false); }
 static uint32_t plain_text(ta_handle_t *a) { return ta_set_search_text(a, TEXT("T."), true, true); }
-static uint32_t counted(ta_handle_t *a) {
+static uint32_t matches_counted(ta_handle_t *a) {
     size_t count, index;
     uint32_t status = ta_match_index(a, &index);
     return status > TA_FALSE ? status : ta_match_count(a, &count);
@@ -154,7 +154,7 @@ static uint32_t (*const steps[])(ta_handle_t *) = {
     made,    written, typed,    broken,  selected,  over,       tabbed,      copied, pasted, top,
     typed,   undone,  redone,   wrapped, numbered,  screen,     drawn,       some,   drawn,  next_word,
     to_end,  undone,  undone,   ranges,  bad_ranges, next_char, undone,      pattern, wrong, found,
-    counted, plain_text, counted,
+    matches_counted, plain_text, matches_counted,
     block,   placeholder, styled, highlight, drawn, long_cell,  measured,    yank,   pasted, cloned,
     key,     lines,   key,      drawn,   cleared,   drawn,     loaded,      whole,  pasted_in, replaced, part, cloned,
     terminal_made, fed, taken, idle, screen, drawn, painted, typed, drawn, painted,
