@@ -2,7 +2,6 @@ mod Ends
 mod Halves
 mod Heights
 mod Masking
-mod MatchOrder
 mod MatchSteps
 mod Naming
 mod Playing

@@ -8,6 +8,7 @@ ghost use Rattle.tui_textarea.specs.Search.{starts_in};
 
 use std::alloc::AllocError;
 use tui_textarea::TextArea;
+use tui_textarea::laws::matches_in_order;
 
 /// Steps through all matches of the search pattern, from the text's start on, and returns where they
 /// start. The cursor is then at the first one again.
@@ -17,6 +18,7 @@ pub fn all_matches(area: &mut TextArea<'_>) -> Result<Vec<(usize, usize)>, Alloc
 {
     let mut places = Vec::new(area.allocator());
     area.go_to((0, 0));
+    matches_in_order(area);
     let mut goes_on = area.search_forward(true)?;
     'steps: while goes_on {
         places.push(area.cursor())?;
@@ -34,7 +36,7 @@ fn step(area: &mut TextArea<'_>) -> Result<bool, AllocError>
         starts_in area.old.pattern area.old.document.text ≡ front ++ area.old.document.cursor ∷ back
         → IfOk result (λ after. LeadsToNext back after area.new.document.cursor) }
 {
-    let _ = area.lines();
+    matches_in_order(area);
     let place = area.cursor();
     area.search_forward(false)?;
     Ok(is_after(area.cursor(), place))

@@ -15,7 +15,7 @@ steps-init c =
       pattern = searched_pattern gone new (next_match gone true) c.in_ok-goes_on.ensures.ok ∙ ap (λ (s : State). s.pattern) c.go_to.ensures;
       text = searched_text gone new (next_match gone true) c.in_ok-goes_on.ensures.ok ∙ ap (λ (s : State). s.document.text) c.go_to.ensures;
       listed = subst (λ (places : List Place). AreListed c.in_ok-goes_on.goes_on places new.document.cursor (starts_in old.pattern old.document.text)) (sym c.new-places.ensures.items)
-          (first_listed old gone new c.in_ok-goes_on.goes_on c.go_to.ensures c.in_ok-goes_on.ensures.found c.in_ok-goes_on.ensures.ok);
+          (first_listed old gone new c.in_ok-goes_on.goes_on c.go_to.ensures c.matches_in_order.ensures.first c.in_ok-goes_on.ensures.found c.in_ok-goes_on.ensures.ok);
     }
 
 pub steps-preserved : goal.steps-preserved
