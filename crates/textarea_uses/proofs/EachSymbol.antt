@@ -1,0 +1,123 @@
+-- What the text has after the splices of calls.
+use Rattle.std.proofs.Common.{◌≡◌, ◌∙◌, ◌+◌, ◌==◌, inl, inr, ℕ, Bool, true, false, cond, List, [], ◌∷◌, ◌++◌, length, take, drop, replicate, Option, None, Some, refl, subst, sym}
+use Rattle.std.specs.Prelude.{All, Result, Ok, Err, OnOk, OnErr}
+use Rattle.std.proofs.lemmas.List.Elements.{All-append, All-cons, All-drop, All-nil, All-replicate, All-take}
+use Rattle.textarea_data.specs.declared.range.AtomicRange.{AtomicRange}
+use Rattle.textarea_ranges.specs.Lookup.{range_end, range_start}
+use Rattle.textarea_text.specs.Text.{Symbol, Break, Character}
+use Rattle.textarea_text.specs.Place.{Place, index_of, inserted, removed}
+use Rattle.textarea_text.specs.Splice.{Splice, applied, applied_all, IsTextBefore}
+use Rattle.textarea_calls.specs.declared.call.Call.TheVariants as call
+use Rattle.textarea_document.specs.DocumentState.{DocumentState}
+use Rattle.textarea_document.specs.Edits.{Remove, RemoveAfter, RemoveBefore, is_at_end, is_at_start, range_after, range_before, splice_of_step}
+use Rattle.textarea_document.specs.RangesOverSplices.{RangesStayWhole}
+use Rattle.textarea_document.specs.Selection.{is_selected, selection_end, selection_start}
+use Rattle.textarea_document.specs.Splices.{after_splices, before_splices, insertion_splices, range_splices_or, removal_splices, selected_splices}
+use Rattle.tui_textarea.specs.CallSplices.{OfSplicesOutOfMemory, splices_of}
+use Rattle.tui_textarea.specs.Edits.{breaks_line, spaces_to_stop}
+use Rattle.tui_textarea.specs.LayoutCalls.{tab_length}
+use Rattle.tui_textarea.specs.Selection.{unselected}
+use Rattle.tui_textarea.specs.Splices.{selected_splices_or, str_splices}
+use Rattle.tui_textarea.specs.State.{State}
+
+-- each splice that inserts, inserts only such symbols
+abbrev pub InsertOnly : (Symbol → Type 0) → List Splice → Type 0
+InsertOnly P [] = Unit {0}
+InsertOnly P (splice ∷ rest) = (splice.inserts ≡ true → All P splice.symbols) × InsertOnly P rest
+
+kept_by : (P : Symbol → Type 0) (inserts : Bool) (text symbols : List Symbol) (place : Place) → All P text → (inserts ≡ true → All P symbols)
+    → All P (cond inserts (inserted text place symbols) (removed text place symbols))
+kept_by P true text symbols place all more =
+    All-append P (take (index_of text place) text) (symbols ++ drop (index_of text place) text) (All-take P (index_of text place) text all)
+    (All-append P symbols (drop (index_of text place) text) (more refl) (All-drop P (index_of text place) text all))
+kept_by P false text symbols place all more =
+    All-append P (take (index_of text place) text) (drop (index_of text place + length symbols) text) (All-take P (index_of text place) text all)
+    (All-drop P (index_of text place + length symbols) text all)
+
+kept_over : (P : Symbol → Type 0) (text : List Symbol) (splices : List Splice) → All P text → InsertOnly P splices → All P (applied_all text splices)
+kept_over P text [] all only = all
+kept_over P text (splice ∷ rest) all only =
+    kept_over P (applied text splice) rest (kept_by P splice.inserts text splice.symbols splice.place all only.0) only.1
+
+-- a fact of each symbol of a text stays over splices that insert only such symbols
+pub only_after_splices : (P : Symbol → Type 0) (old new : List Symbol) (splices : List Splice) → IsTextBefore old new splices → All P old → InsertOnly P splices → All P new
+only_after_splices P old new splices before all only = subst (All P) before.leads (kept_over P old splices all only)
+
+-- ---- the splices of calls
+
+only-append : (P : Symbol → Type 0) (xs ys : List Splice) → InsertOnly P xs → InsertOnly P ys → InsertOnly P (xs ++ ys)
+only-append P [] ys h k = k
+only-append P (splice ∷ xs) ys h k = (h.0, only-append P xs ys h.1 k)
+
+only-if : (P : Symbol → Type 0) (b : Bool) (xs ys : List Splice) → InsertOnly P xs → InsertOnly P ys → InsertOnly P (cond b xs ys)
+only-if P true xs ys h k = h
+only-if P false xs ys h k = k
+
+removes : (P : Symbol → Type 0) (splice : Splice) → splice.inserts ≡ false → InsertOnly P (splice ∷ [])
+removes P splice is = ((λ inserts. let no : false ≡ true = sym is ∙ inserts in cc), tt)
+
+pub only_selected : (P : Symbol → Type 0) (document : DocumentState) → InsertOnly P (selected_splices document)
+only_selected P document =
+    only-if P (is_selected document) (removal_splices document (selection_start document) (selection_end document)) []
+    (removes P (splice_of_step document (Remove (selection_start document) (selection_end document))) refl) tt
+
+only_insertion : (P : Symbol → Type 0) (document : DocumentState) (symbols : List Symbol) → All P symbols → InsertOnly P (insertion_splices document symbols)
+only_insertion P document [] all = tt
+only_insertion P document (symbol ∷ symbols) all = ((λ inserts. all), tt)
+
+pub only_str : (P : Symbol → Type 0) (state : State) (symbols : List Symbol) → All P symbols → InsertOnly P (str_splices state symbols)
+only_str P state symbols all =
+    only-append P (selected_splices state.document) (insertion_splices (unselected state).document symbols) (only_selected P state.document)
+    (only_insertion P (unselected state).document symbols all)
+
+only_range_or : (P : Symbol → Type 0) (found : Option AtomicRange) (document : DocumentState) (other : List Splice) → InsertOnly P other → InsertOnly P (range_splices_or found document other)
+only_range_or P None document other h = h
+only_range_or P (Some range) document other h = removes P (splice_of_step document (Remove (range_start range) (range_end range))) refl
+
+only_before : (P : Symbol → Type 0) (document : DocumentState) → InsertOnly P (before_splices document)
+only_before P document =
+    only_range_or P (range_before document) document (cond (is_at_start document) [] (splice_of_step document RemoveBefore ∷ []))
+    (only-if P (is_at_start document) [] (splice_of_step document RemoveBefore ∷ []) tt (removes P (splice_of_step document RemoveBefore) refl))
+
+only_after : (P : Symbol → Type 0) (document : DocumentState) → InsertOnly P (after_splices document)
+only_after P document =
+    only_range_or P (range_after document) document (cond (is_at_end document) [] (splice_of_step document RemoveAfter ∷ []))
+    (only-if P (is_at_end document) [] (splice_of_step document RemoveAfter ∷ []) tt (removes P (splice_of_step document RemoveAfter) refl))
+
+only_selected_or : (P : Symbol → Type 0) (document : DocumentState) (other : List Splice) → InsertOnly P other → InsertOnly P (selected_splices_or document other)
+only_selected_or P document other h = only-if P (is_selected document) (selected_splices document) other (only_selected P document) h
+
+-- what each call inserts: a character; a tab, as a character or as spaces; nothing
+pub only_char : (P : Symbol → Type 0) (state : State) (c : ℕ) → breaks_line c ≡ false → P (Character c) → InsertOnly P (splices_of state (call.InsertChar c))
+only_char P state c breaks p =
+    subst (λ (b : Bool). InsertOnly P (cond b (str_splices state (Break ∷ [])) (str_splices state (Character c ∷ [])))) (sym breaks)
+    (only_str P state (Character c ∷ []) (All-cons P (Character c) [] p (All-nil P)))
+
+pub only_tab : (P : Symbol → Type 0) (state : State) → P (Character 9) → P (Character 32) → InsertOnly P (splices_of state call.InsertTab)
+only_tab P state tab space =
+    let spaces = replicate (spaces_to_stop (unselected state).document (tab_length state.document)) (Character 32) in
+    only-if P (tab_length state.document == 0) (str_splices state []) (cond state.settings.hard_tab_indent (str_splices state (Character 9 ∷ [])) (str_splices state spaces))
+    (only_str P state [] (All-nil P))
+    (only-if P state.settings.hard_tab_indent (str_splices state (Character 9 ∷ [])) (str_splices state spaces)
+    (only_str P state (Character 9 ∷ []) (All-cons P (Character 9) [] tab (All-nil P)))
+    (only_str P state spaces (All-replicate P (spaces_to_stop (unselected state).document (tab_length state.document)) (Character 32) space)))
+
+pub only_delete_char : (P : Symbol → Type 0) (state : State) → InsertOnly P (splices_of state call.DeleteChar)
+only_delete_char P state = only_selected_or P state.document (before_splices state.document) (only_before P state.document)
+
+pub only_delete_next_char : (P : Symbol → Type 0) (state : State) → InsertOnly P (splices_of state call.DeleteNextChar)
+only_delete_next_char P state = only_selected_or P state.document (after_splices state.document) (only_after P state.document)
+
+-- ---- after a call
+
+-- the text after a call that inserts only such symbols, or that ran out of memory, has only such
+-- symbols
+pub only_after_call : {T E : Type 0} (P : Symbol → Type 0) (result : Result T E) (old new : State) (splices : List Splice) {made left : Type 0} → OnOk result made → OnErr result left
+    → (made → RangesStayWhole old.document splices new.document) → (left → OfSplicesOutOfMemory old (λ spliced. RangesStayWhole old.document spliced new.document))
+    → All P old.document.text → InsertOnly P splices → All P new.document.text
+only_after_call P (Ok value) old new splices ok err leads stays all only = only_after_splices P old.document.text new.document.text splices (leads ok).0.text all only
+only_after_call P (Err error) old new splices ok err leads stays all only = by_end (stays err)
+  where
+    by_end : OfSplicesOutOfMemory old (λ spliced. RangesStayWhole old.document spliced new.document) → All P new.document.text
+    by_end (inl kept) = only_after_splices P old.document.text new.document.text [] kept.0.text all tt
+    by_end (inr kept) = only_after_splices P old.document.text new.document.text (selected_splices old.document) kept.0.text all (only_selected P old.document)

@@ -1,0 +1,14 @@
+mod EachSymbol
+mod Ends
+mod Halves
+mod Heights
+mod Masking
+mod MatchOrder
+mod MatchSteps
+mod Naming
+mod Playing
+mod Reverting
+mod Saving
+mod Sending
+mod TypedLines
+mod Written

@@ -1,0 +1,10 @@
+pub mod Height
+pub mod Matches
+pub mod Mentions
+pub mod OneLine
+pub mod Password
+pub mod Prompt
+pub mod Recorder
+pub mod Save
+pub mod SideBySide
+pub mod TypedLine

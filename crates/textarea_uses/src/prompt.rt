@@ -1,0 +1,90 @@
+//! A prompt. Its user can rely on it that what Enter sends is exactly what was typed since the last
+//! Enter.
+ghost use Rattle.std.specs.Prelude.{◌≡◌, ◌++◌, [], IfOk, List, OnErr, OnOk, Some, ℕ};
+ghost use Rattle.std.specs.Option.{option_map, option_to_list};
+ghost use Rattle.textarea_text.specs.Text.{characters_of, lines_of};
+ghost use Rattle.textarea_uses.specs.Prompt.{sent, sent_by, typed_after};
+ghost use Rattle.textarea_uses.specs.TypedLine.{IsTypedLine};
+
+use std::alloc::{AllocError, Global};
+use tui_textarea::{Key, TextArea};
+
+/// A prompt for one line.
+#[derive(Drop)]
+pub struct LinePrompt {
+    area: TextArea<'static>,
+}
+
+impl LinePrompt {
+    /// Returns a prompt in which nothing is typed yet.
+    pub fn new(alloc: Global) -> Result<LinePrompt, AllocError>
+        ensures { IfOk result (λ prompt. IsTypedLine prompt.area []) }
+    {
+        let area = TextArea::try_default(alloc)?;
+        Ok(LinePrompt { area })
+    }
+
+    /// Takes a key. A character is typed, Backspace removes the last one, and Enter sends the text.
+    pub fn take(&mut self, key: Key) -> Result<Option<String>, AllocError>
+        ensures ok { (typed : List ℕ) → IsTypedLine self.old.area typed →
+            IfOk result (λ text. (option_map characters_of text ≡ sent_by key typed)
+            × IsTypedLine self.new.area (typed_after key typed)) }
+        ensures err { (typed : List ℕ) → IsTypedLine self.old.area typed →
+            OnErr result (IsTypedLine self.new.area typed) }
+    {
+        match key {
+            Key::Char(character) if character != '\n' && character != '\r' => {
+                self.area.insert_char(character)?;
+                Ok(None)
+            }
+            Key::Backspace => {
+                self.area.delete_char()?;
+                Ok(None)
+            }
+            Key::Enter => self.send(),
+            _ => Ok(None),
+        }
+    }
+
+    // Returns the text, and empties the prompt.
+    fn send(&mut self) -> Result<Option<String>, AllocError>
+        ensures ok { (typed : List ℕ) → IsTypedLine self.old.area typed →
+            IfOk result (λ text. (option_map characters_of text ≡ Some typed)
+            × IsTypedLine self.new.area []) }
+        ensures err { OnErr result (self.new ≡ self.old) }
+    {
+        let text = self.area.text()?;
+        self.area.clear()?;
+        Ok(Some(text))
+    }
+}
+
+/// Takes the keys, and adds what they send to the texts, one for each Enter.
+pub fn send_all(
+    prompt: &mut LinePrompt,
+    keys: &[Key],
+    texts: &mut Vec<String>,
+) -> Result<(), AllocError>
+    ensures { IsTypedLine prompt.old.area [] → OnOk result
+        (lines_of texts.new.items ≡ lines_of texts.old.items ++ sent [] keys.now) }
+{
+    for key in keys {
+        take_into(prompt, *key, texts)?;
+    }
+    Ok(())
+}
+
+// Takes a key, and adds what it sends to the texts.
+fn take_into(prompt: &mut LinePrompt, key: Key, texts: &mut Vec<String>) -> Result<(), AllocError>
+    ensures { (typed : List ℕ) → IsTypedLine prompt.old.area typed → OnOk result
+        (IsTypedLine prompt.new.area (typed_after key typed) × (lines_of texts.new.items
+        ≡ lines_of texts.old.items ++ option_to_list (sent_by key typed))) }
+{
+    match prompt.take(key)? {
+        Some(text) => {
+            texts.push(text)?;
+            Ok(())
+        }
+        None => Ok(()),
+    }
+}

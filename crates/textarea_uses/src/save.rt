@@ -1,0 +1,89 @@
+//! A text with a saved state. Its user can rely on it that `revert` gives exactly the text that was
+//! saved, whenever the undo history reaches back to it.
+ghost use Rattle.std.specs.Prelude.{◌≡◌, ◌↔◌, IfOk, IsTrue, OnOk};
+ghost use Rattle.textarea_text.specs.Text.{characters_of};
+ghost use Rattle.textarea_uses.specs.Save.{ReachesBack, file_text};
+
+use std::alloc::{AllocError, Global};
+use tui_textarea::laws::undos_restore;
+use tui_textarea::{Input, TextArea};
+
+/// A text, and what was saved last.
+#[derive(Drop)]
+pub struct SavedText {
+    area: TextArea<'static>,
+    saved: String,
+}
+
+impl SavedText {
+    /// Opens a text, which counts as saved.
+    pub fn new(alloc: Global, text: &str) -> Result<SavedText, AllocError>
+        ensures { IfOk result (λ draft. characters_of draft.saved ≡ file_text draft.area) }
+    {
+        let area = TextArea::from_text(alloc, text)?;
+        let saved = area.text()?;
+        Ok(SavedText { area, saved })
+    }
+
+    /// Takes a key. What was saved stays.
+    pub fn take(&mut self, input: Input) -> Result<bool, AllocError>
+        ensures { self.new.saved ≡ self.old.saved }
+    {
+        self.area.input(input)
+    }
+
+    /// Returns the text.
+    pub fn text(&self) -> Result<String, AllocError>
+        ensures { IfOk result (λ text. characters_of text ≡ file_text self.now.area) }
+    {
+        self.area.text()
+    }
+
+    /// Saves the text.
+    pub fn save(&mut self) -> Result<(), AllocError>
+        ensures saved { OnOk result (characters_of self.new.saved ≡ file_text self.new.area) }
+        ensures text { self.new.area ≡ self.old.area }
+    {
+        self.saved = self.area.text()?;
+        Ok(())
+    }
+
+    /// Undoes edits until the text is the saved one, and returns whether it is.
+    pub fn revert(&mut self) -> Result<bool, AllocError>
+        ensures reached { IfOk result (λ reached. IsTrue reached ↔
+            ReachesBack self.old.area.document (characters_of self.old.saved)) }
+        ensures reverted { IfOk result (λ reached. IsTrue reached →
+            file_text self.new.area ≡ characters_of self.old.saved) }
+    {
+        undos_restore(&self.area);
+        'undoing: loop {
+            let saved = self.is_saved()?;
+            if saved {
+                return Ok(true);
+            }
+            let undone = self.area.undo()?;
+            if undone {
+                continue;
+            }
+            return Ok(false);
+        }
+    }
+
+    // Returns whether the text is the saved one.
+    fn is_saved(&self) -> Result<bool, AllocError>
+        ensures { IfOk result (λ same. IsTrue same ↔
+            (file_text self.now.area ≡ characters_of self.now.saved)) }
+    {
+        let text = self.area.text()?;
+        let written = text.as_str();
+        let saved = self.saved.as_str();
+        Ok(is_same(written, saved))
+    }
+}
+
+// Returns whether two texts are the same.
+fn is_same(one: &str, other: &str) -> bool
+    ensures { IsTrue result ↔ (one.now ≡ other.now) }
+{
+    one == other
+}
