@@ -2,7 +2,7 @@ use Rattle.std.proofs.Common.{ap, subst, sym}
 use Rattle.textarea_text.specs.Splice.{Fits, applied, inverse}
 use Rattle.textarea_text.proofs.TextPlaces.{takes_back}
 use Rattle.textarea_lines.specs.TextLayout.{TextAndLayout}
-use Rattle.textarea_text_tests.proofs.lines.make_and_take_back.Goals as goal
+use Rattle.textarea_parts_tests.proofs.lines.make_and_take_back.Goals as goal
 
 -- an edit that was made can be undone
 pub apply-requires-2 : goal.apply-requires-2

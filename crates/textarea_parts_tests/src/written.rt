@@ -1,5 +1,5 @@
 // The forms that serde writes and reads.
-use crate::{keys, moves, ranges};
+use crate::{keys, moves, range_forms};
 use serde::{Deserialize, Serialize};
 use std::alloc::Global;
 use std::process::Abort;
@@ -59,5 +59,5 @@ where
 fn forms(rt: HostRuntime) -> Result<(), Fail> {
     keys::check(&rt)?;
     moves::check(&rt);
-    ranges::check(&rt)
+    range_forms::check(&rt)
 }

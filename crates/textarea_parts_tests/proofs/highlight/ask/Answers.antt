@@ -1,6 +1,6 @@
 use Rattle.std.proofs.Common.{lit<}
 use Rattle.std.proofs.lemmas.Fmt.{length-decimal-le}
-use Rattle.textarea_screen_tests.proofs.highlight.ask.Goals as goal
+use Rattle.textarea_parts_tests.proofs.highlight.ask.Goals as goal
 
 -- 124 has at most five digits
 pub line_number-requires-clause-fits : goal.line_number-requires-clause-fits

@@ -1,7 +1,7 @@
 use Rattle.std.proofs.Common.{arith}
 use Rattle.textarea_screen_map.specs.Prepared.{rows_in}
-use Rattle.textarea_text_tests.proofs.RowLists.{one_list_a_line, rows_replaced}
-use Rattle.textarea_text_tests.proofs.map.replace.Goals as goal
+use Rattle.textarea_parts_tests.proofs.RowLists.{one_list_a_line, rows_replaced}
+use Rattle.textarea_parts_tests.proofs.map.replace.Goals as goal
 
 pub prepare-requires : goal.prepare-requires
 prepare-requires c = omega (arith, one_list_a_line c.args.wrapping c.args.lines.now.items c.args.map.now.rows c.requires.rows)
