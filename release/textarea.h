@@ -207,6 +207,17 @@ enum {
     TA_COLORS_TRUE = 3,
 };
 
+/** `CursorShape`. */
+enum {
+    TA_SHAPE_DEFAULT = 0,
+    TA_SHAPE_BLINKING_BLOCK = 1,
+    TA_SHAPE_BLOCK = 2,
+    TA_SHAPE_BLINKING_UNDERLINE = 3,
+    TA_SHAPE_UNDERLINE = 4,
+    TA_SHAPE_BLINKING_BAR = 5,
+    TA_SHAPE_BAR = 6,
+};
+
 /** `Borders`, a set of bits. */
 enum {
     TA_BORDER_TOP = 1,
@@ -580,14 +591,14 @@ uint32_t ta_input_without_shortcuts(ta_handle_t *handle, const ta_input_t *input
 
 /* Undo and redo. */
 
-/** Undoes the newest edit, and returns whether there was one. The cursor is then after the restored
- * text, or where the removed text began, and nothing is selected.
+/** Undoes the newest edit, with all of its group, and returns whether there was one. The cursor is
+ * then after the restored text, or where the removed text began, and nothing is selected.
  *
  * Statuses: ok (true), false, out of memory, empty handle. */
 uint32_t ta_undo(ta_handle_t *handle);
 
-/** Redoes the edit that was undone last, and returns whether there was one. The cursor is then
- * where that edit left it, and nothing is selected.
+/** Redoes the edit that was undone last, with all of its group, and returns whether there was one.
+ * The cursor is then where that edit left it, and nothing is selected.
  *
  * Statuses: ok (true), false, out of memory, empty handle. */
 uint32_t ta_redo(ta_handle_t *handle);
@@ -602,6 +613,29 @@ uint32_t ta_set_max_histories(ta_handle_t *handle, size_t maximum);
  * Statuses: ok, empty handle. */
 uint32_t ta_set_undo_coalescing(ta_handle_t *handle, bool joins);
 
+/** Sets whether all edits of one call are one group, which is undone and redone at once. So an undo
+ * of a text that was typed or pasted over a selection brings the selected text back.
+ *
+ * Statuses: ok, empty handle. */
+uint32_t ta_set_undo_grouping(ta_handle_t *handle, bool groups);
+
+/** Begins a group, if none is open, and ends a run of typing. The edits until `ta_end_undo_group`
+ * are undone and redone together. If they are more than are remembered, all edits are forgotten.
+ *
+ * Statuses: ok, empty handle. */
+uint32_t ta_begin_undo_group(ta_handle_t *handle);
+
+/** Ends the open group, if one is open, and a run of typing. An undo or a redo of something, new
+ * lines and `ta_set_max_histories` close a group too.
+ *
+ * Statuses: ok, empty handle. */
+uint32_t ta_end_undo_group(ta_handle_t *handle);
+
+/** Ends a run of typing: the next edit is recorded separately.
+ *
+ * Statuses: ok, empty handle. */
+uint32_t ta_end_run(ta_handle_t *handle);
+
 /** Returns the greatest number of edits that are remembered, done and undone together.
  *
  * Statuses: ok, empty handle. */
@@ -611,6 +645,11 @@ uint32_t ta_max_histories(ta_handle_t *handle, size_t *max_histories);
  *
  * Statuses: ok (true), false, empty handle. */
 uint32_t ta_undo_coalescing(ta_handle_t *handle);
+
+/** Returns whether all edits of one call are one group.
+ *
+ * Statuses: ok (true), false, empty handle. */
+uint32_t ta_undo_grouping(ta_handle_t *handle);
 
 /** Sets the time of the edits that follow, in nanoseconds from any fixed time. A time before the
  * last edit's counts as no pause.
@@ -1203,6 +1242,21 @@ uint32_t ta_painter_resize(ta_terminal_handle_t *terminal, const ta_area_t *area
  *
  * Statuses: ok, invalid argument (there are no such colours), empty handle. */
 uint32_t ta_painter_set_colors(ta_terminal_handle_t *terminal, uint32_t colors);
+
+/* The shape of a terminal's cursor, and the title of its window. */
+
+/** Returns the bytes that give a terminal's cursor a shape, one of `TA_SHAPE_..` (DECSCUSR). `out`
+ * gets the first of them, as many as there is room for, and `needed` the number of all.
+ *
+ * Statuses: ok, out of memory, invalid argument (there is no such shape). */
+uint32_t ta_cursor_shape_bytes(uint32_t shape, uint8_t *out, size_t out_len, size_t *needed);
+
+/** Returns the bytes that give a terminal's window a title (OSC 2), without the title's control
+ * characters. `out` gets the first of them, as many as there is room for, and `needed` the number
+ * of all.
+ *
+ * Statuses: ok, out of memory, invalid argument (the bytes are not UTF-8). */
+uint32_t ta_title_bytes(const uint8_t *title, size_t title_len, uint8_t *out, size_t out_len, size_t *needed);
 
 #ifdef __cplusplus
 }
