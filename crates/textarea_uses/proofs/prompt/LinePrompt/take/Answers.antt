@@ -1,4 +1,5 @@
 use Rattle.std.proofs.Common.{◌≡◌, ◌-◌, ◌++◌, ◌∷◌, [], false, length, subst, sym, take, arith}
+use Rattle.std.specs.Prelude.{Result, Ok, Err, OnErr}
 use Rattle.std.proofs.lemmas.Bool.Decides.{nat_tests}
 use Rattle.tui_textarea.specs.Edits.{breaks_line}
 use Rattle.tui_textarea.specs.State.{State}
@@ -18,6 +19,12 @@ returns-in_ok-delete_char-in-Backspace-clause-ok c typed h =
     removed_by c.args.key typed c.delete_char.new.self c.in-Backspace.is
     (subst (λ (s : State). IsTypedLine s (take (length typed - 1) typed)) (sym c.in_ok-delete_char-in-Backspace.ensures.ok) (c.typed_line_stays.ensures.removed c.args.self.now.area typed h))
 
+-- what holds anyhow holds of an error
+on_err : {A E : Type 0} (result : Result A E) (fact : Type 0) → fact → OnErr result fact
+on_err (Ok value) fact holds = tt
+on_err (Err error) fact holds = holds
+
 pub returns-in_err-insert_char-in-Char-clause-err : goal.returns-in_err-insert_char-in-Char-clause-err
 returns-in_err-insert_char-in-Char-clause-err c typed h =
-    c.typed_line_stays.ensures.out_of_memory c.args.self.now.area c.insert_char.new.self typed h c.in_err-insert_char-in-Char.ensures.err
+    on_err c.from_residual.result (IsTypedLine c.insert_char.new.self typed)
+    (c.typed_line_stays.ensures.out_of_memory c.args.self.now.area c.insert_char.new.self typed h c.in_err-insert_char-in-Char.ensures.err)
