@@ -17,6 +17,7 @@
 #   line has one range.
 # - All lines set, where each has ten bytes; and a paste of such lines into an empty text. Both
 #   include dropping the text that was there before.
+# - Lines of 100 bytes with a match each: all set, all matches replaced, and that undone too.
 # - In a table of its own, frames of 24 full rows, for each of their cells.
 # CRATES is the folder of the crates in which `rt run` built tascript, by default that of this
 # repository. If the program is missing, all rows have dashes. A run takes some ten minutes.
@@ -146,6 +147,20 @@ with_text() {
     echo
 }
 
+# lines of 100 bytes with a match each, commands that are made once, and those of a round
+in_matched_lines() {
+    printf 'set_lines 0 0 '
+    text "$3" "$(text 93 x) needle"'\n'
+    printf '\n%s\n' "$1"
+    again "$4" <<< "$2"
+}
+
+# the same lines set again and again
+loads_matched() {
+    in_matched_lines '' '' "$1" 1 | head -n 1 | again "$2"
+    echo 'set_lines 0 0'
+}
+
 loads() {
     with_text 'set_lines 0 0' "$1" | again "$2"
     echo 'set_lines 0 0'
@@ -177,6 +192,10 @@ text_twice=$text_set$'\n'$forward$'\n'$forward
 text_twice_back=$text_set$'\n'$back$'\n'$back
 word_twice=$word_set$'\n'$forward$'\n'$forward
 word_twice_back=$word_set$'\n'$back$'\n'$back
+needle='set_search_pattern needle'
+all_kept=$needle$'\nset_max_histories 1000000'
+replaced='replace_all thread'$'\nset_search_pattern thread\nreplace_all needle\nset_search_pattern needle'
+replaced_undone=$'replace_all thread\nundo'
 other_text=$text_set$'\n'$forward$'\nset_search_pattern ord\n'$forward
 other_twice=$text_twice$'\nset_search_pattern ord\n'$forward$'\n'$forward
 other_word=$word_set$'\n'$forward$'\nset_search_pattern [a-z]+\n'$forward
@@ -222,6 +241,9 @@ size_row "ranges of a line are set, by their number" "nanoseconds a range" size 
 size_row "the same in lines of one range" "nanoseconds a range" size 100000 set_ranges ranged_lines
 size_row "lines of ten bytes are set, by bytes" "nanoseconds a byte" size 10000000 loads
 size_row "lines of ten bytes are pasted, by bytes" "nanoseconds a byte" size 10000000 pastes
+size_row "lines of 100 bytes are set, by lines" "nanoseconds a line" size 100000 loads_matched
+size_row "a match in each of them is replaced, with all others" "nanoseconds a match" 2*size 100000 in_matched_lines "$needle" "$replaced"
+size_row "the same, and an undo" "nanoseconds a match" size 100000 in_matched_lines "$all_kept" "$replaced_undone"
 printf '\n| a frame of 24 rows of | nanoseconds a cell |\n|---|---:|\n'
 frame_row "words, not wrapped" 'word ' 16 24 None
 frame_row "words, wrapped at words in lines of 160" 'word ' 32 12 Word

@@ -116,6 +116,13 @@ enum {
     TA_FORWARD = 1,
 };
 
+/** `ChangeUnit`. */
+enum {
+    TA_UNIT_CHARACTERS = 0,
+    TA_UNIT_BYTES = 1,
+    TA_UNIT_UTF16 = 2,
+};
+
 /** `WrapMode`. */
 enum {
     TA_WRAP_NONE = 0,
@@ -414,8 +421,8 @@ uint32_t ta_from_text(ta_handle_t *handle, const uint8_t *text, size_t text_len)
 void ta_free(ta_handle_t *handle);
 
 /** Makes a copy of the text area, with its history, behind another handle, `copy`. A text area that
- * was behind that one is freed. The copy's screen has no cells, and it has no rejected ranges or
- * pattern.
+ * was behind that one is freed. The copy's screen has no cells, it has no rejected ranges or
+ * pattern, and its log of changes is empty.
  *
  * Statuses: ok, out of memory, empty handle. Where it is not ok, `copy` stays as it was. */
 uint32_t ta_clone(ta_handle_t *handle, ta_handle_t *copy);
@@ -508,6 +515,42 @@ uint32_t ta_insert_tab(ta_handle_t *handle);
  * Statuses: ok, false (there was none), out of memory (the selected text may have been removed),
  * empty handle. */
 uint32_t ta_paste(ta_handle_t *handle);
+
+/* Replacements of text, each one group of edits. */
+
+/** Returns the text between two positions, in either order, with a line feed for each line break.
+ * Positions beyond the text count as the nearest ones in it. `out` gets the first of its bytes, as
+ * many as there is room for, and `needed` the number of all.
+ *
+ * Statuses: ok, out of memory, empty handle. */
+uint32_t ta_text_range(ta_handle_t *handle, size_t from_row, size_t from_column, size_t to_row, size_t to_column, uint8_t *out, size_t out_len, size_t *needed);
+
+/** Replaces the text between two positions, in either order, by this one; one undo takes both back.
+ * Positions beyond the text count as the nearest ones in it. Each atomic range that the replaced
+ * text overlaps is removed, and each line feed of the text breaks the line. The cursor is then
+ * after what was inserted, and nothing is selected.
+ *
+ * Statuses: ok (it removed or inserted something), false, out of memory (nothing changed), invalid
+ * argument (the text is not UTF-8), empty handle. */
+uint32_t ta_replace_range(ta_handle_t *handle, size_t from_row, size_t from_column, size_t to_row, size_t to_column, const uint8_t *text, size_t text_len);
+
+/** Replaces the match of the search pattern that begins at the cursor by this text, and moves the
+ * cursor to the next match at or after what was inserted; after an empty match at least one
+ * character later. Without such a match it searches as `ta_search_forward` does.
+ *
+ * Statuses: ok (it replaced a match), false, out of memory (nothing changed, and a pattern is set),
+ * invalid argument (the text is not UTF-8), empty handle. */
+uint32_t ta_replace_match(ta_handle_t *handle, const uint8_t *text, size_t text_len);
+
+/** Replaces each match of the search pattern in the text as it is now by this text; one undo takes
+ * all back, if as many edits are remembered, at most two for each match. Matches in what is inserted
+ * are left, and so is a match of which an end is strictly inside an atomic range. An empty match
+ * inserts the text. The cursor is then after the last one that was replaced, and `count` is their
+ * number; without matches nothing changes.
+ *
+ * Statuses: ok, out of memory (nothing changed, and a pattern is set), invalid argument (the text is
+ * not UTF-8), empty handle. */
+uint32_t ta_replace_all(ta_handle_t *handle, const uint8_t *text, size_t text_len, size_t *count);
 
 /* Removals. If text is selected, each of them but `ta_clear` removes only that. */
 
@@ -657,6 +700,39 @@ uint32_t ta_undo_grouping(ta_handle_t *handle);
  * Statuses: ok, empty handle. */
 uint32_t ta_set_now(ta_handle_t *handle, uint64_t nanoseconds);
 
+/* What changed in the text. */
+
+/** Begins a log of what changes in the text, with columns in the unit: `TA_UNIT_CHARACTERS`,
+ * `TA_UNIT_BYTES` of UTF-8, or `TA_UNIT_UTF16`. The changes in the log before are forgotten.
+ *
+ * Statuses: ok, invalid argument (there is no such unit), empty handle. */
+uint32_t ta_set_change_log(ta_handle_t *handle, uint32_t unit);
+
+/** Ends the log of what changes in the text, and forgets its changes.
+ *
+ * Statuses: ok, empty handle. */
+uint32_t ta_remove_change_log(ta_handle_t *handle);
+
+/** Takes the changes out of the log; `count` gets their number. `ta_change` and `ta_change_line`
+ * return them, in place of those that were taken before.
+ *
+ * Statuses: ok, empty handle. */
+uint32_t ta_take_changes(ta_handle_t *handle, size_t *count);
+
+/** Returns one of the changes that were taken last, by its index, from 0 in the order in which they
+ * were made: its start, the end of what it removed, both in the text just before it, and the number
+ * of the inserted lines, at least one.
+ *
+ * Statuses: ok, false (there is no such change), empty handle. */
+uint32_t ta_change(ta_handle_t *handle, size_t index, size_t *start_row, size_t *start_column, size_t *end_row, size_t *end_column, size_t *lines);
+
+/** Returns one of the inserted lines of a change that was taken last, by its row in it, from 0. `out`
+ * gets the first of its bytes, as many as there is room for, and `needed` the number of all. A line
+ * feed in it is a character of the line.
+ *
+ * Statuses: ok, false (there is no such change, or no such line), empty handle. */
+uint32_t ta_change_line(ta_handle_t *handle, size_t index, size_t row, uint8_t *out, size_t out_len, size_t *needed);
+
 /* Moves of the cursor, and scrolls. */
 
 /** Moves the cursor by one of `TA_MOVE_..`. An open selection follows it, and a run of typing ends.
@@ -750,6 +826,27 @@ uint32_t ta_set_yank_text(ta_handle_t *handle, const uint8_t *text, size_t text_
  * Statuses: ok, out of memory, pattern rejected, invalid argument (the pattern is not UTF-8),
  * empty handle. Where it is not ok, the pattern stays. */
 uint32_t ta_set_search_pattern(ta_handle_t *handle, const uint8_t *pattern, size_t pattern_len);
+
+/** Sets a search pattern that finds the text as it is: each character that has a meaning in the
+ * syntax of patterns is escaped. The empty text removes the pattern. With `ignore_case`, letters
+ * of either case match. With `whole_word`, each end of the text that is a word's character must be
+ * an end of a word.
+ *
+ * Statuses: ok, out of memory, pattern rejected (it is too large), invalid argument (the text is
+ * not UTF-8), empty handle. Where it is not ok, the pattern stays. */
+uint32_t ta_set_search_text(ta_handle_t *handle, const uint8_t *text, size_t text_len, bool ignore_case, bool whole_word);
+
+/** Writes the number of the search pattern's matches in the whole text; 0 without a pattern.
+ *
+ * Statuses: ok, out of memory, empty handle. */
+uint32_t ta_match_count(ta_handle_t *handle, size_t *count);
+
+/** Writes the number, counted from 0 in the order of the text, of the match that starts at the
+ * cursor.
+ *
+ * Statuses: ok, false (no match starts at the cursor, or no pattern is set), out of memory, empty
+ * handle. */
+uint32_t ta_match_index(ta_handle_t *handle, size_t *index);
 
 /** Returns why a pattern was rejected last, in words; empty if none was. `out` gets the first of
  * its bytes, as many as there is room for, and `needed` the number of all.

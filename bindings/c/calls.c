@@ -77,6 +77,27 @@ static void edits(void) {
     ta_free(&area);
 }
 
+static void replacements(void) {
+    ta_handle_t area = area_of("one two\nthree");
+    uint8_t out[8];
+    size_t needed = 0;
+    CHECK(ta_text_range(&area, 1, 2, 0, 5, out, sizeof out, &needed) == TA_OK && needed == 5);
+    CHECK(memcmp(out, "wo\nth", 5) == 0);
+    CHECK(ta_replace_range(&area, 9, 9, 0, 4, TEXT("2\n3")) == TA_OK && has_lines(&area, "one 2\n3\n"));
+    CHECK(has_cursor(&area, 1, 1) && ta_undo(&area) == TA_OK && has_lines(&area, "one two\nthree\n"));
+    CHECK(ta_replace_range(&area, 0, 1, 0, 1, TEXT("")) == TA_FALSE && has_cursor(&area, 0, 1));
+    CHECK(ta_replace_range(&area, 0, 0, 0, 1, (const uint8_t *)"\xff", 1) == TA_INVALID_ARGUMENT);
+    size_t count = 9;
+    CHECK(ta_replace_match(&area, TEXT("x")) == TA_FALSE && ta_replace_all(&area, TEXT("x"), &count) == TA_OK && count == 0);
+    CHECK(ta_set_search_text(&area, TEXT("t"), false, false) == TA_OK && ta_search_forward(&area, false) == TA_OK);
+    CHECK(ta_replace_match(&area, TEXT("tt")) == TA_OK && has_lines(&area, "one ttwo\nthree\n") && has_cursor(&area, 1, 0));
+    CHECK(ta_replace_all(&area, TEXT("\n"), &count) == TA_OK && count == 3 && has_lines(&area, "one \n\nwo\n\nhree\n"));
+    CHECK(ta_undo(&area) == TA_OK && has_lines(&area, "one ttwo\nthree\n"));
+    CHECK(ta_replace_match(&area, (const uint8_t *)"\xff", 1) == TA_INVALID_ARGUMENT);
+    CHECK(ta_replace_all(&area, (const uint8_t *)"\xff", 1, &count) == TA_INVALID_ARGUMENT && count == 3);
+    ta_free(&area);
+}
+
 static void removals(void) {
     ta_handle_t area = area_of("one two\nthree\nfour");
     CHECK(ta_delete_char(&area) == TA_FALSE && ta_delete_newline(&area) == TA_FALSE);
@@ -175,6 +196,13 @@ static void search(void) {
     CHECK(ta_search_pattern(&area, out, 2, &needed) == TA_OK && needed == 3);
     CHECK(ta_set_search_pattern(&area, (const uint8_t *)"\xff", 1) == TA_INVALID_ARGUMENT);
     CHECK(ta_set_search_pattern(&area, TEXT("")) == TA_OK && ta_search_pattern(&area, out, 2, &needed) == TA_FALSE);
+    size_t count = 9, index = 9;
+    CHECK(ta_match_count(&area, &count) == TA_OK && count == 0 && ta_match_index(&area, &index) == TA_FALSE && index == 9);
+    CHECK(ta_set_search_text(&area, TEXT("O"), true, false) == TA_OK);
+    CHECK(ta_match_count(&area, &count) == TA_OK && count == 3 && ta_match_index(&area, &index) == TA_OK && index == 0);
+    CHECK(ta_set_search_text(&area, TEXT("o"), false, true) == TA_OK);
+    CHECK(ta_match_count(&area, &count) == TA_OK && count == 0 && ta_match_index(&area, &index) == TA_FALSE);
+    CHECK(ta_set_search_text(&area, (const uint8_t *)"\xff", 1, false, false) == TA_INVALID_ARGUMENT);
     ta_free(&area);
 }
 
@@ -373,6 +401,7 @@ int main(void) {
     handles();
     lines();
     edits();
+    replacements();
     removals();
     moves();
     selection();

@@ -39,6 +39,17 @@ static const ta_area_t place = {1, 1, 12, 5};
 static uint32_t made(ta_handle_t *a) { return ta_new(a); }
 static uint32_t loaded(ta_handle_t *a) { return ta_from_text(a, TEXT("one\ntwo\n")); }
 static uint32_t pasted_in(ta_handle_t *a) { return ta_insert_pasted(a, TEXT("a\rb\r\nc")); }
+static uint32_t replaced(ta_handle_t *a) { return ta_replace_range(a, 0, 1, 1, 0, TEXT("x\ny")); }
+static uint32_t one_match(ta_handle_t *a) { return ta_replace_match(a, TEXT("y\nz")); }
+static uint32_t all_matches(ta_handle_t *a) {
+    size_t count;
+    return ta_replace_all(a, TEXT("Tx"), &count);
+}
+static uint32_t part(ta_handle_t *a) {
+    uint8_t out[4];
+    size_t needed;
+    return ta_text_range(a, 1, 1, 0, 1, out, 4, &needed);
+}
 static uint32_t whole(ta_handle_t *a) {
     uint8_t out[4];
     size_t needed;
@@ -67,6 +78,12 @@ static uint32_t wrong(ta_handle_t *a) {
     return status == TA_PATTERN_REJECTED ? TA_OK : status;
 }
 static uint32_t found(ta_handle_t *a) { return ta_search_forward(a, false); }
+static uint32_t plain_text(ta_handle_t *a) { return ta_set_search_text(a, TEXT("T."), true, true); }
+static uint32_t matches_counted(ta_handle_t *a) {
+    size_t count, index;
+    uint32_t status = ta_match_index(a, &index);
+    return status > TA_FALSE ? status : ta_match_count(a, &count);
+}
 static uint32_t ranges(ta_handle_t *a) {
     ta_range_t two[] = {{1, 0, 2}, {0, 0, 1}};
     return ta_set_atomic_ranges(a, two, 2);
@@ -142,8 +159,9 @@ static uint32_t (*const steps[])(ta_handle_t *) = {
     made,    written, typed,    broken,  selected,  over,       tabbed,      copied, pasted, top,
     typed,   undone,  redone,   wrapped, numbered,  screen,     drawn,       some,   drawn,  next_word,
     to_end,  undone,  undone,   ranges,  bad_ranges, next_char, undone,      pattern, wrong, found,
+    matches_counted, plain_text, matches_counted, one_match, all_matches, undone,
     block,   placeholder, styled, highlight, drawn, long_cell,  measured,    yank,   pasted, cloned,
-    key,     lines,   key,      drawn,   cleared,   drawn,     loaded,      whole,  pasted_in, cloned,
+    key,     lines,   key,      drawn,   cleared,   drawn,     loaded,      whole,  pasted_in, replaced, part, cloned,
     terminal_made, fed, taken, idle, screen, drawn, painted, typed, drawn, painted,
     resized, painted, fed, terminal_made, fed, painted, made, typed,
     shaped,  titled,

@@ -2,8 +2,8 @@
  *
  *     replay < script
  *
- * The commands are those of script_calls.h, insert_char of ASCII, insert_str, move and
- * set_search_pattern. Texts have no escape \u{..}. */
+ * The commands are those of script_calls.h, insert_char of ASCII, insert_str, move,
+ * set_search_pattern, set_search_text, replace_match and replace_all. Texts have no escape \u{..}. */
 #include "check.h"
 
 /* A command: whether its call returns whether it did something, and the call, by its argument. */
@@ -62,11 +62,28 @@ static uint32_t made_otherwise(ta_handle_t *area, const char *name, char *words)
         while (number < 14 && strcmp(words, moves[number]) != 0) number++;
         return ta_move_cursor(area, number);
     }
+    if (strcmp(name, "set_search_text") == 0) {
+        char *second = strchr(words, ' ') + 1, *text = strchr(second, ' ');
+        char none[1] = "";
+        bool ignore_case = strncmp(words, "true", 4) == 0, whole_word = strncmp(second, "true", 4) == 0;
+        text = text ? text + 1 : none;
+        return ta_set_search_text(area, (uint8_t *)text, unescape(text), ignore_case, whole_word);
+    }
     size_t length = unescape(words);
     if (strcmp(name, "insert_char") == 0) return ta_insert_char(area, (uint8_t)words[0]);
     if (strcmp(name, "set_search_pattern") == 0) return ta_set_search_pattern(area, (uint8_t *)words, length);
+    if (strcmp(name, "replace_match") == 0) return ta_replace_match(area, (uint8_t *)words, length);
     CHECK(strcmp(name, "insert_str") == 0);
     return ta_insert_str(area, (uint8_t *)words, length);
+}
+
+/* Replaces all matches by a text, and returns their number. */
+static const char *all_replaced(ta_handle_t *area, char *words) {
+    static char number[21];
+    size_t count = 0, length = unescape(words);
+    CHECK(ta_replace_all(area, (uint8_t *)words, length, &count) == TA_OK);
+    snprintf(number, sizeof number, "%zu", count);
+    return number;
 }
 
 /* Makes the call of a line, and returns its result in words. */
@@ -82,8 +99,9 @@ static const char *result_of(ta_handle_t *area, char *line) {
         }
     }
     char none[1] = "";
+    if (strcmp(line, "replace_all") == 0) return all_replaced(area, words ? words : none);
     uint32_t status = made_otherwise(area, line, words ? words : none);
-    if (strcmp(line, "insert_str") == 0) return status == TA_OK ? "true" : "false";
+    if (strcmp(line, "insert_str") == 0 || strcmp(line, "replace_match") == 0) return status == TA_OK ? "true" : "false";
     return status == TA_PATTERN_REJECTED ? "pattern" : "ok";
 }
 

@@ -18,8 +18,15 @@ OWN_VALUES = {"set_tab_length": [0, 1, 2, 4, 8], "set_undo_coalescing": ["true",
 MOVES = """Forward Back Up Down Head End Top Bottom WordForward WordEnd WordBack ParagraphForward ParagraphBack
 InViewport""".split()
 PATTERNS = ["o", "a+", "^", "[a-z]+", "(", "", "\\\\s", "犬", "b$"]
+SEARCH_TEXTS = ["o", "O", "a", ".", "a.b", "(", "", "\\\\", "犬", "two words", "É"]
 KEYS = """Backspace Enter Left Right Up Down Tab Delete Home End PageUp PageDown Esc Copy Cut Paste MouseScrollDown
 MouseScrollUp Null""".split()
+
+
+def search_text(r):
+    """A command that searches for a plain text."""
+    pick = r.choice
+    return f"set_search_text {pick(['true', 'false'])} {pick(['true', 'false'])} {pick(SEARCH_TEXTS)}"
 
 
 def command(r):
@@ -42,9 +49,14 @@ def command(r):
         lambda: f"go_to {small()} {small()}",
         lambda: f"insert_pasted {pick(TEXTS)}",
         lambda: "text",
+        lambda: f"text_range {small()} {small()} {small()} {small()}",
+        lambda: f"replace_range {small()} {small()} {small()} {small()} {pick(TEXTS)}",
+        lambda: f"{pick(['replace_match', 'replace_all'])} {pick(TEXTS)}",
         lambda: f"scroll {r.randrange(-4, 5)} {r.randrange(-2, 3)}",
         lambda: f"page {pick(['PageDown', 'PageUp', 'HalfPageDown', 'HalfPageUp'])}",
         lambda: f"set_search_pattern {pick(PATTERNS)}",
+        lambda: search_text(r),
+        lambda: pick(["match_count", "match_index"]),
         lambda: f"set_yank_text {pick(TEXTS)}",
         lambda: "ranges " + " ".join(f"{small()} {small()} {small()}" for _ in range(r.randrange(1, 3))),
         lambda: "ranges",
@@ -57,6 +69,9 @@ def command(r):
         lambda: f"set_mask_char {pick(CHARS[:2] + ['•'])}",
         lambda: f"line_numbers {pick(['true', 'false'])}",
         lambda: f"now {r.randrange(5000)}",
+        lambda: f"set_change_log {pick(['Characters', 'Bytes', 'Utf16', 'Utf16', 'None'])}",
+        lambda: "take_changes",
+        lambda: "take_changes",
         *[lambda name=name, kind=kind: f"{name} {pick(OWN_VALUES.get(name, VALUES[kind]))}" for name, kind in WITH_ARGUMENTS.items()],
     ])()
 
@@ -75,7 +90,8 @@ def plain_command(r):
     if kind < 11:
         name = pick(list(WITH_ARGUMENTS))
         return f"{name} {pick(OWN_VALUES.get(name, VALUES[WITH_ARGUMENTS[name]]))}"
-    return "set_search_pattern " + pick(PATTERNS)
+    text = pick([text for text in TEXTS if "u{" not in text])
+    return pick(["set_search_pattern " + pick(PATTERNS), search_text(r), "replace_match " + text, "replace_all " + text])
 
 
 def main():

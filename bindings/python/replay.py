@@ -10,7 +10,8 @@ import sys
 
 from script_calls import METHODS, SETTERS
 from textarea import (
-    Area, Input, Key, Move, Page, PatternRejected, Range, RangesRejected, Style, TextArea, WrapMode,
+    Area, ChangeUnit, Input, Key, Move, Page, PatternRejected, Range, RangesRejected, Style, TextArea,
+    WrapMode,
 )
 
 ESCAPES = {"\\": "\\\\", "\n": "\\n", "\r": "\\r", "\t": "\\t"}
@@ -52,6 +53,11 @@ def value_of(words, kind):
     return words == "true" if kind == "bool" else int(words)
 
 
+def change_in_words(change):
+    (row, column), (end_row, end_column) = change.start, change.end
+    return f"{row}:{column}..{end_row}:{end_column}" + "".join("|" + escaped(line) for line in change.lines)
+
+
 class Replay:
     def __init__(self):
         self.area = TextArea()
@@ -72,7 +78,7 @@ class Replay:
             setattr(area, what, value_of(words, kind))
         elif name == "insert_char":
             area.insert_char(unescaped(words))
-        elif name in ("insert_str", "insert_pasted"):
+        elif name in ("insert_str", "insert_pasted", "replace_match"):
             return truth(getattr(area, name)(unescaped(words)))
         elif name == "input":
             return truth(area.input(input_of(words)))
@@ -80,6 +86,12 @@ class Replay:
             return "text " + escaped(area.text)
         elif name == "yank_text":
             return "text " + escaped(area.yank_text)
+        elif name == "text_range":
+            return "text " + escaped(area.text_range(tuple(numbers[:2]), tuple(numbers[2:])))
+        elif name == "replace_range":
+            *places, text = (words + " ").split(" ", 4)
+            row, column, end_row, end_column = map(int, places)
+            return truth(area.replace_range((row, column), (end_row, end_column), unescaped(text.removesuffix(" "))))
         elif name == "set_yank_text":
             area.yank_text = unescaped(words)
         elif name == "set_search_pattern":
@@ -87,6 +99,15 @@ class Replay:
                 area.search_pattern = unescaped(words)
             except PatternRejected:
                 return "pattern"
+        elif name == "set_search_text":
+            ignore_case, whole_word, *text = words.split(" ", 2)
+            area.set_search_text(unescaped(text[0] if text else ""), ignore_case == "true", whole_word == "true")
+        elif name == "replace_all":
+            return str(area.replace_all(unescaped(words)))
+        elif name == "match_count":
+            return str(area.match_count)
+        elif name == "match_index":
+            return "none" if area.match_index is None else str(area.match_index)
         elif name == "ranges":
             try:
                 area.atomic_ranges = [Range(*numbers[i:i + 3]) for i in range(0, len(numbers), 3)]
@@ -124,6 +145,10 @@ class Replay:
             area.mask_char = None
         elif name == "line_numbers":
             area.line_number_style = Style() if words == "true" else None
+        elif name == "set_change_log":
+            area.set_change_log(None if words == "None" else ChangeUnit[words.upper()])
+        elif name == "take_changes":
+            return " ".join(["changes", *map(change_in_words, area.take_changes())])
         elif name == "now":
             area.set_now(numbers[0] * 1_000_000)
         else:

@@ -9,8 +9,8 @@ import unittest
 
 import textarea
 from textarea import (
-    Alignment, Area, Block, Borders, Color, CursorRenderMode, Input, Key, Line, Modifier, Move,
-    Padding, Page, PatternRejected, Range, RangesRejected, Reason, Side, Span, Style, TextArea,
+    Alignment, Area, Block, Borders, ChangeUnit, Color, CursorRenderMode, Input, Key, Line, Modifier,
+    Move, Padding, Page, PatternRejected, Range, RangesRejected, Reason, Side, Span, Style, TextArea,
     WrapMode, in_curses,
 )
 from textarea.terminal import LEFT, RIGHT, Mouse, MouseKind, Paste
@@ -35,6 +35,25 @@ class Calls(unittest.TestCase):
         self.assertEqual(repr(area), "<TextArea [''] cursor=(0, 0)>")
         with self.assertRaises(ValueError):
             area.set_lines([])
+
+    def test_replacements(self):
+        area = TextArea.from_text("one two\nthree")
+        self.assertEqual(area.text_range((1, 2), (0, 5)), "wo\nth")
+        self.assertTrue(area.replace_range((9, 9), (0, 4), "2\n3"))
+        self.assertEqual((area.lines, area.cursor), (["one 2", "3"], (1, 1)))
+        self.assertTrue(area.undo())
+        self.assertEqual(area.lines, ["one two", "three"])
+        self.assertFalse(area.replace_range((0, 1), (0, 1), ""))
+
+    def test_replaced_matches(self):
+        area = TextArea.from_text("one two\nthree")
+        self.assertEqual((area.replace_match("x"), area.replace_all("x")), (False, 0))
+        area.set_search_text("t")
+        self.assertTrue(area.search_forward() and area.replace_match("tt"))
+        self.assertEqual((area.lines, area.cursor), (["one ttwo", "three"], (1, 0)))
+        self.assertEqual((area.replace_all("\n"), area.lines), (3, ["one ", "", "wo", "", "hree"]))
+        self.assertTrue(area.undo())
+        self.assertEqual(area.lines, ["one ttwo", "three"])
 
     def test_edits(self):
         area = TextArea()
@@ -130,6 +149,16 @@ class Calls(unittest.TestCase):
         self.assertEqual(area.search_pattern, "o.e")
         area.search_pattern = None
         self.assertIsNone(area.search_pattern)
+        self.assertEqual((area.match_count, area.match_index), (0, None))
+
+    def test_search_of_a_text(self):
+        area = TextArea("a.b axb\nA.B")
+        area.set_search_text("a.b")
+        self.assertEqual((area.match_count, area.match_index), (1, 0))
+        area.set_search_text("a.b", ignore_case=True, whole_word=True)
+        self.assertTrue(area.match_count == 2 and area.search_forward() and area.match_index == 1)
+        area.set_search_text("")
+        self.assertIsNone(area.search_pattern)
 
     def test_ranges(self):
         area = TextArea("@one two\nthree")
@@ -145,6 +174,22 @@ class Calls(unittest.TestCase):
         self.assertEqual((area.lines[0], area.atomic_ranges), (" two", [(1, 0, 5)]))
         area.clear_atomic_ranges()
         self.assertEqual(area.atomic_ranges, [])
+
+    def test_changes(self):
+        area = TextArea("é\nx")
+        area.insert_char("a")
+        self.assertEqual(area.take_changes(), [])
+        area.set_change_log(ChangeUnit.BYTES)
+        area.go_to(0, 2)
+        area.insert_str("b\nc")
+        area.delete_str(2)
+        self.assertEqual(area.take_changes(), [((0, 3), (0, 3), ["b", "c"]), ((1, 1), (2, 1), [""])])
+        area.set_lines(["one\ntwo", ""])
+        self.assertEqual(area.copy_area().take_changes(), [])
+        self.assertEqual(area.take_changes(), [((0, 0), (1, 1), ["one\ntwo", ""])])
+        area.set_change_log(None)
+        area.insert_char("a")
+        self.assertEqual(area.take_changes(), [])
 
     def test_settings(self):
         area = TextArea("one two three")

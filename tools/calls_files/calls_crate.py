@@ -49,6 +49,9 @@ def arm(call):
     if len(call.arguments) < 2 or len(f"        {front} => Topic::{topic}({inner}),") <= COLUMNS:
         return broken("        ", front, f"Topic::{topic}", inner)
     fields = [f"            {name}," for name in call.names()]
+    head = f"        {front} => Topic::{topic}({topic}Call::{call.variant} {{"
+    if len(head) <= COLUMNS:
+        return [head, *fields, "        }),"]
     return [
         f"        Call::{call.variant} {{",
         *fields,

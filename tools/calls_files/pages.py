@@ -19,13 +19,15 @@ def command_rows(table):
 
 
 def new_rows(table):
-    """The table of calls that the Rust crate doesn't have."""
+    """The table of calls that the Rust crate doesn't have, each with the first sentence of its comment."""
     rows = []
     for call in table.calls:
         if call.is_new:
             types = ", ".join(type for _, type in call.arguments)
-            result = f"Result<{call.result or '()'}>" if call.memory else call.result
-            rows.append(f"| `{call.name}({types}){f' -> {result}' if result else ''}` | {call.doc} |")
+            wraps = call.memory and not (call.result or "").startswith("Result<")
+            result = f"Result<{call.result or '()'}>" if wraps else call.result
+            first, *_ = call.doc.removesuffix(".").split(". ")
+            rows.append(f"| `{call.name}({types}){f' -> {result}' if result else ''}` | {first}. |")
     return ["| Here | What it does |", "|---|---|", *rows]
 
 

@@ -20,6 +20,8 @@ ANSWERS = {
     "Option<((usize, usize), (usize, usize))>": "Selection",
     "WrapMode": "WrapMode",
     "usize": "Number",
+    "Option<usize>": "NumberIfAny",
+    "Vec<TextChange>": "Changes",
 }
 
 
@@ -43,6 +45,8 @@ def arm(front, made, mapped):
     pattern, _, fields = front.partition(" { ")
     if len(fields) > 20:
         names = fields.removesuffix(" }").split(", ")
+        if made.startswith("special::"):
+            return [f"        {pattern} {{", *[f"            {name}," for name in names], f"        }} => {made}{mapped},"]
         receiver, _, method = made.partition(".")
         return [
             f"        {pattern} {{",

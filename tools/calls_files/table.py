@@ -10,6 +10,7 @@ NOTE = f"Written by tools/calls from {TABLE}."
 # The types of arguments that a module has to name, and where they are.
 MODULES = {
     "std::time": "Duration",
+    "textarea_change": "ChangeUnit",
     "textarea_data::cursor": "CursorMove CursorRenderMode",
     "textarea_data::input": "Input",
     "textarea_data::range": "AtomicCursorBias AtomicDeleteDirection AtomicRange",
@@ -17,7 +18,7 @@ MODULES = {
     "textarea_screen::screen": "Alignment Block Position Rect Style Text",
     "textarea_wrap::wrap": "WrapMode",
 }
-PLAIN_WORDS = {"char", "str", "bool", "u8", "u16", "usize", "String", "static"}
+PLAIN_WORDS = {"char", "str", "bool", "u8", "u16", "usize", "String", "Option", "static"}
 LANGUAGES = ["C", "Rust", "Python"]
 
 

@@ -26,11 +26,12 @@ the one that the environment variable TEXTAREA_LIBRARY names, or else the one in
 
 from ._area import TextArea
 from ._data import (
-    Area, Block, Cell, Color, Input, Line, Measure, Padding, PatternRejected, Range, RangesRejected,
-    Span, Style, Viewport,
+    Area, Block, Cell, Change, Color, Input, Line, Measure, Padding, PatternRejected, Range,
+    RangesRejected, Span, Style, Viewport,
 )
 from ._enums import (
-    Alignment, Borders, CursorRenderMode, Key, Modifier, Move, Page, Reason, Side, WrapMode,
+    Alignment, Borders, ChangeUnit, CursorRenderMode, Key, Modifier, Move, Page, Reason, Side,
+    WrapMode,
 )
 
 __version__ = "0.15.0"
@@ -38,6 +39,7 @@ __all__ = [
     "TextArea", "Input", "Key", "Move", "Page", "Side", "Range", "Reason", "RangesRejected",
     "PatternRejected", "WrapMode", "Alignment", "Measure", "Viewport", "Area", "Cell",
     "CursorRenderMode", "Style", "Color", "Modifier", "Span", "Line", "Block", "Borders", "Padding",
+    "Change", "ChangeUnit",
 ]
 
 # Each is known by the name that it is imported by, also in `help`, in messages and where it is pickled.

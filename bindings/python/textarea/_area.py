@@ -10,9 +10,11 @@ from . import _sys
 from ._calls import Calls
 from ._core import lines_of, passed_lines, passed_list, passed_text, sizes
 from ._data import (
-    Area, Block, Cell, Color, Input, Line, Measure, Padding, Range, Span, Style, Viewport,
+    Area, Block, Cell, Change, Color, Input, Line, Measure, Padding, Range, Span, Style, Viewport,
 )
-from ._enums import Alignment, Borders, CursorRenderMode, Modifier, Move, Page, Side, WrapMode
+from ._enums import (
+    Alignment, Borders, ChangeUnit, CursorRenderMode, Modifier, Move, Page, Side, WrapMode,
+)
 from ._library import lib
 
 
@@ -72,6 +74,11 @@ class TextArea(Calls):
         """The lines, with a line feed between two."""
         return self._text(lib.ta_text)
 
+    def text_range(self, start: Tuple[int, int], end: Tuple[int, int]) -> str:
+        """The text between two positions, in either order, with a line feed for each line break.
+        Positions beyond the text count as the nearest ones in it."""
+        return self._text(lib.ta_text_range, *start, *end)
+
     def line(self, row: int) -> Optional[str]:
         """The line of this row, or None if there is none."""
         return self._text_if_any(lib.ta_line, row)
@@ -101,6 +108,12 @@ class TextArea(Calls):
         selection."""
         return self._edit(lib.ta_insert_pasted, *passed_text(text))
 
+    def replace_range(self, start: Tuple[int, int], end: Tuple[int, int], text: str) -> bool:
+        """Replaces the text between two positions, in either order, by this one; one undo takes both
+        back. Returns whether it removed or inserted something. Positions beyond the text count as
+        the nearest ones in it. Atomic ranges that the replaced text overlaps are removed."""
+        return self._edit(lib.ta_replace_range, *start, *end, *passed_text(text))
+
     def input(self, input: Input) -> bool:
         """Makes the call that the key table with shortcuts has for the input. Returns whether the
         text changed."""
@@ -116,6 +129,28 @@ class TextArea(Calls):
         """Sets the time of the edits that follow, from any fixed time, instead of a clock's."""
         self._start = None
         self._call(lib.ta_set_now, nanoseconds)
+
+    # ---- What changed
+
+    def set_change_log(self, unit: Optional[ChangeUnit]) -> None:
+        """Begins a log of what changes in the text, with columns in this unit, or ends it for None.
+        The changes in the log before are forgotten."""
+        if unit is None:
+            self._call(lib.ta_remove_change_log)
+        else:
+            self._call(lib.ta_set_change_log, unit)
+
+    def take_changes(self) -> List[Change]:
+        """Returns what changed in the text since this was last called, or since the log began;
+        nothing without a log. The changes, one after another, lead from the text then to the text
+        now."""
+        (count,) = self._numbers(ctypes.c_size_t, 1, lib.ta_take_changes)
+        return [self._change(index) for index in range(count)]
+
+    def _change(self, index: int) -> Change:
+        found = self._numbers(ctypes.c_size_t, 5, lib.ta_change, index)
+        lines = [self._text(lib.ta_change_line, index, row) for row in range(found[4])]
+        return Change(found[:2], found[2:4], lines)
 
     # ---- Moves and selection
 
@@ -170,6 +205,40 @@ class TextArea(Calls):
     @search_pattern.setter
     def search_pattern(self, pattern: Optional[str]) -> None:
         self._call(lib.ta_set_search_pattern, *passed_text(pattern or ""))
+
+    def replace_match(self, text: str) -> bool:
+        """Replaces the match of the search pattern that begins at the cursor by this text, and moves
+        the cursor to the next match at or after what was inserted; after an empty match at least one
+        character later. Returns whether there was such a match; without one it searches forward."""
+        return self._edit(lib.ta_replace_match, *passed_text(text))
+
+    def replace_all(self, text: str) -> int:
+        """Replaces each match of the search pattern in the text as it is now by this text, and
+        returns their number; one undo takes all back, if as many edits are remembered, at most two
+        for each match. Matches in what is inserted are left, and so is one of which an end is
+        strictly inside an atomic range. An empty match inserts the text."""
+        count = ctypes.c_size_t()
+        self._edit(lib.ta_replace_all, *passed_text(text), count)
+        return count.value
+
+    def set_search_text(self, text: str, ignore_case: bool = False, whole_word: bool = False) -> None:
+        """Sets a search pattern that finds the text as it is: each character that has a meaning in
+        the syntax of patterns is escaped. The empty text removes the pattern. With `ignore_case`,
+        letters of either case match. With `whole_word`, each end of the text that is a word's
+        character must be an end of a word."""
+        self._call(lib.ta_set_search_text, *passed_text(text), ignore_case, whole_word)
+
+    @property
+    def match_count(self) -> int:
+        """The number of the search pattern's matches in the whole text; 0 without a pattern."""
+        return self._numbers(ctypes.c_size_t, 1, lib.ta_match_count)[0]
+
+    @property
+    def match_index(self) -> Optional[int]:
+        """The number, counted from 0 in the order of the text, of the match that starts at the
+        cursor; None if none does, and without a pattern."""
+        found = self._numbers(ctypes.c_size_t, 1, lib.ta_match_index)
+        return found and found[0]
 
     # ---- Atomic ranges
 

@@ -154,6 +154,15 @@ class Range(NamedTuple):
         return cls(range.row, range.start_col, range.end_col)
 
 
+class Change(NamedTuple):
+    """A change of a text: its start, and the end of what it removes, both in the text just before it
+    as (row, column), and the inserted lines, at least one."""
+
+    start: Tuple[int, int]
+    end: Tuple[int, int]
+    lines: List[str]
+
+
 class RangesRejected(ValueError):
     """Atomic ranges are not valid for the text. `rejected` has those that are not, sorted by row and
     start, each with its reason."""

@@ -71,6 +71,14 @@ class Side(enum.IntEnum, metaclass=Names):
     FORWARD = 1
 
 
+class ChangeUnit(enum.IntEnum, metaclass=Names):
+    """What the columns of changes count."""
+
+    CHARACTERS = 0
+    BYTES = 1
+    UTF16 = 2
+
+
 class WrapMode(enum.IntEnum, metaclass=Names):
     """How lines are wrapped into visual rows."""
 

@@ -50,6 +50,9 @@ SCROLL_HALF_PAGE_DOWN = 2
 SCROLL_HALF_PAGE_UP = 3
 BACKWARD = 0
 FORWARD = 1
+UNIT_CHARACTERS = 0
+UNIT_BYTES = 1
+UNIT_UTF16 = 2
 WRAP_NONE = 0
 WRAP_WORD = 1
 WRAP_GLYPH = 2
@@ -225,6 +228,10 @@ def declare(library):
     declare_call(library, "ta_insert_pasted", [POINTER(Handle), POINTER(c_uint8), c_size_t], c_uint32)
     declare_call(library, "ta_insert_tab", [POINTER(Handle)], c_uint32)
     declare_call(library, "ta_paste", [POINTER(Handle)], c_uint32)
+    declare_call(library, "ta_text_range", [POINTER(Handle), c_size_t, c_size_t, c_size_t, c_size_t, POINTER(c_uint8), c_size_t, POINTER(c_size_t)], c_uint32)
+    declare_call(library, "ta_replace_range", [POINTER(Handle), c_size_t, c_size_t, c_size_t, c_size_t, POINTER(c_uint8), c_size_t], c_uint32)
+    declare_call(library, "ta_replace_match", [POINTER(Handle), POINTER(c_uint8), c_size_t], c_uint32)
+    declare_call(library, "ta_replace_all", [POINTER(Handle), POINTER(c_uint8), c_size_t, POINTER(c_size_t)], c_uint32)
     declare_call(library, "ta_delete_char", [POINTER(Handle)], c_uint32)
     declare_call(library, "ta_delete_next_char", [POINTER(Handle)], c_uint32)
     declare_call(library, "ta_delete_newline", [POINTER(Handle)], c_uint32)
@@ -249,6 +256,11 @@ def declare(library):
     declare_call(library, "ta_undo_coalescing", [POINTER(Handle)], c_uint32)
     declare_call(library, "ta_undo_grouping", [POINTER(Handle)], c_uint32)
     declare_call(library, "ta_set_now", [POINTER(Handle), c_uint64], c_uint32)
+    declare_call(library, "ta_set_change_log", [POINTER(Handle), c_uint32], c_uint32)
+    declare_call(library, "ta_remove_change_log", [POINTER(Handle)], c_uint32)
+    declare_call(library, "ta_take_changes", [POINTER(Handle), POINTER(c_size_t)], c_uint32)
+    declare_call(library, "ta_change", [POINTER(Handle), c_size_t, POINTER(c_size_t), POINTER(c_size_t), POINTER(c_size_t), POINTER(c_size_t), POINTER(c_size_t)], c_uint32)
+    declare_call(library, "ta_change_line", [POINTER(Handle), c_size_t, c_size_t, POINTER(c_uint8), c_size_t, POINTER(c_size_t)], c_uint32)
     declare_call(library, "ta_move_cursor", [POINTER(Handle), c_uint32], c_uint32)
     declare_call(library, "ta_jump", [POINTER(Handle), c_uint16, c_uint16], c_uint32)
     declare_call(library, "ta_go_to", [POINTER(Handle), c_size_t, c_size_t], c_uint32)
@@ -264,6 +276,9 @@ def declare(library):
     declare_call(library, "ta_yank_text", [POINTER(Handle), POINTER(c_uint8), c_size_t, POINTER(c_size_t)], c_uint32)
     declare_call(library, "ta_set_yank_text", [POINTER(Handle), POINTER(c_uint8), c_size_t], c_uint32)
     declare_call(library, "ta_set_search_pattern", [POINTER(Handle), POINTER(c_uint8), c_size_t], c_uint32)
+    declare_call(library, "ta_set_search_text", [POINTER(Handle), POINTER(c_uint8), c_size_t, c_bool, c_bool], c_uint32)
+    declare_call(library, "ta_match_count", [POINTER(Handle), POINTER(c_size_t)], c_uint32)
+    declare_call(library, "ta_match_index", [POINTER(Handle), POINTER(c_size_t)], c_uint32)
     declare_call(library, "ta_pattern_error", [POINTER(Handle), POINTER(c_uint8), c_size_t, POINTER(c_size_t)], c_uint32)
     declare_call(library, "ta_search_pattern", [POINTER(Handle), POINTER(c_uint8), c_size_t, POINTER(c_size_t)], c_uint32)
     declare_call(library, "ta_search_forward", [POINTER(Handle), c_bool], c_uint32)

@@ -69,8 +69,8 @@ mod tui;
 
 pub use data::{
     AtomicCursorBias, AtomicDeleteDirection, AtomicRange, AtomicRangeError,
-    AtomicRangeRejectReason, CursorMove, CursorRenderMode, OutOfMemory, Pattern,
-    RejectedAtomicRange, Scrolling, SearchError, TextAreaMeasure, WrapMode,
+    AtomicRangeRejectReason, ChangeUnit, CursorMove, CursorRenderMode, OutOfMemory, Pattern,
+    RejectedAtomicRange, Scrolling, SearchError, TextAreaMeasure, TextChange, WrapMode,
 };
 pub use input::{Input, Key};
 pub use textarea::TextArea;

@@ -2,6 +2,7 @@
 
 mod block;
 mod calls;
+mod changes;
 mod drawing;
 mod edits;
 mod looks;

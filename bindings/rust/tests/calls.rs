@@ -84,6 +84,31 @@ fn edits() {
 }
 
 #[test]
+fn replacements() {
+    let mut area = TextArea::from(["one two", "three"]);
+    assert_eq!(area.text_range((1, 2), (0, 5)), "wo\nth");
+    assert!(area.replace_range((9, 9), (0, 4), "2\n3"));
+    assert_eq!((area.text().as_str(), area.cursor()), ("one 2\n3", (1, 1)));
+    assert!(area.undo());
+    assert_eq!(area.text(), "one two\nthree");
+    assert_eq!(area.try_replace_range((0, 1), (0, 1), ""), Ok(false));
+    assert_eq!(area.try_text_range((0, 0), (0, 3)), Ok("one".into()));
+}
+
+#[test]
+fn replaced_matches() {
+    let mut area = TextArea::from(["one two", "three"]);
+    assert_eq!((area.replace_match("x"), area.replace_all("x")), (false, 0));
+    area.set_search_text("t", false, false).unwrap();
+    assert!(area.search_forward(false) && area.replace_match("tt"));
+    assert_eq!((area.text().as_str(), area.cursor()), ("one ttwo\nthree", (1, 0)));
+    assert_eq!(area.try_replace_all("\n"), Ok(3));
+    assert_eq!(area.text(), "one \n\nwo\n\nhree");
+    assert!(area.undo());
+    assert_eq!(area.text(), "one ttwo\nthree");
+}
+
+#[test]
 fn moves_and_selection() {
     let mut area = TextArea::from(["one two", "three"]);
     area.move_cursor(CursorMove::WordForward);
@@ -190,6 +215,10 @@ fn searches() {
     assert_eq!(area.search_pattern().unwrap().as_str(), "o.e");
     area.set_search_pattern("").unwrap();
     assert_eq!(area.search_pattern(), None);
+    area.set_search_text("ONE", true, true).unwrap();
+    assert_eq!((area.match_count(), area.match_index()), (2, Some(0)));
+    area.set_search_text("n.", false, false).unwrap();
+    assert_eq!((area.match_count(), area.match_index()), (0, None));
 }
 
 #[test]

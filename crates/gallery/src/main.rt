@@ -6,22 +6,10 @@
 //! A script's form is described in `script`, and the form of the screens that it prints in `picture`.
 #![tactic(auto)]
 
-mod composer;
-mod editor;
-mod form;
 mod live;
-mod mentions;
-mod modal;
-mod password;
 mod picture;
-mod popup;
 mod program;
-mod prompt;
 mod script;
-mod search;
-mod split;
-mod typing;
-mod wrap;
 
 use anyhow::{Result, bail};
 use std::env;

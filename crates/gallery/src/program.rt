@@ -1,21 +1,34 @@
 //! The programs of the gallery by their names.
 
-use crate::composer::Composer;
-use crate::editor::EditorProgram;
-use crate::form::Form;
-use crate::modal::ModalEditor;
-use crate::password::Password;
-use crate::popup::Popup;
-use crate::prompt::Prompt;
-use crate::search::Finder;
-use crate::split::Split;
-use crate::typing::Typing;
-use crate::wrap::Wraps;
+mod composer;
+mod editor;
+mod form;
+mod mentions;
+mod modal;
+mod password;
+mod popup;
+mod prompt;
+mod search;
+mod split;
+mod typing;
+mod wrap;
+
 use anyhow::{Result, bail};
+use composer::Composer;
+use editor::EditorProgram;
+use form::Form;
+use modal::ModalEditor;
+use password::Password;
+use popup::Popup;
+use prompt::Prompt;
+use search::Finder;
+use split::Split;
 use std::alloc::{AllocError, Global};
 use std::time::Duration;
 use textarea_terminal::input::{Event, Mouse};
 use tui_textarea::{Block, Buffer, DrawText, Input, Line, Rect, Style, TextArea};
+use typing::Typing;
+use wrap::Wraps;
 
 /// A program of the gallery.
 #[derive(Drop)]

@@ -1,7 +1,7 @@
 -- What exports return, and what is behind the handle after them. A status is 0 for ok, 1 for false,
 -- 2 for out of memory, 3 for a rejected pattern, 4 for rejected ranges, 5 for an empty handle, 6 for
 -- an invalid argument.
-use Rattle.std.specs.Prelude.{ℕ, ◌≡◌, ◌≢◌, ◌<◌, ◌≤◌, List, Bool, true, false, Option, Some, None, IsSomeAnd, MatchOption, if◌then◌else◌}
+use Rattle.std.specs.Prelude.{ℕ, ◌≡◌, ◌≢◌, ◌<◌, ◌≤◌, List, [], Bool, true, false, Option, Some, None, IsSomeAnd, MatchOption, if◌then◌else◌}
 use Rattle.textarea_data.specs.declared.range.AtomicRange.{AtomicRange}
 use Rattle.textarea_ranges.specs.Rejected.{AreRejected}
 use Rattle.textarea_ranges.specs.Valid.{AreValid}
@@ -15,7 +15,8 @@ use Rattle.tui_textarea.specs.Edits.{char_inserted}
 use Rattle.tui_textarea.specs.Input.{flag_of}
 use Rattle.tui_textarea.specs.Patterns.{IsNewPattern, MayRejectPattern}
 use Rattle.tui_textarea.specs.Ranges.{ranges_accepted}
-use Rattle.tui_textarea.specs.Search.{with_pattern}
+use Rattle.textarea_search.specs.PlainTexts.{text_pattern}
+use Rattle.tui_textarea.specs.Search.{with_pattern, with_search_text}
 use Rattle.tui_textarea.specs.State.{State}
 use Rattle.tui_textarea.specs.Selection.{IsInsertOutOfMemory}
 use Rattle.tui_textarea.specs.Measure.{with_surround}
@@ -148,6 +149,12 @@ Searches found area status a b =
     (status < 2 → b ≡ with_area a area) × (2 ≤ status → (status ≡ 2) × (b ≡ a) × (a.area.pattern ≢ None))
     × (status ≡ 0 → found ≡ true) × (status ≡ 1 → found ≡ false)
 
+-- a replacement: the status says whether there was something to do; out of memory nothing changes
+abbrev pub Replaces : Bool → State → ℕ → Editor → Editor → Type 0
+Replaces found area status a b =
+    (status < 2 → b ≡ with_area a area) × (2 ≤ status → (status ≡ 2) × (b ≡ a))
+    × (status ≡ 0 → found ≡ true) × (status ≡ 1 → found ≡ false)
+
 -- setting a pattern: a rejected one leaves the text area, and its error is stored; the empty and the
 -- present one are always set
 abbrev pub Patterns : List ℕ → ℕ → Editor → Editor → Type 0
@@ -155,6 +162,13 @@ Patterns text status a b =
     (status ≡ 0 → b ≡ with_area a (with_pattern a.area text))
     × (status ≡ 3 → MayRejectPattern a.area text × (b ≡ record a { pattern_error = b.pattern_error }))
     × (status ≢ 0 → status ≢ 3 → (status ≡ 2) × (b ≡ a)) × (status ≢ 0 → IsNewPattern a.area text)
+
+-- setting the pattern of a plain text: as setting a pattern, but the present one needs memory too
+abbrev pub FindsText : List ℕ → Bool → Bool → ℕ → Editor → Editor → Type 0
+FindsText text ignore_case whole_word status a b =
+    (status ≡ 0 → b ≡ with_area a (with_search_text a.area text ignore_case whole_word))
+    × (status ≡ 3 → MayRejectPattern a.area (text_pattern text ignore_case whole_word) × (b ≡ record a { pattern_error = b.pattern_error }))
+    × (status ≢ 0 → status ≢ 3 → (status ≡ 2) × (b ≡ a)) × (status ≢ 0 → text ≢ [])
 
 -- setting ranges: only valid ones are set; the rejected ones of others are stored
 abbrev pub SetsValidRanges : List AtomicRange → ℕ → Editor → Editor → Type 0

@@ -7,13 +7,14 @@ use Rattle.tui_textarea.specs.State.{State, new_state}
 use Rattle.textarea_c.specs.Made.{MakesBehind}
 use Rattle.textarea_c.specs.declared.editor.Editor.{Editor}
 
--- this text area, with a screen that has no cells, and nothing rejected
+-- this text area, with a screen that has no cells, nothing rejected, and no changes taken
 pub record IsEditorOf (area : State) (editor : Editor) : Type 0 where
   pub area_is : editor.area ≡ area
   pub no_columns : (area_of editor.screen).width ≡ 0
   pub no_rows : (area_of editor.screen).height ≡ 0
   pub ranges_are : editor.rejected.items ≡ []
   pub error_is : string_bytes editor.pattern_error ≡ []
+  pub changes_are : editor.changes.items ≡ []
 
 -- a new text area with the text of a file
 abbrev pub state_of_file : List ℕ → State

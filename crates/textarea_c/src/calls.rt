@@ -18,6 +18,7 @@ macro_rules! on {
 pub(crate) use on;
 
 pub mod appearance;
+pub mod changes;
 pub mod decoder;
 pub mod edits;
 pub mod history;
@@ -30,6 +31,7 @@ pub mod painter;
 pub mod plain;
 pub mod ranges;
 pub mod removals;
+pub mod replacing;
 pub mod screen;
 pub mod search;
 pub mod selection;

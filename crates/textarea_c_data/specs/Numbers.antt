@@ -1,5 +1,7 @@
 -- The numbers by which C names the values of enums.
 use Rattle.std.specs.Prelude.{ℕ, List, [], ◌∷◌, Option}
+use Rattle.textarea_change.specs.declared.change.ChangeUnit.{ChangeUnit}
+use Rattle.textarea_change.specs.declared.change.ChangeUnit.TheVariants as unit
 use Rattle.textarea_data.specs.declared.cursor.CursorMove.{CursorMove}
 use Rattle.textarea_data.specs.declared.cursor.CursorMove.TheVariants as move
 use Rattle.textarea_data.specs.declared.scroll.Scrolling.{Scrolling}
@@ -39,6 +41,12 @@ directions = (0, direction.Backward) ∷ (1, direction.Forward) ∷ []
 
 abbrev pub direction_of : ℕ → Option AtomicDeleteDirection
 direction_of = value_of_number directions
+
+abbrev pub numbered_units : List (ℕ × ChangeUnit)
+numbered_units = (0, unit.Characters) ∷ (1, unit.Bytes) ∷ (2, unit.Utf16) ∷ []
+
+abbrev pub change_unit_of : ℕ → Option ChangeUnit
+change_unit_of = value_of_number numbered_units
 
 abbrev pub alignments : List (ℕ × Alignment)
 alignments = (0, alignment.Left) ∷ (1, alignment.Center) ∷ (2, alignment.Right) ∷ []

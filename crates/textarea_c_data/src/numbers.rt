@@ -1,7 +1,8 @@
 //! The numbers by which C names the values of enums.
 ghost use Rattle.std.specs.Prelude.{◌≡◌, Some};
-ghost use Rattle.textarea_c_data.specs.Numbers.{alignment_of, bias_of_number, colors_of, direction_of, move_of, page_of};
+ghost use Rattle.textarea_c_data.specs.Numbers.{alignment_of, bias_of_number, change_unit_of, colors_of, direction_of, move_of, page_of};
 
+use textarea_change::ChangeUnit;
 use textarea_data::cursor::CursorMove;
 use textarea_data::range::{AtomicCursorBias, AtomicDeleteDirection};
 use textarea_data::scroll::Scrolling;
@@ -62,6 +63,18 @@ pub fn read_direction(number: u32) -> Option<AtomicDeleteDirection>
     Some(match number {
         0 => AtomicDeleteDirection::Backward,
         1 => AtomicDeleteDirection::Forward,
+        _ => return None,
+    })
+}
+
+/// Returns the unit of changes of this number.
+pub fn read_change_unit(number: u32) -> Option<ChangeUnit>
+    ensures { result ≡ change_unit_of number }
+{
+    Some(match number {
+        0 => ChangeUnit::Characters,
+        1 => ChangeUnit::Bytes,
+        2 => ChangeUnit::Utf16,
         _ => return None,
     })
 }

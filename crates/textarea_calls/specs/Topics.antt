@@ -11,6 +11,8 @@ use Rattle.textarea_calls.specs.declared.topic.RemoveCall.{RemoveCall}
 use Rattle.textarea_calls.specs.declared.topic.RemoveCall.TheVariants as remove
 use Rattle.textarea_calls.specs.declared.topic.HistoryCall.{HistoryCall}
 use Rattle.textarea_calls.specs.declared.topic.HistoryCall.TheVariants as history
+use Rattle.textarea_calls.specs.declared.topic.ChangesCall.{ChangesCall}
+use Rattle.textarea_calls.specs.declared.topic.ChangesCall.TheVariants as changes
 use Rattle.textarea_calls.specs.declared.topic.SelectCall.{SelectCall}
 use Rattle.textarea_calls.specs.declared.topic.SelectCall.TheVariants as select
 use Rattle.textarea_calls.specs.declared.topic.MoveCall.{MoveCall}
@@ -36,6 +38,7 @@ call_of_insert (insert.InsertPasted text) = call.InsertPasted text
 call_of_insert insert.InsertTab = call.InsertTab
 call_of_insert insert.Paste = call.Paste
 call_of_insert insert.DuplicateLine = call.DuplicateLine
+call_of_insert (insert.ReplaceRange from to text) = call.ReplaceRange from to text
 call_of_insert (insert.SetLines lines cursor) = call.SetLines lines cursor
 
 abbrev pub call_of_remove : RemoveCall → Call
@@ -61,6 +64,10 @@ call_of_history history.EndUndoGroup = call.EndUndoGroup
 call_of_history history.EndRun = call.EndRun
 call_of_history (history.SetNow time) = call.SetNow time
 
+abbrev pub call_of_changes : ChangesCall → Call
+call_of_changes (changes.SetChangeLog unit) = call.SetChangeLog unit
+call_of_changes changes.TakeChanges = call.TakeChanges
+
 abbrev pub call_of_select : SelectCall → Call
 call_of_select select.StartSelection = call.StartSelection
 call_of_select select.CancelSelection = call.CancelSelection
@@ -75,8 +82,11 @@ call_of_move (move.Scroll scrolling) = call.Scroll scrolling
 
 abbrev pub call_of_search : SearchCall → Call
 call_of_search (search.SetSearchPattern pattern) = call.SetSearchPattern pattern
+call_of_search (search.SetSearchText text ignore_case whole_word) = call.SetSearchText text ignore_case whole_word
 call_of_search (search.SearchForward match_cursor) = call.SearchForward match_cursor
 call_of_search (search.SearchBack match_cursor) = call.SearchBack match_cursor
+call_of_search (search.ReplaceMatch text) = call.ReplaceMatch text
+call_of_search (search.ReplaceAll text) = call.ReplaceAll text
 
 abbrev pub call_of_ranges : RangesCall → Call
 call_of_ranges (ranges.TrySetAtomicRanges ranges) = call.TrySetAtomicRanges ranges
@@ -118,10 +128,13 @@ call_of_keys (keys.InputWithoutShortcuts input) = call.InputWithoutShortcuts inp
 
 abbrev pub call_of_read : ReadCall → Call
 call_of_read read.Text = call.Text
+call_of_read (read.TextRange from to) = call.TextRange from to
 call_of_read read.Cursor = call.Cursor
 call_of_read read.IsEmpty = call.IsEmpty
 call_of_read read.IsSelecting = call.IsSelecting
 call_of_read read.SelectionRange = call.SelectionRange
+call_of_read read.MatchCount = call.MatchCount
+call_of_read read.MatchIndex = call.MatchIndex
 call_of_read read.YankText = call.YankText
 call_of_read read.MaxHistories = call.MaxHistories
 call_of_read read.UndoCoalescing = call.UndoCoalescing
@@ -150,6 +163,7 @@ abbrev pub call_of : Topic → Call
 call_of (topic.Insert asked) = call_of_insert asked
 call_of (topic.Remove asked) = call_of_remove asked
 call_of (topic.History asked) = call_of_history asked
+call_of (topic.Changes asked) = call_of_changes asked
 call_of (topic.Select asked) = call_of_select asked
 call_of (topic.Move asked) = call_of_move asked
 call_of (topic.Search asked) = call_of_search asked

@@ -1,4 +1,5 @@
 //! The results of calls, as values that can be printed and compared.
+use textarea_change::TextChange;
 use textarea_data::cursor::CursorRenderMode;
 use textarea_data::measure::TextAreaMeasure;
 use textarea_data::range::{AtomicRange, RejectedAtomicRange};
@@ -44,4 +45,8 @@ pub enum Answer {
     StyleIfVisible(Option<Style>),
     /// How lines are wrapped.
     WrapMode(WrapMode),
+    /// A number, if there is one.
+    NumberIfAny(Option<usize>),
+    /// The changes of the text since they were last taken.
+    Changes(Vec<TextChange>),
 }

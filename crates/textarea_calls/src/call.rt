@@ -2,6 +2,7 @@
 //! The calls of a text area, as data.
 
 use std::time::Duration;
+use textarea_change::ChangeUnit;
 use textarea_data::cursor::{CursorMove, CursorRenderMode};
 use textarea_data::input::Input;
 use textarea_data::range::{AtomicCursorBias, AtomicDeleteDirection, AtomicRange};
@@ -26,6 +27,15 @@ pub enum Call<'a> {
     Paste,
     /// `TextArea::duplicate_line`
     DuplicateLine,
+    /// `TextArea::replace_range`
+    ReplaceRange {
+        /// The one end of the text that is replaced (row, column).
+        from: (usize, usize),
+        /// The other end; the two may be in either order.
+        to: (usize, usize),
+        /// What replaces it.
+        text: &'a str,
+    },
     /// `TextArea::set_lines`, with a copy of these lines; there is at least one
     SetLines {
         /// The lines that are copied.
@@ -71,6 +81,10 @@ pub enum Call<'a> {
     EndRun,
     /// `TextArea::set_now`
     SetNow(Duration),
+    /// `TextArea::set_change_log`
+    SetChangeLog(Option<ChangeUnit>),
+    /// `TextArea::take_changes`
+    TakeChanges,
     /// `TextArea::start_selection`
     StartSelection,
     /// `TextArea::cancel_selection`
@@ -89,10 +103,23 @@ pub enum Call<'a> {
     Scroll(Scrolling),
     /// `TextArea::set_search_pattern`
     SetSearchPattern(&'a str),
+    /// `TextArea::set_search_text`
+    SetSearchText {
+        /// The text to find; the empty one removes the pattern.
+        text: &'a str,
+        /// Whether letters of either case match.
+        ignore_case: bool,
+        /// Whether each end of the text that is a word's character must be an end of a word.
+        whole_word: bool,
+    },
     /// `TextArea::search_forward`
     SearchForward(bool),
     /// `TextArea::search_back`
     SearchBack(bool),
+    /// `TextArea::replace_match`
+    ReplaceMatch(&'a str),
+    /// `TextArea::replace_all`
+    ReplaceAll(&'a str),
     /// `TextArea::try_set_atomic_ranges`, with a copy of these ranges
     TrySetAtomicRanges(&'a [AtomicRange]),
     /// `TextArea::clear_atomic_ranges`
@@ -164,6 +191,13 @@ pub enum Call<'a> {
     InputWithoutShortcuts(&'a Input),
     /// `TextArea::text`
     Text,
+    /// `TextArea::text_range`
+    TextRange {
+        /// The one end of the text (row, column).
+        from: (usize, usize),
+        /// The other end; the two may be in either order.
+        to: (usize, usize),
+    },
     /// `TextArea::cursor`
     Cursor,
     /// `TextArea::is_empty`
@@ -172,6 +206,10 @@ pub enum Call<'a> {
     IsSelecting,
     /// `TextArea::selection_range`
     SelectionRange,
+    /// `TextArea::match_count`
+    MatchCount,
+    /// `TextArea::match_index`
+    MatchIndex,
     /// `TextArea::yank_text`
     YankText,
     /// `TextArea::max_histories`

@@ -22,6 +22,7 @@ impl Call<'_> {
             | Call::InsertTab
             | Call::Paste
             | Call::DuplicateLine
+            | Call::ReplaceRange { .. }
             | Call::SetLines { .. }
             | Call::DeleteChar
             | Call::DeleteNextChar
@@ -35,6 +36,8 @@ impl Call<'_> {
             | Call::Cut
             | Call::Undo
             | Call::Redo
+            | Call::ReplaceMatch(_)
+            | Call::ReplaceAll(_)
             | Call::DeleteAtomicRangeAtCursor(_) => true,
             _ => false,
         }

@@ -1,6 +1,7 @@
 //! Prints the results of calls.
 use crate::answer::Answer;
 use std::fmt;
+use textarea_change::TextChange;
 use textarea_data::range::{AtomicRange, AtomicRangeRejectReason};
 
 impl fmt::Display for Answer {
@@ -24,20 +25,37 @@ impl fmt::Display for Answer {
                 measure.content_rows, measure.preferred_rows, measure.min_rows, measure.max_rows
             ),
             Answer::PatternRejected => write!(f, "pattern"),
-            Answer::Place(None) | Answer::Position(None) => write!(f, "none"),
+            Answer::Place(None) | Answer::Position(None) | Answer::NumberIfAny(None) => write!(
+                f,
+                "none"
+            ),
             Answer::Place(Some((row, column))) => write!(f, "{row} {column}"),
             Answer::Position(Some(position)) => write!(f, "{} {}", position.x, position.y),
             Answer::Style(style) => write!(f, "{style:?}"),
             Answer::Character(character) => write!(f, "{character:?}"),
             Answer::CursorRenderMode(mode) => write!(f, "{mode:?}"),
             Answer::Alignment(alignment) => write!(f, "{alignment:?}"),
-            Answer::Number(number) => write!(f, "{number}"),
+            Answer::Number(number) | Answer::NumberIfAny(Some(number)) => write!(f, "{number}"),
             Answer::Cursor((row, column)) => write!(f, "{row} {column}"),
             Answer::Selection(ends) => write!(f, "{ends:?}"),
             Answer::StyleIfVisible(style) => write!(f, "{style:?}"),
             Answer::WrapMode(mode) => write!(f, "{mode:?}"),
+            Answer::Changes(changes) => write_changes(f, changes.as_slice()),
         }
     }
+}
+
+// Writes each change as its start, its end, and the inserted lines, each after a bar.
+fn write_changes<W: fmt::Write>(f: &mut fmt::Formatter<W>, changes: &[TextChange]) -> fmt::Result {
+    write!(f, "changes")?;
+    for change in changes {
+        let ((row, column), end) = (change.start, change.end);
+        write!(f, " {row}:{column}..{}:{}", end.0, end.1)?;
+        for line in &change.lines {
+            write!(f, "|{}", Escaped(line.as_str()))?;
+        }
+    }
+    Ok(())
 }
 
 // A range, printed as its row, its first column and the column after its last one.

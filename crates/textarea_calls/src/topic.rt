@@ -5,6 +5,7 @@ ghost use Rattle.textarea_calls.specs.Topics.{call_of, draws};
 
 use crate::call::Call;
 use std::time::Duration;
+use textarea_change::ChangeUnit;
 use textarea_data::cursor::{CursorMove, CursorRenderMode};
 use textarea_data::input::Input;
 use textarea_data::range::{AtomicCursorBias, AtomicDeleteDirection, AtomicRange};
@@ -18,6 +19,7 @@ pub enum Topic<'a> {
     Insert(InsertCall<'a>),
     Remove(RemoveCall),
     History(HistoryCall),
+    Changes(ChangesCall),
     Select(SelectCall<'a>),
     Move(MoveCall),
     Search(SearchCall<'a>),
@@ -38,6 +40,11 @@ pub enum InsertCall<'a> {
     InsertTab,
     Paste,
     DuplicateLine,
+    ReplaceRange {
+        from: (usize, usize),
+        to: (usize, usize),
+        text: &'a str,
+    },
     SetLines {
         lines: &'a [String],
         cursor: (usize, usize),
@@ -73,6 +80,13 @@ pub enum HistoryCall {
     SetNow(Duration),
 }
 
+/// What changed in the text.
+#[derive(Clone, Copy)]
+pub enum ChangesCall {
+    SetChangeLog(Option<ChangeUnit>),
+    TakeChanges,
+}
+
 /// The selection, and what is yanked.
 #[derive(Clone, Copy)]
 pub enum SelectCall<'a> {
@@ -95,8 +109,15 @@ pub enum MoveCall {
 #[derive(Clone, Copy)]
 pub enum SearchCall<'a> {
     SetSearchPattern(&'a str),
+    SetSearchText {
+        text: &'a str,
+        ignore_case: bool,
+        whole_word: bool,
+    },
     SearchForward(bool),
     SearchBack(bool),
+    ReplaceMatch(&'a str),
+    ReplaceAll(&'a str),
 }
 
 /// Atomic ranges.
@@ -157,10 +178,16 @@ pub enum KeysCall<'a> {
 #[derive(Clone, Copy)]
 pub enum ReadCall {
     Text,
+    TextRange {
+        from: (usize, usize),
+        to: (usize, usize),
+    },
     Cursor,
     IsEmpty,
     IsSelecting,
     SelectionRange,
+    MatchCount,
+    MatchIndex,
     YankText,
     MaxHistories,
     UndoCoalescing,
@@ -198,6 +225,11 @@ pub fn topic_of(call: Call<'_>) -> Topic<'_>
         Call::InsertTab => Topic::Insert(InsertCall::InsertTab),
         Call::Paste => Topic::Insert(InsertCall::Paste),
         Call::DuplicateLine => Topic::Insert(InsertCall::DuplicateLine),
+        Call::ReplaceRange { from, to, text } => Topic::Insert(InsertCall::ReplaceRange {
+            from,
+            to,
+            text,
+        }),
         Call::SetLines { lines, cursor } => Topic::Insert(InsertCall::SetLines { lines, cursor }),
         Call::DeleteChar => Topic::Remove(RemoveCall::DeleteChar),
         Call::DeleteNextChar => Topic::Remove(RemoveCall::DeleteNextChar),
@@ -218,6 +250,8 @@ pub fn topic_of(call: Call<'_>) -> Topic<'_>
         Call::EndUndoGroup => Topic::History(HistoryCall::EndUndoGroup),
         Call::EndRun => Topic::History(HistoryCall::EndRun),
         Call::SetNow(time) => Topic::History(HistoryCall::SetNow(time)),
+        Call::SetChangeLog(unit) => Topic::Changes(ChangesCall::SetChangeLog(unit)),
+        Call::TakeChanges => Topic::Changes(ChangesCall::TakeChanges),
         Call::StartSelection => Topic::Select(SelectCall::StartSelection),
         Call::CancelSelection => Topic::Select(SelectCall::CancelSelection),
         Call::SelectAll => Topic::Select(SelectCall::SelectAll),
@@ -227,8 +261,19 @@ pub fn topic_of(call: Call<'_>) -> Topic<'_>
         Call::GoTo(place) => Topic::Move(MoveCall::GoTo(place)),
         Call::Scroll(scrolling) => Topic::Move(MoveCall::Scroll(scrolling)),
         Call::SetSearchPattern(pattern) => Topic::Search(SearchCall::SetSearchPattern(pattern)),
+        Call::SetSearchText {
+            text,
+            ignore_case,
+            whole_word,
+        } => Topic::Search(SearchCall::SetSearchText {
+            text,
+            ignore_case,
+            whole_word,
+        }),
         Call::SearchForward(match_cursor) => Topic::Search(SearchCall::SearchForward(match_cursor)),
         Call::SearchBack(match_cursor) => Topic::Search(SearchCall::SearchBack(match_cursor)),
+        Call::ReplaceMatch(text) => Topic::Search(SearchCall::ReplaceMatch(text)),
+        Call::ReplaceAll(text) => Topic::Search(SearchCall::ReplaceAll(text)),
         Call::TrySetAtomicRanges(ranges) => Topic::Ranges(RangesCall::TrySetAtomicRanges(ranges)),
         Call::ClearAtomicRanges => Topic::Ranges(RangesCall::ClearAtomicRanges),
         Call::NormalizeCursorAroundAtomicRanges(bias) => Topic::Ranges(
@@ -286,10 +331,13 @@ pub fn topic_of(call: Call<'_>) -> Topic<'_>
         Call::Input(input) => Topic::Keys(KeysCall::Input(input)),
         Call::InputWithoutShortcuts(input) => Topic::Keys(KeysCall::InputWithoutShortcuts(input)),
         Call::Text => Topic::Read(ReadCall::Text),
+        Call::TextRange { from, to } => Topic::Read(ReadCall::TextRange { from, to }),
         Call::Cursor => Topic::Read(ReadCall::Cursor),
         Call::IsEmpty => Topic::Read(ReadCall::IsEmpty),
         Call::IsSelecting => Topic::Read(ReadCall::IsSelecting),
         Call::SelectionRange => Topic::Read(ReadCall::SelectionRange),
+        Call::MatchCount => Topic::Read(ReadCall::MatchCount),
+        Call::MatchIndex => Topic::Read(ReadCall::MatchIndex),
         Call::YankText => Topic::Read(ReadCall::YankText),
         Call::MaxHistories => Topic::Read(ReadCall::MaxHistories),
         Call::UndoCoalescing => Topic::Read(ReadCall::UndoCoalescing),

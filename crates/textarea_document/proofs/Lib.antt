@@ -3,9 +3,14 @@ pub mod Inserts
 pub mod UndoGroups
 pub mod UndoLaw
 pub mod Orders
+pub mod Replacing
+pub mod ReplacedTexts
 pub mod Betweens
 pub mod Ranges
 pub mod Sounds
+pub mod Changing
+mod ChangeLogs
+mod UnitCounts
 pub mod StepLaw
 pub mod DocumentWraps
 pub mod RangesOverSplices

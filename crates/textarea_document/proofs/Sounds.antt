@@ -1,10 +1,10 @@
 -- Each step preserves the invariant of documents.
 use Rattle.std.proofs.Common.{◌≡◌, ℕ, zero, suc, Bool, true, false, cond, List, [], length, Option, Some, None, Result, Ok, Err, sym, ap, refl, ◌∙◌, subst, arith}
-use Rattle.textarea_document.specs.Prelude.{group_begun, group_ended, is_open}
+use Rattle.textarea_document.specs.Prelude.{LoggedChanges, with_splice, group_begun, group_ended, is_open}
 use Rattle.textarea_history.specs.declared.history.groups.Group.TheVariants.{Closed, Empty}
-use Rattle.textarea_document.specs.Prelude.{IfSome, AreInOrder, AreValid, OnErr, OnOk, Symbol, lines, Place, IsPlace, Splice, Fits, applied, inverse, place_after, Log, empty_log, redone_log, newest}
-use Rattle.textarea_document.specs.Prelude.{next, recorded, undone_log, AtomicRange, moved_ranges, LayoutSettings, TextAndLayout, Layout, all_wrapped, applied_to, layout_from_scratch, with_settings}
-use Rattle.textarea_document.specs.Prelude.{wrapping_of, is_same_wrapping, wrapping_for, DocumentState, document_of, fresh_document, logged, after_change, after_edit, after_redo_by, after_undo_by}
+use Rattle.textarea_document.specs.Prelude.{OnErr, OnOk, Symbol, lines, Place, IsPlace, Splice, Fits, applied, inverse, place_after, Log, empty_log, redone_log, newest}
+use Rattle.textarea_document.specs.Prelude.{next, recorded, undone_log, AtomicRange, moved_ranges, LayoutSettings, TextAndLayout, Layout, applied_to, layout_from_scratch, with_settings}
+use Rattle.textarea_document.specs.Prelude.{DocumentState, document_of, fresh_document, logged, after_change, after_edit, after_redo_by, after_undo_by}
 use Rattle.textarea_document.specs.Prelude.{edit_redone, edit_undone, is_grouped, times, text_and_layout, with_layout_settings, IsSound, IsSoundInside}
 use Rattle.textarea_text.proofs.TextPlaces.{IsPlace-end, takes_back}
 use Rattle.textarea_history.specs.HistoryLaw.{IsSoundLog as LogIsSound}
@@ -50,15 +50,18 @@ sound_edited document splice typed now h fits =
     (recorded_whole (logged document) splice typed now (logged_sound document h) fits h.whole)
 
 -- a document's parts after the change of a splice, with this log, make the document after it
-pub changed_is : (text_layout new : TextAndLayout) (cursor ahead : Place) (anchor : Option Place) (ranges stored : List AtomicRange) (log after left : Log) (change splice : Splice) → change ≡ splice →
-    new ≡ applied_to text_layout change → ahead ≡ place_after change → stored ≡ moved_ranges ranges change → after ≡ left →
-    document_of new ahead None stored after ≡ after_change (document_of text_layout cursor anchor ranges log) splice left
-changed_is text_layout new cursor ahead anchor ranges stored log after left change splice is layout_is cursor_is stored_is log_is =
-    rw (layout_is, cursor_is, stored_is, log_is, is) refl
+pub changed_is : (text_layout new : TextAndLayout) (cursor ahead : Place) (anchor : Option Place) (ranges stored : List AtomicRange) (log after left : Log) (changes made : LoggedChanges) (change splice : Splice) → change ≡ splice →
+    new ≡ applied_to text_layout change → ahead ≡ place_after change → stored ≡ moved_ranges ranges change → after ≡ left → made ≡ with_splice changes text_layout.text change →
+    document_of new ahead None stored after made ≡ after_change (document_of text_layout cursor anchor ranges log changes) splice left
+changed_is text_layout new cursor ahead anchor ranges stored log after left changes made change splice is layout_is cursor_is stored_is log_is made_is =
+    rw (layout_is, cursor_is, stored_is, log_is, made_is, is) refl
 
--- the layout has no influence on the invariant
+-- neither the layout nor the changes have an influence on the invariant
 pub resound : (document : DocumentState) (layout : Layout) → IsSound document → IsSound (record document { layout = layout })
 resound document layout h = record { cursor = h.cursor; anchor = h.anchor; ranges = h.ranges; in_order = h.in_order; undo = h.undo; redo = h.redo; bounded = h.bounded; marks = h.marks; whole = h.whole }
+
+pub sound_changes : (document : DocumentState) (changes : LoggedChanges) → IsSound document → IsSound (record document { changes = changes })
+sound_changes document changes h = record { cursor = h.cursor; anchor = h.anchor; ranges = h.ranges; in_order = h.in_order; undo = h.undo; redo = h.redo; bounded = h.bounded; marks = h.marks; whole = h.whole }
 
 -- ---- groups
 
@@ -150,19 +153,20 @@ inside_times step one (suc count) document h = one (times count step document) (
 pub sound_fresh : (text : List Symbol) (settings : LayoutSettings) (count : ℕ) (cursor : Place) (maximum : ℕ) → IsPlace text cursor → IsSound (fresh_document text settings count cursor maximum)
 sound_fresh text settings count cursor maximum h = record { cursor = h; anchor = tt; ranges = valid_none (lines text); in_order = refl; undo = tt; redo = tt; bounded = omega arith; marks = refl; whole = refl }
 
-pub fresh_is : (text : List Symbol) (settings : LayoutSettings) (count : ℕ) (cursor : Place) (maximum : ℕ) (text_layout : TextAndLayout) (stored : List AtomicRange) (log : Log) →
+pub fresh_is : (text : List Symbol) (settings : LayoutSettings) (count : ℕ) (cursor : Place) (maximum : ℕ) (text_layout : TextAndLayout) (stored : List AtomicRange) (log : Log) (changes : LoggedChanges) →
     text_layout ≡ layout_from_scratch settings count text → stored ≡ [] → log ≡ empty_log maximum →
-    record { text = text_layout.text; layout = text_layout.layout; cursor = cursor; anchor = None; ranges = stored; log = log } ≡ fresh_document text settings count cursor maximum
-fresh_is text settings count cursor maximum text_layout stored log layout_is stored_is log_is =
-    ap (λ (l : TextAndLayout). record { text = l.text; layout = l.layout; cursor = cursor; anchor = None; ranges = stored; log = log }) layout_is
-    ∙ ap (λ (r : List AtomicRange). record { text = text; layout = all_wrapped settings count (length (lines text)); cursor = cursor; anchor = None; ranges = r; log = log }) stored_is
-    ∙ ap (λ (l : Log). record { text = text; layout = all_wrapped settings count (length (lines text)); cursor = cursor; anchor = None; ranges = []; log = l }) log_is
+    document_of text_layout cursor None stored log changes ≡ record (fresh_document text settings count cursor maximum) { changes = changes }
+fresh_is text settings count cursor maximum text_layout stored log changes layout_is stored_is log_is =
+    ap (λ (l : TextAndLayout). document_of l cursor None stored log changes) layout_is
+    ∙ ap (λ (r : List AtomicRange). document_of (layout_from_scratch settings count text) cursor None r log changes) stored_is
+    ∙ ap (λ (l : Log). document_of (layout_from_scratch settings count text) cursor None [] l changes) log_is
 
-pub sound_layout : (text : List Symbol) (settings : LayoutSettings) (count : ℕ) (cursor : Place) (maximum : ℕ) (text_layout : TextAndLayout) (stored : List AtomicRange) (log : Log) →
+pub sound_layout : (text : List Symbol) (settings : LayoutSettings) (count : ℕ) (cursor : Place) (maximum : ℕ) (text_layout : TextAndLayout) (stored : List AtomicRange) (log : Log) (changes : LoggedChanges) →
     text_layout ≡ layout_from_scratch settings count text → stored ≡ [] → log ≡ empty_log maximum → IsPlace text cursor →
-    IsSound (record { text = text_layout.text; layout = text_layout.layout; cursor = cursor; anchor = None; ranges = stored; log = log })
-sound_layout text settings count cursor maximum text_layout stored log layout_is stored_is log_is h =
-    subst IsSound (sym (fresh_is text settings count cursor maximum text_layout stored log layout_is stored_is log_is)) (sound_fresh text settings count cursor maximum h)
+    IsSound (document_of text_layout cursor None stored log changes)
+sound_layout text settings count cursor maximum text_layout stored log changes layout_is stored_is log_is h =
+    subst IsSound (sym (fresh_is text settings count cursor maximum text_layout stored log changes layout_is stored_is log_is))
+    (sound_changes (fresh_document text settings count cursor maximum) changes (sound_fresh text settings count cursor maximum h))
 
 pub start_is_place : (text : List Symbol) → IsPlace text (0, 0)
 start_is_place text = IsPlace-end [] text
@@ -174,11 +178,11 @@ text_viewed : {T E : Type 0} (r : Result T E) (text_layout new : TextAndLayout) 
 text_viewed (Ok x) text_layout new settings ok err = ap (λ (l : TextAndLayout). l.text) ok ∙ text_stays text_layout settings
 text_viewed (Err e) text_layout new settings ok err = ap (λ (l : TextAndLayout). l.text) err
 
-pub sound_viewed : {T E : Type 0} (r : Result T E) (text_layout new : TextAndLayout) (settings : LayoutSettings) (cursor : Place) (anchor : Option Place) (ranges : List AtomicRange) (log : Log) →
-    OnOk r (new ≡ with_settings text_layout settings) → OnErr r (new ≡ text_layout) → IsSound (document_of text_layout cursor anchor ranges log) → IsSound (document_of new cursor anchor ranges log)
-sound_viewed r text_layout new settings cursor anchor ranges log ok err h =
-    subst (λ (t : List Symbol). IsSound (record { text = t; layout = new.layout; cursor = cursor; anchor = anchor; ranges = ranges; log = log })) (sym (text_viewed r text_layout new settings ok err))
-    (resound (document_of text_layout cursor anchor ranges log) new.layout h)
+pub sound_viewed : {T E : Type 0} (r : Result T E) (text_layout new : TextAndLayout) (settings : LayoutSettings) (cursor : Place) (anchor : Option Place) (ranges : List AtomicRange) (log : Log) (changes : LoggedChanges) →
+    OnOk r (new ≡ with_settings text_layout settings) → OnErr r (new ≡ text_layout) → IsSound (document_of text_layout cursor anchor ranges log changes) → IsSound (document_of new cursor anchor ranges log changes)
+sound_viewed r text_layout new settings cursor anchor ranges log changes ok err h =
+    subst (λ (t : List Symbol). IsSound (document_of (record { text = t; layout = new.layout }) cursor anchor ranges log changes)) (sym (text_viewed r text_layout new settings ok err))
+    (resound (document_of text_layout cursor anchor ranges log changes) new.layout h)
 
 -- the lines with other settings are those of the document with them
 pub layout_with_settings : (document : DocumentState) (settings : LayoutSettings) → with_settings (text_and_layout document) settings ≡ text_and_layout (with_layout_settings document settings)
@@ -187,7 +191,7 @@ layout_with_settings document settings =
     ap (λ (t : List Symbol). record { text = t; layout = after.layout }) (text_stays (text_and_layout document) settings)
 
 -- a document whose lines have other settings
-pub settings_put : (text_layout new : TextAndLayout) (settings : LayoutSettings) (cursor : Place) (anchor : Option Place) (ranges : List AtomicRange) (log : Log) →
-    new ≡ with_settings text_layout settings → document_of new cursor anchor ranges log ≡ with_layout_settings (document_of text_layout cursor anchor ranges log) settings
-settings_put text_layout new settings cursor anchor ranges log is =
-    ap (λ (l : TextAndLayout). document_of l cursor anchor ranges log) (is ∙ layout_with_settings (document_of text_layout cursor anchor ranges log) settings)
+pub settings_put : (text_layout new : TextAndLayout) (settings : LayoutSettings) (cursor : Place) (anchor : Option Place) (ranges : List AtomicRange) (log : Log) (changes : LoggedChanges) →
+    new ≡ with_settings text_layout settings → document_of new cursor anchor ranges log changes ≡ with_layout_settings (document_of text_layout cursor anchor ranges log changes) settings
+settings_put text_layout new settings cursor anchor ranges log changes is =
+    ap (λ (l : TextAndLayout). document_of l cursor anchor ranges log changes) (is ∙ layout_with_settings (document_of text_layout cursor anchor ranges log changes) settings)

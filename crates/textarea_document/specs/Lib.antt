@@ -1,3 +1,5 @@
+pub mod Changes
+pub mod ChangeLog
 pub mod DocumentState
 pub mod Outcomes
 pub mod Edits
@@ -7,7 +9,10 @@ pub mod DocumentRows
 pub mod DocumentWraps
 pub mod DocumentLaw
 pub mod Sound
+pub mod ChangesLead
 pub mod RangesOverSplices
 pub mod Splices
+pub mod Replacing
+pub mod ReplacedText
 pub mod Target
 pub mod Prelude

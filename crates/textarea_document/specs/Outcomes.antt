@@ -7,6 +7,7 @@ use Rattle.textarea_text.specs.Splice.{Splice, applied, inverse, place_after}
 use Rattle.textarea_history.specs.HistoryLaw.{times}
 use Rattle.textarea_history.specs.Log.{Log, recorded, newest, newest_group, next, next_group, undone_log, redone_log}
 use Rattle.textarea_ranges.specs.Moved.{moved_ranges}
+use Rattle.textarea_document.specs.Changes.{with_splice}
 use Rattle.textarea_document.specs.DocumentState.{DocumentState}
 
 -- the layout of the text after a splice: the lines that it touches are wrapped, each once, and all
@@ -15,7 +16,8 @@ abbrev pub layout_after : DocumentState → Splice → Layout
 layout_after document splice = after_splice document.layout (length (lines document.text)) splice
 
 -- a splice is applied, and this is the log after it: the cursor is after the inserted text, or
--- where the removed text began, nothing is selected, and the remaining ranges move with the text
+-- where the removed text began, nothing is selected, and the remaining ranges move with the text.
+-- If changes are kept, it is one more
 abbrev pub after_change : DocumentState → Splice → Log → DocumentState
 after_change document splice log = record {
   text = applied document.text splice;
@@ -24,6 +26,7 @@ after_change document splice log = record {
   anchor = None;
   ranges = moved_ranges document.ranges splice;
   log = log;
+  changes = with_splice document.changes document.text splice;
 }
 
 -- an edit is made and recorded, as typed or not, at this time

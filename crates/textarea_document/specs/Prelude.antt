@@ -54,8 +54,14 @@ pub use Rattle.textarea_document.specs.Ranges.{SplitsNoRange, SplitsNoRangeBy, a
 pub use Rattle.textarea_document.specs.DocumentRows.{text_and_layout, with_inner_width, with_layout_settings}
 unfoldable pub use Rattle.textarea_document.specs.DocumentRows.{HasRowsAt, IsAboveCursor, IsBelowCursor}
 pub use Rattle.textarea_document.specs.Selection.{is_selected, selected_removed, selected_symbols, selection, selection_end, selection_start}
+pub use Rattle.textarea_document.specs.ChangesLead.{ChangesLead}
 pub use Rattle.textarea_document.specs.Sound.{IsSound, IsSoundInside}
-pub use Rattle.textarea_document.specs.DocumentState.{DocumentState, document_of, fresh_document, logged, new_document}
+pub use Rattle.textarea_document.specs.DocumentState.{DocumentState, changes_taken, document_of, fresh_document, lines_replaced, logged, new_document, with_changes_after}
+pub use Rattle.textarea_document.specs.Changes.{ChangeView, LoggedChanges, change_of, change_view, changed_by_all, inserted_lines, line_changes, no_changes, place_from_unit, place_in_unit, splice_changes}
+pub use Rattle.textarea_document.specs.Changes.{splices_changes, unit_count, whole_change, with_more, with_splice}
+unfoldable pub use Rattle.textarea_document.specs.Changes.{changed_by}
+pub use Rattle.textarea_change.specs.declared.change.ChangeUnit.{ChangeUnit}
+pub use Rattle.textarea_change.specs.declared.change.ChangeUnit.TheVariants.{Bytes, Characters, Utf16}
 pub use Rattle.textarea_document.specs.Target.{IsDocumentTarget, first_word_end, place_or, is_later_word_row, next_head, next_place, next_word_row, paragraph_back, paragraph_forward, previous_end}
 pub use Rattle.textarea_document.specs.Target.{previous_place, target, word_back, word_end, word_end_after, word_forward, word_start_before}
 pub use Rattle.textarea_document.specs.Splices.{redo_splices, undo_splices}

@@ -1,4 +1,5 @@
 //! The document: lines, a cursor, an anchor, atomic ranges and a history.
+mod changes;
 mod draft;
 mod edits;
 mod groups;
@@ -7,13 +8,16 @@ mod laws;
 mod next_symbol;
 mod ranges;
 mod removals;
+mod replacing;
 mod rows;
 mod selection;
 mod target;
 
 ghost use Rattle.std.specs.Prelude.{◌≡◌, ◌<◌, ◌≤◌, ◌+◌, ◌↔◌, length, OnOk, OnErr, IsOk, IfOk, IfSome, None, IsTrue, is_some, [], vec_len};
-ghost use Rattle.textarea_document.specs.Prelude.{as_nanos, size_limit, lines, lines_of, text_of, IsPlace, size_of, Fits, place_after, IsWellFormed, empty_log, newest, next, clip, new_document, fresh_document, after_edit, after_move, after_redo, run_ended, after_undo, applied_to, moved_ranges, AreInOrder, AreValid, SplitsNoRange};
+ghost use Rattle.textarea_document.specs.ChangeLog.{changes_of};
+ghost use Rattle.textarea_document.specs.Prelude.{as_nanos, size_limit, lines, lines_of, text_of, IsPlace, size_of, Fits, place_after, IsWellFormed, empty_log, newest, next, new_document, lines_replaced, after_edit, after_move, after_redo, run_ended, after_undo, applied_to, moved_ranges, with_splice, AreInOrder, AreValid, SplitsNoRange};
 
+use crate::document::changes::ChangeLog;
 use std::alloc::{AllocError, Global};
 use std::marker::Model;
 use std::time::Duration;
@@ -35,9 +39,11 @@ pub struct Document {
     anchor: Option<(usize, usize)>,
     ranges: Vec<AtomicRange>,
     history: History,
+    changes: ChangeLog,
 }
 
 impl Model for Document {
+    ghost use Rattle.textarea_document.specs.ChangeLog.{changes_of};
     ghost use Rattle.textarea_document.specs.DocumentState.{DocumentState, document_of};
 
     ghost Value = { DocumentState };
@@ -46,17 +52,20 @@ impl Model for Document {
 
     ghost view = { λ document.
         document_of document.text_layout document.cursor document.anchor document.ranges.items
-        document.history.log };
+        document.history.log (changes_of document.changes) };
 
     ghost invariant = { λ document. IsSound
         (document_of document.text_layout document.cursor document.anchor document.ranges.items
-        document.history.log) };
+        document.history.log (changes_of document.changes)) };
 }
 
 impl Clone for Document {
-    ghost is_clone = { λ document copy. copy ≡ document };
+    ghost use Rattle.textarea_document.specs.DocumentState.{changes_taken};
 
-    /// Returns a copy of the document with its history, or an error if memory runs out.
+    ghost is_clone = { λ document copy. copy ≡ changes_taken document };
+
+    /// Returns a copy of the document with its history and an empty log of changes, or an error if
+    /// memory runs out.
     fn clone(&self) -> Result<Document, AllocError> {
         Ok(Document {
             text_layout: self.text_layout.clone()?,
@@ -64,11 +73,22 @@ impl Clone for Document {
             anchor: self.anchor,
             ranges: self.ranges.clone()?,
             history: self.history.clone()?,
+            changes: self.changes.emptied(),
         })
     }
 }
 
 impl Document {
+    // Returns a copy with the log of changes.
+    fn copied(&self) -> Result<Document, AllocError>
+        ensures { IfOk result (λ copy. copy ≡ self.now) }
+    {
+        let changes = self.changes.copied()?;
+        let mut copy = self.clone()?;
+        copy.changes = changes;
+        Ok(copy)
+    }
+
     /// Returns a document with these lines, layout settings and maximum of remembered edits, and
     /// the cursor at the start. An empty list becomes one empty line. A line feed inside a line
     /// stays a character of that line.
@@ -81,12 +101,17 @@ impl Document {
         ensures { IfOk result (λ document.
             document ≡ new_document (text_of lines.items) settings max_histories) }
     {
+        let text_layout = TextLayout::new(alloc, lines, settings)?;
+        let ranges = Vec::new(alloc);
+        let history = History::new(alloc, max_histories);
+        let changes = ChangeLog::new(alloc, None);
         Ok(Document {
-            text_layout: TextLayout::new(alloc, lines, settings)?,
+            text_layout,
             cursor: (0, 0),
             anchor: None,
-            ranges: Vec::new(alloc),
-            history: History::new(alloc, max_histories),
+            ranges,
+            history,
+            changes,
         })
     }
 
@@ -149,7 +174,12 @@ impl Document {
         let Some(edit) = self.history.newest() else {
             return Ok(false);
         };
-        let cursor = make_change(&mut self.text_layout, &mut self.ranges, edit.inverse())?;
+        let cursor = make_change(
+            &mut self.text_layout,
+            &mut self.ranges,
+            &mut self.changes,
+            edit.inverse(),
+        )?;
         self.cursor = cursor;
         self.history.step_back();
         self.anchor = None;
@@ -172,7 +202,12 @@ impl Document {
         if 1 < count {
             return self.redo_group(count);
         }
-        let cursor = make_change(&mut self.text_layout, &mut self.ranges, edit.change())?;
+        let cursor = make_change(
+            &mut self.text_layout,
+            &mut self.ranges,
+            &mut self.changes,
+            edit.change(),
+        )?;
         self.cursor = cursor;
         self.history.step_forward();
         self.anchor = None;
@@ -189,7 +224,12 @@ impl Document {
         ensures err { OnErr result (self.new ≡ self.old) }
     {
         self.history.reserve()?;
-        let cursor = make_change(&mut self.text_layout, &mut self.ranges, edit.change())?;
+        let cursor = make_change(
+            &mut self.text_layout,
+            &mut self.ranges,
+            &mut self.changes,
+            edit.change(),
+        )?;
         self.cursor = cursor;
         self.history.put(edit, typed, now);
         self.anchor = None;
@@ -231,26 +271,29 @@ impl Document {
         self.history.max_items()
     }
 
-    /// Replaces all lines, forgets all edits and an open group, and moves the cursor to the nearest position; the
-    /// maximum of remembered edits stays.
+    /// Replaces all lines, forgets all edits and an open group, and moves the cursor to the nearest
+    /// position; the maximum of remembered edits stays. It is a change of the whole text.
     pub fn set_lines(
         &mut self,
         lines: Vec<String>,
         cursor: (usize, usize),
     ) -> Result<(), AllocError>
         requires some { 0 < vec_len lines }
-        ensures ok { OnOk result (self.new
-            ≡ fresh_document (text_of lines.items) self.old.layout.settings self.old.layout.count
-            (clip (lines_of lines.items) cursor) self.old.log.maximum) }
+        ensures ok { OnOk result
+            (self.new ≡ lines_replaced self.old (lines_of lines.items) cursor) }
         ensures err { OnErr result (self.new ≡ self.old) }
     {
         let place = clip(lines.as_slice(), cursor);
         let history = History::new(*lines.allocator(), self.history.max_items());
+        let change = self
+            .changes
+            .prepare_lines(self.text_layout.lines(), lines.as_slice())?;
         self.text_layout.set_lines(lines)?;
         self.cursor = place;
         self.anchor = None;
         self.ranges.clear();
         self.history = history;
+        self.changes.put(change);
         Ok(())
     }
 
@@ -271,11 +314,12 @@ impl Document {
     }
 }
 
-// Makes a change that fits the text of the lines, moves the ranges with it, and returns the cursor
-// after it. All memory is allocated before the first change.
+// Makes a change that fits the text of the lines, moves the ranges with it, adds it to the log of
+// changes, and returns the cursor after it. All memory is allocated before the first change.
 pub(crate) fn make_change(
     text_layout: &mut TextLayout,
     ranges: &mut Vec<AtomicRange>,
+    changes: &mut ChangeLog,
     change: Change<'_>,
 ) -> Result<(usize, usize), AllocError>
     requires fits { Fits text_layout.old.text change }
@@ -286,14 +330,19 @@ pub(crate) fn make_change(
     ensures ranges { OnOk result
         (ranges.new.items ≡ moved_ranges ranges.old.items change.entry) }
     ensures layout_stays { OnErr result (text_layout.new ≡ text_layout.old) }
+    ensures changes { OnOk result (changes_of changes.new
+        ≡ with_splice (changes_of changes.old) text_layout.old.text change.entry) }
     ensures ranges_stay { OnErr result (ranges.new.items ≡ ranges.old.items) }
+    ensures changes_stay { OnErr result (changes_of changes.new ≡ changes_of changes.old) }
 {
     let start = change.start();
     let old = change.cursor_before();
     let new = change.cursor_after();
     text_layout.places_are_small();
+    let kept = changes.prepare(text_layout.lines(), &change)?;
     text_layout.apply(change)?;
     text_layout.places_are_small();
     move_ranges(ranges, start, old, new);
+    changes.put(kept);
     Ok(new)
 }

@@ -1,6 +1,8 @@
 //! Laws of documents and their visual rows, each the contract of a function that does nothing.
 ghost use Rattle.std.specs.Prelude.{◌≡◌, ℕ, Bool, false, List, [], ◌∷◌, Contains, None, Option};
-ghost use Rattle.textarea_document.specs.Prelude.{redo_splices, undo_splices, LayoutSettings, AtomicRange, TakesRange, moved_range, Place, end, Fits, Splice, Symbol, WrapsAll, WrapsBySettings, WrapsByWidth, SplicedBy, SplicesBy, HasEffect, EditStep, splice_of_step, stepped, AllStayOrAreDropped, AllStemFrom, RangesFollowSplices, RangesStayWhole, after_edit, after_redo, after_undo, SplitsNoRange, HasRowsAt, IsAboveCursor, IsBelowCursor, with_inner_width, with_layout_settings, IsSound, DocumentState, fresh_document};
+ghost use Rattle.textarea_document.specs.Prelude.{redo_splices, undo_splices, LayoutSettings, AtomicRange, TakesRange, moved_range, Place, end, Fits, Splice, Symbol, WrapsAll, WrapsBySettings, WrapsByWidth, SplicedBy, SplicesBy, HasEffect, EditStep, splice_of_step, stepped, AllStayOrAreDropped, AllStemFrom, RangesFollowSplices, RangesStayWhole, after_edit, after_redo, after_undo, SplitsNoRange, HasRowsAt, IsAboveCursor, IsBelowCursor, with_inner_width, with_layout_settings, IsSound, DocumentState, fresh_document, ChangesLead, lines_replaced};
+ghost use Rattle.textarea_document.specs.ReplacedText.{AreReplaceable, with_replaced};
+ghost use Rattle.textarea_document.specs.Replacing.{all_replaced};
 
 use textarea_lines::laws::{settings_wrap, splices_wrap};
 use textarea_ranges::laws::ranges_follow_the_text;
@@ -92,3 +94,28 @@ pub fn only_removed_ranges_are_dropped()
 {
     ranges_follow_the_text();
 }
+
+/// The text after stretches of a document are replaced, if they are in order and no end of one is
+/// strictly inside a range: exactly these are replaced, in the text as it was, and nothing in what
+/// is inserted.
+pub fn stretches_are_replaced()
+    ensures { (document : DocumentState) (stretches : List (ℕ × ℕ)) (symbols : List Symbol) (now : ℕ) →
+        IsSound document → AreReplaceable document stretches →
+        (all_replaced document stretches symbols now).text
+        ≡ with_replaced document.text 0 stretches symbols }
+{}
+
+/// How a document's log of changes leads from its text to the text after an edit, an undo, a redo,
+/// and lines that replace all others: the changes are appended, and applied to the old text one
+/// after another they give the new one. Without a log there are none.
+pub fn changes_lead()
+    ensures edited { (document : DocumentState) (splice : Splice) (typed : Bool) (now : ℕ) →
+        Fits document.text splice →
+        ChangesLead document (after_edit document splice typed now) }
+    ensures undone { (document : DocumentState) →
+        IsSound document → ChangesLead document (after_undo document) }
+    ensures redone { (document : DocumentState) →
+        IsSound document → ChangesLead document (after_redo document) }
+    ensures lines { (document : DocumentState) (rows : List (List ℕ)) (cursor : Place) →
+        ChangesLead document (lines_replaced document rows cursor) }
+{}

@@ -8,7 +8,7 @@ use Rattle.textarea_search.specs.declared.error.SearchError.TheVariants.{Memory,
 use Rattle.tui_textarea.specs.State.{State}
 use Rattle.tui_textarea.specs.Calls.{with_ranges_if}
 use Rattle.tui_textarea.specs.Outcomes.{IsPatternCallResult}
-use Rattle.tui_textarea.specs.Patterns.{IsPatternResult}
+use Rattle.tui_textarea.specs.Patterns.{IsNewFailure, IsPatternResult}
 use Rattle.tui_textarea.specs.CallResults.{call_result}
 use Rattle.textarea_calls.specs.declared.answer.Answer.{Answer}
 
@@ -37,3 +37,15 @@ pattern_result_is state text (Err (Pattern error)) (Ok answer) is empty present 
       because = ran_out;
       carried = carried;
     })
+
+-- the same for the pattern of a plain text
+pub text_result_is : {T E : Type 0} (state : State) (pattern : List ℕ) (outcome : Result T SearchError) (result_is : Result Answer E)
+    → IsPatternResult outcome result_is → IfErr outcome (IsNewFailure state pattern)
+    → IfErr outcome (IsPatternFailure pattern) → IfErr outcome (IsErrorFor pattern)
+    → IfOk result_is (λ answer. IsPatternCallResult state pattern (call_result answer))
+text_result_is state pattern outcome (Err error) is fresh because carried = tt
+text_result_is state pattern (Ok set) (Ok answer) is fresh because carried = subst (IsPatternCallResult state pattern) (sym is.1) refl
+text_result_is state pattern (Err (Memory error)) (Ok answer) is fresh because carried = let never : false ≡ true = is in cc
+text_result_is state pattern (Err (Pattern error)) (Ok answer) is fresh because carried =
+    subst (IsPatternCallResult state pattern) (sym is.1)
+    (record { is_new = fresh error refl; error = error; because = because; carried = carried })

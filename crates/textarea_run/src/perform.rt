@@ -47,6 +47,7 @@ pub fn make(area: &mut TextArea<'_>, call: Call<'_>) -> Result<Answer, AllocErro
         Topic::Insert(call) => topics::insert_call(area, call),
         Topic::Remove(call) => topics::remove_call(area, call),
         Topic::History(call) => topics::history_call(area, call),
+        Topic::Changes(call) => topics::changes_call(area, call),
         Topic::Select(call) => topics::select_call(area, call),
         Topic::Move(call) => topics::move_call(area, call),
         Topic::Search(call) => topics::search_call(area, call),

@@ -1,6 +1,7 @@
 // Makes a list of calls, one after another.
 ghost use Rattle.std.specs.Prelude.{◌≡◌, ◌≤◌, [], length, vec_capacity, All};
 ghost use Rattle.textarea_calls.specs.Possible.{CanBeMade};
+ghost use Rattle.tui_textarea.specs.ChangesOverCalls.{ChangesOfRun};
 ghost use Rattle.tui_textarea.specs.RangesOverCalls.{RangesOfRun};
 ghost use Rattle.tui_textarea.specs.Run.{Run};
 
@@ -9,7 +10,7 @@ use textarea_calls::{Answer, Call};
 use textarea_screen::screen::Buffer;
 use tui_textarea::TextArea;
 use tui_textarea::laws::is_sound;
-use tui_textarea::outcomes::laws::ranges_follow_each_run;
+use tui_textarea::outcomes::laws::{changes_follow_each_run, ranges_follow_each_run};
 
 /// The end of a run of calls.
 #[derive(Drop)]
@@ -36,6 +37,10 @@ pub struct RunEnd {
 /// overlaps it or is strictly inside it, by `set_lines`, by `clear_atomic_ranges`, and by ranges
 /// that a call sets.
 ///
+/// If no call begins or ends the log of changes, those that the calls return, and after them those in
+/// the log at the end, follow those in the log at the start, and the further ones, applied one after
+/// another to the text at the start, give the text at the end.
+///
 /// Each `Call::SetLines` needs at least one line. Memory for the results is reserved first. If that
 /// fails, no call is made and the index of the failed call is 0.
 pub fn run(area: &mut TextArea<'_>, calls: &[Call<'_>], buffer: &mut Buffer) -> RunEnd
@@ -43,9 +48,11 @@ pub fn run(area: &mut TextArea<'_>, calls: &[Call<'_>], buffer: &mut Buffer) -> 
     ensures led { Run area.old buffer.old calls.now result.answers.items result.refused area.new
         buffer.new }
     ensures ranges { RangesOfRun area.old buffer.old calls.now result.answers.items area.new }
+    ensures changes { ChangesOfRun area.old calls.now result.answers.items area.new }
 {
     is_sound(area);
     ranges_follow_each_run();
+    changes_follow_each_run();
     let mut answers = Vec::new(area.allocator());
     if answers.try_reserve(calls.len()).is_err() {
         return RunEnd {

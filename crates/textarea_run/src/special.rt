@@ -1,7 +1,8 @@
 // Calls that `TextArea` makes with a copy of an argument, or whose result becomes an `Answer`.
-ghost use Rattle.std.specs.Prelude.{◌≡◌, ◌<◌, length, IfOk, OnErr, OnOk, Some};
+ghost use Rattle.std.specs.Prelude.{◌≡◌, ◌≢◌, ◌<◌, [], length, IfOk, OnErr, OnOk, Some};
 ghost use Rattle.textarea_screen.specs.Block.{block_view};
 ghost use Rattle.textarea_screen.specs.Text.{text_view};
+ghost use Rattle.textarea_search.specs.PlainTexts.{text_pattern};
 ghost use Rattle.tui_textarea.specs.CallResults.{call_result};
 ghost use Rattle.tui_textarea.specs.Calls.{ranges_result, rejected_ranges, with_lines, with_ranges_if};
 ghost use Rattle.tui_textarea.specs.Measure.{with_surround};
@@ -94,6 +95,23 @@ pub fn set_search_pattern(area: &mut TextArea<'_>, pattern: &str) -> Result<Answ
     ensures may { OnErr result (IsNewPattern area.old pattern.now) }
 {
     pattern_result(area.set_search_pattern(pattern))
+}
+
+// Sets the pattern of a plain text, or returns that it is rejected.
+pub fn set_search_text(
+    area: &mut TextArea<'_>,
+    text: &str,
+    ignore_case: bool,
+    whole_word: bool,
+) -> Result<Answer, AllocError>
+    ensures answer { IfOk result (λ answer. IsPatternCallResult area.old
+        (text_pattern text.now ignore_case whole_word) (call_result answer)) }
+    ensures ok { IfOk result (λ answer. area.new ≡ after_pattern area.old
+        (text_pattern text.now ignore_case whole_word) (call_result answer)) }
+    ensures err { OnErr result (area.new ≡ area.old) }
+    ensures may { OnErr result (text.now ≢ []) }
+{
+    pattern_result(area.set_search_text(text, ignore_case, whole_word))
 }
 
 // The result of setting a pattern: done, rejected with an error of `regex`, or out of memory.

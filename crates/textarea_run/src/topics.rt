@@ -2,7 +2,7 @@
 // The calls of each topic, made on a text area.
 ghost use Rattle.std.specs.Prelude.{◌≡◌, IfOk, OnErr};
 ghost use Rattle.textarea_calls.specs.Possible.{CanBeMade};
-ghost use Rattle.textarea_calls.specs.Topics.{call_of_appearance, call_of_history, call_of_insert, call_of_keys, call_of_move, call_of_options, call_of_ranges, call_of_read, call_of_remove, call_of_search, call_of_select};
+ghost use Rattle.textarea_calls.specs.Topics.{call_of_appearance, call_of_changes, call_of_history, call_of_insert, call_of_keys, call_of_move, call_of_options, call_of_ranges, call_of_read, call_of_remove, call_of_search, call_of_select};
 ghost use Rattle.tui_textarea.specs.CallResults.{call_result};
 ghost use Rattle.tui_textarea.specs.Outcomes.{IsAfterCall, IsResultOf, RanOutOfMemory};
 
@@ -11,8 +11,8 @@ use crate::special;
 use std::alloc::AllocError;
 use textarea_calls::Answer;
 use textarea_calls::topic::{
-    AppearanceCall, HistoryCall, InsertCall, KeysCall, MoveCall, OptionsCall, RangesCall, ReadCall,
-    RemoveCall, SearchCall, SelectCall,
+    AppearanceCall, ChangesCall, HistoryCall, InsertCall, KeysCall, MoveCall, OptionsCall,
+    RangesCall, ReadCall, RemoveCall, SearchCall, SelectCall,
 };
 use tui_textarea::TextArea;
 
@@ -36,6 +36,9 @@ pub(crate) fn insert_call(
         InsertCall::InsertTab => area.insert_tab().map(Answer::Flag),
         InsertCall::Paste => area.paste().map(Answer::Flag),
         InsertCall::DuplicateLine => area.duplicate_line().map(|()| Answer::Done),
+        InsertCall::ReplaceRange { from, to, text } => area
+            .replace_range(from, to, text)
+            .map(Answer::Flag),
         InsertCall::SetLines { lines, cursor } => {
             special::set_lines(area, lines, cursor).map(|()| Answer::Done)
         }
@@ -106,6 +109,23 @@ pub(crate) fn history_call(area: &mut TextArea<'_>, call: HistoryCall) -> Result
     }
 }
 
+/// What changed in the text.
+pub(crate) fn changes_call(area: &mut TextArea<'_>, call: ChangesCall) -> Result<Answer, AllocError>
+    ensures answer { IfOk result
+        (λ answer. IsResultOf area.old (call_of_changes call) (call_result answer)) }
+    ensures ok { IfOk result
+        (λ answer. IsAfterCall area.old (call_of_changes call) (call_result answer) area.new) }
+    ensures err { OnErr result (RanOutOfMemory area.old (call_of_changes call) area.new) }
+{
+    match call {
+        ChangesCall::SetChangeLog(unit) => {
+            area.set_change_log(unit);
+            Ok(Answer::Done)
+        }
+        ChangesCall::TakeChanges => Ok(Answer::Changes(area.take_changes())),
+    }
+}
+
 /// The selection, and what is yanked.
 pub(crate) fn select_call(
     area: &mut TextArea<'_>,
@@ -172,10 +192,17 @@ pub(crate) fn search_call(
 {
     match call {
         SearchCall::SetSearchPattern(pattern) => special::set_search_pattern(area, pattern),
+        SearchCall::SetSearchText {
+            text,
+            ignore_case,
+            whole_word,
+        } => special::set_search_text(area, text, ignore_case, whole_word),
         SearchCall::SearchForward(match_cursor) => area
             .search_forward(match_cursor)
             .map(Answer::Flag),
         SearchCall::SearchBack(match_cursor) => area.search_back(match_cursor).map(Answer::Flag),
+        SearchCall::ReplaceMatch(text) => area.replace_match(text).map(Answer::Flag),
+        SearchCall::ReplaceAll(text) => area.replace_all(text).map(Answer::Number),
     }
 }
 
@@ -340,10 +367,13 @@ pub(crate) fn read_call(area: &mut TextArea<'_>, call: ReadCall) -> Result<Answe
 {
     match call {
         ReadCall::Text => area.text().map(Answer::Text),
+        ReadCall::TextRange { from, to } => area.text_range(from, to).map(Answer::Text),
         ReadCall::Cursor => Ok(Answer::Cursor(area.cursor())),
         ReadCall::IsEmpty => Ok(Answer::Flag(area.is_empty())),
         ReadCall::IsSelecting => Ok(Answer::Flag(area.is_selecting())),
         ReadCall::SelectionRange => Ok(Answer::Selection(area.selection_range())),
+        ReadCall::MatchCount => area.match_count().map(Answer::Number),
+        ReadCall::MatchIndex => area.match_index().map(Answer::NumberIfAny),
         ReadCall::YankText => area.yank_text().map(Answer::Text),
         ReadCall::MaxHistories => Ok(Answer::Number(area.max_histories())),
         ReadCall::UndoCoalescing => Ok(Answer::Flag(area.undo_coalescing())),

@@ -4,4 +4,5 @@ pub mod Lines
 pub mod Numbers
 pub mod Ranges
 pub mod Scripts
+pub mod Tables
 pub mod Tokens

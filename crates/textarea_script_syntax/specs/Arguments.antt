@@ -6,6 +6,8 @@ use Rattle.std.specs.Char.{is_ascii_digit}
 use Rattle.std.specs.List.{after_first, before_first, list_all, position_or_len}
 use Rattle.std.specs.Option.{option_zip}
 use Rattle.std.specs.Str.Parse.{digits_value}
+use Rattle.textarea_change.specs.declared.change.ChangeUnit.{ChangeUnit}
+use Rattle.textarea_change.specs.declared.change.ChangeUnit.TheVariants as unit
 use Rattle.textarea_data.specs.declared.cursor.CursorMove.{CursorMove}
 use Rattle.textarea_data.specs.declared.cursor.CursorMove.TheVariants as move
 use Rattle.textarea_data.specs.declared.scroll.Scrolling.{Scrolling}
@@ -74,6 +76,10 @@ two_short_numbers = both short_number short_number
 abbrev pub two_numbers : List ℕ → Option (ℕ × ℕ)
 two_numbers = both number number
 
+-- two positions, each a row and a column
+abbrev pub two_places : List ℕ → Option ((ℕ × ℕ) × (ℕ × ℕ))
+two_places text = option_map (λ p. ((p.0, p.1.0), p.1.1)) (both number (both number two_numbers) text)
+
 -- an area: its left column, top row, width and height, clipped so that it ends at 65535 or before
 abbrev pub Sides : Type 0
 Sides = ℕ × ℕ × ℕ × ℕ
@@ -123,6 +129,17 @@ moves =
 
 abbrev pub move_named : List ℕ → Option CursorMove
 move_named = named moves
+
+abbrev pub change_units : List (List ℕ × Option ChangeUnit)
+change_units =
+    (codes "Characters", Some unit.Characters)
+    ∷ (codes "Bytes", Some unit.Bytes)
+    ∷ (codes "Utf16", Some unit.Utf16)
+    ∷ (codes "None", None)
+    ∷ []
+
+abbrev pub change_unit_named : List ℕ → Option (Option ChangeUnit)
+change_unit_named = named change_units
 
 abbrev pub modes : List (List ℕ × WrapMode)
 modes =

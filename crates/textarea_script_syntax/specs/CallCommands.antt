@@ -2,7 +2,7 @@
 -- The commands of calls that borrow nothing, and whose arguments are read by their types.
 use Rattle.std.specs.Prelude.{ℕ, List, [], ◌∷◌, ◌++◌, codes, Option}
 use Rattle.textarea_calls.specs.declared.call.Call.TheVariants as call
-use Rattle.textarea_script_syntax.specs.Arguments.{byte_number, mode_named, move_named, number, scroll_amounts, short_number, truth, two_numbers}
+use Rattle.textarea_script_syntax.specs.Arguments.{byte_number, change_unit_named, mode_named, move_named, number, scroll_amounts, short_number, truth, two_numbers}
 use Rattle.textarea_script_syntax.specs.Escapes.{character}
 use Rattle.textarea_script_syntax.specs.Meaning.{Meaning, meaning_by, plain_command, without_arguments}
 
@@ -14,6 +14,7 @@ commands_with_arguments =
     ∷ (codes "set_max_histories", plain_command number call.SetMaxHistories)
     ∷ (codes "set_undo_coalescing", plain_command truth call.SetUndoCoalescing)
     ∷ (codes "set_undo_grouping", plain_command truth call.SetUndoGrouping)
+    ∷ (codes "set_change_log", plain_command change_unit_named call.SetChangeLog)
     ∷ (codes "move", plain_command move_named call.Move)
     ∷ (codes "go_to", plain_command two_numbers call.GoTo)
     ∷ (codes "scroll", plain_command scroll_amounts call.Scroll)
@@ -47,12 +48,15 @@ bare_commands =
     ∷ (codes "begin_undo_group", without_arguments call.BeginUndoGroup)
     ∷ (codes "end_undo_group", without_arguments call.EndUndoGroup)
     ∷ (codes "end_run", without_arguments call.EndRun)
+    ∷ (codes "take_changes", without_arguments call.TakeChanges)
     ∷ (codes "start_selection", without_arguments call.StartSelection)
     ∷ (codes "cancel_selection", without_arguments call.CancelSelection)
     ∷ (codes "select_all", without_arguments call.SelectAll)
     ∷ (codes "copy", without_arguments call.Copy)
     ∷ (codes "clear_mask_char", without_arguments call.ClearMaskChar)
     ∷ (codes "text", without_arguments call.Text)
+    ∷ (codes "match_count", without_arguments call.MatchCount)
+    ∷ (codes "match_index", without_arguments call.MatchIndex)
     ∷ (codes "yank_text", without_arguments call.YankText)
     ∷ []
 

@@ -4,11 +4,11 @@ use Rattle.std.specs.List.{after_first, before_first}
 use Rattle.std.specs.Option.{option_zip}
 use Rattle.textarea_data.specs.declared.cursor.CursorMove.TheVariants as move
 use Rattle.textarea_screen.specs.Style.{empty_style}
-use Rattle.textarea_script_syntax.specs.Arguments.{has_space, is_separator, number, page, sides, split_first, truth, two_short_numbers}
+use Rattle.textarea_script_syntax.specs.Arguments.{both, has_space, is_separator, number, page, sides, split_first, truth, two_places, two_short_numbers}
 use Rattle.textarea_script_syntax.specs.CallCommands.{call_commands}
-use Rattle.textarea_script_syntax.specs.Escapes.{unescaped_lines}
+use Rattle.textarea_script_syntax.specs.Escapes.{unescaped, unescaped_lines}
 use Rattle.textarea_script_syntax.specs.Inputs.{input_named}
-use Rattle.textarea_script_syntax.specs.Meaning.{Meaning, SetNow, Render, InsertStr, InsertPasted, SetYankText, TrySetAtomicRanges, SetSearchPattern, SetLines, Press, meaning_by, plain_command, with_arguments, with_text}
+use Rattle.textarea_script_syntax.specs.Meaning.{Meaning, SetNow, Render, InsertStr, InsertPasted, SetYankText, TrySetAtomicRanges, SetSearchPattern, SetLines, ReplaceRange, Press, meaning_by, plain_command, with_arguments, with_text, SetSearchText, ReplaceMatch, ReplaceAll}
 use Rattle.textarea_script_syntax.specs.Ranges.{ranges_after_space}
 use Rattle.textarea_calls.specs.declared.call.Call.{Call}
 use Rattle.textarea_calls.specs.declared.call.Call.TheVariants as call
@@ -27,6 +27,30 @@ lines_and_place with_text =
 abbrev pub set_lines_meaning : Option (List ℕ) → Option Meaning
 set_lines_meaning = with_arguments lines_and_place (λ p. SetLines p.0 p.1)
 
+-- a number and a text, which is empty by default
+abbrev pub number_and_text : List ℕ → Option (ℕ × List ℕ)
+number_and_text with_text =
+    option_zip (number (before_first is_separator with_text)) (unescaped (after_first is_separator with_text))
+
+-- two positions and a text, which is empty by default
+abbrev pub places_and_text : List ℕ → Option (ℕ × (ℕ × (ℕ × (ℕ × List ℕ))))
+places_and_text = both number (both number (both number number_and_text))
+
+abbrev pub replace_range_meaning : Option (List ℕ) → Option Meaning
+replace_range_meaning =
+    with_arguments places_and_text (λ p. ReplaceRange (p.0, p.1.0) (p.1.1.0, p.1.1.1.0) p.1.1.1.1)
+
+-- the text and the two options of a `set_search_text`: whether case is ignored, whether whole words
+-- are wanted, and a text, empty by default
+abbrev pub text_and_options : List ℕ → Option (List ℕ × (Bool × Bool))
+text_and_options with_text =
+    option_and_then
+    (λ p. option_zip (unescaped (after_first is_separator p.1)) (option_zip (truth p.0) (truth (before_first is_separator p.1))))
+    (split_first with_text)
+
+abbrev pub search_text_meaning : Option (List ℕ) → Option Meaning
+search_text_meaning = with_arguments text_and_options (λ p. SetSearchText p.0 p.1.0 p.1.1)
+
 -- a command with any number of atomic ranges; there are none where nothing follows the name
 abbrev pub some_ranges : Option (List ℕ) → Option Meaning
 some_ranges arguments = option_map TrySetAtomicRanges (ranges_after_space arguments)
@@ -40,6 +64,7 @@ other_commands =
     ∷ (codes "jump", plain_command two_short_numbers (λ p. call.Move (move.Jump p.0 p.1)))
     ∷ (codes "page", plain_command page call.Scroll)
     ∷ (codes "line_numbers", plain_command truth line_numbers)
+    ∷ (codes "text_range", plain_command two_places (λ p. call.TextRange p.0 p.1))
     ∷ (codes "now", with_arguments number (λ millis. SetNow (millis * 1_000_000)))
     ∷ []
 
@@ -54,8 +79,12 @@ borrowing_commands =
     ∷ (codes "insert_pasted", with_text InsertPasted)
     ∷ (codes "set_yank_text", with_text SetYankText)
     ∷ (codes "set_search_pattern", with_text SetSearchPattern)
+    ∷ (codes "set_search_text", search_text_meaning)
     ∷ (codes "ranges", some_ranges)
     ∷ (codes "set_lines", set_lines_meaning)
+    ∷ (codes "replace_range", replace_range_meaning)
+    ∷ (codes "replace_match", with_text ReplaceMatch)
+    ∷ (codes "replace_all", with_text ReplaceAll)
     ∷ (codes "input", with_arguments input_named Press)
     ∷ []
 

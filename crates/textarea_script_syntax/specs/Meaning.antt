@@ -1,5 +1,5 @@
 -- The meaning of a script's line, and how a name and its arguments give it.
-use Rattle.std.specs.Prelude.{ℕ, List, [], ◌∷◌, unwrap_or, Option, Some, None, option_map, option_and_then}
+use Rattle.std.specs.Prelude.{ℕ, Bool, List, [], ◌∷◌, unwrap_or, Option, Some, None, option_map, option_and_then}
 use Rattle.textarea_data.specs.declared.input.Input.{Input}
 use Rattle.textarea_data.specs.declared.range.AtomicRange.{AtomicRange}
 use Rattle.textarea_script_syntax.specs.Arguments.{Sides, named}
@@ -7,7 +7,8 @@ use Rattle.textarea_script_syntax.specs.Escapes.{unescaped}
 use Rattle.textarea_calls.specs.declared.call.Call.{Call}
 
 -- the meaning of a line: a call that borrows nothing; a time in nanoseconds; an area; or what a
--- call borrows: a text, ranges, lines (with the cursor's position) or an input. Texts are bytes
+-- call borrows: a text (with two positions), ranges, lines (with the cursor's position) or an input.
+-- Texts are bytes
 pub data Meaning : Type 0 where
   Plain : Call → Meaning
   SetNow : ℕ → Meaning
@@ -17,7 +18,11 @@ pub data Meaning : Type 0 where
   SetYankText : List ℕ → Meaning
   TrySetAtomicRanges : List AtomicRange → Meaning
   SetSearchPattern : List ℕ → Meaning
+  SetSearchText : List ℕ → Bool → Bool → Meaning
   SetLines : List (List ℕ) → ℕ × ℕ → Meaning
+  ReplaceRange : ℕ × ℕ → ℕ × ℕ → List ℕ → Meaning
+  ReplaceMatch : List ℕ → Meaning
+  ReplaceAll : List ℕ → Meaning
   Press : Input → Meaning
 
 -- a command without arguments

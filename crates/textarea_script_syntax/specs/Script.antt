@@ -12,7 +12,7 @@ use Rattle.textarea_script_syntax.specs.Arguments.{sides_of_area}
 use Rattle.textarea_script_syntax.specs.Commands.{line_meaning}
 use Rattle.textarea_script_syntax.specs.Meaning as meaning
 use Rattle.textarea_script_syntax.specs.Meaning.{Meaning}
-use Rattle.textarea_script_syntax.specs.declared.commands.CommandContent.TheVariants.{Plain, InsertStr, InsertPasted, SetYankText, TrySetAtomicRanges, SetLines, SetSearchPattern, Input}
+use Rattle.textarea_script_syntax.specs.declared.commands.CommandContent.TheVariants.{Plain, InsertStr, InsertPasted, SetYankText, TrySetAtomicRanges, SetLines, SetSearchPattern, ReplaceRange, Input, SetSearchText, ReplaceMatch, ReplaceAll}
 use Rattle.textarea_script_syntax.specs.declared.commands.ReadError.{ReadError}
 use Rattle.textarea_script_syntax.specs.declared.commands.ReadError.TheVariants.{Line, Memory}
 
@@ -64,7 +64,11 @@ IsCallReady (InsertPasted text) = Unit {0}
 IsCallReady (SetYankText text) = Unit {0}
 IsCallReady (TrySetAtomicRanges ranges) = Unit {0}
 IsCallReady (SetSearchPattern text) = Unit {0}
+IsCallReady (SetSearchText text ignore_case whole_word) = Unit {0}
 IsCallReady (SetLines lines cursor) = 0 < vec_len lines
+IsCallReady (ReplaceRange from to text) = Unit {0}
+IsCallReady (ReplaceMatch text) = Unit {0}
+IsCallReady (ReplaceAll text) = Unit {0}
 IsCallReady (Input input) = Unit {0}
 
 pub IsReady-prop : (content : CommandContent) → IsProp (IsCallReady content)
@@ -74,7 +78,11 @@ IsReady-prop (InsertPasted text) = Unit-prop
 IsReady-prop (SetYankText text) = Unit-prop
 IsReady-prop (TrySetAtomicRanges ranges) = Unit-prop
 IsReady-prop (SetSearchPattern text) = Unit-prop
+IsReady-prop (SetSearchText text ignore_case whole_word) = Unit-prop
 IsReady-prop (SetLines lines cursor) = le_prop
+IsReady-prop (ReplaceRange from to text) = Unit-prop
+IsReady-prop (ReplaceMatch text) = Unit-prop
+IsReady-prop (ReplaceAll text) = Unit-prop
 IsReady-prop (Input input) = Unit-prop
 
 -- the meaning of a command's content
@@ -87,7 +95,11 @@ meaning_of (InsertPasted text) = meaning.InsertPasted (string_bytes text)
 meaning_of (SetYankText text) = meaning.SetYankText (string_bytes text)
 meaning_of (TrySetAtomicRanges ranges) = meaning.TrySetAtomicRanges ranges.items
 meaning_of (SetSearchPattern text) = meaning.SetSearchPattern (string_bytes text)
+meaning_of (SetSearchText text ignore_case whole_word) = meaning.SetSearchText (string_bytes text) ignore_case whole_word
 meaning_of (SetLines lines cursor) = meaning.SetLines (map string_bytes lines.items) cursor
+meaning_of (ReplaceRange from to text) = meaning.ReplaceRange from to (string_bytes text)
+meaning_of (ReplaceMatch text) = meaning.ReplaceMatch (string_bytes text)
+meaning_of (ReplaceAll text) = meaning.ReplaceAll (string_bytes text)
 meaning_of (Input input) = meaning.Press input
 
 -- an unread line has no meaning
@@ -108,7 +120,13 @@ IsCallOf (InsertPasted text) (call.InsertPasted borrowed) = borrowed.now ≡ str
 IsCallOf (SetYankText text) (call.SetYankText borrowed) = borrowed.now ≡ string_bytes text
 IsCallOf (TrySetAtomicRanges ranges) (call.TrySetAtomicRanges borrowed) = borrowed.now ≡ ranges.items
 IsCallOf (SetSearchPattern text) (call.SetSearchPattern borrowed) = borrowed.now ≡ string_bytes text
+IsCallOf (SetSearchText text ignore_case whole_word) (call.SetSearchText borrowed ignores_case wants_words) =
+    (borrowed.now ≡ string_bytes text) × (ignores_case ≡ ignore_case) × (wants_words ≡ whole_word)
 IsCallOf (SetLines lines cursor) (call.SetLines borrowed place) = (borrowed.now ≡ lines.items) × (place ≡ cursor)
+IsCallOf (ReplaceRange start stop text) (call.ReplaceRange from to borrowed) =
+    (from ≡ start) × (to ≡ stop) × (borrowed.now ≡ string_bytes text)
+IsCallOf (ReplaceMatch text) (call.ReplaceMatch borrowed) = borrowed.now ≡ string_bytes text
+IsCallOf (ReplaceAll text) (call.ReplaceAll borrowed) = borrowed.now ≡ string_bytes text
 IsCallOf (Input input) (call.Input borrowed) = borrowed.now ≡ input
 IsCallOf content other = ⊥
 

@@ -2,13 +2,14 @@
 ghost use Rattle.std.specs.Char.{is_ascii_digit, is_ascii_hexdigit};
 ghost use Rattle.std.specs.List.{list_all};
 ghost use Rattle.std.specs.Prelude.{◌≡◌, ◌<◌, ◌≤◌, ◌++◌, ◌∷◌, length, map, option_copied, option_map, string_bytes, vec_len, IfOk, IfSome, MatchOption};
-ghost use Rattle.textarea_script_syntax.specs.Arguments.{IsReadAs, byte_number, mode_named, move_named, number, page, split_first, scroll_amounts, short_number, sides, sides_of_area, signed_number, truth, two_numbers, two_short_numbers};
+ghost use Rattle.textarea_script_syntax.specs.Arguments.{IsReadAs, byte_number, mode_named, move_named, number, page, split_first, scroll_amounts, short_number, sides, sides_of_area, signed_number, truth, two_numbers, two_places, two_short_numbers, change_unit_named};
 ghost use Rattle.textarea_script_syntax.specs.FirstLine.{IsLinePushed};
 ghost use Rattle.textarea_script_syntax.specs.Escapes.{HasNoBackslash, character, character_numbered, escape, first_character, numbered_escape, unescaped, unescaped_lines};
 ghost use Rattle.textarea_script_syntax.specs.Inputs.{modifiers_named, input_named, key_without_arguments, key_named, key_with};
 ghost use Rattle.textarea_script_syntax.specs.Ranges.{range, ranges, ranges_after_space};
 
 use std::alloc::{AllocError, AllocFailed, Global};
+use textarea_change::ChangeUnit;
 use textarea_data::cursor::CursorMove;
 use textarea_data::input::{Input, Key};
 use textarea_data::range::AtomicRange;
@@ -111,6 +112,16 @@ pub fn two_numbers(text: &str) -> Option<(usize, usize)>
 {
     let (first, second) = split_first(text)?;
     Some((size(first)?, size(second)?))
+}
+
+// Two positions, each a row and a column, all separated by single spaces.
+pub fn two_places(text: &str) -> Option<((usize, usize), (usize, usize))>
+    ensures { result ≡ two_places text.now }
+{
+    let (row, rest) = split_first(text)?;
+    let (column, end) = split_first(rest)?;
+    let end = two_numbers(end)?;
+    Some(((size(row)?, size(column)?), end))
 }
 
 // The area that the text names: its left column, its top row, its width and its height, separated
@@ -231,6 +242,19 @@ pub fn move_named(name: &str) -> Option<CursorMove>
         "ParagraphForward" => CursorMove::ParagraphForward,
         "ParagraphBack" => CursorMove::ParagraphBack,
         "InViewport" => CursorMove::InViewport,
+        _ => return None,
+    })
+}
+
+// The unit of changes that the text names; `None` is a name too, of no unit.
+pub fn change_unit_named(name: &str) -> Option<Option<ChangeUnit>>
+    ensures { result ≡ change_unit_named name.now }
+{
+    Some(match name {
+        "Characters" => Some(ChangeUnit::Characters),
+        "Bytes" => Some(ChangeUnit::Bytes),
+        "Utf16" => Some(ChangeUnit::Utf16),
+        "None" => None,
         _ => return None,
     })
 }

@@ -8,8 +8,8 @@ ghost use Rattle.textarea_script_syntax.specs.Script.{meaning_of};
 ghost use Rattle.textarea_script_syntax.specs.declared.commands.CommandContent.TheVariants.{Plain};
 
 use crate::arguments::{
-    byte_number, mode_named, move_named, one_character, scroll_amounts, short_number, size, truth,
-    two_numbers,
+    byte_number, change_unit_named, mode_named, move_named, one_character, scroll_amounts,
+    short_number, size, truth, two_numbers,
 };
 use textarea_calls::Call;
 
@@ -39,12 +39,15 @@ pub fn call_without_arguments(name: &str) -> Option<Call<'static>>
         "begin_undo_group" => Some(Call::BeginUndoGroup),
         "end_undo_group" => Some(Call::EndUndoGroup),
         "end_run" => Some(Call::EndRun),
+        "take_changes" => Some(Call::TakeChanges),
         "start_selection" => Some(Call::StartSelection),
         "cancel_selection" => Some(Call::CancelSelection),
         "select_all" => Some(Call::SelectAll),
         "copy" => Some(Call::Copy),
         "clear_mask_char" => Some(Call::ClearMaskChar),
         "text" => Some(Call::Text),
+        "match_count" => Some(Call::MatchCount),
+        "match_index" => Some(Call::MatchIndex),
         "yank_text" => Some(Call::YankText),
         _ => None,
     }
@@ -63,6 +66,7 @@ pub fn call_with_arguments(name: &str, arguments: &str) -> Option<Call<'static>>
         "set_max_histories" => Some(Call::SetMaxHistories(size(arguments)?)),
         "set_undo_coalescing" => Some(Call::SetUndoCoalescing(truth(arguments)?)),
         "set_undo_grouping" => Some(Call::SetUndoGrouping(truth(arguments)?)),
+        "set_change_log" => Some(Call::SetChangeLog(change_unit_named(arguments)?)),
         "move" => Some(Call::Move(move_named(arguments)?)),
         "go_to" => Some(Call::GoTo(two_numbers(arguments)?)),
         "scroll" => Some(Call::Scroll(scroll_amounts(arguments)?)),

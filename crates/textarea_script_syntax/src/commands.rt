@@ -2,7 +2,7 @@
 ghost use Rattle.std.specs.Prelude.{◌≡◌, ◌+◌, All, IfOk, IfErr, IfSome, map, option_and_then, option_copied, option_map, string_bytes, vec_len};
 ghost use Rattle.textarea_script_syntax.specs.Arguments.{IsReadAs};
 ghost use Rattle.textarea_calls.specs.Possible.{CanBeMade};
-ghost use Rattle.textarea_script_syntax.specs.Commands.{line_meaning, line_numbers, command_meaning, plain_meaning, set_lines_meaning};
+ghost use Rattle.textarea_script_syntax.specs.Commands.{line_meaning, line_numbers, command_meaning, plain_meaning, replace_range_meaning, set_lines_meaning, search_text_meaning};
 ghost use Rattle.textarea_script_syntax.specs.Inputs.{input_named};
 ghost use Rattle.textarea_script_syntax.specs.Meaning.{argument_text};
 ghost use Rattle.textarea_script_syntax.specs.Ranges.{ranges_after_space};
@@ -10,7 +10,7 @@ ghost use Rattle.textarea_script_syntax.specs.Script.{lines_of_script, filled_li
 ghost use Rattle.textarea_script_syntax.specs.declared.commands.CommandContent.TheVariants.{Plain};
 
 use crate::arguments::{
-    Unparsed, area, input_named, number, page_named, ranges, size, split_first, truth,
+    Unparsed, area, input_named, number, page_named, ranges, size, split_first, truth, two_places,
     two_short_numbers, unescape, unescaped_lines,
 };
 use crate::call_commands::{call_with_arguments, call_without_arguments};
@@ -59,10 +59,22 @@ enum CommandContent {
     SetYankText(String),
     TrySetAtomicRanges(Vec<AtomicRange>),
     SetSearchPattern(String),
+    SetSearchText {
+        text: String,
+        ignore_case: bool,
+        whole_word: bool,
+    },
     SetLines {
         lines: Vec<String>,
         cursor: (usize, usize),
     },
+    ReplaceRange {
+        from: (usize, usize),
+        to: (usize, usize),
+        text: String,
+    },
+    ReplaceMatch(String),
+    ReplaceAll(String),
     Input(Input),
 }
 
@@ -78,6 +90,15 @@ impl Command {
             CommandContent::InsertPasted(text) => Call::InsertPasted(text.as_str()),
             CommandContent::SetYankText(text) => Call::SetYankText(text.as_str()),
             CommandContent::SetSearchPattern(text) => Call::SetSearchPattern(text.as_str()),
+            CommandContent::SetSearchText {
+                text,
+                ignore_case,
+                whole_word,
+            } => Call::SetSearchText {
+                text: text.as_str(),
+                ignore_case: *ignore_case,
+                whole_word: *whole_word,
+            },
             CommandContent::TrySetAtomicRanges(ranges) => Call::TrySetAtomicRanges(
                 ranges.as_slice(),
             ),
@@ -85,6 +106,13 @@ impl Command {
                 lines: lines.as_slice(),
                 cursor: *cursor,
             },
+            CommandContent::ReplaceRange { from, to, text } => Call::ReplaceRange {
+                from: *from,
+                to: *to,
+                text: text.as_str(),
+            },
+            CommandContent::ReplaceMatch(text) => Call::ReplaceMatch(text.as_str()),
+            CommandContent::ReplaceAll(text) => Call::ReplaceAll(text.as_str()),
             CommandContent::Input(input) => Call::Input(input),
         }
     }
@@ -165,8 +193,12 @@ fn content_named(
         "insert_pasted" => Ok(CommandContent::InsertPasted(text(alloc, arguments)?)),
         "set_yank_text" => Ok(CommandContent::SetYankText(text(alloc, arguments)?)),
         "set_search_pattern" => Ok(CommandContent::SetSearchPattern(text(alloc, arguments)?)),
+        "set_search_text" => search_text(alloc, arguments),
         "ranges" => Ok(CommandContent::TrySetAtomicRanges(some_ranges(alloc, arguments)?)),
         "set_lines" => set_lines(alloc, arguments),
+        "replace_range" => replace_range(alloc, arguments),
+        "replace_match" => Ok(CommandContent::ReplaceMatch(text(alloc, arguments)?)),
+        "replace_all" => Ok(CommandContent::ReplaceAll(text(alloc, arguments)?)),
         "input" => Ok(CommandContent::Input(input(arguments).ok_or(Unparsed::NoCommand)?)),
         _ => Ok(CommandContent::Plain(plain(name, arguments).ok_or(Unparsed::NoCommand)?)),
     }
@@ -177,6 +209,23 @@ fn text(alloc: Global, arguments: Option<&str>) -> Result<String, Unparsed>
     ensures { IsReadAs string_bytes (argument_text (option_copied arguments.entry)) result }
 {
     unescape(alloc, arguments.unwrap_or(""))
+}
+
+// A `set_search_text` with these arguments: two truth values, and a text, which may be missing.
+fn search_text(alloc: Global, arguments: Option<&str>) -> Result<CommandContent, Unparsed>
+    ensures ready { IfOk result IsCallReady }
+    ensures means { IsReadAs meaning_of (search_text_meaning (option_copied arguments.entry))
+        result }
+{
+    let (ignore_case, rest) = split_first(arguments.unwrap_or("")).ok_or(Unparsed::NoCommand)?;
+    let (whole_word, text) = split_first(rest).unwrap_or((rest, ""));
+    let ignore_case = truth(ignore_case).ok_or(Unparsed::NoCommand)?;
+    let whole_word = truth(whole_word).ok_or(Unparsed::NoCommand)?;
+    Ok(CommandContent::SetSearchText {
+        text: unescape(alloc, text)?,
+        ignore_case,
+        whole_word,
+    })
 }
 
 // The ranges that the arguments name. There are none where there are no arguments.
@@ -212,6 +261,28 @@ fn set_lines(alloc: Global, arguments: Option<&str>) -> Result<CommandContent, U
     })
 }
 
+// A `replace_range` with these arguments: two positions, each a row and a column, and a text, which
+// may be missing.
+fn replace_range(alloc: Global, arguments: Option<&str>) -> Result<CommandContent, Unparsed>
+    ensures ready { IfOk result IsCallReady }
+    ensures means { IsReadAs meaning_of (replace_range_meaning (option_copied arguments.entry))
+        result }
+{
+    let (row, rest) = split_first(arguments.unwrap_or("")).ok_or(Unparsed::NoCommand)?;
+    let (column, rest) = split_first(rest).ok_or(Unparsed::NoCommand)?;
+    let (end_row, rest) = split_first(rest).ok_or(Unparsed::NoCommand)?;
+    let (end_column, text) = split_first(rest).unwrap_or((rest, ""));
+    let row = size(row).ok_or(Unparsed::NoCommand)?;
+    let column = size(column).ok_or(Unparsed::NoCommand)?;
+    let end_row = size(end_row).ok_or(Unparsed::NoCommand)?;
+    let end_column = size(end_column).ok_or(Unparsed::NoCommand)?;
+    Ok(CommandContent::ReplaceRange {
+        from: (row, column),
+        to: (end_row, end_column),
+        text: unescape(alloc, text)?,
+    })
+}
+
 // The call of this name and its arguments, if there are any. None of the arguments is a text.
 fn plain(name: &str, arguments: Option<&str>) -> Option<Call<'static>>
     ensures ready { IfSome result CanBeMade }
@@ -240,6 +311,10 @@ fn call_with(name: &str, arguments: &str) -> Option<Call<'static>>
         "jump" => {
             let (row, column) = two_short_numbers(arguments)?;
             Some(Call::Move(CursorMove::Jump(row, column)))
+        }
+        "text_range" => {
+            let (from, to) = two_places(arguments)?;
+            Some(Call::TextRange { from, to })
         }
         "page" => Some(Call::Scroll(page_named(arguments)?)),
         "line_numbers" => Some(line_numbers(truth(arguments)?)),

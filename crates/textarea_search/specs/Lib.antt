@@ -1,4 +1,6 @@
 pub mod Columns
+pub mod ColumnPairs
+pub mod TextMatches
 pub mod PatternErrors
 pub mod Matches
 pub mod Spans

@@ -18,7 +18,7 @@ use Rattle.tui_textarea.specs.CallResults as reported
 use Rattle.tui_textarea.specs.CallResults.{CallResult, Done, Flag, Text}
 use Rattle.textarea_calls.specs.declared.call.Call.{Call}
 use Rattle.textarea_calls.specs.declared.call.Call.TheVariants.{InsertChar, InsertNewline, DeleteChar, DeleteStr, Cut, Paste, Undo, Redo, StartSelection, SelectAll, YankText, Measure, Move}
-use Rattle.textarea_calls.specs.declared.call.Call.TheVariants.{SetSearchPattern, Render, CursorAtPosition, Scroll, Input, InputWithoutShortcuts, SetMaskChar, ClearMaskChar, MaskChar}
+use Rattle.textarea_calls.specs.declared.call.Call.TheVariants.{SetSearchPattern, SetSearchText, Render, CursorAtPosition, Scroll, Input, InputWithoutShortcuts, SetMaskChar, ClearMaskChar, MaskChar}
 use Rattle.textarea_calls.specs.declared.call.Call.TheVariants.{RenderedCursorPosition}
 
 abbrev empty : State
@@ -35,6 +35,7 @@ IsPlain cursor_move = Unit {0}
 -- on visual rows, so its result and the state after it can be computed
 abbrev IsSettled : Call → Type 0
 IsSettled (SetSearchPattern text) = ⊥
+IsSettled (SetSearchText text ignore_case whole_word) = ⊥
 IsSettled (Measure width) = ⊥
 IsSettled (Render area) = ⊥
 IsSettled (CursorAtPosition cell) = ⊥
@@ -72,6 +73,7 @@ end_of state (call ∷ calls) = end_of (after state call) calls
 
 settled-returned : (state : State) (call : Call) → IsSettled call → IsResultOf state call (result_of_call state call)
 settled-returned state (SetSearchPattern text) settled = absurd settled
+settled-returned state (SetSearchText text ignore_case whole_word) settled = absurd settled
 settled-returned state (Measure width) settled = absurd settled
 settled-returned state (Render area) settled = absurd settled
 settled-returned state (CursorAtPosition cell) settled = absurd settled
@@ -95,6 +97,7 @@ plain-moved state cursor_move plain = record {
 
 settled-after : (state : State) (call : Call) → IsSettled call → IsAfterCall state call (result_of_call state call) (after state call)
 settled-after state (SetSearchPattern text) settled = absurd settled
+settled-after state (SetSearchText text ignore_case whole_word) settled = absurd settled
 settled-after state (Measure width) settled = absurd settled
 settled-after state (Render area) settled = absurd settled
 settled-after state (CursorAtPosition cell) settled = absurd settled

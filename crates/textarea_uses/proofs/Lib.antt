@@ -1,14 +1,10 @@
-mod EachSymbol
 mod Ends
 mod Halves
 mod Heights
 mod Masking
-mod MatchOrder
 mod MatchSteps
 mod Naming
 mod Playing
-mod Reverting
 mod Saving
 mod Sending
-mod TypedLines
 mod Written

@@ -9,11 +9,7 @@ use Rattle.textarea_text.specs.Text.{characters_of, lines_of}
 use Rattle.tui_textarea.specs.Edits.{breaks_line}
 use Rattle.tui_textarea.specs.State.{State}
 use Rattle.textarea_uses.specs.Prompt.{sent, sent_by, typed_after}
-use Rattle.textarea_uses.specs.TypedLine.{IsTypedLine}
-
-pub sent_first : (key : Key) (typed : List ℕ) (keys : List Key) → sent typed (key ∷ keys) ≡ option_to_list (sent_by key typed) ++ sent (typed_after key typed) keys
-sent_first keys.Enter typed rest = refl
-sent_first other typed rest = refl
+use Rattle.tui_textarea.specs.TypedLine.{IsTypedLine}
 
 -- ---- the keys of a prompt
 
@@ -47,5 +43,5 @@ sends_on all index other typed before after target new within so_far did =
       typed_after key typed,
       did.0,
       ap (λ (texts : List (List ℕ)). texts ++ rest) did.1 ∙ append_assoc before (option_to_list (sent_by key typed)) rest
-          ∙ ap (λ (texts : List (List ℕ)). before ++ texts) (sym (ap (sent typed) first ∙ sent_first key typed (drop (index + 1) all))) ∙ so_far,
+          ∙ ap (λ (texts : List (List ℕ)). before ++ texts) (sym (ap (sent typed) first)) ∙ so_far,
     )

@@ -1,4 +1,5 @@
 pub mod Height
+pub mod LogView
 pub mod Matches
 pub mod Mentions
 pub mod OneLine
@@ -7,4 +8,3 @@ pub mod Prompt
 pub mod Recorder
 pub mod Save
 pub mod SideBySide
-pub mod TypedLine

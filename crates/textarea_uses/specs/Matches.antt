@@ -1,11 +1,6 @@
 -- Steps through the matches of a text.
-use Rattle.std.specs.Prelude.{◌≡◌, Bool, true, false, List, [], ◌∷◌, ◌++◌}
+use Rattle.std.specs.Prelude.{◌≡◌, Bool, true, false, List, ◌∷◌, ◌++◌}
 use Rattle.textarea_text.specs.Place.{Place}
-
--- a step from one match, which these follow, to the next: it is after the cursor, if there is one
-abbrev pub LeadsToNext : List Place → Bool → Place → Type 0
-LeadsToNext [] after cursor = after ≡ false
-LeadsToNext (next ∷ rest) after cursor = (after ≡ true) × (cursor ≡ next)
 
 -- the places are all starts or, if it goes on, those before the cursor, which is at the next one
 abbrev pub AreListed : Bool → List Place → Place → List Place → Type 0

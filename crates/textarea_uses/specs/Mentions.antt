@@ -1,5 +1,6 @@
 -- The mentions of a note.
-use Rattle.std.specs.Prelude.{ℕ, List, map, All, Contains}
+use Rattle.std.specs.Prelude.{ℕ, List, [], ◌∷◌, ◌++◌, map, All, Contains}
+use Rattle.textarea_data.specs.declared.range.AtomicRange.{AtomicRange}
 use Rattle.textarea_text.specs.Text.{lines}
 use Rattle.textarea_ranges.specs.Moved.{covered_characters}
 use Rattle.tui_textarea.specs.State.{State}
@@ -11,3 +12,7 @@ names_in state = map (covered_characters (lines state.document.text)) state.docu
 -- each name that is mentioned in the new state is mentioned in the old one
 abbrev pub HasOnlyNamesOf : State → State → Type 0
 HasOnlyNamesOf old new = All (Contains (names_in old)) (names_in new)
+
+-- the ranges of the mentions, and one more
+abbrev pub with_mention : State → AtomicRange → List AtomicRange
+with_mention state range = state.document.ranges ++ range ∷ []

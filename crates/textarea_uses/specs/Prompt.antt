@@ -1,5 +1,6 @@
 -- What is typed into a prompt, and what it sends.
 use Rattle.std.specs.Prelude.{ℕ, ◌-◌, List, [], ◌∷◌, ◌++◌, take, length, if◌then◌else◌, Option, None, Some}
+use Rattle.std.specs.Option.{option_to_list}
 use Rattle.textarea_data.specs.declared.input.Key.{Key}
 use Rattle.textarea_data.specs.declared.input.Key.TheVariants as key
 use Rattle.tui_textarea.specs.Edits.{breaks_line}
@@ -19,5 +20,4 @@ sent_by other typed = None
 -- what the keys send, one after another, if this was typed before them
 abbrev pub sent : List ℕ → List Key → List (List ℕ)
 sent typed [] = []
-sent typed (key.Enter ∷ keys) = typed ∷ sent [] keys
-sent typed (other ∷ keys) = sent (typed_after other typed) keys
+sent typed (first ∷ keys) = option_to_list (sent_by first typed) ++ sent (typed_after first typed) keys

@@ -1,6 +1,7 @@
 //! A view of a log. Its user can rely on it that keys only scroll: the text is that of the log.
 ghost use Rattle.std.specs.Prelude.{◌≡◌, IfOk};
 ghost use Rattle.std.specs.Str.{chars};
+ghost use Rattle.textarea_uses.specs.LogView.{IsScrolledBy, scrolling_by};
 ghost use Rattle.tui_textarea.specs.Prelude.{KeepsOutside, contains, fragment_symbols, without_last_break};
 
 use std::alloc::{AllocError, Global};
@@ -14,7 +15,9 @@ pub struct LogView {
 }
 
 // How far a key scrolls, if it does.
-fn scrolling_of(key: Key) -> Option<Scrolling> {
+fn scrolling_of(key: Key) -> Option<Scrolling>
+    ensures { result ≡ scrolling_by key }
+{
     match key {
         Key::Down => Some(Scrolling::from((1, 0))),
         Key::Up => Some(Scrolling::from((-1, 0))),
@@ -34,9 +37,11 @@ impl LogView {
         Ok(LogView { area })
     }
 
-    /// Scrolls by the key. The text stays, whatever the key is.
+    /// Scrolls by the key: a row by Up and Down, a page by Page Up and Page Down. The text stays,
+    /// whatever the key is, and any other key does nothing.
     pub fn take(&mut self, key: Key)
-        ensures { self.new.area.document.text ≡ self.old.area.document.text }
+        ensures scrolled { IsScrolledBy (scrolling_by key) self.old.area self.new.area }
+        ensures text { self.new.area.document.text ≡ self.old.area.document.text }
     {
         others_edit_nothing();
         match scrolling_of(key) {

@@ -1,13 +1,14 @@
 //! A list of all matches, made by stepping through them. Its user can rely on it that each match is
 //! listed exactly once, in the order of the text.
-ghost use Rattle.std.specs.Prelude.{◌≡◌, ◌++◌, ◌∷◌, List, IfOk, false};
+ghost use Rattle.std.specs.Prelude.{◌≡◌, ◌++◌, ◌∷◌, List, IfOk, OnOk, false};
 ghost use Rattle.textarea_search.specs.Starts.{is_later};
-ghost use Rattle.textarea_uses.specs.Matches.{LeadsToNext};
+ghost use Rattle.tui_textarea.specs.Matches.{GoesToNext};
 ghost use Rattle.tui_textarea.specs.Prelude.{Place};
 ghost use Rattle.tui_textarea.specs.Search.{starts_in};
 
 use std::alloc::AllocError;
 use tui_textarea::TextArea;
+use tui_textarea::laws::matches_in_order;
 
 /// Steps through all matches of the search pattern, from the text's start on, and returns where they
 /// start. The cursor is then at the first one again.
@@ -16,6 +17,7 @@ pub fn all_matches(area: &mut TextArea<'_>) -> Result<Vec<(usize, usize)>, Alloc
         ≡ starts_in area.old.pattern area.old.document.text) }
 {
     let mut places = Vec::new(area.allocator());
+    matches_in_order(area);
     area.go_to((0, 0));
     let mut goes_on = area.search_forward(true)?;
     'steps: while goes_on {
@@ -28,13 +30,15 @@ pub fn all_matches(area: &mut TextArea<'_>) -> Result<Vec<(usize, usize)>, Alloc
 
 // Goes to the next match, and returns whether it is after the cursor.
 fn step(area: &mut TextArea<'_>) -> Result<bool, AllocError>
-    ensures pattern { area.new.pattern ≡ area.old.pattern }
-    ensures text { area.new.document.text ≡ area.old.document.text }
-    ensures found { (front back : List Place) →
+    ensures stay { OnOk result (starts_in area.new.pattern area.new.document.text
+        ≡ starts_in area.old.pattern area.old.document.text) }
+    ensures after { IfOk result (λ after. after
+        ≡ is_later area.old.document.cursor false area.new.document.cursor) }
+    ensures next { (front back : List Place) →
         starts_in area.old.pattern area.old.document.text ≡ front ++ area.old.document.cursor ∷ back
-        → IfOk result (λ after. LeadsToNext back after area.new.document.cursor) }
+        → OnOk result (GoesToNext back area.old.document.cursor area.new.document.cursor) }
 {
-    let _ = area.lines();
+    matches_in_order(area);
     let place = area.cursor();
     area.search_forward(false)?;
     Ok(is_after(area.cursor(), place))

@@ -1,10 +1,11 @@
 //! A note with mentions. Its user can rely on it that the listed names are those of the mentions in
 //! the text, and that keys make no mention, and change none but by removing it as a whole.
-ghost use Rattle.std.specs.Prelude.{◌≡◌, ◌<◌, [], IfOk, drop, encode_utf8_all, length, string_bytes, take};
+ghost use Rattle.std.specs.Prelude.{◌≡◌, ◌<◌, ◌↔◌, [], IfOk, IsTrue, if◌then◌else◌, drop, encode_utf8_all, length, string_bytes, take};
 ghost use Rattle.std.specs.Str.{chars};
 ghost use Rattle.textarea_ranges.specs.Moved.{covered_characters};
 ghost use Rattle.textarea_text.specs.Text.{characters_of, lines, lines_of};
-ghost use Rattle.textarea_uses.specs.Mentions.{HasOnlyNamesOf, names_in};
+ghost use Rattle.textarea_uses.specs.Mentions.{HasOnlyNamesOf, names_in, with_mention};
+ghost use Rattle.tui_textarea.specs.Prelude.{AreValid, ranges_accepted};
 
 use std::alloc::{AllocError, Global};
 use textarea_document::laws::ranges_follow_splices;
@@ -28,14 +29,23 @@ impl Note {
         Ok(Note { area })
     }
 
-    /// Makes these characters a mention, and returns whether they can be one.
+    /// Makes these characters a mention, if they can be one, and returns whether they are: they are
+    /// some characters of one line, and none of them is in another mention.
     pub fn mark(&mut self, range: AtomicRange) -> Result<bool, AllocError>
-        ensures { self.new.area.document.text ≡ self.old.area.document.text }
+        ensures judged { IfOk result (λ marked. IsTrue marked
+            ↔ AreValid (lines self.old.area.document.text) (with_mention self.old.area range)) }
+        ensures marked { IfOk result (λ marked. self.new.area ≡ (if marked
+            then ranges_accepted self.old.area (with_mention self.old.area range)
+            else self.old.area)) }
+        ensures text { self.new.area.document.text ≡ self.old.area.document.text }
     {
         let alloc = self.area.allocator();
         let mut ranges = Vec::from_slice(alloc, self.area.atomic_ranges())?;
         ranges.push(range)?;
-        Ok(self.area.try_set_atomic_ranges(ranges)?.is_ok())
+        match self.area.try_set_atomic_ranges(ranges)? {
+            Ok(()) => Ok(true),
+            Err(_) => Ok(false),
+        }
     }
 
     /// Takes any key.

@@ -1,8 +1,9 @@
 //! A field of one line. Its user can rely on it that the text never holds a line break, whatever is
 //! typed or pasted.
-ghost use Rattle.std.specs.Prelude.{◌≢◌, All, IfOk};
+ghost use Rattle.std.specs.Prelude.{◌≡◌, ◌≢◌, All, IfOk, OnOk};
 ghost use Rattle.textarea_text.specs.Text.{characters_of};
-ghost use Rattle.textarea_uses.specs.OneLine.{IsOneLine};
+ghost use Rattle.textarea_uses.specs.OneLine.{IsOneLine, after_action, after_typing};
+ghost use Rattle.tui_textarea.specs.Prelude.{asked_without_shortcuts};
 
 use std::alloc::{AllocError, Global};
 use textarea_calls::Action;
@@ -20,7 +21,8 @@ pub struct Field {
 
 // Inserts a character, unless it breaks the line, and returns whether it did.
 fn insert(area: &mut TextArea<'_>, character: char) -> Result<bool, AllocError>
-    ensures { IsOneLine area.old → IsOneLine area.new }
+    ensures one_line { IsOneLine area.old → IsOneLine area.new }
+    ensures typed { OnOk result (area.new ≡ after_typing area.old character) }
 {
     if character == '\n' || character == '\r' {
         return Ok(false);
@@ -43,7 +45,8 @@ fn insert_all(area: &mut TextArea<'_>, text: &str) -> Result<(), AllocError>
 
 // Edits by an action, unless it breaks the line, and returns whether the text changed.
 fn edit(area: &mut TextArea<'_>, action: Action) -> Result<bool, AllocError>
-    ensures { IsOneLine area.old → IsOneLine area.new }
+    ensures one_line { IsOneLine area.old → IsOneLine area.new }
+    ensures edited { OnOk result (area.new ≡ after_action area.old action) }
 {
     is_sound(area);
     ranges_follow_each_call();
@@ -63,8 +66,12 @@ impl Field {
         Ok(Field { area })
     }
 
-    /// Takes a key, and returns whether the text changed. A key that breaks the line does nothing.
-    pub fn take(&mut self, input: &Input) -> Result<bool, AllocError> {
+    /// Takes a key, and returns whether the text changed: a character is inserted, and Tab, Backspace
+    /// and Delete edit as in a text area. A key that breaks the line does nothing.
+    pub fn take(&mut self, input: &Input) -> Result<bool, AllocError>
+        ensures { OnOk result
+            (self.new.area ≡ after_action self.old.area (asked_without_shortcuts input.now)) }
+    {
         edit(&mut self.area, action_without_shortcuts(input))
     }
 

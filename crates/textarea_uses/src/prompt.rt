@@ -4,9 +4,10 @@ ghost use Rattle.std.specs.Prelude.{◌≡◌, ◌++◌, [], IfOk, List, OnErr, 
 ghost use Rattle.std.specs.Option.{option_map, option_to_list};
 ghost use Rattle.textarea_text.specs.Text.{characters_of, lines_of};
 ghost use Rattle.textarea_uses.specs.Prompt.{sent, sent_by, typed_after};
-ghost use Rattle.textarea_uses.specs.TypedLine.{IsTypedLine};
+ghost use Rattle.tui_textarea.specs.Prelude.{IsTypedLine};
 
 use std::alloc::{AllocError, Global};
+use tui_textarea::laws::typed_line_stays;
 use tui_textarea::{Key, TextArea};
 
 /// A prompt for one line.
@@ -32,6 +33,7 @@ impl LinePrompt {
         ensures err { (typed : List ℕ) → IsTypedLine self.old.area typed →
             OnErr result (IsTypedLine self.new.area typed) }
     {
+        typed_line_stays();
         match key {
             Key::Char(character) if character != '\n' && character != '\r' => {
                 self.area.insert_char(character)?;
@@ -53,6 +55,7 @@ impl LinePrompt {
             × IsTypedLine self.new.area []) }
         ensures err { OnErr result (self.new ≡ self.old) }
     {
+        typed_line_stays();
         let text = self.area.text()?;
         self.area.clear()?;
         Ok(Some(text))

@@ -1,7 +1,7 @@
 //! A recorder of inputs. Its user can rely on it that a replay on a copy of the text area, as it was
 //! when the recording began, gives the same text area, where memory doesn't run out.
-ghost use Rattle.std.specs.Prelude.{◌≡◌, OnOk};
-ghost use Rattle.textarea_uses.specs.Recorder.{IsMade, Plays, timed_inputs};
+ghost use Rattle.std.specs.Prelude.{◌≡◌, OnErr, OnOk};
+ghost use Rattle.textarea_uses.specs.Recorder.{IsLeft, IsMade, IsMadeOutOfMemory, Plays, timed_inputs};
 ghost use Rattle.tui_textarea.specs.State.{State};
 
 use std::alloc::{AllocError, Global};
@@ -25,19 +25,24 @@ impl Recorder {
         }
     }
 
-    /// Makes an input at a time, and records it.
+    /// Makes an input at a time, and records it. Out of memory nothing is recorded, and the text
+    /// area is as before, or only its time is set and, if the input inserts, its selection removed.
     pub fn take(
         &mut self,
         area: &mut TextArea<'_>,
         input: Input,
         now: Duration,
     ) -> Result<(), AllocError>
-        ensures { OnOk result ((start : State) → Plays start (timed_inputs self.old.steps.items) area.old
+        ensures ok { OnOk result ((start : State) → Plays start (timed_inputs self.old.steps.items) area.old
             → Plays start (timed_inputs self.new.steps.items) area.new) }
+        ensures recorded { OnErr result (self.new.steps.items ≡ self.old.steps.items) }
+        ensures err { OnErr result (IsLeft area.old (input, now) area.new) }
     {
-        let step = (Input { ..input }, now);
-        self.steps.push((input, now))?;
-        make(area, &step)
+        self.steps.reserve(1)?;
+        let step = (input, now);
+        make(area, &step)?;
+        let _ = self.steps.push(step);
+        Ok(())
     }
 
     /// Makes the recorded inputs, each at its time. On a text area that is as it was when the
@@ -56,7 +61,8 @@ impl Recorder {
 
 // Makes an input at its time.
 fn make(area: &mut TextArea<'_>, step: &(Input, Duration)) -> Result<(), AllocError>
-    ensures { OnOk result (IsMade area.old step.now area.new) }
+    ensures ok { OnOk result (IsMade area.old step.now area.new) }
+    ensures err { OnErr result (IsMadeOutOfMemory area.old step.now area.new) }
 {
     let (input, now) = step;
     area.set_now(*now);

@@ -2,10 +2,11 @@
 //! saved, whenever the undo history reaches back to it.
 ghost use Rattle.std.specs.Prelude.{◌≡◌, ◌↔◌, IfOk, IsTrue, OnOk};
 ghost use Rattle.textarea_text.specs.Text.{characters_of};
-ghost use Rattle.textarea_uses.specs.Save.{ReachesBack, file_text};
+ghost use Rattle.textarea_uses.specs.Save.{file_text};
+ghost use Rattle.tui_textarea.specs.TextsBefore.{ReachesBack};
 
 use std::alloc::{AllocError, Global};
-use tui_textarea::laws::undos_restore;
+use tui_textarea::laws::undos_reach_back;
 use tui_textarea::{Input, TextArea};
 
 /// A text, and what was saved last.
@@ -55,9 +56,9 @@ impl SavedText {
         ensures reverted { IfOk result (λ reached. IsTrue reached →
             file_text self.new.area ≡ characters_of self.old.saved) }
     {
-        undos_restore(&self.area);
         'undoing: loop {
             let saved = self.is_saved()?;
+            undos_reach_back(&self.area);
             if saved {
                 return Ok(true);
             }

@@ -11,6 +11,7 @@ use Rattle.textarea_data.specs.declared.cursor.CursorMove.TheVariants as move
 use Rattle.textarea_data.specs.declared.range.AtomicCursorBias.TheVariants.{Forward as BiasForward}
 use Rattle.textarea_ranges.specs.Lookup.{moved_out}
 use Rattle.textarea_ranges.proofs.LookupLemmas.{IsPlaceOf-moved_out}
+use Rattle.textarea_search.specs.PlainTexts.{text_pattern}
 use Rattle.textarea_search.specs.declared.search.direction.Direction.TheVariants as toward
 use Rattle.textarea_text.specs.Between.{clip}
 use Rattle.textarea_text.specs.Fragment.{fragment_symbols, pasted_symbols}
@@ -18,14 +19,15 @@ use Rattle.textarea_text.specs.Place.{Place, place_of}
 use Rattle.textarea_text.specs.Splice.{Splice}
 use Rattle.textarea_text.specs.Text.{characters_of, lines, lines_of, text_of}
 use Rattle.textarea_text.proofs.Befores.{text_place}
-use Rattle.textarea_document.specs.DocumentState.{DocumentState}
+use Rattle.textarea_document.specs.Changes.{no_changes, with_lines_replaced}
+use Rattle.textarea_document.specs.DocumentState.{DocumentState, fresh_document}
 use Rattle.textarea_document.specs.Outcomes.{after_edit, after_redo, after_undo}
 use Rattle.textarea_document.specs.Selection.{lines_duplicated, selection_duplication}
 use Rattle.textarea_document.specs.Sound.{IsSound}
 use Rattle.textarea_document.specs.Splices.{redo_splices, selected_splices, undo_splices}
 use Rattle.textarea_document.proofs.Inserts.{duplication_splits_none, selection_duplication_fits, sound_duplicated}
 use Rattle.textarea_document.proofs.Ranges.{valid_none}
-use Rattle.textarea_document.proofs.Sounds.{sound_begun, sound_ended, sound_fresh, start_is_place}
+use Rattle.textarea_document.proofs.Sounds.{sound_begun, sound_ended, sound_fresh, start_is_place, sound_changes}
 use Rattle.tui_textarea.specs.CallResults.{CallResult, PatternRejected}
 use Rattle.tui_textarea.specs.CallSplices.{OfSplicesOutOfMemory, splices_by, splices_of}
 use Rattle.tui_textarea.specs.Calls.{StateOutOfMemory, call_splices, rejected_ranges, state_after}
@@ -35,10 +37,12 @@ use Rattle.tui_textarea.specs.LayoutCalls.{alignment_set, line_numbers_set, mode
 use Rattle.tui_textarea.specs.Outcomes.{IsAfterCall, IsAfterOutOfMemory, after_pattern}
 use Rattle.tui_textarea.specs.Removals.{break_before_removed, line_end_removed, line_head_removed, symbol_after_removed, symbol_before_removed, symbols_ahead_removed}
 use Rattle.tui_textarea.specs.Removals.{word_after_removed, word_before_removed}
+use Rattle.tui_textarea.specs.Replacing.{match_at_cursor, replaceable}
 use Rattle.tui_textarea.specs.Search.{after_search, next_match, previous_match}
 use Rattle.tui_textarea.specs.Selection.{IsInsertOutOfMemory, unselected}
 use Rattle.tui_textarea.specs.State.{State}
 use Rattle.tui_textarea.proofs.FoundPlaces.{match_is_place}
+use Rattle.tui_textarea.proofs.Replacing.{all_by, match_by, range_by, search_unchanged}
 use Rattle.tui_textarea.proofs.SoundStates.{sound_at, sound_cursor, sound_from, sound_goes, sound_ranges, sound_search, sound_settings, sound_unanchored}
 use Rattle.textarea_document.proofs.UndoGroups.{sound_redo, sound_undo}
 use Rattle.tui_textarea.proofs.Stepping.{Reckoning, after_by, ahead_by, before_by, break_by, char_by, cleared_by, copied_by, cursor_range_by, cut_by, edited, kept, moved}
@@ -75,7 +79,8 @@ pub record Past (Own : Fact) : Type 0 where
 -- ---- calls
 
 -- the fact of a call, by its splices and the state after it: an undo and a redo have one of their
--- own, and of calls that replace lines, ranges or the layout, and of inputs, nothing is stated
+-- own, and of calls that replace lines, ranges, the log of changes or the layout, and of inputs,
+-- nothing is stated
 abbrev pub ByState : Fact → Fact → Call → DocumentState → List Splice → DocumentState → Type 0
 ByState By Past call.Undo old splices new = Past old splices new
 ByState By Past call.Redo old splices new = Past old splices new
@@ -89,6 +94,8 @@ ByState By Past call.RemoveLineNumber old splices new = Unit {0}
 ByState By Past (call.SetAlignment alignment) old splices new = Unit {0}
 ByState By Past (call.TrySetAtomicRanges ranges) old splices new = Unit {0}
 ByState By Past call.ClearAtomicRanges old splices new = Unit {0}
+ByState By Past (call.SetChangeLog unit) old splices new = Unit {0}
+ByState By Past call.TakeChanges old splices new = Unit {0}
 ByState By Past (call.Render area) old splices new = Unit {0}
 ByState By Past made old splices new = By old splices new
 
@@ -105,10 +112,6 @@ the_call asked = unwrap_or (call_of_action asked) call.Copy
 pattern_unchanged : (state : State) (text : List ℕ) (returned : CallResult) → layout_and_ranges (after_pattern state text returned).document ≡ layout_and_ranges state.document
 pattern_unchanged state text PatternRejected = refl
 pattern_unchanged state text returned = refl
-
-search_unchanged : (state : State) (found : Option Place) → layout_and_ranges (after_search state found).document ≡ layout_and_ranges state.document
-search_unchanged state None = refl
-search_unchanged state (Some place) = refl
 
 -- what has no condition is also true under one
 given : {A B : Type 0} (Condition : Type 0) → A × B → A × (Condition → B)
@@ -134,6 +137,9 @@ module _ (By Own : Fact) (by : Reckoning By) (past : Past Own) where
       let once = edited By by document (selection_duplication document) false old.time h fits (duplication_splits_none document h) in
       given _ (moved By by document (after_edit document (selection_duplication document) false old.time) (lines_duplicated document old.time) (selection_duplication document ∷ []) refl
       (sound_duplicated document old.time h) once)
+  by_state old (call.ReplaceRange from to text) h = given _ (range_by By by old.document from to (fragment_symbols (chars text.now)) old.time h)
+  by_state old (call.ReplaceMatch text) h = given _ (match_by By by old (match_at_cursor old) (fragment_symbols (chars text.now)) h)
+  by_state old (call.ReplaceAll text) h = given _ (all_by By by old.document (replaceable old) (fragment_symbols (chars text.now)) old.time h)
   by_state old (call.DeleteStr count) h = given _ (unselected_by By by old (symbols_ahead_removed old count) _ h (ahead_by By by old count h))
   by_state old call.DeleteNewline h = given _ (unselected_by By by old (break_before_removed old) _ h (break_by By by old.document old.time h))
   by_state old call.DeleteChar h =
@@ -190,8 +196,10 @@ module _ (By Own : Fact) (by : Reckoning By) (past : Past Own) where
   by_state old (call.SetLines items cursor) h =
       let place = clip (lines_of items.now) cursor in (
         tt,
-        λ can. sound_fresh (text_of items.now) old.document.layout.settings old.document.layout.count place old.document.log.maximum
-            (text_place items.now place (clip_is_place (lines_of items.now) cursor (omega (arith, can, length-map items.now characters_of)))),
+        λ can. sound_changes (fresh_document (text_of items.now) old.document.layout.settings old.document.layout.count place old.document.log.maximum)
+            (with_lines_replaced old.document.changes old.document.text (lines_of items.now))
+            (sound_fresh (text_of items.now) old.document.layout.settings old.document.layout.count place old.document.log.maximum
+            (text_place items.now place (clip_is_place (lines_of items.now) cursor (omega (arith, can, length-map items.now characters_of))))),
       )
   by_state old (call.SetTabLength columns) h = (tt, λ can. sound_settings old.document (tab_length_set old columns) h)
   by_state old (call.SetWrapMode mode) h = (tt, λ can. sound_settings old.document (mode_set old mode) h)
@@ -201,6 +209,8 @@ module _ (By Own : Fact) (by : Reckoning By) (past : Past Own) where
   by_state old (call.TrySetAtomicRanges ranges) h = (tt, λ can. sound_ranges (rejected_ranges old ranges.now) old ranges.now h refl)
   by_state old call.ClearAtomicRanges h =
       (tt, λ can. record { cursor = h.cursor; anchor = h.anchor; ranges = valid_none (lines old.document.text); in_order = refl; undo = h.undo; redo = h.redo; bounded = h.bounded; marks = h.marks; whole = h.whole })
+  by_state old (call.SetChangeLog unit) h = (tt, λ can. sound_changes old.document (no_changes unit) h)
+  by_state old call.TakeChanges h = (tt, λ can. sound_changes old.document (no_changes old.document.changes.unit) h)
   by_state old (call.Render area) h = (tt, λ can. h)
   by_state old made h = given _ (kept By by old.document (state_after old made).document refl h)
 
@@ -224,6 +234,8 @@ module _ (By Own : Fact) (by : Reckoning By) (past : Past Own) where
   calls_by old new (call.Scroll scrolling) returned h k = acts_by old new (action.Scroll scrolling) h k
   calls_by old new (call.SetSearchPattern text) returned h k =
       by.none old.document new.document (ap (λ (s : State). layout_and_ranges s.document) k ∙ pattern_unchanged old text.now returned)
+  calls_by old new (call.SetSearchText text ignore_case whole_word) returned h k =
+      by.none old.document new.document (ap (λ (s : State). layout_and_ranges s.document) k ∙ pattern_unchanged old (text_pattern text.now ignore_case whole_word) returned)
   calls_by old new (call.Render area) returned h k = tt
   calls_by old new made returned h k = as_outcome (ByState By Own made) old new (state_after old made) (splices_of old made) k (by_state old made h).0
 

@@ -69,6 +69,8 @@ module _ (laws : TheLaws) where
   call_wraps old new (call.TrySetAtomicRanges ranges) returned h k =
       ap (λ (s : State). text_and_layout s.document) k ∙ ranges_unchanged (rejected_ranges old ranges.now) old ranges.now
   call_wraps old new call.ClearAtomicRanges returned h k = ap (λ (s : State). text_and_layout s.document) k
+  call_wraps old new (call.SetChangeLog unit) returned h k = ap (λ (s : State). text_and_layout s.document) k
+  call_wraps old new call.TakeChanges returned h k = ap (λ (s : State). text_and_layout s.document) k
   call_wraps old new (call.Input input) returned h k =
       by_any_act SplicedBy (asked_by input.now) old.document new.document _ (calls_by SplicedBy SplicedBy (reckoned laws.edited) (past_wraps laws.undone laws.redone) old new (call.Input input) returned h k)
   call_wraps old new (call.InputWithoutShortcuts input) returned h k =

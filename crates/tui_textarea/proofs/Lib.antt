@@ -14,8 +14,14 @@ pub mod Copying
 mod Filled
 pub mod Grouping
 mod UndoneAtOnce
+mod UndoneTexts
 pub mod FragmentTexts
 pub mod Searches
+pub mod EachSymbol
+mod TypedLines
+mod MatchOrder
+mod MatchSteps
+mod MatchWalk
 mod OneTarget
 pub mod Frames
 mod OneAct
@@ -24,9 +30,11 @@ mod Targets
 mod FoundPlaces
 mod StaysSound
 mod SoundStates
+mod TextFailures
 mod Cases
 mod WrappedLines
 mod Stepping
+mod Replacing
 mod RangesOverActions
 mod Lifted
 mod Unedited
@@ -35,4 +43,6 @@ mod CursorLine
 pub mod CallWraps
 mod RangesOverCalls
 mod RangesOverRuns
+mod ChangesOverCalls
+mod ChangesOverRuns
 pub mod Runs

@@ -76,6 +76,8 @@ module _ (laws : TheLaws) where
   ranges_follow_call old new (call.SetLineNumberStyle style) returned h e k = unchanged old new _ k refl refl
   ranges_follow_call old new call.RemoveLineNumber returned h e k = unchanged old new _ k refl refl
   ranges_follow_call old new (call.SetAlignment alignment) returned h e k = unchanged old new _ k refl refl
+  ranges_follow_call old new (call.SetChangeLog unit) returned h e k = unchanged old new _ k refl refl
+  ranges_follow_call old new call.TakeChanges returned h e k = unchanged old new _ k refl refl
   ranges_follow_call old new (call.Render area) returned h e k = ranges_stay_in_drawing old new area k
   ranges_follow_call old new (call.Input input) returned h e k = follows_by_action (asked_by input.now) old.document new.document _ (ranges_follow old new (call.Input input) returned h k)
   ranges_follow_call old new (call.InputWithoutShortcuts input) returned h e k = follows_by_action (asked_without_shortcuts input.now) old.document new.document _ (ranges_follow old new (call.InputWithoutShortcuts input) returned h k)
@@ -111,8 +113,11 @@ module _ (laws : TheLaws) where
   call_fits state (call.SetAlignment alignment) h = (tt, λ no. tt)
   call_fits state (call.TrySetAtomicRanges ranges) h = (tt, λ no. tt)
   call_fits state call.ClearAtomicRanges h = (tt, λ no. tt)
+  call_fits state (call.SetChangeLog unit) h = (tt, λ no. tt)
+  call_fits state call.TakeChanges h = (tt, λ no. tt)
   call_fits state (call.Render area) h = (tt, λ no. tt)
   call_fits state (call.Move cursor_move) h = (tt, λ no. tt)
   call_fits state (call.Scroll scrolling) h = (tt, λ no. tt)
   call_fits state (call.SetSearchPattern text) h = (tt, λ no. tt)
+  call_fits state (call.SetSearchText text ignore_case whole_word) h = (tt, λ no. tt)
   call_fits state made h = uncut state _ _ (ranges_follow state (state_after state made) made Done h refl)

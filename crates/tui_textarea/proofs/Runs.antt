@@ -20,7 +20,7 @@ use Rattle.tui_textarea.specs.Outcomes.{IsAfterCall, IsBufferAfter}
 use Rattle.tui_textarea.specs.Run.{Leads, CallLeads, ShowsSame}
 use Rattle.tui_textarea.specs.CallResults.{CallResult, call_result}
 use Rattle.textarea_calls.specs.declared.call.Call.{Call}
-use Rattle.textarea_calls.specs.declared.call.Call.TheVariants.{Input, InputWithoutShortcuts, Move, Render, Scroll, SetSearchPattern}
+use Rattle.textarea_calls.specs.declared.call.Call.TheVariants.{Input, InputWithoutShortcuts, Move, Render, Scroll, SetSearchPattern, SetSearchText}
 use Rattle.textarea_calls.specs.declared.answer.Answer.{Answer}
 
 -- ---- one more call
@@ -69,6 +69,7 @@ one_rendered renderings old first second area e f =
 
 one_after : OneMove → OneInput → OneRendering → (old : State) (call : Call) (returned : CallResult) (first second : State) → IsAfterCall old call returned first → IsAfterCall old call returned second → first ≡ second
 one_after moves inputs renderings old (SetSearchPattern text) returned first second e f = e ∙ sym f
+one_after moves inputs renderings old (SetSearchText text ignore_case whole_word) returned first second e f = e ∙ sym f
 one_after moves inputs renderings old (Move cursor_move) returned first second e f = moves old first second (is_some old.document.anchor) cursor_move e f
 one_after moves inputs renderings old (Scroll scrolling) returned first second e f = moves (viewport_scrolled old scrolling) first second (is_some old.document.anchor) InViewport e f
 one_after moves inputs renderings old (Input input) returned first second e f = inputs old first second (asked_by input.now) e f

@@ -11,14 +11,14 @@ use Rattle.textarea_document.specs.DocumentState.{DocumentState}
 use Rattle.tui_textarea.specs.Search.{starts_in}
 
 -- the bytes of lines, by their characters
-bytes_of : (strings : List (String Global)) → map string_bytes strings ≡ map encode_utf8_all (lines_of strings)
+pub bytes_of : (strings : List (String Global)) → map string_bytes strings ≡ map encode_utf8_all (lines_of strings)
 bytes_of [] = refl
 bytes_of (s ∷ strings) =
     ap (λ (line : List ℕ). line ∷ map string_bytes strings) (sym (encodes-chars (string_bytes s) (IsUtf8-string_bytes s)))
     ∙ ap (λ (rest : List (List ℕ)). encode_utf8_all (characters_of s) ∷ rest) (bytes_of strings)
 
 -- the starts in a text are those in its lines
-starts_are : (pattern : Option (List ℕ)) (strings : List (String Global)) (text : List Symbol) → lines_of strings ≡ lines text → starts_of pattern strings ≡ starts_in pattern text
+pub starts_are : (pattern : Option (List ℕ)) (strings : List (String Global)) (text : List Symbol) → lines_of strings ≡ lines text → starts_of pattern strings ≡ starts_in pattern text
 starts_are None strings text e = refl
 starts_are (Some pattern) strings text e =
     ap (starts_from (match_columns pattern) 0) (bytes_of strings ∙ ap (map encode_utf8_all) e)

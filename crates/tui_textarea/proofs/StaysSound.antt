@@ -66,6 +66,8 @@ module _ (leads : LeadsToPlaces) where
   call_stays_sound old new (call.Scroll scrolling) returned h can k = act_stays_sound old new (action.Scroll scrolling) h k
   call_stays_sound old new (call.SetSearchPattern text) PatternRejected h can k = subst HasSound (sym k) h
   call_stays_sound old new (call.SetSearchPattern text) returned h can k = subst HasSound (sym k) h
+  call_stays_sound old new (call.SetSearchText text ignore_case whole_word) PatternRejected h can k = subst HasSound (sym k) h
+  call_stays_sound old new (call.SetSearchText text ignore_case whole_word) returned h can k = subst HasSound (sym k) h
   call_stays_sound old new (call.Render area) returned h can k =
       subst IsSound (sym (drawn_document old new area k)) (sound_settings old.document (at_width (text_and_layout old.document) (width_inside old.surround.block area.width)) h)
   call_stays_sound old new made returned h can k = subst HasSound (sym k) (state_stays_sound old made h can)

@@ -12,6 +12,7 @@ use Rattle.textarea_text.specs.Between.{clip}
 use Rattle.textarea_text.specs.Place.{Place}
 use Rattle.textarea_text.specs.Splice.{Fits, Splice}
 use Rattle.textarea_text.specs.Text.{Symbol, Break, Character, lines}
+use Rattle.textarea_document.specs.Changes.{LoggedChanges}
 use Rattle.textarea_document.specs.DocumentRows.{text_and_layout}
 use Rattle.textarea_document.specs.DocumentState.{DocumentState}
 use Rattle.textarea_document.specs.Edits.{Insert, HasEffect, Remove, RemoveBefore, RemoveAfter, RemoveBreak, EditStep, splice_of_step, stepped}
@@ -43,12 +44,12 @@ use Rattle.tui_textarea.proofs.Grouping.{char_beside, str_beside, tab_beside}
 use Rattle.tui_textarea.proofs.Removing.{ahead_made, range_removal_made, line_end_made, line_head_made, selected_made, whole_made, word_end_made, word_start_made}
 use Rattle.tui_textarea.proofs.SoundStates.{clipped, sound_cursor, sound_from, sound_in_group, sound_unanchored}
 
--- the visible side of a document's text: its layout and ranges
+-- the visible side of a document's text: its layout and ranges, and its log of changes
 abbrev pub LayoutAndRanges : Type 0
-LayoutAndRanges = TextAndLayout × List AtomicRange
+LayoutAndRanges = TextAndLayout × List AtomicRange × LoggedChanges
 
 abbrev pub layout_and_ranges : DocumentState → LayoutAndRanges
-layout_and_ranges document = (text_and_layout document, document.ranges)
+layout_and_ranges document = (text_and_layout document, document.ranges, document.changes)
 
 -- ---- what leaves text, layout and ranges unchanged
 
@@ -69,7 +70,7 @@ some_symbols [] e = absurd cc
 some_symbols (symbol ∷ symbols) e = omega arith
 
 -- A relation of two documents and the splices between them. No splices relate documents of the same
--- text, layout and ranges; a splice that fits and splits no range relates a document to the one
+-- text, layout, ranges and log of changes; a splice that fits and splits no range relates a document to the one
 -- after its edit, whatever its cursor and anchor; and splices compose.
 pub record Reckoning (By : DocumentState → List Splice → DocumentState → Type 0) : Type 0 where
   pub none : (old new : DocumentState) → layout_and_ranges new ≡ layout_and_ranges old → By old [] new
@@ -108,7 +109,7 @@ module _ (By : DocumentState → List Splice → DocumentState → Type 0) (by :
   unanchored_by : (document : DocumentState) → IsSound document → Sound document [] (unanchored document)
   unanchored_by document h = kept document (unanchored document) refl (sound_unanchored document h)
 
-  between_by : (document : DocumentState) (from to : Place) (now : ℕ) → IsSound document → HasEffect document (Remove from to)
+  pub between_by : (document : DocumentState) (from to : Place) (now : ℕ) → IsSound document → HasEffect document (Remove from to)
       → Sound document (removal_splices document from to) (between_removed document from to now)
   unfolding between_removed
   between_by document from to now h made = step_by document (Remove from to) false now h made
@@ -252,7 +253,7 @@ module _ (By : DocumentState → List Splice → DocumentState → Type 0) (by :
 
   -- ---- insertions
 
-  symbols_by : (document : DocumentState) (symbols : List Symbol) (now : ℕ) → IsSound document
+  pub symbols_by : (document : DocumentState) (symbols : List Symbol) (now : ℕ) → IsSound document
       → Sound document (insertion_splices document symbols) (symbols_inserted document symbols now)
   symbols_by document [] now h =
       kept document (nothing_inserted document) refl

@@ -12,6 +12,7 @@ use Rattle.textarea_data.specs.declared.range.AtomicRange.{AtomicRange}
 use Rattle.textarea_data.specs.declared.range.RejectedAtomicRange.{RejectedAtomicRange}
 use Rattle.textarea_document.specs.DocumentState.{DocumentState}
 use Rattle.textarea_document.specs.Selection.{is_selected, selected}
+use Rattle.textarea_search.specs.PlainTexts.{text_pattern}
 use Rattle.textarea_text.specs.Place.{Place}
 use Rattle.textarea_text.specs.Text.{Symbol}
 use Rattle.tui_textarea.proofs.Frames.{drawn_document}
@@ -87,6 +88,7 @@ unedited state (call.Move cursor_move) is = record { no_splice = refl; text_stay
 unedited state (call.Scroll scrolling) is = record { no_splice = refl; text_stays = λ returned new after. moved_with (viewport_scrolled state scrolling) (is_some state.document.anchor) InViewport new after }
 unedited state call.Copy is = record { no_splice = refl; text_stays = λ returned new after. ap text after ∙ copied state }
 unedited state (call.SetSearchPattern pattern) is = record { no_splice = refl; text_stays = λ returned new after. ap text after ∙ pattern_set state pattern.now returned }
+unedited state (call.SetSearchText plain ignore_case whole_word) is = record { no_splice = refl; text_stays = λ returned new after. ap text after ∙ pattern_set state (text_pattern plain.now ignore_case whole_word) returned }
 unedited state (call.SearchForward at_cursor) is = record { no_splice = refl; text_stays = λ returned new after. ap text after ∙ searched state (next_match state at_cursor) }
 unedited state (call.SearchBack at_cursor) is = record { no_splice = refl; text_stays = λ returned new after. ap text after ∙ searched state (previous_match state at_cursor) }
 unedited state (call.TrySetAtomicRanges ranges) is = record { no_splice = refl; text_stays = λ returned new after. ap text after ∙ ranges_set (rejected_ranges state ranges.now) state ranges.now }

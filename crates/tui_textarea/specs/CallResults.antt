@@ -1,8 +1,9 @@
 -- The results of calls, without what a caller doesn't use: a text by its characters, without the
 -- capacity and address of its `String`; the cell of the caret by column and row.
-use Rattle.std.specs.Prelude.{ℕ, Bool, List, Option, string_bytes}
+use Rattle.std.specs.Prelude.{ℕ, Bool, List, map, Option, string_bytes}
 use Rattle.std.specs.Option.{option_map}
 use Rattle.std.specs.Str.{chars}
+use Rattle.textarea_document.specs.Changes.{ChangeView, change_view}
 use Rattle.textarea_view.specs.Placements.{cell_of_position}
 use Rattle.textarea_data.specs.declared.cursor.CursorRenderMode as modes
 use Rattle.textarea_data.specs.declared.range.AtomicRange.{AtomicRange}
@@ -19,7 +20,8 @@ use Rattle.textarea_calls.specs.declared.answer.Answer.TheVariants as returned
 -- any; the rejected ranges; the measured heights; that the pattern is rejected; the position that a
 -- cell shows, if any; the column and row of the caret, if it is shown; a style; the mask, if there
 -- is one; how the cursor is drawn; the alignment of rows; a number that is set; the cursor; the two
--- ends of the selection, if one is open; a style, if its part is shown; or how lines are wrapped
+-- ends of the selection, if one is open; a style, if its part is shown; how lines are wrapped; a
+-- number, if there is one; or the changes since they were last taken
 pub data CallResult : Type 0 where
   Done : CallResult
   Flag : Bool → CallResult
@@ -39,6 +41,8 @@ pub data CallResult : Type 0 where
   Selection : Option (places.Place × places.Place) → CallResult
   StyleIfVisible : Option styles.Style → CallResult
   WrapMode : modes_of_wrapping.WrapMode → CallResult
+  NumberIfAny : Option ℕ → CallResult
+  Changes : List ChangeView → CallResult
 
 abbrev pub call_result : Answer → CallResult
 call_result returned.Done = Done
@@ -59,3 +63,5 @@ call_result (returned.Cursor cursor) = Cursor cursor
 call_result (returned.Selection selection) = Selection selection
 call_result (returned.StyleIfVisible style) = StyleIfVisible style
 call_result (returned.WrapMode mode) = WrapMode mode
+call_result (returned.NumberIfAny number) = NumberIfAny number
+call_result (returned.Changes changes) = Changes (map change_view changes.items)

@@ -1,10 +1,10 @@
 -- What each call does: its result, the state after it, its splices, and where it may run out of memory.
-use Rattle.std.specs.Prelude.{◌≡◌, ◌≢◌, true, false, List, [], ◌∷◌, is_some, not, None, Some, String}
+use Rattle.std.specs.Prelude.{◌≡◌, ◌≢◌, true, false, List, [], ◌∷◌, is_some, length, not, None, Some, String}
 use Rattle.std.specs.Duration.{as_nanos}
 use Rattle.std.specs.Str.{chars}
 use Rattle.textarea_text.specs.Place.{Place}
 use Rattle.textarea_text.specs.Splice.{Splice}
-use Rattle.textarea_text.specs.Text.{Break, lines, lines_of, text_of}
+use Rattle.textarea_text.specs.Text.{Break, lines, lines_of}
 use Rattle.textarea_data.specs.declared.range.AtomicRange.{AtomicRange}
 use Rattle.textarea_data.specs.declared.range.RejectedAtomicRange.{RejectedAtomicRange}
 use Rattle.textarea_ranges.specs.Lookup.{range_around}
@@ -12,14 +12,14 @@ use Rattle.textarea_ranges.specs.Order.{in_order}
 use Rattle.textarea_ranges.specs.Rejected.{rejected_of}
 use Rattle.textarea_history.specs.Log.{empty_log, newest, next}
 use Rattle.textarea_text.specs.Fragment.{fragment_symbols, fragment_text, pasted_symbols}
-use Rattle.textarea_text.specs.Between.{clip}
-use Rattle.textarea_document.specs.DocumentState.{fresh_document}
+use Rattle.textarea_document.specs.DocumentState.{lines_replaced}
 use Rattle.textarea_document.specs.Edits.{range_at_cursor, has_symbols}
 use Rattle.textarea_document.specs.Outcomes.{after_redo, run_ended, after_undo}
+use Rattle.textarea_document.specs.Replacing.{range_splices, replaces, stretch_symbols}
 use Rattle.textarea_document.specs.Selection.{is_selected, lines_duplicated, selection_duplication}
 use Rattle.textarea_document.specs.Selection as document_selection
 use Rattle.textarea_document.specs.Splices.{after_splices, before_splices, break_splices, cursor_range_splices, redo_splices, selected_splices, undo_splices}
-use Rattle.tui_textarea.specs.State.{State, with_document, with_other_lines}
+use Rattle.tui_textarea.specs.State.{State, with_change_log, with_changes_taken, with_document, with_other_lines}
 use Rattle.tui_textarea.specs.Splices.{ahead_splices, char_splices, clear_splices, line_end_splices, line_head_splices, selected_splices_or, str_splices, tab_splices, word_after_splices, word_before_splices}
 use Rattle.tui_textarea.specs.Edits.{inserts_tab, inserts_text, char_inserted, newline_inserted, tab_inserted, str_inserted}
 use Rattle.tui_textarea.specs.Grouping.{typing_ended, undo_group_begun, undo_group_ended}
@@ -37,8 +37,9 @@ use Rattle.tui_textarea.specs.Drawing.{highlighted, unhighlighted, with_look_set
 use Rattle.tui_textarea.specs.LayoutCalls.{alignment_set, mode_set, number_style, line_numbers_set, keeps_layout, tab_length, tab_length_set, with_alignment, with_line_numbers, with_tab_length, with_wrap_mode, without_line_numbers}
 use Rattle.tui_textarea.specs.Moves.{gone_to}
 use Rattle.tui_textarea.specs.Measure.{reads_rows, with_surround}
-use Rattle.tui_textarea.specs.Search.{next_match, previous_match, after_search, with_pattern}
+use Rattle.tui_textarea.specs.Search.{match_count, match_index, next_match, previous_match, after_search, with_pattern, with_search_text}
 use Rattle.tui_textarea.specs.Patterns.{IsNewPattern}
+use Rattle.tui_textarea.specs.Replacing.{match_at_cursor, match_replaced, match_splices, matches_replaced, matches_splices, replaceable, with_range_replaced}
 use Rattle.tui_textarea.specs.Ranges.{cursor_normalized, atomic_range_removed, ranges_accepted, ranges_cleared}
 use Rattle.tui_textarea.specs.CallResults as reported
 use Rattle.tui_textarea.specs.CallResults.{CallResult, Done, Flag, Range, Rejected, Text}
@@ -64,6 +65,9 @@ with_ranges_if (range ∷ rejected) state ranges = state
 abbrev pub result_of_call : State → Call → CallResult
 result_of_call state (call.InsertStr text) = Flag (inserts_text state (fragment_symbols (chars text.now)))
 result_of_call state (call.InsertPasted text) = Flag (inserts_text state (pasted_symbols (chars text.now)))
+result_of_call state (call.ReplaceRange from to text) = Flag (replaces state.document.text from to (fragment_symbols (chars text.now)))
+result_of_call state (call.ReplaceMatch text) = Flag (is_some (match_at_cursor state))
+result_of_call state (call.ReplaceAll text) = reported.Number (length (replaceable state))
 result_of_call state call.InsertTab = Flag (inserts_tab state)
 result_of_call state (call.DeleteStr count) = Flag (removes_or state (has_ahead state count))
 result_of_call state call.DeleteNewline = Flag (removes_or state (has_break_before state))
@@ -78,7 +82,9 @@ result_of_call state call.Cut = Flag (is_selected state.document)
 result_of_call state call.Paste = Flag (has_symbols state.yank)
 result_of_call state call.Undo = Flag (is_some (newest state.document.log))
 result_of_call state call.Redo = Flag (is_some (next state.document.log))
+result_of_call state call.TakeChanges = reported.Changes state.document.changes.made
 result_of_call state call.Text = Text (fragment_text state.document.text)
+result_of_call state (call.TextRange from to) = Text (fragment_text (stretch_symbols state.document.text from to))
 result_of_call state call.YankText = Text (fragment_text state.yank)
 result_of_call state (call.TrySetAtomicRanges ranges) = ranges_result (rejected_ranges state ranges.now)
 result_of_call state (call.NormalizeCursorAroundAtomicRanges bias) = Flag (is_some (range_around state.document.ranges state.document.cursor))
@@ -86,6 +92,8 @@ result_of_call state (call.AtomicRangeAtCursor direction) = Range (range_at_curs
 result_of_call state (call.DeleteAtomicRangeAtCursor direction) = Range (range_at_cursor state.document direction)
 result_of_call state (call.SearchForward at_cursor) = Flag (is_some (next_match state at_cursor))
 result_of_call state (call.SearchBack at_cursor) = Flag (is_some (previous_match state at_cursor))
+result_of_call state call.MatchCount = reported.Number (match_count state)
+result_of_call state call.MatchIndex = reported.NumberIfAny (match_index state)
 result_of_call state call.Style = reported.Style state.drawing.look.style
 result_of_call state call.CursorStyle = reported.Style state.drawing.look.cursor_style
 result_of_call state call.CursorLineStyle = reported.Style state.drawing.look.cursor_line_style
@@ -115,7 +123,7 @@ result_of_call state call = Done
 -- moves to the nearest position in them, nothing is selected, and nothing is scrolled
 abbrev pub with_lines : {Z : Type 0} → State → List (String Z) → Place → State
 with_lines state lines cursor =
-    with_other_lines state (fresh_document (text_of lines) state.document.layout.settings state.document.layout.count (clip (lines_of lines) cursor) state.document.log.maximum)
+    with_other_lines state (lines_replaced state.document (lines_of lines) cursor)
 
 -- the state after the call; after one that sets a pattern, if the pattern is accepted. The states
 -- after moves, scrolls, inputs and drawings are defined elsewhere
@@ -126,6 +134,9 @@ state_after state (call.InsertPasted text) = str_inserted state (pasted_symbols 
 state_after state call.InsertTab = tab_inserted state
 state_after state call.InsertNewline = newline_inserted state
 state_after state call.DuplicateLine = with_document state (lines_duplicated state.document state.time)
+state_after state (call.ReplaceRange from to text) = with_range_replaced state from to (fragment_symbols (chars text.now))
+state_after state (call.ReplaceMatch text) = match_replaced state (fragment_symbols (chars text.now))
+state_after state (call.ReplaceAll text) = matches_replaced state (fragment_symbols (chars text.now))
 state_after state (call.DeleteStr count) = unselected_or state (symbols_ahead_removed state count)
 state_after state call.DeleteNewline = unselected_or state (break_before_removed state)
 state_after state call.DeleteChar = unselected_or state (symbol_before_removed state)
@@ -140,6 +151,8 @@ state_after state call.Copy = selection_copied state
 state_after state call.Paste = str_inserted state state.yank
 state_after state call.Undo = with_document state (after_undo state.document)
 state_after state call.Redo = with_document state (after_redo state.document)
+state_after state (call.SetChangeLog unit) = with_change_log state unit
+state_after state call.TakeChanges = with_changes_taken state
 state_after state (call.SetYankText text) = record state { yank = fragment_symbols (chars text.now) }
 state_after state call.YankText = state
 state_after state (call.TrySetAtomicRanges ranges) = with_ranges_if (rejected_ranges state ranges.now) state ranges.now
@@ -148,6 +161,7 @@ state_after state (call.AtomicRangeAtCursor direction) = state
 state_after state (call.DeleteAtomicRangeAtCursor direction) = atomic_range_removed state direction
 state_after state (call.SetLines lines cursor) = with_lines state lines.now cursor
 state_after state (call.SetSearchPattern text) = with_pattern state text.now
+state_after state (call.SetSearchText text ignore_case whole_word) = with_search_text state text.now ignore_case whole_word
 state_after state (call.SearchForward at_cursor) = after_search state (next_match state at_cursor)
 state_after state (call.SearchBack at_cursor) = after_search state (previous_match state at_cursor)
 state_after state (call.GoTo place) = gone_to state place
@@ -190,8 +204,9 @@ state_after state call.ClearCustomHighlight = unhighlighted state
 state_after state call = state
 
 -- The splices of the call in this state, one after another. An insertion over selected text has
--- two, first the removal of that text; any other edit, undo or redo has one; a call that changes
--- nothing in the text has none. The call that sets lines replaces the text, and has none. Those of
+-- two, first the removal of that text; a replacement has at most two, and one of several matches at
+-- most two for each of them; any other edit, undo or redo has one, or those of a group; a call that
+-- changes nothing in the text has none. The call that sets lines replaces the text, and has none. Those of
 -- inputs are defined elsewhere.
 abbrev pub call_splices : State → Call → List Splice
 call_splices state (call.InsertChar c) = char_splices state c
@@ -201,6 +216,9 @@ call_splices state call.InsertTab = tab_splices state
 call_splices state call.InsertNewline = str_splices state (Break ∷ [])
 call_splices state call.Paste = str_splices state state.yank
 call_splices state call.DuplicateLine = selection_duplication state.document ∷ []
+call_splices state (call.ReplaceRange from to text) = range_splices state.document from to (fragment_symbols (chars text.now)) state.time
+call_splices state (call.ReplaceMatch text) = match_splices state (fragment_symbols (chars text.now))
+call_splices state (call.ReplaceAll text) = matches_splices state (fragment_symbols (chars text.now))
 call_splices state (call.DeleteStr count) = selected_splices_or state.document (ahead_splices state.document count)
 call_splices state call.DeleteNewline = selected_splices_or state.document (break_splices state.document)
 call_splices state call.DeleteChar = selected_splices_or state.document (before_splices state.document)
@@ -227,6 +245,9 @@ NeedsMemory state (call.InsertPasted text) = inserts_text state (pasted_symbols 
 NeedsMemory state call.InsertTab = inserts_tab state ≢ false
 NeedsMemory state call.InsertNewline = Unit {0}
 NeedsMemory state call.DuplicateLine = Unit {0}
+NeedsMemory state (call.ReplaceRange from to text) = Unit {0}
+NeedsMemory state (call.ReplaceMatch text) = state.pattern ≢ None
+NeedsMemory state (call.ReplaceAll text) = state.pattern ≢ None
 NeedsMemory state (call.DeleteStr count) = removes_or state (has_ahead state count) ≢ false
 NeedsMemory state call.DeleteNewline = removes_or state (has_break_before state) ≢ false
 NeedsMemory state call.DeleteChar = removes_or state (has_before state) ≢ false
@@ -244,12 +265,16 @@ NeedsMemory state call.Redo = next state.document.log ≢ None
 NeedsMemory state (call.SetYankText text) = Unit {0}
 NeedsMemory state call.Text = Unit {0}
 NeedsMemory state call.YankText = Unit {0}
+NeedsMemory state (call.TextRange from to) = Unit {0}
 NeedsMemory state (call.TrySetAtomicRanges ranges) = Unit {0}
 NeedsMemory state (call.DeleteAtomicRangeAtCursor direction) = range_at_cursor state.document direction ≢ None
 NeedsMemory state (call.SetLines lines cursor) = Unit {0}
 NeedsMemory state (call.SetSearchPattern text) = IsNewPattern state text.now
+NeedsMemory state (call.SetSearchText text ignore_case whole_word) = text.now ≢ []
 NeedsMemory state (call.SearchForward at_cursor) = state.pattern ≢ None
 NeedsMemory state (call.SearchBack at_cursor) = state.pattern ≢ None
+NeedsMemory state call.MatchCount = state.pattern ≢ None
+NeedsMemory state call.MatchIndex = state.pattern ≢ None
 NeedsMemory state (call.SetTabLength columns) = keeps_layout state (tab_length_set state columns) ≢ true
 NeedsMemory state (call.SetWrapMode mode) = keeps_layout state (mode_set state mode) ≢ true
 NeedsMemory state (call.SetLineNumberStyle style) = keeps_layout state (line_numbers_set state true) ≢ true

@@ -17,6 +17,7 @@ pub mod Moves
 pub mod Input
 pub mod Ranges
 pub mod Search
+pub mod Replacing
 pub mod LayoutCalls
 pub mod Measure
 pub mod TextAreaLaw
@@ -31,4 +32,8 @@ pub mod Patterns
 pub mod Run
 pub mod CallSplices
 pub mod CallResults
+pub mod TypedLine
+pub mod TextsBefore
+pub mod Matches
+pub mod ChangesOverCalls
 pub mod Prelude

@@ -2,6 +2,7 @@
 -- one state. A pattern may be rejected: that is a result too, and the state stays. The definitions
 -- of moves, scrolls, inputs, measures, hit tests and drawings are those of the text area.
 use Rattle.std.specs.Prelude.{◌≡◌, ℕ, List}
+use Rattle.textarea_search.specs.PlainTexts.{text_pattern}
 use Rattle.tui_textarea.specs.Hit.{IsHitTest}
 use Rattle.tui_textarea.specs.Rendered.{IsDrawn}
 use Rattle.textarea_screen.specs.Buffer.{KeepsOutside}
@@ -18,7 +19,7 @@ use Rattle.tui_textarea.specs.Calls.{StateOutOfMemory, NeedsMemory, result_of_ca
 use Rattle.tui_textarea.specs.Patterns.{MayRejectPattern}
 use Rattle.tui_textarea.specs.CallResults.{CallResult, Done, Flag, Measured, PatternRejected, Place}
 use Rattle.textarea_calls.specs.declared.call.Call.{Call}
-use Rattle.textarea_calls.specs.declared.call.Call.TheVariants.{CursorAtPosition, Input, InputWithoutShortcuts, Measure, Move, Render, Scroll, SetSearchPattern}
+use Rattle.textarea_calls.specs.declared.call.Call.TheVariants.{CursorAtPosition, Input, InputWithoutShortcuts, Measure, Move, Render, Scroll, SetSearchPattern, SetSearchText}
 
 -- a possible result of setting this pattern
 abbrev pub IsPatternCallResult : State → List ℕ → CallResult → Type 0
@@ -43,6 +44,7 @@ IsHitTestResult state cell returned = ⊥
 -- a possible result of the call
 abbrev pub IsResultOf : State → Call → CallResult → Type 0
 IsResultOf state (SetSearchPattern text) returned = IsPatternCallResult state text.now returned
+IsResultOf state (SetSearchText text ignore_case whole_word) returned = IsPatternCallResult state (text_pattern text.now ignore_case whole_word) returned
 IsResultOf state (Measure width) returned = IsMeasureResult state width returned
 IsResultOf state (CursorAtPosition cell) returned = IsHitTestResult state cell returned
 IsResultOf state (Input input) returned = returned ≡ Flag (action_flag state (asked_by input.now))
@@ -52,6 +54,7 @@ IsResultOf state call returned = returned ≡ result_of_call state call
 -- the state after the call, with this result
 abbrev pub IsAfterCall : State → Call → CallResult → State → Type 0
 IsAfterCall old (SetSearchPattern text) returned new = new ≡ after_pattern old text.now returned
+IsAfterCall old (SetSearchText text ignore_case whole_word) returned new = new ≡ after_pattern old (text_pattern text.now ignore_case whole_word) returned
 IsAfterCall old (Move cursor_move) returned new = IsMoved old cursor_move new
 IsAfterCall old (Scroll scrolling) returned new = IsScrolled old scrolling new
 IsAfterCall old (Render area) returned new = IsRendered old area new

@@ -21,6 +21,10 @@ pub record MayRejectPattern (state : State) (text : List ℕ) : Type 0 where
   pub because : IsPatternFailure text (Pattern error)
   pub carried : IsErrorFor text (Pattern error)
 
+-- an error of `regex` comes only if a pattern has to be built
+abbrev pub IsNewFailure : State → List ℕ → SearchError → Type 0
+IsNewFailure state text error = (e : Error) → error ≡ Pattern e → IsNewPattern state text
+
 -- how the result of setting a pattern is converted: done if it was set; rejected if `regex`
 -- returned an error; and out of memory if that was the reason
 abbrev pub IsPatternResult : {T E : Type 0} → Result T SearchError → Result Answer E → Type 0

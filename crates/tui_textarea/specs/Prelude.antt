@@ -26,10 +26,13 @@ pub use Rattle.textarea_blocks.specs.Sums.{row_total}
 pub use Rattle.textarea_screen_map.specs.BorrowedLines.{BorrowedRows}
 pub use Rattle.textarea_lines.specs.LineWraps.{map_width}
 pub use Rattle.textarea_lines.specs.View.{IsViewOf}
-pub use Rattle.textarea_search.specs.PatternErrors.{IsErrorFor, IsOwnFailure, IsPatternFailure}
+pub use Rattle.textarea_search.specs.PatternErrors.{IsErrorFor, IsNoSyntaxError, IsOwnFailure, IsPatternFailure}
+pub use Rattle.textarea_search.specs.PlainTexts.{text_pattern}
 pub use Rattle.textarea_document.specs.DocumentLaw.{ListsFit, RestoresAll, RestoresDocument}
 pub use Rattle.textarea_document.specs.DocumentRows.{text_and_layout}
-pub use Rattle.textarea_document.specs.DocumentState.{fresh_document}
+pub use Rattle.textarea_document.specs.ChangesLead.{ChangesLead}
+pub use Rattle.textarea_document.specs.Changes.{change_view}
+pub use Rattle.textarea_document.specs.DocumentState.{changes_taken, lines_replaced}
 pub use Rattle.textarea_document.specs.DocumentWraps.{SplicedBy, WrapsNothing}
 pub use Rattle.textarea_document.specs.Edits.{has_symbols, range_at_cursor}
 pub use Rattle.textarea_document.specs.Outcomes.{after_edit, after_redo, after_undo, run_ended}
@@ -52,9 +55,11 @@ pub use Rattle.tui_textarea.specs.CallSplices.{OfSplicesOutOfMemory, splices_of}
 pub use Rattle.tui_textarea.specs.CallWraps.{WrapsByCall}
 pub use Rattle.tui_textarea.specs.CaretHit.{IsCaretHit, IsCursorAtCaret}
 pub use Rattle.tui_textarea.specs.CaretVisible.{IsCaretVisible}
+pub use Rattle.tui_textarea.specs.ChangesOverCalls.{ChangesFollow, ChangesOfRun, SetsLog, taken_by}
 pub use Rattle.tui_textarea.specs.Drawing.{IsRendered, widget_of}
 pub use Rattle.tui_textarea.specs.DrawnFrame.{frame_of}
-pub use Rattle.tui_textarea.specs.Edits.{char_inserted, char_or_break_inserted, inserts_tab, inserts_text, line_broken, newline_inserted, spaces_to_stop, str_inserted, symbols_or_none_inserted, tab_inserted, tab_or_spaces_inserted}
+pub use Rattle.tui_textarea.specs.Edits.{breaks_line, char_inserted, char_or_break_inserted, inserts_tab, inserts_text}
+pub use Rattle.tui_textarea.specs.Edits.{line_broken, newline_inserted, spaces_to_stop, str_inserted, symbols_or_none_inserted, tab_inserted, tab_or_spaces_inserted}
 pub use Rattle.tui_textarea.specs.Frames.{HasLayoutFor}
 pub use Rattle.tui_textarea.specs.GroupLaw.{IsEditUndoneAtOnce, IsInsertion, IsUndoneAtOnce}
 pub use Rattle.tui_textarea.specs.Grouping.{call_begun, call_ended, closed_if, opens_group, typing_ended, undo_group_begun, undo_group_ended, with_group}
@@ -64,6 +69,7 @@ pub use Rattle.tui_textarea.specs.LayoutCalls.{indent_of}
 pub use Rattle.tui_textarea.specs.Measure.{IsMeasured, IsMeasuredAround, reads_rows, with_surround}
 pub use Rattle.tui_textarea.specs.Moves.{IsMoved, gone_to, IsMovedWith, IsScrolled, IsScrolledWith, IsTarget, anchor_with, bias_of}
 pub use Rattle.tui_textarea.specs.Outcomes.{IsAfterCall, IsAfterOutOfMemory, IsResultOf, RanOutOfMemory}
+pub use Rattle.tui_textarea.specs.Patterns.{IsNewFailure}
 pub use Rattle.tui_textarea.specs.Ranges.{atomic_range_removed, cursor_normalized, ranges_accepted, ranges_cleared}
 pub use Rattle.tui_textarea.specs.RangesOverCalls.{IsUndoOrRedo, RangesFollowCall, RangesOfRun}
 pub use Rattle.tui_textarea.specs.Removals.{back_to_word_removed, break_before_removed, has_after, has_ahead, has_before, has_break_before, has_line_after, has_line_before}
@@ -72,7 +78,9 @@ pub use Rattle.tui_textarea.specs.Removals.{symbol_after_removed, symbol_before_
 pub use Rattle.tui_textarea.specs.Removals.{word_before_removed, yanked}
 pub use Rattle.tui_textarea.specs.Rendered.{IsDrawn}
 pub use Rattle.tui_textarea.specs.Run.{Leads, Run, ShowsSame}
-pub use Rattle.tui_textarea.specs.Search.{after_search, found_match, next_match, previous_match, with_pattern}
+pub use Rattle.tui_textarea.specs.Search.{after_search, found_match, match_count, match_index, next_match, previous_match, starts_in, with_pattern, with_search_text}
 pub use Rattle.tui_textarea.specs.Selection.{IsInsertOutOfMemory, all_selected, selection_cancelled, selection_copied, selection_cut, selection_started, unselected}
-pub use Rattle.tui_textarea.specs.State.{State, default_settings, new_state, text_of_each, with_document, with_other_lines}
+pub use Rattle.tui_textarea.specs.State.{State, default_settings, new_state, text_of_each, with_change_log, with_changes_taken, with_document, with_other_lines}
 pub use Rattle.tui_textarea.specs.TextAreaLaw.{HasRowsFromScratch, PastesCopy}
+pub use Rattle.tui_textarea.specs.Matches.{AreInTextOrder, LeadsToFirstMatch, LeadsToMatchAfter}
+pub use Rattle.tui_textarea.specs.TypedLine.{IsTypedLine}

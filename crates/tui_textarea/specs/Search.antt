@@ -1,9 +1,11 @@
 -- The positions that searches find, and the states after them.
-use Rattle.std.specs.Prelude.{ℕ, Bool, List, [], ◌∷◌, map, Option, Some, None}
+use Rattle.std.specs.Prelude.{ℕ, Bool, List, [], ◌∷◌, length, map, Option, Some, None}
 use Rattle.std.specs.Str.{encode_utf8_all}
 use Rattle.textarea_text.specs.Text.{Symbol, lines}
 use Rattle.textarea_text.specs.Place.{Place}
+use Rattle.textarea_search.specs.Counts.{index_at}
 use Rattle.textarea_search.specs.Matches.{match_columns}
+use Rattle.textarea_search.specs.PlainTexts.{text_pattern}
 use Rattle.textarea_search.specs.Starts.{found_start, starts_from}
 use Rattle.textarea_search.specs.declared.search.direction.Direction.{Direction}
 use Rattle.textarea_search.specs.declared.search.direction.Direction.TheVariants.{Forward, Back}
@@ -19,10 +21,22 @@ pattern_in (byte ∷ bytes) = Some (byte ∷ bytes)
 abbrev pub with_pattern : State → List ℕ → State
 with_pattern state text = record state { pattern = pattern_in text }
 
+-- the pattern of a plain text is the pattern from now on
+abbrev pub with_search_text : State → List ℕ → Bool → Bool → State
+with_search_text state text ignore_case whole_word = with_pattern state (text_pattern text ignore_case whole_word)
+
 -- the positions at which the pattern's matches in a text start, in order; none without a pattern
 abbrev pub starts_in : Option (List ℕ) → List Symbol → List Place
 starts_in None text = []
 starts_in (Some pattern) text = starts_from (match_columns pattern) 0 (map encode_utf8_all (lines text))
+
+-- the number of matches in the text
+abbrev pub match_count : State → ℕ
+match_count state = length (starts_in state.pattern state.document.text)
+
+-- the number, counted from 0, of the match that starts at the cursor, if one does
+abbrev pub match_index : State → Option ℕ
+match_index state = index_at state.document.cursor (starts_in state.pattern state.document.text)
 
 -- the position that a search from the cursor finds
 abbrev pub found_match : Direction → State → Bool → Option Place

@@ -3,7 +3,9 @@ use Rattle.std.specs.Prelude.{ℕ, List, [], false, map, Option, None}
 use Rattle.std.specs.Borrow.{Bor}
 use Rattle.std.specs.Str.{chars}
 use Rattle.textarea_text.specs.Text.{Symbol, joined}
-use Rattle.textarea_document.specs.DocumentState.{DocumentState, new_document}
+use Rattle.textarea_change.specs.declared.change.ChangeUnit.{ChangeUnit}
+use Rattle.textarea_document.specs.Changes.{no_changes}
+use Rattle.textarea_document.specs.DocumentState.{DocumentState, changes_taken, new_document}
 use Rattle.textarea_wrap.specs.declared.wrap.WrapMode.TheVariants as mode
 use Rattle.textarea_lines.specs.declared.settings.LayoutSettings.{LayoutSettings}
 use Rattle.textarea_view.specs.SurroundState.{SurroundState, new_surround}
@@ -38,6 +40,14 @@ new_state text = record { document = new_document text default_layout 50; yank =
 
 abbrev pub with_document : State → DocumentState → State
 with_document state document = record state { document = document }
+
+-- the log of changes is emptied
+abbrev pub with_changes_taken : State → State
+with_changes_taken state = with_document state (changes_taken state.document)
+
+-- a log of changes begins in this unit, or ends for none
+abbrev pub with_change_log : State → Option ChangeUnit → State
+with_change_log state unit = with_document state (record state.document { changes = no_changes unit })
 
 -- other lines replace the old ones: no custom highlight stays, nothing is scrolled; all else stays
 abbrev pub with_other_lines : State → DocumentState → State

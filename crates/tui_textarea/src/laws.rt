@@ -1,11 +1,13 @@
 //! Laws of text areas and their visual rows, each the contract of a function that does nothing.
-ghost use Rattle.std.specs.Prelude.{◌≡◌, ◌<◌, ◌^◌, ◌↔◌, ℕ, Bool, [], true, false, length, None, Option};
+ghost use Rattle.std.specs.Prelude.{◌≡◌, ◌-◌, ◌<◌, ◌^◌, ◌↔◌, ◌++◌, ◌∷◌, ℕ, Bool, List, [], true, false, length, take, None, Option};
 ghost use Rattle.tui_textarea.specs.Prelude.{IsHitTest, IsLastArea, IsWithoutCell, Place, size_limit, CursorMove, Scrolling, text_and_layout, IsSound, IsCaretHit, frame_of, shows_placeholder, IsCaretVisible, Action, BorrowedRows, IsViewOf, row_total, Rect, saturated_u16, width_inside, TextAreaMeasure, weight, IsRendered, widget_of, HasLayoutFor, IsMeasured, IsMeasuredAround, IsAfterAction, IsMovedWith, IsScrolledWith, State};
+ghost use Rattle.tui_textarea.specs.Prelude.{IsInsertOutOfMemory, IsTypedLine, breaks_line, char_inserted, fragment_text, symbol_before_removed, text_cleared, unselected_or};
 
 use crate::drawing::laws::{caret_hit_is_cursor, caret_is_visible, one_nearest_place};
 pub use crate::textarea::laws::{
     calls_are_undone_at_once, copy_then_paste, cursor_and_anchor_are_places, edits_fit, is_sound,
-    redo_restores_all, rows_are_those_from_scratch, undos_restore,
+    matches_in_order, redo_restores_all, rows_are_those_from_scratch, undos_reach_back,
+    undos_restore,
 };
 use textarea_document::laws::{one_place_up_and_down, one_row_count};
 use textarea_lines::laws::{settings_stay, wrapped_as_measured};
@@ -27,6 +29,24 @@ pub fn one_input()
 {
     one_move();
 }
+
+/// A text of one line that is typed from its start stays one, with the cursor after it: a character
+/// is added at its end, a removal of the symbol before the cursor removes the last one, and `clear`
+/// removes all. An insertion that runs out of memory leaves it as it was. Its text is written as its
+/// characters.
+pub fn typed_line_stays()
+    ensures typed { (state : State) (line : List ℕ) (c : ℕ) → IsTypedLine state line →
+        breaks_line c ≡ false → IsTypedLine (char_inserted state c) (line ++ c ∷ []) }
+    ensures removed { (state : State) (line : List ℕ) → IsTypedLine state line →
+        IsTypedLine (unselected_or state (symbol_before_removed state))
+        (take (length line - 1) line) }
+    ensures cleared { (state : State) (line : List ℕ) → IsTypedLine state line →
+        IsTypedLine (text_cleared state) [] }
+    ensures out_of_memory { (old new : State) (line : List ℕ) → IsTypedLine old line →
+        IsInsertOutOfMemory old new → IsTypedLine new line }
+    ensures written { (state : State) (line : List ℕ) → IsTypedLine state line →
+        fragment_text state.document.text ≡ line }
+{}
 
 /// The measure of an area is determined by the area's width, in columns.
 pub fn one_measure()

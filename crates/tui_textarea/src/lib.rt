@@ -3,11 +3,13 @@
 
 mod drawing;
 pub mod laws;
+mod matches;
 pub mod outcomes;
 pub mod textarea;
 pub mod util;
 
 pub use textarea::TextArea;
+pub use textarea_change::{ChangeUnit, TextChange};
 pub use textarea_data::cursor::{CursorMove, CursorRenderMode, DataCursor};
 pub use textarea_data::input::{Input, Key};
 pub use textarea_data::measure::TextAreaMeasure;

@@ -1,5 +1,6 @@
 //! The text area: a document, the yanked text, the settings, the clock, a search pattern, a
 //! surround, and the state of drawing.
+mod changes;
 mod constructors;
 mod edits;
 mod grouping;
@@ -13,6 +14,7 @@ mod past;
 mod ranges;
 mod removals;
 mod render;
+mod replacing;
 mod search;
 mod selection;
 pub mod settings;
@@ -21,7 +23,7 @@ mod surround;
 ghost use Rattle.std.specs.Prelude.{◌≡◌, ◌<◌, ◌≤◌, ◌↔◌, length, OnErr, OnOk, IfOk, IsTrue, [], string_bytes, vec_len};
 ghost use Rattle.std.specs.Arc.{arc_value};
 ghost use Rattle.std.specs.Str.{chars};
-ghost use Rattle.tui_textarea.specs.Prelude.{fragment_text, size_limit, lines, lines_of, text_of, IsPlace, size_of, fresh_document, clip, new_state, with_other_lines};
+ghost use Rattle.tui_textarea.specs.Prelude.{fragment_text, size_limit, lines, lines_of, text_of, IsPlace, size_of, changes_taken, lines_replaced, new_state, with_other_lines};
 
 use crate::drawing::Drawing;
 use crate::textarea::settings::Settings;
@@ -83,9 +85,12 @@ impl<'a> Model for TextArea<'a> {
 }
 
 impl<'a> Clone for TextArea<'a> {
-    ghost is_clone = { λ area copy. copy ≡ area };
+    ghost use Rattle.tui_textarea.specs.State.{with_changes_taken};
 
-    /// Returns a copy of the text area with its history, or an error if memory runs out.
+    ghost is_clone = { λ area copy. copy ≡ with_changes_taken area };
+
+    /// Returns a copy of the text area with its history and an empty log of changes, or an error if
+    /// memory runs out.
     fn clone(&self) -> Result<TextArea<'a>, AllocError> {
         let (search, surround, drawing) = self.clone_look()?;
         let (document, yank) = self.clone_text()?;
@@ -104,7 +109,7 @@ impl<'a> Clone for TextArea<'a> {
 impl<'a> TextArea<'a> {
     // Returns a copy of the document, and the yanked text, which is shared.
     fn clone_text(&self) -> Result<(Document, Arc<Vec<String>>), AllocError>
-        ensures document { IfOk result (λ copies. copies.0 ≡ self.now.document) }
+        ensures document { IfOk result (λ copies. copies.0 ≡ changes_taken self.now.document) }
         ensures yank { IfOk result (λ copies.
             text_of (arc_value copies.1).items ≡ self.now.yank) }
     {
@@ -151,7 +156,8 @@ impl<'a> TextArea<'a> {
     /// Replaces all lines, and moves the cursor to the position in them that is nearest to
     /// `cursor`. Forgets all edits, the selection, the atomic ranges and the custom highlights, and
     /// resets the viewport's numbers to 0. Settings, search pattern, yanked text, the last area and
-    /// the caret stay. A line feed inside a line stays a character of that line.
+    /// the caret stay. A line feed inside a line stays a character of that line. A log of changes gets
+    /// a change of the whole text.
     pub fn set_lines(
         &mut self,
         lines: Vec<String>,
@@ -160,9 +166,7 @@ impl<'a> TextArea<'a> {
         requires some { 0 < vec_len lines }
         ensures ok { OnOk result
             (self.new ≡ with_other_lines self.old
-            (fresh_document (text_of lines.items) self.old.document.layout.settings
-            self.old.document.layout.count
-            (clip (lines_of lines.items) cursor) self.old.document.log.maximum)) }
+            (lines_replaced self.old.document (lines_of lines.items) cursor)) }
         ensures err { OnErr result (self.new ≡ self.old) }
     {
         self.document.set_lines(lines, cursor)?;

@@ -2,8 +2,8 @@
 //!
 //!     cargo run --example replay < script
 //!
-//! The commands are those of calls.rs, `insert_char`, `insert_str`, `move` and `set_search_pattern`.
-//! Texts have no escape `\u{..}`.
+//! The commands are those of calls.rs, `insert_char`, `insert_str`, `move`, `set_search_pattern`,
+//! `set_search_text`, `replace_match` and `replace_all`. Texts have no escape `\u{..}`.
 
 #![allow(clippy::unit_arg)] // a call without a result is passed to `done`
 
@@ -59,21 +59,33 @@ fn move_named(name: &str) -> CursorMove {
 }
 
 /// Makes the call of a line, and returns its result in words.
-fn result_of(area: &mut TextArea, line: &str) -> &'static str {
+fn result_of(area: &mut TextArea, line: &str) -> String {
     let (name, words) = line.split_once(' ').unwrap_or((line, ""));
-    if let Some(result) = call(area, name, words) {
-        return result;
+    if name == "replace_all" {
+        return area.replace_all(unescaped(words)).to_string();
     }
-    match name {
+    if let Some(result) = call(area, name, words) {
+        return result.into();
+    }
+    let result = match name {
         "insert_char" => done(area.insert_char(unescaped(words).chars().next().unwrap())),
         "insert_str" => flag(area.insert_str(unescaped(words))),
+        "replace_match" => flag(area.replace_match(unescaped(words))),
         "move" => done(area.move_cursor(move_named(words))),
         "set_search_pattern" => match area.set_search_pattern(unescaped(words)) {
             Ok(()) => "ok",
             Err(_) => "pattern",
         },
+        "set_search_text" => {
+            let (ignore_case, rest) = words.split_once(' ').unwrap();
+            let (whole_word, text) = rest.split_once(' ').unwrap_or((rest, ""));
+            let is_set =
+                area.set_search_text(unescaped(text), ignore_case == "true", whole_word == "true");
+            done(is_set.unwrap())
+        }
         _ => panic!("no command: {line}"),
-    }
+    };
+    result.into()
 }
 
 fn main() {

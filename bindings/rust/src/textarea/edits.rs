@@ -119,6 +119,93 @@ impl TextArea<'_> {
         self.edit(|h| unsafe { sys::ta_insert_pasted(h, text.as_ptr(), text.len()) })
     }
 
+    /// Replaces the text between two positions, in either order, by this one, and returns whether it
+    /// removed or inserted something; one undo takes both back. Positions beyond the text count as
+    /// the nearest ones in it. Atomic ranges that the replaced text overlaps are removed.
+    ///
+    /// ```
+    /// use tui_textarea::TextArea;
+    ///
+    /// let mut area = TextArea::from(["one two"]);
+    /// area.replace_range((0, 4), (0, 7), "2\n3");
+    /// assert_eq!(area.lines(), ["one 2", "3"]);
+    /// area.undo();
+    /// assert_eq!(area.lines(), ["one two"]);
+    /// ```
+    pub fn replace_range<S: AsRef<str>>(
+        &mut self,
+        from: (usize, usize),
+        to: (usize, usize),
+        s: S,
+    ) -> bool {
+        must(self.try_replace_range(from, to, s))
+    }
+
+    /// As `replace_range`, but returns that memory ran out.
+    pub fn try_replace_range<S: AsRef<str>>(
+        &mut self,
+        from: (usize, usize),
+        to: (usize, usize),
+        s: S,
+    ) -> Result<bool, OutOfMemory> {
+        let text = s.as_ref();
+        self.edit(|h| unsafe {
+            sys::ta_replace_range(h, from.0, from.1, to.0, to.1, text.as_ptr(), text.len())
+        })
+    }
+
+    /// Replaces the match of the search pattern that begins at the cursor by this text, and moves the
+    /// cursor to the next match at or after what was inserted; after an empty match at least one
+    /// character later. Returns whether there was such a match. Without one it searches as
+    /// `search_forward` does.
+    ///
+    /// ```
+    /// use tui_textarea::TextArea;
+    ///
+    /// let mut area = TextArea::from(["one two one"]);
+    /// area.set_search_pattern("one")?;
+    /// assert!(area.replace_match("1"));
+    /// assert_eq!((area.text().as_str(), area.cursor()), ("1 two one", (0, 6)));
+    /// # Ok::<(), tui_textarea::SearchError>(())
+    /// ```
+    pub fn replace_match<S: AsRef<str>>(&mut self, s: S) -> bool {
+        must(self.try_replace_match(s))
+    }
+
+    /// As `replace_match`, but returns that memory ran out.
+    pub fn try_replace_match<S: AsRef<str>>(&mut self, s: S) -> Result<bool, OutOfMemory> {
+        let text = s.as_ref();
+        self.edit(|h| unsafe { sys::ta_replace_match(h, text.as_ptr(), text.len()) })
+    }
+
+    /// Replaces each match of the search pattern in the text as it is now by this text, and returns
+    /// their number; one undo takes all back, if as many edits are remembered, at most two for each
+    /// match. Matches in what is inserted are left, and so is a match of which an end is strictly
+    /// inside an atomic range. An empty match inserts the text. The cursor is then after the last one
+    /// that was replaced; without matches nothing changes.
+    ///
+    /// ```
+    /// use tui_textarea::TextArea;
+    ///
+    /// let mut area = TextArea::from(["one two", "two"]);
+    /// area.set_search_pattern("two|x")?;
+    /// assert_eq!((area.replace_all("x y"), area.text().as_str()), (2, "one x y\nx y"));
+    /// assert!(area.undo());
+    /// assert_eq!(area.text(), "one two\ntwo");
+    /// # Ok::<(), tui_textarea::SearchError>(())
+    /// ```
+    pub fn replace_all<S: AsRef<str>>(&mut self, s: S) -> usize {
+        must(self.try_replace_all(s))
+    }
+
+    /// As `replace_all`, but returns that memory ran out.
+    pub fn try_replace_all<S: AsRef<str>>(&mut self, s: S) -> Result<usize, OutOfMemory> {
+        let text = s.as_ref();
+        let mut count = 0;
+        self.edit(|h| unsafe { sys::ta_replace_all(h, text.as_ptr(), text.len(), &mut count) })?;
+        Ok(count)
+    }
+
     /// Moves the cursor to the position (row, column), or to the nearest one in the text. An open
     /// selection follows it, and a run of typing ends. Unlike `CursorMove::Jump` it reaches every
     /// row.

@@ -80,6 +80,30 @@ impl<'a> TextArea<'a> {
         Ok(text.unwrap_or_default())
     }
 
+    /// Returns the text between two positions, in either order, with a line feed for each line
+    /// break. Positions beyond the text count as the nearest ones in it.
+    ///
+    /// ```
+    /// use tui_textarea::TextArea;
+    ///
+    /// assert_eq!(TextArea::from(["one", "two"]).text_range((0, 2), (1, 1)), "e\nt");
+    /// ```
+    pub fn text_range(&self, from: (usize, usize), to: (usize, usize)) -> String {
+        must(self.try_text_range(from, to))
+    }
+
+    /// As `text_range`, but returns that memory ran out.
+    pub fn try_text_range(
+        &self,
+        from: (usize, usize),
+        to: (usize, usize),
+    ) -> Result<String, OutOfMemory> {
+        let text = self.core.text(|h, out, room, needed| unsafe {
+            sys::ta_text_range(h, from.0, from.1, to.0, to.1, out, room, needed)
+        })?;
+        Ok(text.unwrap_or_default())
+    }
+
     /// Returns the lines, at least one.
     ///
     /// ```
@@ -208,6 +232,67 @@ impl<'a> TextArea<'a> {
         let status = self
             .core
             .status(|h| unsafe { sys::ta_set_search_pattern(h, query.as_ptr(), query.len()) });
+        self.pattern_set(status)
+    }
+
+    /// Sets a search pattern that finds the text as it is: each character that has a meaning in the
+    /// syntax of `regex` is escaped. The empty text removes the pattern. With `ignore_case`,
+    /// letters of either case match. With `whole_word`, each end of the text that is a word's
+    /// character must be an end of a word.
+    ///
+    /// ```
+    /// use tui_textarea::TextArea;
+    ///
+    /// let mut area = TextArea::from(["a.b axb", "A.B"]);
+    /// area.set_search_text("a.b", true, true)?;
+    /// assert_eq!(area.match_count(), 2);
+    /// assert!(area.search_forward(false));
+    /// assert_eq!((area.cursor(), area.match_index()), ((1, 0), Some(1)));
+    /// # Ok::<(), tui_textarea::SearchError>(())
+    /// ```
+    pub fn set_search_text(
+        &mut self,
+        text: impl AsRef<str>,
+        ignore_case: bool,
+        whole_word: bool,
+    ) -> Result<(), SearchError> {
+        let text = text.as_ref();
+        let status = self.core.status(|h| unsafe {
+            sys::ta_set_search_text(h, text.as_ptr(), text.len(), ignore_case, whole_word)
+        });
+        self.pattern_set(status)
+    }
+
+    /// Returns the number of the search pattern's matches in the whole text; 0 without a pattern.
+    pub fn match_count(&self) -> usize {
+        must(self.try_match_count())
+    }
+
+    /// As `match_count`, but returns that memory ran out.
+    pub fn try_match_count(&self) -> Result<usize, OutOfMemory> {
+        let mut count = 0;
+        self.core
+            .on(|h| unsafe { sys::ta_match_count(h, &mut count) })?;
+        Ok(count)
+    }
+
+    /// Returns the number, counted from 0 in the order of the text, of the match that starts at the
+    /// cursor; `None` if none does, and without a pattern.
+    pub fn match_index(&self) -> Option<usize> {
+        must(self.try_match_index())
+    }
+
+    /// As `match_index`, but returns that memory ran out.
+    pub fn try_match_index(&self) -> Result<Option<usize>, OutOfMemory> {
+        let mut index = 0;
+        let is_match = self
+            .core
+            .on(|h| unsafe { sys::ta_match_index(h, &mut index) })?;
+        Ok(is_match.then_some(index))
+    }
+
+    // The result of setting a pattern, by its status.
+    fn pattern_set(&mut self, status: u32) -> Result<(), SearchError> {
         match status {
             sys::OK => {
                 self.pattern.take();

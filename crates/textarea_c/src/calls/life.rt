@@ -1,6 +1,6 @@
 //! Making, copying and freeing text areas.
 ghost use Rattle.std.specs.Prelude.{◌≡◌, [], IfOk, MatchOption, None, Some};
-ghost use Rattle.tui_textarea.specs.State.{new_state};
+ghost use Rattle.tui_textarea.specs.State.{new_state, with_changes_taken};
 ghost use Rattle.textarea_c.specs.Calls.{Calls};
 ghost use Rattle.textarea_c.specs.Fresh.{IsEditorOf, Loads, state_of_file};
 ghost use Rattle.textarea_c.specs.Made.{MakesBehind};
@@ -15,7 +15,8 @@ use textarea_c_data::status::{INVALID_ARGUMENT, OK, OUT_OF_MEMORY};
 use textarea_screen::screen::{Buffer, Rect};
 use tui_textarea::TextArea;
 
-// Returns an editor of this text area, on the heap, with an empty screen and nothing rejected.
+// Returns an editor of this text area, on the heap, with an empty screen, nothing rejected, and no
+// changes taken.
 fn editor_of(alloc: Global, area: TextArea<'static>) -> Result<Box<Editor>, AllocError>
     ensures { IfOk result (λ editor. IsEditorOf area.entry editor.value) }
 {
@@ -31,6 +32,7 @@ fn editor_of(alloc: Global, area: TextArea<'static>) -> Result<Box<Editor>, Allo
         screen,
         rejected: Vec::new(alloc),
         pattern_error: String::new(alloc),
+        changes: Vec::new(alloc),
     };
     Ok(Box::new(alloc, editor)?)
 }
@@ -51,7 +53,7 @@ fn editor_with(alloc: Global, text: &str) -> Result<Box<Editor>, AllocError>
 
 // Returns an editor of a copy of the text area.
 fn copied_editor(alloc: Global, area: &TextArea<'static>) -> Result<Box<Editor>, AllocError>
-    ensures { IfOk result (λ editor. IsEditorOf area.now editor.value) }
+    ensures { IfOk result (λ editor. IsEditorOf (with_changes_taken area.now) editor.value) }
 {
     editor_of(alloc, area.clone()?)
 }
@@ -114,8 +116,8 @@ pub extern "C" fn ta_free(handle: &mut Handle, alloc: Global)
 }
 
 /// Makes a copy of the text area, with its history, behind another handle, `copy`. A text area that
-/// was behind that one is freed. The copy's screen has no cells, and it has no rejected ranges or
-/// pattern.
+/// was behind that one is freed. The copy's screen has no cells, it has no rejected ranges or
+/// pattern, and its log of changes is empty.
 ///
 /// Statuses: ok, out of memory, empty handle. Where it is not ok, `copy` stays as it was.
 #[unsafe(no_mangle)]
@@ -124,7 +126,8 @@ pub extern "C" fn ta_clone(handle: &mut Handle, alloc: Global, copy: &mut Handle
         (λ a b. b ≡ a) }
     ensures copy { MatchOption handle.old.stored.content
         (copy.new.stored.content ≡ copy.old.stored.content)
-        (λ a. MakesBehind (IsEditorOf a.area) copy.old.stored.content result copy.new.stored.content) }
+        (λ a. MakesBehind (IsEditorOf (with_changes_taken a.area)) copy.old.stored.content result
+        copy.new.stored.content) }
 {
     on!(handle, alloc, editor => match copied_editor(alloc, &editor.area) {
         Ok(copied) => {

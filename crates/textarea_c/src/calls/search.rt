@@ -1,8 +1,8 @@
 //! The search pattern, and the searches for it.
-ghost use Rattle.std.specs.Prelude.{◌≡◌, ◌≢◌, IfSome, MatchOption, is_some, length, string_bytes};
+ghost use Rattle.std.specs.Prelude.{◌≡◌, ◌≢◌, ◌<◌, IfSome, MatchOption, None, Some, is_some, length, string_bytes};
 ghost use Rattle.textarea_text.specs.Place.{IsPlace};
-ghost use Rattle.tui_textarea.specs.Search.{next_match, previous_match, after_search};
-ghost use Rattle.textarea_c.specs.Calls.{Asks, Calls, Given, Patterns, OnlyReads, Searches};
+ghost use Rattle.tui_textarea.specs.Search.{match_count, match_index, next_match, previous_match, after_search};
+ghost use Rattle.textarea_c.specs.Calls.{Asks, Calls, Copies, FindsText, Given, Patterns, OnlyReads, Searches};
 ghost use Rattle.textarea_c.specs.Rejections.{IsRejection};
 ghost use Rattle.textarea_c_data.specs.Copied.{copied_over};
 ghost use Rattle.textarea_c_data.specs.Texts.{text_in};
@@ -55,6 +55,115 @@ fn store_error(error: SearchError, alloc: Global, text: &mut String) -> u32
             }
             Err(_) => OUT_OF_MEMORY,
         },
+    }
+}
+
+/// Sets a search pattern that finds the text as it is: each character that has a meaning in the
+/// syntax of patterns is escaped. The empty text removes the pattern. With `ignore_case`, letters
+/// of either case match. With `whole_word`, each end of the text that is a word's character must be
+/// an end of a word.
+///
+/// Statuses: ok, out of memory, pattern rejected (it is too large), invalid argument (the text is
+/// not UTF-8), empty handle. Where it is not ok, the pattern stays.
+#[unsafe(no_mangle)]
+pub extern "C" fn ta_set_search_text(
+    handle: &mut Handle,
+    alloc: Global,
+    text: &[u8],
+    ignore_case: bool,
+    whole_word: bool,
+) -> u32
+    ensures { Calls handle.old.stored.content result handle.new.stored.content
+        (λ a b. Given (text_in text.now)
+        (λ plain. FindsText plain ignore_case whole_word) result a b) }
+{
+    on!(handle, alloc, editor => match text_of(text) {
+        Some(text) => set_text(&mut editor, alloc, text, ignore_case, whole_word),
+        None => INVALID_ARGUMENT,
+    })
+}
+
+// Sets the pattern of a plain text, or stores why it is rejected.
+fn set_text(
+    editor: &mut Editor,
+    alloc: Global,
+    text: &str,
+    ignore_case: bool,
+    whole_word: bool,
+) -> u32
+    ensures { FindsText text.now ignore_case whole_word result editor.old editor.new }
+{
+    match editor.area.set_search_text(text, ignore_case, whole_word) {
+        Ok(()) => OK,
+        Err(error) => store_error(error, alloc, &mut editor.pattern_error),
+    }
+}
+
+/// Writes the number of the search pattern's matches in the whole text; 0 without a pattern.
+///
+/// Statuses: ok, out of memory, empty handle.
+#[unsafe(no_mangle)]
+pub extern "C" fn ta_match_count(handle: &mut Handle, alloc: Global, count: &mut usize) -> u32
+    ensures unchanged { Calls handle.old.stored.content result handle.new.stored.content
+        (λ a b. Copies result a b) }
+    ensures value { result ≡ 0 → IfSome handle.old.stored.content
+        (λ a. count.new ≡ match_count a.area) }
+    ensures no_pattern { IfSome handle.old.stored.content
+        (λ a. a.area.pattern ≡ None → result ≢ 2) }
+    ensures unwritten { result ≢ 0 → count.new ≡ count.old }
+{
+    on!(handle, alloc, editor => count_matches(&editor, count))
+}
+
+// Writes the number of matches, and returns the status.
+fn count_matches(editor: &Editor, count: &mut usize) -> u32
+    ensures value { result ≡ 0 → count.new ≡ match_count editor.now.area }
+    ensures status { result ≢ 0 → (result ≡ 2) × (count.new ≡ count.old) }
+    ensures no_pattern { editor.now.area.pattern ≡ None → result ≢ 2 }
+{
+    match editor.area.match_count() {
+        Ok(number) => {
+            *count = number;
+            OK
+        }
+        Err(_) => OUT_OF_MEMORY,
+    }
+}
+
+/// Writes the number, counted from 0 in the order of the text, of the match that starts at the
+/// cursor.
+///
+/// Statuses: ok, false (no match starts at the cursor, or no pattern is set), out of memory, empty
+/// handle.
+#[unsafe(no_mangle)]
+pub extern "C" fn ta_match_index(handle: &mut Handle, alloc: Global, index: &mut usize) -> u32
+    ensures unchanged { Calls handle.old.stored.content result handle.new.stored.content
+        (λ a b. (b ≡ a) × (result < 3)) }
+    ensures value { result ≡ 0 → IfSome handle.old.stored.content
+        (λ a. match_index a.area ≡ Some index.new) }
+    ensures none { result ≡ 1 → IfSome handle.old.stored.content (λ a. match_index a.area ≡ None) }
+    ensures no_pattern { IfSome handle.old.stored.content
+        (λ a. a.area.pattern ≡ None → result ≢ 2) }
+    ensures unwritten { result ≢ 0 → index.new ≡ index.old }
+{
+    on!(handle, alloc, editor => find_index(&editor, index))
+}
+
+// Writes the number of the match at the cursor, if there is one, and returns the status.
+fn find_index(editor: &Editor, index: &mut usize) -> u32
+    ensures status { result < 3 }
+    ensures value { result ≡ 0 → match_index editor.now.area ≡ Some index.new }
+    ensures none { result ≡ 1 → match_index editor.now.area ≡ None }
+    ensures no_pattern { editor.now.area.pattern ≡ None → result ≢ 2 }
+    ensures unwritten { result ≢ 0 → index.new ≡ index.old }
+{
+    match editor.area.match_index() {
+        Ok(Some(number)) => {
+            *index = number;
+            OK
+        }
+        Ok(None) => FALSE,
+        Err(_) => OUT_OF_MEMORY,
     }
 }
 

@@ -2,6 +2,7 @@
 ghost use Rattle.std.specs.Prelude.{◌≡◌, OnOk, OnErr};
 ghost use Rattle.textarea_document.specs.Prelude.{edit_redone, edit_undone, times};
 
+use crate::document::changes::ChangeLog;
 use crate::document::make_change;
 use std::alloc::AllocError;
 use std::marker::Model;
@@ -17,9 +18,11 @@ pub(crate) struct Draft {
     pub(crate) anchor: Option<(usize, usize)>,
     pub(crate) ranges: Vec<AtomicRange>,
     pub(crate) history: History,
+    pub(crate) changes: ChangeLog,
 }
 
 impl Model for Draft {
+    ghost use Rattle.textarea_document.specs.ChangeLog.{changes_of};
     ghost use Rattle.textarea_document.specs.DocumentState.{DocumentState, document_of};
 
     ghost Value = { DocumentState };
@@ -28,11 +31,11 @@ impl Model for Draft {
 
     ghost view = { λ draft.
         document_of draft.text_layout draft.cursor draft.anchor draft.ranges.items
-        draft.history.log };
+        draft.history.log (changes_of draft.changes) };
 
     ghost invariant = { λ draft. IsSoundInside
         (document_of draft.text_layout draft.cursor draft.anchor draft.ranges.items
-        draft.history.log) };
+        draft.history.log (changes_of draft.changes)) };
 }
 
 impl Draft {
@@ -64,7 +67,12 @@ impl Draft {
         let Some(edit) = self.history.newest() else {
             return Ok(());
         };
-        let cursor = make_change(&mut self.text_layout, &mut self.ranges, edit.inverse())?;
+        let cursor = make_change(
+            &mut self.text_layout,
+            &mut self.ranges,
+            &mut self.changes,
+            edit.inverse(),
+        )?;
         self.cursor = cursor;
         self.history.step_back();
         self.anchor = None;
@@ -79,7 +87,12 @@ impl Draft {
         let Some(edit) = self.history.next() else {
             return Ok(());
         };
-        let cursor = make_change(&mut self.text_layout, &mut self.ranges, edit.change())?;
+        let cursor = make_change(
+            &mut self.text_layout,
+            &mut self.ranges,
+            &mut self.changes,
+            edit.change(),
+        )?;
         self.cursor = cursor;
         self.history.step_forward();
         self.anchor = None;

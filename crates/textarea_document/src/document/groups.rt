@@ -1,6 +1,6 @@
 //! Groups of edits, which are undone and redone together.
 ghost use Rattle.std.specs.Prelude.{◌≡◌, ◌<◌, length, OnOk, OnErr, IfOk, is_some, true, false};
-ghost use Rattle.textarea_document.specs.Prelude.{after_redo, after_undo, group_begun, group_closed, group_ended, group_opened, is_grouped, is_open, newest, newest_group, next, next_group};
+ghost use Rattle.textarea_document.specs.Prelude.{changes_taken, with_changes_after, after_redo, after_undo, group_begun, group_closed, group_ended, group_opened, is_grouped, is_open, newest, newest_group, next, next_group};
 
 use crate::document::Document;
 use crate::document::draft::Draft;
@@ -56,7 +56,7 @@ impl Document {
         self.is_sound();
         let mut draft = self.draft()?;
         draft.undo_edits(count)?;
-        self.put(draft);
+        self.put(draft)?;
         Ok(true)
     }
 
@@ -71,13 +71,13 @@ impl Document {
         self.is_sound();
         let mut draft = self.draft()?;
         draft.redo_edits(count)?;
-        self.put(draft);
+        self.put(draft)?;
         Ok(true)
     }
 
-    // A copy in which edits can be undone and redone one by one.
+    // A copy in which edits can be undone and redone one by one, with an empty log of changes.
     fn draft(&self) -> Result<Draft, AllocError>
-        ensures { IfOk result (λ draft. draft ≡ self.now) }
+        ensures { IfOk result (λ draft. draft ≡ changes_taken self.now) }
     {
         Ok(Draft {
             text_layout: self.text_layout.clone()?,
@@ -85,13 +85,16 @@ impl Document {
             anchor: self.anchor,
             ranges: self.ranges.clone()?,
             history: self.history.clone()?,
+            changes: self.changes.emptied(),
         })
     }
 
-    // Replaces the document by the draft, in which no group is undone partly.
-    fn put(&mut self, draft: Draft)
+    // Replaces the document by the draft, in which no group is undone partly. The changes in the log
+    // stay before those of the draft.
+    fn put(&mut self, draft: Draft) -> Result<(), AllocError>
         requires { is_grouped draft.log.marks (length draft.log.done) ≡ false }
-        ensures { self.new ≡ draft }
+        ensures ok { OnOk result (self.new ≡ with_changes_after self.old.changes draft) }
+        ensures err { OnErr result (self.new ≡ self.old) }
     {
         let Draft {
             text_layout,
@@ -99,11 +102,14 @@ impl Document {
             anchor,
             ranges,
             history,
+            changes,
         } = draft;
+        self.changes.append(changes)?;
         self.text_layout = text_layout;
         self.cursor = cursor;
         self.anchor = anchor;
         self.ranges = ranges;
         self.history = history;
+        Ok(())
     }
 }

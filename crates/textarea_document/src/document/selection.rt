@@ -127,7 +127,7 @@ fn rows_down(place: Option<(usize, usize)>, count: usize) -> Option<(usize, usiz
     Some((row + count, column))
 }
 
-fn comes_before(first: (usize, usize), second: (usize, usize)) -> bool
+pub(super) fn comes_before(first: (usize, usize), second: (usize, usize)) -> bool
     ensures { result ≡ is_before first second }
 {
     first.0 < second.0 || first.0 == second.0 && first.1 < second.1

@@ -1,10 +1,12 @@
 //! Laws of runs of calls, each the contract of a function that does nothing.
 ghost use Rattle.std.specs.Prelude.{◌≡◌, ◌≤◌, ℕ, false, [], All, List, Option};
-ghost use Rattle.tui_textarea.specs.Prelude.{Answer, CanApply, CanBeMade, RangesOfRun, Run, SplicedBy, SplitNoRange, RangesStayWhole, IsSound, Buffer, State, WrapsByCall, Call, RangesFollowCall, IsUndoOrRedo, IsResultOf, IsAfterCall, IsAfterOutOfMemory, Leads, ShowsSame, CallResult, OfSplicesOutOfMemory, edits, splices_of};
+ghost use Rattle.tui_textarea.specs.Prelude.{Answer, CanApply, CanBeMade, ChangesFollow, ChangesLead, ChangesOfRun, SetsLog, taken_by, RangesOfRun, Run, SplicedBy, SplitNoRange, RangesStayWhole, IsSound, Buffer, State, WrapsByCall, Call, RangesFollowCall, IsUndoOrRedo, IsResultOf, IsAfterCall, IsAfterOutOfMemory, Leads, ShowsSame, CallResult, OfSplicesOutOfMemory, edits, splices_of};
 
 use crate::drawing::laws::{one_drawing, one_rendering};
 use crate::laws::{one_input, one_move};
-use textarea_document::laws::{edits_wrap, layout_changes_wrap, ranges_follow_splices};
+use textarea_document::laws::{
+    changes_lead, edits_wrap, layout_changes_wrap, ranges_follow_splices,
+};
 use textarea_screen_map::laws::look_up_leads_back;
 
 /// Calls with these results lead to one state of the text area, whatever the buffers.
@@ -123,5 +125,34 @@ pub fn ranges_follow_each_run()
         RangesOfRun old buffer calls answers new }
 {
     ranges_follow_each_call();
+    each_call_stays_sound();
+}
+
+/// How the changes of the text lead from the text before each call to the text after it, in every
+/// state that a text area has, except over the call that begins or ends the log: those that the call
+/// returns, and after them those of the log, follow those of the old log, and the further ones,
+/// applied to the old text one after another, give the new text. A call that runs out of memory
+/// leaves a log that leads to the text that it leaves.
+pub fn changes_follow_each_call()
+    ensures made { (old new : State) (call : Call) (returned : CallResult) → ¬ SetsLog call →
+        IsSound old.document → IsResultOf old call returned → IsAfterCall old call returned new →
+        ChangesFollow old.document (taken_by returned) new.document }
+    ensures out_of_memory { (old new : State) (call : Call) → IsSound old.document →
+        IsAfterOutOfMemory old call new → ChangesLead old.document new.document }
+{
+    changes_lead();
+}
+
+/// How the changes lead from text to text over every run of calls that can be made, none of which
+/// begins or ends the log: those that its calls return, and after them those of the log at the end,
+/// follow those of the log at the start. Applied one after another to the text at the start, the
+/// further ones give the text at the end.
+pub fn changes_follow_each_run()
+    ensures { (calls : List Call) (answers : List Answer) (refused : Option ℕ) (old new : State)
+        (buffer displayed : Buffer) → IsSound old.document → All CanBeMade calls →
+        Run old buffer calls answers refused new displayed →
+        ChangesOfRun old calls answers new }
+{
+    changes_follow_each_call();
     each_call_stays_sound();
 }

@@ -1,6 +1,8 @@
 //! Laws of text areas, each the contract of a function that does nothing.
 ghost use Rattle.std.specs.Prelude.{ℕ, ◌≡◌, ◌<◌, ◌≤◌, Bool, true, IfSome};
-ghost use Rattle.tui_textarea.specs.Prelude.{Call, IsEditUndoneAtOnce, IsInsertion, IsPlace, IsUndoneAtOnce, Fits, Splice, done_groups, RestoresAll, RestoresDocument, ListsFit, after_edit, is_selected, IsSound, HasRowsFromScratch, PastesCopy};
+ghost use Rattle.tui_textarea.specs.Prelude.{Call, IsEditUndoneAtOnce, IsInsertion, IsPlace, IsUndoneAtOnce, Fits, Splice, done_groups, RestoresAll, RestoresDocument, ListsFit, AreInTextOrder, LeadsToFirstMatch, LeadsToMatchAfter, starts_in, after_edit, is_selected, IsSound, HasRowsFromScratch, PastesCopy};
+ghost use Rattle.tui_textarea.specs.Matches.{BeginsWithFirst, GoesThroughMatches};
+ghost use Rattle.tui_textarea.specs.TextsBefore.{StepsBack};
 
 use crate::textarea::TextArea;
 use textarea_lines::laws::one_list_of_rows;
@@ -13,6 +15,15 @@ use textarea_wrap::laws::one_wrapping;
 pub fn undos_restore(area: &TextArea<'_>)
     ensures { (count : ℕ) → count ≤ done_groups area.now.document.log
         → RestoresDocument area.now.document count }
+{
+    area.document.undos_restore();
+}
+
+/// The law of a text from before, such as the saved one, for every text area: undos can give it
+/// exactly if it is the present text, or if they can give it from where one undo leads, with fewer
+/// groups left to undo. So one undo after another finds it, or ends without it.
+pub fn undos_reach_back(area: &TextArea<'_>)
+    ensures { StepsBack area.now.document }
 {
     area.document.undos_restore();
 }
@@ -37,6 +48,20 @@ pub fn calls_are_undone_at_once(area: &TextArea<'_>)
         IsEditUndoneAtOnce area.now.document splice typed now }
 {
     area.document.is_sound();
+}
+
+/// The law of matches, for every text area: their starts are in the order of the text, each once. A
+/// search from one of them goes to the next, and from the last one to the first; a search from the
+/// text's start that may stay there goes to the first. So steps from the first match on, as long as
+/// one leads to a position after the last, visit each match once, in order.
+pub fn matches_in_order(area: &TextArea<'_>)
+    ensures order { AreInTextOrder (starts_in area.now.pattern area.now.document.text) }
+    ensures after { LeadsToMatchAfter area.now }
+    ensures first { LeadsToFirstMatch area.now }
+    ensures next { GoesThroughMatches area.now }
+    ensures begin { BeginsWithFirst area.now }
+{
+    let _ = area.lines();
 }
 
 /// The law of both history lists, for every text area: the done edits can be undone one after

@@ -1,10 +1,12 @@
 //! The search pattern, and the searches for it.
 ghost use Rattle.std.specs.Prelude.{◌≡◌, [], Some, None, OnOk, OnErr, IsOk, IfOk, IfErr, IfSome, is_some};
 ghost use Rattle.std.specs.Option.{option_copied};
-ghost use Rattle.tui_textarea.specs.Prelude.{IsPlace, IsErrorFor, IsOwnFailure, IsPatternFailure, found_match, next_match, previous_match, after_search, with_pattern};
+ghost use Rattle.tui_textarea.specs.Prelude.{IsPlace, IsErrorFor, IsOwnFailure, IsNewFailure, IsNoSyntaxError, IsPatternFailure, found_match, match_count, match_index, next_match, previous_match, after_search, text_pattern, with_document, with_pattern, with_search_text};
 
 use crate::textarea::TextArea;
 use std::alloc::AllocError;
+use textarea_document::Document;
+use textarea_search::search::plain_text::{finds_text, text_pattern};
 use textarea_search::search::{Direction, SearchError};
 
 impl TextArea<'_> {
@@ -21,6 +23,54 @@ impl TextArea<'_> {
     {
         let alloc = self.allocator();
         self.search.set_pattern(alloc, pattern)
+    }
+
+    /// Sets a search pattern that finds the text as it is: each character that has a meaning in the
+    /// syntax of `regex` is escaped. The empty text removes the pattern, and needs no memory. With
+    /// `ignore_case`, letters of either case match. With `whole_word`, each end of the text that is
+    /// a word's character must be an end of a word. An error is never one of syntax.
+    pub fn set_search_text(
+        &mut self,
+        text: &str,
+        ignore_case: bool,
+        whole_word: bool,
+    ) -> Result<(), SearchError>
+        ensures ok { OnOk result
+            (self.new ≡ with_search_text self.old text.now ignore_case whole_word) }
+        ensures err { OnErr result (self.new ≡ self.old) }
+        ensures empty { text.now ≡ [] → IsOk result }
+        ensures pattern_failure { IfErr result
+            (IsPatternFailure (text_pattern text.now ignore_case whole_word)) }
+        ensures carried { IfErr result
+            (IsErrorFor (text_pattern text.now ignore_case whole_word)) }
+        ensures is_new { IfErr result
+            (IsNewFailure self.old (text_pattern text.now ignore_case whole_word)) }
+        ensures syntax { IfErr result IsNoSyntaxError }
+    {
+        finds_text(text, ignore_case, whole_word);
+        let alloc = self.allocator();
+        match text_pattern(alloc, text, ignore_case, whole_word) {
+            Ok(pattern) => self.set_search_pattern(pattern.as_str()),
+            Err(error) => Err(SearchError::Memory(error)),
+        }
+    }
+
+    /// Returns the number of the search pattern's matches in the whole text; 0 without a pattern.
+    pub fn match_count(&self) -> Result<usize, AllocError>
+        ensures count { IfOk result (λ count. count ≡ match_count self.now) }
+        ensures no_pattern { self.now.pattern ≡ None → IsOk result }
+    {
+        self.search.count(self.document.lines())
+    }
+
+    /// Returns the number, counted from 0 in the order of the text, of the match that starts at the
+    /// cursor; `None` if none does, and without a pattern.
+    pub fn match_index(&self) -> Result<Option<usize>, AllocError>
+        ensures index { IfOk result (λ index. index ≡ match_index self.now) }
+        ensures no_pattern { self.now.pattern ≡ None → IsOk result }
+    {
+        self.search
+            .index(self.document.lines(), self.document.cursor())
     }
 
     /// Returns the text of the search pattern, if one is set.
@@ -83,8 +133,32 @@ impl TextArea<'_> {
             .find_match(&self.search, direction, lines, cursor, match_cursor)
     }
 
+    // Returns the position that a search forward from a document's cursor finds in the document.
+    pub(super) fn next_match_in(
+        &mut self,
+        document: &Document,
+        match_cursor: bool,
+    ) -> Result<Option<(usize, usize)>, AllocError>
+        ensures found { IfOk result (λ place. place
+            ≡ next_match (with_document self.old document.now) match_cursor) }
+        ensures place { OnOk result
+            (IfSome (next_match (with_document self.old document.now) match_cursor)
+            (IsPlace document.now.text)) }
+        ensures same { self.new ≡ self.old }
+    {
+        let cursor = document.cursor();
+        let lines = document.lines();
+        self.drawing.find_match(
+            &self.search,
+            Direction::Forward,
+            lines,
+            cursor,
+            match_cursor,
+        )
+    }
+
     // Moves the cursor to the found position, if there is one, and returns whether there is.
-    fn go_to_match(&mut self, found: Option<(usize, usize)>) -> bool
+    pub(super) fn go_to_match(&mut self, found: Option<(usize, usize)>) -> bool
         requires { IfSome found (IsPlace self.old.document.text) }
         ensures went { result ≡ is_some found }
         ensures state { self.new ≡ after_search self.old found }

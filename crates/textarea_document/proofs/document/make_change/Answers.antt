@@ -1,5 +1,6 @@
 use Rattle.std.proofs.Common.{◌≡◌, ◌≤◌, ◌∙◌, List, ap, arith, filter_map, subst, sym}
-use Rattle.textarea_document.specs.Prelude.{size_limit, Symbol, Place, IsPlace, TextAndLayout, applied, lines, place_after, place_before, moved_by, moved_ranges}
+use Rattle.textarea_document.specs.ChangeLog.{changes_of}
+use Rattle.textarea_document.specs.Prelude.{size_limit, ChangeView, LoggedChanges, Fits, Symbol, Place, IsPlace, TextAndLayout, applied, lines, place_after, place_before, moved_by, moved_ranges, splice_changes, text_of, with_more}
 use Rattle.textarea_text.proofs.TextPlaces.{takes_back}
 use Rattle.textarea_ranges.proofs.Searching.{AreApart-valid}
 use Rattle.textarea_document.proofs.Ranges.{movable}
@@ -28,3 +29,15 @@ returns-clause-ranges c =
     ∙ ap (λ (p : Place). filter_map (moved_by p c.cursor_before-old.result c.cursor_after-new.result) ranges) c.start-start.ensures
     ∙ ap (λ (p : Place). filter_map (moved_by splice.place p c.cursor_after-new.result) ranges) c.cursor_before-old.ensures
     ∙ ap (λ (p : Place). filter_map (moved_by splice.place (place_before splice) p) ranges) c.cursor_after-new.ensures
+
+pub prepare-requires-clause-fits : goal.prepare-requires-clause-fits
+prepare-requires-clause-fits c = subst (λ (t : List Symbol). Fits t c.args.change) (sym c.lines.ensures.value) c.requires.fits
+
+pub returns-clause-changes : goal.returns-clause-changes
+returns-clause-changes c =
+    let old = changes_of c.args.changes.now in
+    let splice = c.args.change in
+    c.put.ensures
+    ∙ ap (λ (made : List ChangeView). with_more (changes_of c.prepare.new.self) made) c.in_ok-kept.ensures.kept
+    ∙ ap (λ (log : LoggedChanges). with_more log (splice_changes old.unit (text_of c.lines.result.now) splice)) c.prepare.ensures.same
+    ∙ ap (λ (t : List Symbol). with_more old (splice_changes old.unit t splice)) c.lines.ensures.value

@@ -32,7 +32,19 @@ returns-then-is_err-clause-ranges c =
     (vec_len c.new-answers.result) c.is_err.result c.if-is_err.true c.is_err.ensures.value c.try_reserve.ensures.full c.new-answers.ensures.len
     (c.try_reserve.ensures.items ∙ c.new-answers.ensures.items)))
 
+pub returns-then-is_err-clause-changes : goal.returns-then-is_err-clause-changes
+returns-then-is_err-clause-changes c =
+    c.changes_follow_each_run.ensures c.args.calls.now c.try_reserve.new.self.items (Some 0) c.args.area.now c.args.area.now c.args.buffer.now c.args.buffer.now c.is_sound.ensures c.requires
+    (inl (never c.try_reserve.result c.args.area.now c.args.buffer.now c.args.calls.now c.try_reserve.new.self.items (vec_capacity c.new-answers.result)
+    (vec_len c.new-answers.result) c.is_err.result c.if-is_err.true c.is_err.ensures.value c.try_reserve.ensures.full c.new-answers.ensures.len
+    (c.try_reserve.ensures.items ∙ c.new-answers.ensures.items)))
+
 pub returns-clause-ranges : goal.returns-clause-ranges
 returns-clause-ranges c =
     let made = c.make_all in
     c.ranges_follow_each_run.ensures c.args.calls.now made.result.answers.items made.result.refused c.args.area.now made.new.area c.args.buffer.now made.new.buffer c.is_sound.ensures c.requires made.ensures
+
+pub returns-clause-changes : goal.returns-clause-changes
+returns-clause-changes c =
+    let made = c.make_all in
+    c.changes_follow_each_run.ensures c.args.calls.now made.result.answers.items made.result.refused c.args.area.now made.new.area c.args.buffer.now made.new.buffer c.is_sound.ensures c.requires made.ensures

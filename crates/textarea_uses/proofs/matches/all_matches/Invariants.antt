@@ -5,10 +5,9 @@ use Rattle.textarea_uses.proofs.matches.all_matches.Given as goal
 
 abbrev pub invariant-steps : goal.invariant-steps
 invariant-steps l = record {
-  pattern : l.area.pattern ≡ l.fn.area.pattern;
-  text : l.area.document.text ≡ l.fn.area.document.text;
+  stay : starts_in l.area.pattern l.area.document.text ≡ starts_in l.fn.area.pattern l.fn.area.document.text;
   listed : AreListed l.goes_on l.places.items l.area.document.cursor (starts_in l.fn.area.pattern l.fn.area.document.text);
 }
 
 abbrev pub decreases-steps : goal.decreases-steps
-decreases-steps l = length (starts_in l.area.pattern l.area.document.text) - vec_len l.places
+decreases-steps l = length (starts_in l.fn.area.pattern l.fn.area.document.text) - vec_len l.places

@@ -3,11 +3,11 @@ use Rattle.textarea_calls.specs.declared.call.Call.TheVariants as call
 use Rattle.tui_textarea.specs.Calls.{result_of_call}
 use Rattle.tui_textarea.specs.CallSplices.{splices_of}
 use Rattle.textarea_uses.specs.OneLine.{StaysInLine}
-use Rattle.textarea_uses.proofs.EachSymbol.{only_after_call, only_delete_char, only_delete_next_char, only_tab}
+use Rattle.tui_textarea.proofs.EachSymbol.{only_after_call, only_delete_char, only_delete_next_char, only_tab}
 use Rattle.textarea_uses.proofs.one_line.edit.Goals as goal
 
-pub returns-in-InsertTab : goal.returns-in-InsertTab
-returns-in-InsertTab c one =
+pub returns-in-InsertTab-clause-one_line : goal.returns-in-InsertTab-clause-one_line
+returns-in-InsertTab-clause-one_line c one =
     let old = c.args.area.now in
     let new = c.insert_tab.new.self in
     let sound = c.is_sound.ensures in
@@ -16,8 +16,8 @@ returns-in-InsertTab c one =
     (λ left. c.ranges_follow_each_call.ensures.out_of_memory old new call.InsertTab sound left) one
     (only_tab StaysInLine old refl refl)
 
-pub returns-in-DeleteChar : goal.returns-in-DeleteChar
-returns-in-DeleteChar c one =
+pub returns-in-DeleteChar-clause-one_line : goal.returns-in-DeleteChar-clause-one_line
+returns-in-DeleteChar-clause-one_line c one =
     let old = c.args.area.now in
     let new = c.delete_char.new.self in
     let sound = c.is_sound.ensures in
@@ -26,8 +26,8 @@ returns-in-DeleteChar c one =
     (λ left. c.ranges_follow_each_call.ensures.out_of_memory old new call.DeleteChar sound left) one
     (only_delete_char StaysInLine old)
 
-pub returns-in-DeleteNextChar : goal.returns-in-DeleteNextChar
-returns-in-DeleteNextChar c one =
+pub returns-in-DeleteNextChar-clause-one_line : goal.returns-in-DeleteNextChar-clause-one_line
+returns-in-DeleteNextChar-clause-one_line c one =
     let old = c.args.area.now in
     let new = c.delete_next_char.new.self in
     let sound = c.is_sound.ensures in

@@ -5,11 +5,11 @@ use Rattle.tui_textarea.specs.CallResults.{Done}
 use Rattle.tui_textarea.specs.CallSplices.{splices_of}
 use Rattle.tui_textarea.specs.Edits.{breaks_line}
 use Rattle.textarea_uses.specs.OneLine.{StaysInLine}
-use Rattle.textarea_uses.proofs.EachSymbol.{only_after_call, only_char}
+use Rattle.tui_textarea.proofs.EachSymbol.{only_after_call, only_char}
 use Rattle.textarea_uses.proofs.one_line.insert.Goals as goal
 
-pub returns-in_err-insert_char : goal.returns-in_err-insert_char
-returns-in_err-insert_char c one =
+pub returns-in_err-insert_char-clause-one_line : goal.returns-in_err-insert_char-clause-one_line
+returns-in_err-insert_char-clause-one_line c one =
     let old = c.args.area.now in
     let new = c.insert_char.new.self in
     let made = call.InsertChar c.args.character in
@@ -21,8 +21,8 @@ returns-in_err-insert_char c one =
     (λ left. c.ranges_follow_each_call.ensures.out_of_memory old new made sound left) one
     (only_char StaysInLine old c.args.character breaks stays)
 
-pub returns : goal.returns
-returns c one =
+pub returns-clause-one_line : goal.returns-clause-one_line
+returns-clause-one_line c one =
     let old = c.args.area.now in
     let new = c.insert_char.new.self in
     let made = call.InsertChar c.args.character in

@@ -1,7 +1,7 @@
 use Rattle.std.proofs.Common.{◌≡◌, ◌++◌, ℕ, [], List, drop}
 use Rattle.textarea_text.specs.Text.{lines_of}
 use Rattle.textarea_uses.specs.Prompt.{sent}
-use Rattle.textarea_uses.specs.TypedLine.{IsTypedLine}
+use Rattle.tui_textarea.specs.TypedLine.{IsTypedLine}
 use Rattle.textarea_uses.proofs.prompt.send_all.Given as goal
 
 abbrev pub invariant-loop-key : goal.invariant-loop-key

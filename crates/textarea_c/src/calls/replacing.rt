@@ -1,0 +1,152 @@
+//! Replacements of text, each one group of edits.
+ghost use Rattle.std.specs.Prelude.{◌≡◌, ◌≢◌, IfSome, None, is_some, length};
+ghost use Rattle.std.specs.Str.{chars};
+ghost use Rattle.textarea_document.specs.Replacing.{replaces, stretch_symbols};
+ghost use Rattle.textarea_text.specs.Fragment.{fragment_symbols, fragment_text};
+ghost use Rattle.tui_textarea.specs.Replacing.{match_at_cursor, match_replaced, matches_replaced, replaceable, with_range_replaced};
+ghost use Rattle.textarea_c.specs.Calls.{Calls, ChangesArea, Copies, Given, Replaces};
+ghost use Rattle.textarea_c_data.specs.Lines.{AreCharactersOut};
+ghost use Rattle.textarea_c_data.specs.Texts.{text_in};
+
+use crate::calls::on;
+use crate::editor::Editor;
+use crate::handle::Handle;
+use std::alloc::Global;
+use textarea_c_data::slices::{copied_text, text_of};
+use textarea_c_data::status::{INVALID_ARGUMENT, OK, OUT_OF_MEMORY, flag};
+
+/// Returns the text between two positions, in either order, with a line feed for each line break.
+/// Positions beyond the text count as the nearest ones in it. `out` gets the first of its bytes, as
+/// many as there is room for, and `needed` the number of all.
+///
+/// Statuses: ok, out of memory, empty handle.
+#[unsafe(no_mangle)]
+pub extern "C" fn ta_text_range(
+    handle: &mut Handle,
+    alloc: Global,
+    from_row: usize,
+    from_column: usize,
+    to_row: usize,
+    to_column: usize,
+    out: &mut [u8],
+    needed: &mut usize,
+) -> u32
+    ensures unchanged { Calls handle.old.stored.content result handle.new.stored.content
+        (λ a b. Copies result a b) }
+    ensures text { result ≡ 0 → IfSome handle.old.stored.content
+        (λ a. AreCharactersOut (fragment_text (stretch_symbols a.area.document.text
+        (from_row, from_column) (to_row, to_column))) out.old out.new needed.new) }
+    ensures unwritten { result ≢ 0 → (out.new ≡ out.old) × (needed.new ≡ needed.old) }
+{
+    on!(handle, alloc, editor => match editor
+        .area
+        .text_range((from_row, from_column), (to_row, to_column))
+    {
+        Ok(text) => {
+            *needed = copied_text(text.as_str(), out);
+            OK
+        }
+        Err(_) => OUT_OF_MEMORY,
+    })
+}
+
+/// Replaces the text between two positions, in either order, by this one; one undo takes both back.
+/// Positions beyond the text count as the nearest ones in it. Each atomic range that the replaced
+/// text overlaps is removed, and each line feed of the text breaks the line. The cursor is then
+/// after what was inserted, and nothing is selected.
+///
+/// Statuses: ok (it removed or inserted something), false, out of memory (nothing changed), invalid
+/// argument (the text is not UTF-8), empty handle.
+#[unsafe(no_mangle)]
+pub extern "C" fn ta_replace_range(
+    handle: &mut Handle,
+    alloc: Global,
+    from_row: usize,
+    from_column: usize,
+    to_row: usize,
+    to_column: usize,
+    text: &[u8],
+) -> u32
+    ensures { Calls handle.old.stored.content result handle.new.stored.content
+        (λ a b. Given (text_in text.now) (λ t. Replaces
+        (replaces a.area.document.text (from_row, from_column) (to_row, to_column)
+        (fragment_symbols (chars t)))
+        (with_range_replaced a.area (from_row, from_column) (to_row, to_column)
+        (fragment_symbols (chars t)))) result a b) }
+{
+    on!(handle, alloc, editor => match text_of(text) {
+        Some(text) => flag(editor.area.replace_range(
+            (from_row, from_column),
+            (to_row, to_column),
+            text,
+        )),
+        None => INVALID_ARGUMENT,
+    })
+}
+
+/// Replaces the match of the search pattern that begins at the cursor by this text, and moves the
+/// cursor to the next match at or after what was inserted; after an empty match at least one
+/// character later. Without such a match it searches as `ta_search_forward` does.
+///
+/// Statuses: ok (it replaced a match), false, out of memory (nothing changed, and a pattern is set),
+/// invalid argument (the text is not UTF-8), empty handle.
+#[unsafe(no_mangle)]
+pub extern "C" fn ta_replace_match(handle: &mut Handle, alloc: Global, text: &[u8]) -> u32
+    ensures replaced { Calls handle.old.stored.content result handle.new.stored.content
+        (λ a b. Given (text_in text.now) (λ t. Replaces (is_some (match_at_cursor a.area))
+        (match_replaced a.area (fragment_symbols (chars t)))) result a b) }
+    ensures no_pattern { IfSome handle.old.stored.content
+        (λ a. a.area.pattern ≡ None → result ≢ 2) }
+{
+    on!(handle, alloc, editor => match text_of(text) {
+        Some(text) => flag(editor.area.replace_match(text)),
+        None => INVALID_ARGUMENT,
+    })
+}
+
+/// Replaces each match of the search pattern in the text as it is now by this text; one undo takes
+/// all back, if as many edits are remembered, at most two for each match. Matches in what is inserted
+/// are left, and so is a match of which an end is strictly inside an atomic range. An empty match
+/// inserts the text. The cursor is then after the last one that was replaced, and `count` is their
+/// number; without matches nothing changes.
+///
+/// Statuses: ok, out of memory (nothing changed, and a pattern is set), invalid argument (the text is
+/// not UTF-8), empty handle.
+#[unsafe(no_mangle)]
+pub extern "C" fn ta_replace_all(
+    handle: &mut Handle,
+    alloc: Global,
+    text: &[u8],
+    count: &mut usize,
+) -> u32
+    ensures replaced { Calls handle.old.stored.content result handle.new.stored.content
+        (λ a b. Given (text_in text.now) (λ t. ChangesArea
+        (matches_replaced a.area (fragment_symbols (chars t)))) result a b) }
+    ensures value { result ≡ 0 → IfSome handle.old.stored.content
+        (λ a. count.new ≡ length (replaceable a.area)) }
+    ensures no_pattern { IfSome handle.old.stored.content
+        (λ a. a.area.pattern ≡ None → result ≢ 2) }
+    ensures unwritten { result ≢ 0 → count.new ≡ count.old }
+{
+    on!(handle, alloc, editor => match text_of(text) {
+        Some(text) => replace_matches(&mut editor, text, count),
+        None => INVALID_ARGUMENT,
+    })
+}
+
+// Replaces each match, writes their number, and returns the status.
+fn replace_matches(editor: &mut Editor, text: &str, count: &mut usize) -> u32
+    ensures replaced { ChangesArea (matches_replaced editor.old.area (fragment_symbols (chars text.now)))
+        result editor.old editor.new }
+    ensures value { result ≡ 0 → count.new ≡ length (replaceable editor.old.area) }
+    ensures no_pattern { editor.old.area.pattern ≡ None → result ≢ 2 }
+    ensures unwritten { result ≢ 0 → count.new ≡ count.old }
+{
+    match editor.area.replace_all(text) {
+        Ok(number) => {
+            *count = number;
+            OK
+        }
+        Err(_) => OUT_OF_MEMORY,
+    }
+}

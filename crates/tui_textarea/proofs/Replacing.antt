@@ -1,0 +1,143 @@
+-- Replacements lead by their splices to sound documents.
+use Rattle.std.proofs.Common.{◌≡◌, ℕ, ◌-◌, true, false, List, [], ◌∷◌, ◌++◌, Option, None, Some, IfSome, ap, arith, refl, sym, not}
+use Rattle.textarea_text.specs.Between.{clip}
+use Rattle.textarea_text.specs.Place.{IsPlace, Place, is_before}
+use Rattle.textarea_text.specs.Splice.{Splice}
+use Rattle.textarea_text.specs.Text.{Symbol, lines}
+use Rattle.textarea_history.specs.Groups.{is_open}
+use Rattle.textarea_history.specs.Log.{group_ended}
+use Rattle.textarea_search.specs.declared.search.direction.Direction.TheVariants as toward
+use Rattle.textarea_search.specs.declared.search.text_matches.TextMatch.{TextMatch}
+use Rattle.textarea_document.specs.DocumentState.{DocumentState}
+use Rattle.textarea_document.specs.Outcomes.{after_move}
+use Rattle.textarea_document.specs.Replacing.{ahead_end, ahead_replaced, ahead_start, all_replaced, all_splices, begun, begun_at_start, each_replaced, each_splices, ended_after, range_replaced, range_splices}
+use Rattle.textarea_document.specs.Replacing.{stretch_end, stretch_removal, stretch_removed, stretch_replaced, stretch_splices, stretch_start}
+use Rattle.textarea_document.specs.Sound.{IsSound}
+use Rattle.textarea_document.proofs.Orders.{index_before}
+use Rattle.textarea_document.proofs.Replacing.{ends_are_places}
+use Rattle.textarea_document.proofs.Sounds.{sound_begun, sound_ended, start_is_place}
+use Rattle.tui_textarea.specs.Replacing.{end_of_match, is_empty_match, match_replaced_by, match_splices_by, start_of_match, with_range_replaced}
+use Rattle.tui_textarea.specs.Search.{after_search, next_match}
+use Rattle.tui_textarea.specs.State.{State, with_document}
+use Rattle.tui_textarea.proofs.Cases.{by_both, by_test}
+use Rattle.tui_textarea.proofs.FoundPlaces.{match_is_place}
+use Rattle.tui_textarea.proofs.SoundStates.{sound_at, sound_search}
+use Rattle.tui_textarea.proofs.Stepping.{Reckoning, between_by, kept, layout_and_ranges, moved, symbols_by}
+use Rattle.tui_textarea.proofs.Targets.{clip_is_place, index_is_place}
+
+-- a search leaves text, layout and ranges unchanged
+pub search_unchanged : (state : State) (found : Option Place) → layout_and_ranges (after_search state found).document ≡ layout_and_ranges state.document
+search_unchanged state None = refl
+search_unchanged state (Some place) = refl
+
+-- without matches nothing changes
+pub nothing_replaced : (state : State) (symbols : List Symbol) (stretches : List (ℕ × ℕ)) → stretches ≡ []
+    → state ≡ with_document state (all_replaced state.document stretches symbols state.time)
+unfolding all_replaced
+nothing_replaced state symbols stretches none =
+    ap (λ (s : List (ℕ × ℕ)). with_document state (all_replaced state.document s symbols state.time)) (sym none)
+
+-- the ends of the text between two positions
+stretch_is : (document : DocumentState) (from to : Place) → IsSound document
+    → IsPlace document.text (stretch_start document.text from to) × IsPlace document.text (stretch_end document.text from to)
+stretch_is document from to h =
+    let rows = lines document.text in
+    ends_are_places document.text (clip rows from) (clip rows to) (clip_is_place rows from (omega (arith, h.cursor.0))) (clip_is_place rows to (omega (arith, h.cursor.0)))
+
+module _ (By : DocumentState → List Splice → DocumentState → Type 0) (by : Reckoning By) where
+  abbrev Keeps : DocumentState → List Splice → DocumentState → Type 0
+  Keeps old splices new = By old splices new × IsSound new
+
+  -- one after another
+  then_by : (old between new : DocumentState) (first second : List Splice) → Keeps old first between → (IsSound between → Keeps between second new)
+      → Keeps old (first ++ second) new
+  then_by old between new first second h k =
+      let after = k h.1 in
+      (by.two old between new first second h.0 after.0, after.1)
+
+  -- ---- one replacement
+
+  removed_by : (document : DocumentState) (start stop : Place) (now : ℕ) → IsSound document → IsPlace document.text start → IsPlace document.text stop
+      → Keeps document (stretch_removal document start stop) (stretch_removed document start stop now)
+  unfolding stretch_removed
+  removed_by document start stop now h at to =
+      by_both (Keeps document) (is_before start stop) _ _ _ _
+      (λ before. between_by By by document start stop now h (at, to, index_before document.text start stop at to before))
+      (λ none. kept By by document (after_move document start None) refl (sound_at document start None h at tt))
+
+  replaced_by : (document : DocumentState) (start stop : Place) (symbols : List Symbol) (now : ℕ) → IsSound document → IsPlace document.text start → IsPlace document.text stop
+      → Keeps document (stretch_splices document start stop symbols now) (stretch_replaced document start stop symbols now)
+  unfolding stretch_splices stretch_replaced
+  replaced_by document start stop symbols now h at to =
+      then_by document (stretch_removed document start stop now) _ (stretch_removal document start stop) _ (removed_by document start stop now h at to)
+      (λ left. symbols_by By by (stretch_removed document start stop now) symbols now left)
+
+  -- ---- in one group
+
+  begun_by : (document : DocumentState) → IsSound document → Keeps document [] (begun document)
+  begun_by document h = kept By by document (begun document) refl (sound_begun document h)
+
+  ended_by : (before after : DocumentState) (splices : List Splice) → Keeps before splices after → Keeps before splices (ended_after before after)
+  ended_by before after splices h =
+      by_test (Keeps before splices) (is_open before.log.group) after (record after { log = group_ended after.log })
+      (λ outer. h) (λ own. moved By by before after (record after { log = group_ended after.log }) splices refl (sound_ended after h.1) h)
+
+  pub range_by : (document : DocumentState) (from to : Place) (symbols : List Symbol) (now : ℕ) → IsSound document
+      → Keeps document (range_splices document from to symbols now) (range_replaced document from to symbols now)
+  unfolding range_replaced
+  range_by document from to symbols now h =
+      let text = document.text in
+      let start = stretch_start text from to in
+      let stop = stretch_end text from to in
+      let ends = stretch_is document from to h in
+      ended_by document (stretch_replaced (begun document) start stop symbols now) (range_splices document from to symbols now)
+      (then_by document (begun document) (stretch_replaced (begun document) start stop symbols now) [] (range_splices document from to symbols now)
+      (begun_by document h) (λ sound. replaced_by (begun document) start stop symbols now sound ends.0 ends.1))
+
+  -- ---- many replacements
+
+  ahead_by : (document : DocumentState) (skip count : ℕ) (symbols : List Symbol) (now : ℕ) → IsSound document
+      → Keeps document (stretch_splices document (ahead_start document skip) (ahead_end document skip count) symbols now) (ahead_replaced document skip count symbols now)
+  unfolding ahead_replaced
+  ahead_by document skip count symbols now h =
+      replaced_by document (ahead_start document skip) (ahead_end document skip count) symbols now h (index_is_place document.text _) (index_is_place document.text _)
+
+  each_by : (document : DocumentState) (passed : ℕ) (stretches : List (ℕ × ℕ)) (symbols : List Symbol) (now : ℕ) → IsSound document
+      → Keeps document (each_splices document passed stretches symbols now) (each_replaced document passed stretches symbols now)
+  each_by document passed [] symbols now h = kept By by document document refl h
+  each_by document passed (stretch ∷ rest) symbols now h =
+      let after = ahead_replaced document (stretch.0 - passed) (stretch.1 - stretch.0) symbols now in
+      then_by document after (each_replaced after stretch.1 rest symbols now) _ (each_splices after stretch.1 rest symbols now)
+      (ahead_by document (stretch.0 - passed) (stretch.1 - stretch.0) symbols now h) (λ left. each_by after stretch.1 rest symbols now left)
+
+  start_by : (document : DocumentState) → IsSound document → Keeps document [] (begun_at_start document)
+  start_by document h =
+      kept By by document (begun_at_start document) refl (sound_at (begun document) (0, 0) None (sound_begun document h) (start_is_place document.text) tt)
+
+  pub all_by : (document : DocumentState) (stretches : List (ℕ × ℕ)) (symbols : List Symbol) (now : ℕ) → IsSound document
+      → Keeps document (all_splices document stretches symbols now) (all_replaced document stretches symbols now)
+  unfolding all_replaced
+  all_by document [] symbols now h = kept By by document document refl h
+  all_by document (stretch ∷ rest) symbols now h =
+      let stretches = stretch ∷ rest in
+      let after = each_replaced (begun_at_start document) 0 stretches symbols now in
+      ended_by document after (all_splices document stretches symbols now)
+      (then_by document (begun_at_start document) after [] (all_splices document stretches symbols now)
+      (start_by document h) (λ sound. each_by (begun_at_start document) 0 stretches symbols now sound))
+
+  -- ---- a match and then a search
+
+  pub match_by : (state : State) (found : Option TextMatch) (symbols : List Symbol) → IsSound state.document
+      → Keeps state.document (match_splices_by found state symbols) (match_replaced_by found state symbols).document
+  match_by state None symbols h =
+      let next = next_match state false in
+      kept By by state.document (after_search state next).document (search_unchanged state next) (sound_search state next h (match_is_place toward.Forward state false))
+  match_by state (Some found) symbols h =
+      let start = start_of_match found in
+      let stop = end_of_match found in
+      let replaced = with_range_replaced state start stop symbols in
+      let at_cursor = not (is_empty_match found) in
+      let next = next_match replaced at_cursor in
+      let once = range_by state.document start stop symbols state.time h in
+      moved By by state.document replaced.document (after_search replaced next).document (match_splices_by (Some found) state symbols) (search_unchanged replaced next)
+      (sound_search replaced next once.1 (match_is_place toward.Forward replaced at_cursor)) once

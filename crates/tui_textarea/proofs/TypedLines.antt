@@ -1,0 +1,191 @@
+-- A text of one line with the cursor after it, over the calls that type a character, remove the last
+-- one, and clear the text.
+use Rattle.std.proofs.Common.{◌≡◌, ◌∙◌, ℕ, zero, suc, ◌+◌, ◌-◌, ◌≤◌, Bool, true, false, cond, List, [], ◌∷◌, ◌++◌, length, take, drop, Option, None, inl, inr, refl, subst, sym, ap, arith, take_all}
+use Rattle.std.proofs.lemmas.Bool.{cond-false}
+use Rattle.std.proofs.lemmas.Bool.Decides.{nat_tests}
+use Rattle.std.proofs.lemmas.List.{append-nil, drop_all, length-drop, length-take-le, length_push}
+use Rattle.textarea_data.specs.declared.range.AtomicRange.{AtomicRange}
+use Rattle.textarea_ranges.specs.Moved.{moved_ranges}
+use Rattle.textarea_text.specs.Fragment.{fragment_text}
+use Rattle.textarea_text.specs.Place.{Place, end, index_of, is_before, place_of, removed}
+use Rattle.textarea_text.specs.Text.{Symbol, Character, characters}
+use Rattle.textarea_text.proofs.Splices.{characters-append, end-characters, length-characters}
+use Rattle.textarea_document.specs.DocumentState.{DocumentState}
+use Rattle.textarea_document.specs.Edits.{RemoveBefore, between_removed, is_at_start, removed_before, stepped}
+use Rattle.textarea_document.specs.Outcomes.{unanchored}
+use Rattle.textarea_document.specs.Selection.{is_selected}
+use Rattle.tui_textarea.specs.Edits.{breaks_line, char_inserted, char_or_break_inserted, line_broken, typed_character_inserted}
+use Rattle.tui_textarea.specs.Grouping.{call_begun, call_ended}
+use Rattle.tui_textarea.specs.Removals.{symbol_before_removed, text_cleared, unselected_or, yanked}
+use Rattle.tui_textarea.specs.Selection.{IsInsertOutOfMemory, unselected}
+use Rattle.tui_textarea.specs.State.{State, with_document}
+use Rattle.tui_textarea.specs.TypedLine.{IsTypedLine}
+
+-- ---- characters
+
+pub written_characters : (typed : List ℕ) → fragment_text (characters typed) ≡ typed
+written_characters [] = refl
+written_characters (c ∷ cs) = ap (λ (rest : List ℕ). c ∷ rest) (written_characters cs)
+
+take-characters : (n : ℕ) (typed : List ℕ) → take n (characters typed) ≡ characters (take n typed)
+take-characters zero typed = refl
+take-characters (suc n) [] = refl
+take-characters (suc n) (c ∷ cs) = ap (λ (rest : List Symbol). Character c ∷ rest) (take-characters n cs)
+
+-- ---- the document
+
+-- the document with these characters, the cursor after them, and nothing else
+abbrev ending : DocumentState → List ℕ → DocumentState
+ending document typed = record document { text = characters typed; cursor = (0, length typed); anchor = None; ranges = [] }
+
+abbrev HasParts : DocumentState → List Symbol → Place → Option Place → List AtomicRange → Type 0
+HasParts document text cursor anchor ranges = document ≡ record document { text = text; cursor = cursor; anchor = anchor; ranges = ranges }
+
+is_ending : (state : State) (typed : List ℕ) → IsTypedLine state typed → state.document ≡ ending state.document typed
+is_ending state typed h =
+    let document = state.document in
+    subst (λ (t : List Symbol). HasParts document t (0, length typed) None []) h.text
+    (subst (λ (p : Place). HasParts document document.text p None []) h.cursor
+    (subst (λ (a : Option Place). HasParts document document.text document.cursor a []) h.anchor
+    (subst (λ (r : List AtomicRange). HasParts document document.text document.cursor document.anchor r) h.ranges refl)))
+
+abbrev ending_state : State → List ℕ → State
+ending_state state typed = with_document state (ending state.document typed)
+
+is_ending_state : (state : State) (typed : List ℕ) → IsTypedLine state typed → state ≡ ending_state state typed
+is_ending_state state typed h = ap (with_document state) (is_ending state typed h)
+
+not_before : (place : Place) → is_before place place ≡ false
+not_before place = grind (arith, nat_tests)
+
+same_ends : (b : Bool) (place : Place) → is_before (cond b place place) (cond b place place) ≡ false
+same_ends true place = not_before place
+same_ends false place = not_before place
+
+none_selected : (document : DocumentState) (typed : List ℕ) → is_selected (ending document typed) ≡ false
+none_selected document typed = same_ends (is_before (0, length typed) (0, length typed)) (0, length typed)
+
+stays_unselected : (state : State) (typed : List ℕ) → unselected (ending_state state typed) ≡ ending_state state typed
+stays_unselected state typed =
+    ap (with_document state)
+    (cond-false (is_selected (ending state.document typed)) _ (ending state.document typed) (none_selected state.document typed))
+
+-- ---- a character
+
+grown : (text : List Symbol) (symbol : Symbol) (index : ℕ) → index ≡ length text → take index text ++ (symbol ∷ drop index text) ≡ text ++ symbol ∷ []
+grown text symbol index is =
+    ap (λ (front : List Symbol). front ++ (symbol ∷ drop index text)) (take_all index text (omega (arith, is)))
+    ∙ ap (λ (back : List Symbol). text ++ symbol ∷ back) (drop_all index text (omega (arith, is)))
+
+character_holds : (state : State) (typed : List ℕ) (c : ℕ) → IsTypedLine (typed_character_inserted (ending_state state typed) c) (typed ++ c ∷ [])
+unfolding moved_ranges
+character_holds state typed c = record {
+  text = grown (characters typed) (Character c) (index_of (characters typed) (0, length typed)) (omega (arith, length-characters typed)) ∙ sym (characters-append typed (c ∷ []));
+  cursor = ap (λ (column : ℕ). (0, column)) (sym (length_push typed c));
+  anchor = refl;
+  ranges = refl;
+}
+
+-- the character replaces the selected text, of which there is none
+replaced : (state : State) (typed : List ℕ) (c : ℕ) → IsTypedLine state typed → breaks_line c ≡ false → IsTypedLine (char_or_break_inserted (unselected state) c) (typed ++ c ∷ [])
+replaced state typed c h breaks =
+    let at_end = ending_state state typed in
+    let one : char_or_break_inserted (unselected state) c ≡ char_or_break_inserted (unselected at_end) c = ap (λ (s : State). char_or_break_inserted (unselected s) c) (is_ending_state state typed h) in
+    let two : char_or_break_inserted (unselected at_end) c ≡ char_or_break_inserted at_end c = ap (λ (s : State). char_or_break_inserted s c) (stays_unselected state typed) in
+    let three : char_or_break_inserted at_end c ≡ typed_character_inserted at_end c = cond-false (breaks_line c) (line_broken at_end) (typed_character_inserted at_end c) breaks in
+    subst (λ (s : State). IsTypedLine s (typed ++ c ∷ [])) (sym (one ∙ two ∙ three)) (character_holds state typed c)
+
+-- a group of edits that begins or ends changes nothing of it
+begun : (state : State) (typed : List ℕ) → IsTypedLine state typed → IsTypedLine (call_begun state) typed
+begun state typed h = record { text = h.text; cursor = h.cursor; anchor = h.anchor; ranges = h.ranges }
+
+ended : (old new : State) (typed : List ℕ) → IsTypedLine new typed → IsTypedLine (call_ended old new) typed
+ended old new typed h = record { text = h.text; cursor = h.cursor; anchor = h.anchor; ranges = h.ranges }
+
+pub character_typed : (state new : State) (typed : List ℕ) (c : ℕ) → IsTypedLine state typed → breaks_line c ≡ false → new ≡ char_inserted state c → IsTypedLine new (typed ++ c ∷ [])
+character_typed state new typed c h breaks is =
+    subst (λ (s : State). IsTypedLine s (typed ++ c ∷ [])) (sym is)
+    (ended state (char_or_break_inserted (unselected (call_begun state)) c) (typed ++ c ∷ []) (replaced (call_begun state) typed c (begun state typed h) breaks))
+
+-- ---- Enter
+
+emptied : (text : List Symbol) (count : ℕ) → length text ≤ count → drop (0 + length (take count text)) text ≡ []
+emptied text count within = ap (λ (t : List Symbol). drop (0 + length t) text) (take_all count text within) ∙ drop_all (0 + length text) text (omega arith)
+
+whole_index : (typed : List ℕ) → index_of (characters typed) (place_of (characters typed) (length (characters typed))) ≡ length (characters typed)
+whole_index typed =
+    let to : place_of (characters typed) (length (characters typed)) ≡ (0, 0 + length typed) =
+    ap (end (0, 0)) (take_all (length (characters typed)) (characters typed) (omega arith)) ∙ end-characters 0 0 typed in
+    ap (index_of (characters typed)) to ∙ omega (arith, length-characters typed)
+
+yanked_holds : (state : State) (typed : List ℕ) → IsTypedLine (yanked (ending_state state typed) (0, 0) (place_of (characters typed) (length (characters typed)))) []
+unfolding moved_ranges yanked between_removed
+yanked_holds state typed = record {
+  text = emptied (characters typed) (index_of (characters typed) (place_of (characters typed) (length (characters typed))) - 0) (omega (arith, whole_index typed));
+  cursor = refl;
+  anchor = refl;
+  ranges = refl;
+}
+
+cleared_holds : (state : State) (typed : List ℕ) → IsTypedLine (text_cleared (ending_state state typed)) []
+cleared_holds state [] = record { text = refl; cursor = refl; anchor = refl; ranges = refl }
+cleared_holds state (c ∷ cs) = yanked_holds state (c ∷ cs)
+
+pub text_sent : (state new : State) (typed : List ℕ) → IsTypedLine state typed → new ≡ text_cleared state → IsTypedLine new []
+text_sent state new typed h is =
+    subst (λ (s : State). IsTypedLine s []) (sym (is ∙ ap text_cleared (is_ending_state state typed h))) (cleared_holds state typed)
+
+-- ---- Backspace
+
+last_place : (typed : List ℕ) (index : ℕ) → index ≤ length typed → place_of (characters typed) index ≡ (0, index)
+last_place typed index within =
+    ap (end (0, 0)) (take-characters index typed) ∙ end-characters 0 0 (take index typed) ∙ ap (λ (column : ℕ). (0, column)) (omega (arith, length-take-le index typed within))
+
+without_last : (typed : List ℕ) (index : ℕ) → index + 1 ≡ length typed
+    → removed (characters typed) (place_of (characters typed) index) (take 1 (drop index (characters typed))) ≡ characters (take index typed)
+without_last typed index last =
+    let text = characters typed in
+    let symbols = take 1 (drop index text) in
+    let one : length symbols ≡ 1 = length-take-le 1 (drop index text) (omega (arith, length-drop index text, length-characters typed, last)) in
+    ap (λ (p : Place). removed text p symbols) (last_place typed index (omega (arith, last)))
+    ∙ ap (λ (back : List Symbol). take (index_of text (0, index)) text ++ back) (drop_all (index_of text (0, index) + length symbols) text (omega (arith, one, last, length-characters typed)))
+    ∙ append-nil (take (index_of text (0, index)) text) ∙ ap (λ (n : ℕ). take n text) (omega arith) ∙ take-characters index typed
+
+before_holds : (state : State) (c : ℕ) (cs : List ℕ) → IsTypedLine (with_document state (stepped (ending state.document (c ∷ cs)) RemoveBefore state.settings.undo_coalescing state.time)) (take (length (c ∷ cs) - 1) (c ∷ cs))
+unfolding moved_ranges
+before_holds state c cs =
+    let typed = c ∷ cs in
+    let index = index_of (characters typed) (0, length typed) - 1 in
+    let last : index + 1 ≡ length typed = omega arith in
+    let same : index ≡ length typed - 1 = omega arith in
+    record {
+      text = without_last typed index last ∙ ap (λ (n : ℕ). characters (take n typed)) same;
+      cursor = last_place typed index (omega (arith, last)) ∙ ap (λ (column : ℕ). (0, column)) (same ∙ sym (length-take-le (length typed - 1) typed (omega arith)));
+      anchor = refl;
+      ranges = refl;
+    }
+
+removed_holds : (state : State) (typed : List ℕ) → IsTypedLine (symbol_before_removed (ending_state state typed)) (take (length typed - 1) typed)
+unfolding removed_before
+removed_holds state [] = record { text = refl; cursor = refl; anchor = refl; ranges = refl }
+removed_holds state (c ∷ cs) =
+    let document = ending state.document (c ∷ cs) in
+    subst (λ (d : DocumentState). IsTypedLine (with_document state d) (take (length (c ∷ cs) - 1) (c ∷ cs)))
+    (sym (cond-false (is_at_start document) (unanchored document) (stepped document RemoveBefore state.settings.undo_coalescing state.time) (grind (arith, nat_tests))))
+    (before_holds state c cs)
+
+pub character_removed : (state new : State) (typed : List ℕ) → IsTypedLine state typed → new ≡ unselected_or state (symbol_before_removed state) → IsTypedLine new (take (length typed - 1) typed)
+character_removed state new typed h is =
+    let at_end = ending_state state typed in
+    let one = ap (λ (s : State). unselected_or s (symbol_before_removed s)) (is_ending_state state typed h) in
+    let two : unselected_or at_end (symbol_before_removed at_end) ≡ symbol_before_removed at_end =
+    cond-false (is_selected at_end.document) (unselected at_end) (symbol_before_removed at_end) (none_selected state.document typed) in
+    subst (λ (s : State). IsTypedLine s (take (length typed - 1) typed)) (sym (is ∙ one ∙ two)) (removed_holds state typed)
+
+-- ---- out of memory
+
+pub typing_failed : (state new : State) (typed : List ℕ) → IsTypedLine state typed → IsInsertOutOfMemory state new → IsTypedLine new typed
+typing_failed state new typed h (inl same) = subst (λ (s : State). IsTypedLine s typed) (sym same) h
+typing_failed state new typed h (inr gone) =
+    subst (λ (s : State). IsTypedLine s typed) (sym (gone ∙ ap unselected (is_ending_state state typed h) ∙ stays_unselected state typed))
+    (record { text = refl; cursor = refl; anchor = refl; ranges = refl })

@@ -1,0 +1,67 @@
+-- The texts that undos reach.
+use Rattle.std.proofs.Common.{◌≡◌, ◌≢◌, ◌∙◌, ℕ, zero, suc, ◌-◌, ◌<◌, ◌≤◌, Bool, true, false, List, [], ◌∷◌, length, is_some, refl, sym, ap, arith}
+use Rattle.std.specs.List.{slice_get}
+use Rattle.textarea_history.specs.Groups.{group_count}
+use Rattle.textarea_history.specs.HistoryLaw.{times}
+use Rattle.textarea_history.specs.Log.{Log, done_groups, newest}
+use Rattle.textarea_history.proofs.Groups.{some_group}
+use Rattle.textarea_history.proofs.LogLaws.{newest_some, times-front}
+use Rattle.textarea_text.specs.Fragment.{fragment_text}
+use Rattle.textarea_text.specs.Splice.{Splice}
+use Rattle.textarea_document.specs.DocumentLaw.{RestoresDocument}
+use Rattle.textarea_document.specs.DocumentState.{DocumentState}
+use Rattle.textarea_document.specs.Outcomes.{after_undo}
+use Rattle.tui_textarea.specs.TextsBefore.{ReachesBack, StepsBack}
+
+-- ---- the number of done groups
+
+some_by : (marks : List Bool) (done : List Splice) → is_some (slice_get done (length done - 1)) ≡ true → 0 < group_count marks (length done)
+some_by marks [] some = let no : false ≡ true = some in cc
+some_by marks (splice ∷ done) some = omega (arith, some_group marks (length done))
+
+some_groups : (log : Log) → is_some (newest log) ≡ true → 0 < done_groups log
+some_groups log some = some_by log.marks log.done some
+
+none_by : (marks : List Bool) (done : List Splice) → is_some (slice_get done (length done - 1)) ≡ false → group_count marks (length done) ≡ 0
+none_by marks [] none = refl
+none_by marks (splice ∷ done) none =
+    let found = newest_some (splice ∷ done) (omega arith) in
+    let no : true ≡ false = sym (ap is_some found.1) ∙ none in cc
+
+no_groups : (log : Log) → is_some (newest log) ≡ false → done_groups log ≡ 0
+no_groups log none = none_by log.marks log.done none
+
+abbrev pub Restores : DocumentState → Type 0
+Restores document = (count : ℕ) → count ≤ done_groups document.log → RestoresDocument document count
+
+one_less : (document : DocumentState) → Restores document → is_some (newest document.log) ≡ true → done_groups (after_undo document).log ≡ done_groups document.log - 1
+one_less document restores some = (restores 1 (omega (arith, some_groups document.log some))).groups
+
+-- ---- one undo
+
+-- the text after one undo and then some more
+text_front : (document : DocumentState) (count : ℕ) → fragment_text (times (suc count) after_undo document).text ≡ fragment_text (times count after_undo (after_undo document)).text
+text_front document count = ap (λ (d : DocumentState). fragment_text d.text) (times-front count after_undo document)
+
+further : (document : DocumentState) (written : List ℕ) → Restores document → is_some (newest document.log) ≡ true → ReachesBack (after_undo document) written → ReachesBack document written
+further document written restores some h =
+    (suc h.0, omega (arith, h.1, one_less document restores some, some_groups document.log some), text_front document h.0 ∙ h.2)
+
+after_one : (document : DocumentState) (written : List ℕ) (count : ℕ) → Restores document → is_some (newest document.log) ≡ true → fragment_text document.text ≢ written
+    → count ≤ done_groups document.log → fragment_text (times count after_undo document).text ≡ written → ReachesBack (after_undo document) written
+after_one document written zero restores some other within is = absurd (other is)
+after_one document written (suc count) restores some other within is =
+    (count, omega (arith, within, one_less document restores some, some_groups document.log some), sym (text_front document count) ∙ is)
+
+at_last : (document : DocumentState) (written : List ℕ) (count : ℕ) → is_some (newest document.log) ≡ false → count ≤ done_groups document.log
+    → fragment_text (times count after_undo document).text ≡ written → fragment_text document.text ≡ written
+at_last document written zero none within is = is
+at_last document written (suc count) none within is = absurd (omega (arith, within, no_groups document.log none))
+
+pub steps_back : (document : DocumentState) → Restores document → StepsBack document
+steps_back document restores = record {
+  here = λ written is. (0, omega arith, is);
+  before = λ written some other. ((λ h. after_one document written h.0 restores some other h.1 h.2), (λ h. further document written restores some h));
+  fewer = λ some. omega (arith, one_less document restores some, some_groups document.log some);
+  last = λ written none h. at_last document written h.0 none h.1 h.2;
+}

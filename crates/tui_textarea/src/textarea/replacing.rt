@@ -1,0 +1,142 @@
+//! Replacements of text, each one group of edits.
+ghost use Rattle.std.specs.Prelude.{◌≡◌, None, OnOk, OnErr, IsOk, IfOk, is_some, length, string_bytes};
+ghost use Rattle.std.specs.Arc.{arc_value};
+ghost use Rattle.std.specs.Str.{chars};
+ghost use Rattle.textarea_document.specs.Replacing.{replaces, stretch_symbols};
+ghost use Rattle.tui_textarea.specs.Prelude.{fragment_symbols, fragment_text, text_of};
+ghost use Rattle.tui_textarea.specs.Replacing.{match_at_cursor, match_replaced, match_replaced_by, matches_replaced, replaceable, with_range_replaced};
+
+use crate::matches::{match_at, replaceable_in};
+use crate::textarea::TextArea;
+use std::alloc::AllocError;
+use std::sync::Arc;
+use textarea_search::search::TextMatch;
+use textarea_text::fragment::fragment_of;
+
+impl TextArea<'_> {
+    /// Returns the text between two positions, in either order, with a line feed for each line
+    /// break. Positions beyond the text count as the nearest ones in it.
+    pub fn text_range(&self, from: (usize, usize), to: (usize, usize)) -> Result<String, AllocError>
+        ensures { IfOk result (λ text. chars (string_bytes text)
+            ≡ fragment_text (stretch_symbols self.now.document.text from to)) }
+    {
+        self.document.text_range(from, to)
+    }
+
+    /// Replaces the text between two positions, in either order, by this one, and returns whether
+    /// it removed or inserted something; one undo takes both back. Positions beyond the text count
+    /// as the nearest ones in it. Each atomic range that the replaced text overlaps is removed, and
+    /// each line feed of the text breaks the line, as for `insert_str`. The cursor is then after
+    /// what was inserted, and nothing is selected.
+    pub fn replace_range(
+        &mut self,
+        from: (usize, usize),
+        to: (usize, usize),
+        text: &str,
+    ) -> Result<bool, AllocError>
+        ensures replaced { IfOk result (λ replaced. replaced
+            ≡ replaces self.old.document.text from to (fragment_symbols (chars text.now))) }
+        ensures ok { OnOk result (self.new
+            ≡ with_range_replaced self.old from to (fragment_symbols (chars text.now))) }
+        ensures err { OnErr result (self.new ≡ self.old) }
+    {
+        let fragment_lines = self.shared_fragment(text)?;
+        self.document
+            .replace_range(from, to, fragment_lines, self.time)
+    }
+
+    /// Replaces the match of the search pattern that begins at the cursor by this text, as
+    /// `replace_range` does, and moves the cursor to the next match at or after what was inserted;
+    /// after an empty match at least one character later. Returns whether there was such a match.
+    /// Without one, or if an end of it is strictly inside an atomic range, it only searches as
+    /// `search_forward(false)` does.
+    pub fn replace_match(&mut self, text: &str) -> Result<bool, AllocError>
+        ensures replaced { IfOk result
+            (λ replaced. replaced ≡ is_some (match_at_cursor self.old)) }
+        ensures ok { OnOk result
+            (self.new ≡ match_replaced self.old (fragment_symbols (chars text.now))) }
+        ensures err { OnErr result (self.new ≡ self.old) }
+        ensures no_pattern { self.old.pattern ≡ None → IsOk result }
+    {
+        let Some(found) = self.match_at_cursor()? else {
+            self.search_forward(false)?;
+            return Ok(false);
+        };
+        self.replace_found(found, text)?;
+        Ok(true)
+    }
+
+    /// Replaces each match of the search pattern in the text as it is now by this text, and returns
+    /// their number; one undo takes all back. Matches in what is inserted are left, and so is a
+    /// match of which an end is strictly inside an atomic range; one that contains a range removes
+    /// it. An empty match inserts the text. The cursor is then after the last one that was
+    /// replaced, and nothing is selected; without matches nothing changes.
+    pub fn replace_all(&mut self, text: &str) -> Result<usize, AllocError>
+        ensures count { IfOk result (λ count. count ≡ length (replaceable self.old)) }
+        ensures ok { OnOk result
+            (self.new ≡ matches_replaced self.old (fragment_symbols (chars text.now))) }
+        ensures err { OnErr result (self.new ≡ self.old) }
+        ensures no_pattern { self.old.pattern ≡ None → IsOk result }
+    {
+        let stretches = self.replaceable()?;
+        if stretches.is_empty() {
+            return Ok(0);
+        }
+        let fragment_lines = self.shared_fragment(text)?;
+        self.document
+            .replace_all(stretches.as_slice(), &fragment_lines, self.time)?;
+        Ok(stretches.len())
+    }
+
+    // Returns the text as a fragment.
+    fn shared_fragment(&self, text: &str) -> Result<Arc<Vec<String>>, AllocError>
+        ensures { IfOk result (λ fragment_lines.
+            text_of (arc_value fragment_lines).items ≡ fragment_symbols (chars text.now)) }
+    {
+        let alloc = self.allocator();
+        let fragment_lines = fragment_of(alloc, text)?;
+        Ok(Arc::new(alloc, fragment_lines)?)
+    }
+
+    // Returns the numbers of symbols before the start and before the end of each match that can be
+    // replaced.
+    fn replaceable(&self) -> Result<Vec<(usize, usize)>, AllocError>
+        ensures found { IfOk result (λ stretches. stretches.items ≡ replaceable self.now) }
+        ensures no_pattern { self.now.pattern ≡ None → IsOk result }
+    {
+        let ranges = self.document.ranges();
+        let lines = self.document.lines();
+        replaceable_in(self.allocator(), &self.search, ranges, lines)
+    }
+
+    // Returns the match that begins at the cursor, if there is one and it can be replaced.
+    fn match_at_cursor(&self) -> Result<Option<TextMatch>, AllocError>
+        ensures found { IfOk result (λ found. found ≡ match_at_cursor self.now) }
+        ensures no_pattern { self.now.pattern ≡ None → IsOk result }
+    {
+        let ranges = self.document.ranges();
+        let lines = self.document.lines();
+        let cursor = self.document.cursor();
+        match_at(self.allocator(), &self.search, ranges, lines, cursor)
+    }
+
+    // Replaces the match, and moves the cursor to the next one.
+    fn replace_found(&mut self, found: TextMatch, text: &str) -> Result<(), AllocError>
+        ensures ok { OnOk result (self.new
+            ≡ match_replaced_by (Some found) self.old (fragment_symbols (chars text.now))) }
+        ensures err { OnErr result (self.new ≡ self.old) }
+    {
+        let (first, last) = found.columns;
+        let fragment_lines = self.shared_fragment(text)?;
+        let copy = self.document.replaced(
+            (found.row, first),
+            (found.row, last),
+            fragment_lines,
+            self.time,
+        )?;
+        let next = self.next_match_in(&copy, first != last)?;
+        self.document.replace_with(copy);
+        self.go_to_match(next);
+        Ok(())
+    }
+}
