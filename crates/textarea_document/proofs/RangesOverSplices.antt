@@ -1,16 +1,14 @@
 -- How the atomic ranges of a document move with its text, over one splice after another.
-use Rattle.std.proofs.Common.{◌≡◌, ℕ, zero, suc, Bool, true, false, List, [], ◌∷◌, ◌++◌, map, reverse, take, get_or, filter_map, Contains, Option, None, Some, sym, ap, refl, subst, ◌∙◌, arith, inl, inr, ◌⊎◌, suc-le-suc}
-use Rattle.std.proofs.lemmas.Bool.Decides.{nat_tests}
+use Rattle.std.proofs.Common.{◌≡◌, ℕ, zero, suc, Bool, true, false, List, [], ◌∷◌, ◌++◌, get_or, filter_map, Contains, Option, None, Some, sym, ap, refl, subst, ◌∙◌, arith, inl, inr, ◌⊎◌, suc-le-suc}
 use Rattle.std.proofs.lemmas.List.Elements.{All-cons, All-contains, All-nil, Contains-get_or}
-use Rattle.textarea_document.specs.Prelude.{IsSoundInside, edit_redone, edit_undone, newest_group, next_group, redo_splices, times, undo_splices, cons_option, Symbol, lines, Place, end, CanApply}
-use Rattle.textarea_document.specs.Prelude.{Fits, Splice, IsTextBefore, applied, applied_all, inverse, newest, next, AtomicRange, IsBeside, IsInside, TakesRange, Overlaps, CoversTheSame, DisturbsBy}
+use Rattle.textarea_document.specs.Prelude.{newest_group, next_group, redo_splices, undo_splices, cons_option, Symbol, lines, Place, end, CanApply}
+use Rattle.textarea_document.specs.Prelude.{Fits, Splice, IsTextBefore, applied, applied_all, AtomicRange, IsBeside, IsInside, TakesRange, CoversTheSame, DisturbsBy}
 use Rattle.textarea_document.specs.Prelude.{moved_range, moved_ranges, AreValid, IsRangeOfLine, HasEffect, EditStep, splice_of_step, stepped, AllStayOrAreDropped, AllStemFrom, SplitNoRange}
-use Rattle.textarea_document.specs.Prelude.{RangesFollowSplices, RangesStayWhole, IsDroppedBy, StemsFrom, carried_range, ranges_over, SplitsNoRange, SplitsNoRangeBy, after_redo, after_redo_by}
-use Rattle.textarea_document.specs.Prelude.{after_undo, after_undo_by, IsSound, DocumentState, after_edit}
+use Rattle.textarea_document.specs.Prelude.{RangesFollowSplices, RangesStayWhole, IsDroppedBy, StemsFrom, carried_range, ranges_over, SplitsNoRange, SplitsNoRangeBy, after_redo}
+use Rattle.textarea_document.specs.Prelude.{after_undo, IsSound, DocumentState, after_change, after_edit}
 use Rattle.textarea_ranges.proofs.Moving.{covers_the_same, dropped, valid_moved}
-use Rattle.textarea_history.proofs.LogLaws.{first_split, reverse_last, times-front}
-use Rattle.textarea_document.proofs.Sounds.{inside_redone, inside_undone, newest_fits, next_fits, sound_inside}
-use Rattle.textarea_document.proofs.UndoGroups.{none_redone, none_undone}
+use Rattle.textarea_document.proofs.Sounds.{sound_inside}
+use Rattle.textarea_document.proofs.UndoGroups.{GoesOn, over_redos, over_undos}
 use Rattle.textarea_document.proofs.StepLaw.{step_keeps}
 use Rattle.textarea_ranges.proofs.LookupLemmas.{not_beside}
 
@@ -73,51 +71,19 @@ ranges_stay_on old between new first second h k = (
 
 -- ---- undo and redo
 
-undos_follow : (count : ℕ) (document : DocumentState) → IsSoundInside document → RangesFollowSplices document (map inverse (take count (reverse document.log.done))) (times count edit_undone document)
-undos_follow zero document h = (stays document document refl refl).0
-undos_follow (suc count) document h = by (newest document.log) refl (λ d k. undos_follow count d k)
-  where
-    by : (found : Option Splice) → newest document.log ≡ found →
-        ((d : DocumentState) → IsSoundInside d → RangesFollowSplices d (map inverse (take count (reverse d.log.done))) (times count edit_undone d)) →
-        RangesFollowSplices document (map inverse (take (suc count) (reverse document.log.done))) (times (suc count) edit_undone document)
-    by None e later =
-        let same = none_undone (suc count) document e in
-        subst (λ (d : DocumentState). RangesFollowSplices document (map inverse (take (suc count) (reverse document.log.done))) d) (sym same.0)
-        (subst (λ (d : List Splice). RangesFollowSplices document (map inverse (take (suc count) (reverse d))) document) (sym same.1) (stays document document refl refl).0)
-    by (Some splice) e later =
-        let first = after_undo_by (Some splice) document in
-        let is : edit_undone document ≡ first = ap (λ (found : Option Splice). after_undo_by found document) e in
-        let rest = later first (subst IsSoundInside is (inside_undone document h)) in
-        subst (λ (d : List Splice). RangesFollowSplices document (map inverse (take (suc count) d)) (times (suc count) edit_undone document)) (sym (reverse_last document.log.done splice e))
-        (subst (RangesFollowSplices document (inverse splice ∷ map inverse (take count (reverse first.log.done)))) (sym (times-front count edit_undone document ∙ ap (times count edit_undone) is))
-        (ranges_follow_on document first (times count edit_undone first) (inverse splice ∷ []) (map inverse (take count (reverse first.log.done)))
-        (one document (inverse splice) first (newest_fits document splice h.log e) refl refl) rest))
+nothing_follows : (document : DocumentState) → RangesFollowSplices document [] document
+nothing_follows document = (stays document document refl refl).0
 
-redos_follow : (count : ℕ) (document : DocumentState) → IsSoundInside document → RangesFollowSplices document (take count document.log.undone) (times count edit_redone document)
-redos_follow zero document h = (stays document document refl refl).0
-redos_follow (suc count) document h = by (next document.log) refl (λ d k. redos_follow count d k)
-  where
-    by : (found : Option Splice) → next document.log ≡ found →
-        ((d : DocumentState) → IsSoundInside d → RangesFollowSplices d (take count d.log.undone) (times count edit_redone d)) →
-        RangesFollowSplices document (take (suc count) document.log.undone) (times (suc count) edit_redone document)
-    by None e later =
-        let same = none_redone (suc count) document e in
-        subst (λ (d : DocumentState). RangesFollowSplices document (take (suc count) document.log.undone) d) (sym same.0)
-        (subst (λ (d : List Splice). RangesFollowSplices document (take (suc count) d) document) (sym same.1) (stays document document refl refl).0)
-    by (Some splice) e later =
-        let first = after_redo_by (Some splice) document in
-        let is : edit_redone document ≡ first = ap (λ (found : Option Splice). after_redo_by found document) e in
-        let rest = later first (subst IsSoundInside is (inside_redone document h)) in
-        subst (λ (d : List Splice). RangesFollowSplices document (take (suc count) d) (times (suc count) edit_redone document)) (sym (first_split document.log.undone splice e))
-        (subst (RangesFollowSplices document (splice ∷ take count first.log.undone)) (sym (times-front count edit_redone document ∙ ap (times count edit_redone) is))
-        (ranges_follow_on document first (times count edit_redone first) (splice ∷ []) (take count first.log.undone)
-        (one document splice first (next_fits document splice h.log e) refl refl) rest))
+more_follow : GoesOn RangesFollowSplices
+more_follow document splice log rest new fits later =
+    let first = after_change document splice log in
+    ranges_follow_on document first new (splice ∷ []) rest (one document splice first fits refl refl) later
 
 pub ranges_follow_undo : (document : DocumentState) → IsSound document → RangesFollowSplices document (undo_splices document) (after_undo document)
-ranges_follow_undo document h = undos_follow (newest_group document.log) document (sound_inside document h)
+ranges_follow_undo document h = over_undos RangesFollowSplices nothing_follows more_follow (newest_group document.log) document (sound_inside document h)
 
 pub ranges_follow_redo : (document : DocumentState) → IsSound document → RangesFollowSplices document (redo_splices document) (after_redo document)
-ranges_follow_redo document h = redos_follow (next_group document.log) document (sound_inside document h)
+ranges_follow_redo document h = over_redos RangesFollowSplices nothing_follows more_follow (next_group document.log) document (sound_inside document h)
 
 -- ---- each range comes from an old one
 

@@ -18,7 +18,7 @@ use Rattle.textarea_document.specs.Prelude.{AtomicRange, DocumentState, Fits, Is
 use Rattle.textarea_document.specs.Prelude.{insertion, moved_out, moved_range, moved_ranges, place_after, place_before, range_around, range_end, range_start, removal, symbols_between, symbols_inserted, group_ended}
 use Rattle.textarea_document.specs.ReplacedText.{AreReplaceable, AreStretches, IsOutside, with_replaced}
 use Rattle.textarea_document.specs.Replacing.{ahead_replaced, all_replaced, begun, begun_at_start, each_replaced, ended_after, place_ahead, stretch_removed, stretch_replaced}
-use Rattle.textarea_document.proofs.Sounds.{sound_begun, sound_edited, start_is_place}
+use Rattle.textarea_document.proofs.Sounds.{sound_begun, sound_edited, sound_otherwise, start_is_place}
 
 -- ---- a position that is strictly inside no range stays outside of all after a splice
 
@@ -112,7 +112,7 @@ before_end place symbol symbols =
     grind (arith, nat_tests)
 
 sound_moved : (document : DocumentState) (place : Place) → IsSound document → IsPlace document.text place → IsSound (record document { cursor = place; anchor = None; log = record document.log { run_open = false } })
-sound_moved document place h at = record { cursor = at; anchor = tt; ranges = h.ranges; in_order = h.in_order; undo = h.undo; redo = h.redo; bounded = h.bounded; marks = h.marks; whole = h.whole }
+sound_moved document place h at = sound_otherwise document document.layout place None false document.log.group document.changes h at tt
 
 -- the symbols between two positions of a text in three parts
 between_parts : (text front gone back : List Symbol) → text ≡ front ++ (gone ++ back) → symbols_between text (place_at front) (end (place_at front) gone) ≡ gone
@@ -195,17 +195,9 @@ inserted_at_cursor document front [] back now h is at out =
     let place = moved_out document.ranges document.cursor Forward in
     let here : place ≡ start = ap (λ (p : Place). moved_out document.ranges p Forward) at ∙ stays_out document.ranges start Forward out in
     record {
-      sound = record {
-        cursor = subst (IsPlace document.text) (sym here) (subst (λ t. IsPlace t start) (sym is) (IsPlace-end front back));
-        anchor = tt;
-        ranges = h.ranges;
-        in_order = h.in_order;
-        undo = h.undo;
-        redo = h.redo;
-        bounded = h.bounded;
-        marks = h.marks;
-        whole = h.whole;
-      };
+      sound =
+          sound_otherwise document document.layout place None document.log.run_open document.log.group document.changes h
+          (subst (IsPlace document.text) (sym here) (subst (λ t. IsPlace t start) (sym is) (IsPlace-end front back))) tt;
       text = is ∙ ap (λ t. t ++ back) (sym (append-nil front));
       cursor = here ∙ ap place_at (sym (append-nil front));
       outside = λ xs out. subst (λ t. IsOutside document.ranges (end (place_at t) xs)) (sym (append-nil front)) out;

@@ -1,8 +1,9 @@
 -- Each step preserves the invariant of documents.
 use Rattle.std.proofs.Common.{◌≡◌, ℕ, zero, suc, Bool, true, false, cond, List, [], length, Option, Some, None, Result, Ok, Err, sym, ap, refl, ◌∙◌, subst, arith}
 use Rattle.textarea_document.specs.Prelude.{LoggedChanges, with_splice, group_begun, group_ended, is_open}
+use Rattle.textarea_history.specs.declared.history.groups.Group.{Group}
 use Rattle.textarea_history.specs.declared.history.groups.Group.TheVariants.{Closed, Empty}
-use Rattle.textarea_document.specs.Prelude.{OnErr, OnOk, Symbol, lines, Place, IsPlace, Splice, Fits, applied, inverse, place_after, Log, empty_log, redone_log, newest}
+use Rattle.textarea_document.specs.Prelude.{IfSome, OnErr, OnOk, Symbol, lines, Place, IsPlace, Splice, Fits, applied, inverse, place_after, Log, empty_log, redone_log, newest}
 use Rattle.textarea_document.specs.Prelude.{next, recorded, undone_log, AtomicRange, moved_ranges, LayoutSettings, TextAndLayout, Layout, applied_to, layout_from_scratch, with_settings}
 use Rattle.textarea_document.specs.Prelude.{DocumentState, document_of, fresh_document, logged, after_change, after_edit, after_redo_by, after_undo_by}
 use Rattle.textarea_document.specs.Prelude.{edit_redone, edit_undone, is_grouped, times, text_and_layout, with_layout_settings, IsSound, IsSoundInside}
@@ -56,70 +57,53 @@ pub changed_is : (text_layout new : TextAndLayout) (cursor ahead : Place) (ancho
 changed_is text_layout new cursor ahead anchor ranges stored log after left changes made change splice is layout_is cursor_is stored_is log_is made_is =
     rw (layout_is, cursor_is, stored_is, log_is, made_is, is) refl
 
--- neither the layout nor the changes have an influence on the invariant
+-- the layout, the changes, a run of typing and an open group have no influence on the invariant, and the cursor and the anchor may be any positions
+pub sound_otherwise : (document : DocumentState) (layout : Layout) (cursor : Place) (anchor : Option Place) (run_open : Bool) (group : Group) (changes : LoggedChanges) → IsSound document →
+    IsPlace document.text cursor → IfSome anchor (IsPlace document.text) →
+    IsSound (record document { layout = layout; cursor = cursor; anchor = anchor; log = record document.log { run_open = run_open; group = group }; changes = changes })
+sound_otherwise document layout cursor anchor run_open group changes h at from = record {
+  cursor = at;
+  anchor = from;
+  ranges = h.ranges;
+  in_order = h.in_order;
+  undo = h.undo;
+  redo = h.redo;
+  bounded = h.bounded;
+  marks = h.marks;
+  whole = h.whole;
+}
+
 pub resound : (document : DocumentState) (layout : Layout) → IsSound document → IsSound (record document { layout = layout })
-resound document layout h = record { cursor = h.cursor; anchor = h.anchor; ranges = h.ranges; in_order = h.in_order; undo = h.undo; redo = h.redo; bounded = h.bounded; marks = h.marks; whole = h.whole }
+resound document layout h = sound_otherwise document layout document.cursor document.anchor document.log.run_open document.log.group document.changes h h.cursor h.anchor
 
 pub sound_changes : (document : DocumentState) (changes : LoggedChanges) → IsSound document → IsSound (record document { changes = changes })
-sound_changes document changes h = record { cursor = h.cursor; anchor = h.anchor; ranges = h.ranges; in_order = h.in_order; undo = h.undo; redo = h.redo; bounded = h.bounded; marks = h.marks; whole = h.whole }
+sound_changes document changes h = sound_otherwise document document.layout document.cursor document.anchor document.log.run_open document.log.group changes h h.cursor h.anchor
 
 -- ---- groups
+
+sound_with_group : (document : DocumentState) (group : Group) → IsSound document → IsSound (record document { log = record document.log { run_open = false; group = group } })
+sound_with_group document group h = sound_otherwise document document.layout document.cursor document.anchor false group document.changes h h.cursor h.anchor
 
 pub sound_begun : (document : DocumentState) → IsSound document → IsSound (record document { log = group_begun document.log })
 sound_begun document h = by (is_open document.log.group)
   where
     by : (b : Bool) → IsSound (record document { log = cond b document.log (record document.log { run_open = false; group = Empty }) })
-    by true = record {
-      cursor = h.cursor;
-      anchor = h.anchor;
-      ranges = h.ranges;
-      in_order = h.in_order;
-      undo = h.undo;
-      redo = h.redo;
-      bounded = h.bounded;
-      marks = h.marks;
-      whole = h.whole;
-    }
-    by false = record {
-      cursor = h.cursor;
-      anchor = h.anchor;
-      ranges = h.ranges;
-      in_order = h.in_order;
-      undo = h.undo;
-      redo = h.redo;
-      bounded = h.bounded;
-      marks = h.marks;
-      whole = h.whole;
-    }
+    by true = h
+    by false = sound_with_group document Empty h
 
 pub sound_ended : (document : DocumentState) → IsSound document → IsSound (record document { log = group_ended document.log })
 sound_ended document h = by (is_open document.log.group)
   where
     by : (b : Bool) → IsSound (record document { log = cond b (record document.log { run_open = false; group = Closed }) document.log })
-    by true = record {
-      cursor = h.cursor;
-      anchor = h.anchor;
-      ranges = h.ranges;
-      in_order = h.in_order;
-      undo = h.undo;
-      redo = h.redo;
-      bounded = h.bounded;
-      marks = h.marks;
-      whole = h.whole;
-    }
-    by false = record {
-      cursor = h.cursor;
-      anchor = h.anchor;
-      ranges = h.ranges;
-      in_order = h.in_order;
-      undo = h.undo;
-      redo = h.redo;
-      bounded = h.bounded;
-      marks = h.marks;
-      whole = h.whole;
-    }
+    by true = sound_with_group document Closed h
+    by false = h
 
 -- ---- undo and redo
+
+-- what holds before a step and after it holds after its call
+pub after_step : {S T E : Type 0} (P : S → Type 0) (r : Result T E) (old next new : S) → OnOk r (new ≡ next) → OnErr r (new ≡ old) → P old → P next → P new
+after_step P (Ok x) old next new ok err before after = subst P (sym ok) after
+after_step P (Err e) old next new ok err before after = subst P (sym err) before
 
 -- the newest edit can be undone, and the one that was undone last redone
 pub newest_fits : (document : DocumentState) (splice : Splice) → LogIsSound (logged document) → newest document.log ≡ Some splice → Fits document.text (inverse splice)

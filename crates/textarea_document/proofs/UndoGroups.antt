@@ -1,12 +1,11 @@
 -- Undos and redos of groups are undos and redos of their edits.
-use Rattle.std.proofs.Common.{◌≡◌, ◌∙◌, ℕ, zero, suc, ◌+◌, ◌-◌, ◌≤◌, ◌<◌, Bool, false, List, [], ◌∷◌, ◌++◌, length, take, drop, get_or, Option, Some, None, slice_get, is_some, true, sym, ap, refl, subst, arith}
-use Rattle.std.proofs.lemmas.List.{length-append, length-drop, length-take-le, nil_from_length}
-use Rattle.std.proofs.lemmas.Option.{slice_get_within}
+use Rattle.std.proofs.Common.{◌≡◌, ◌∙◌, ℕ, zero, suc, ◌+◌, ◌-◌, ◌≤◌, ◌<◌, Bool, false, List, [], ◌∷◌, length, map, reverse, take, drop, get_or, Option, Some, None, slice_get, is_some, true, sym, ap, refl, subst, arith}
+use Rattle.std.proofs.lemmas.List.{drop_all, length-append, length-drop, length-take-le, nil_from_length}
 use Rattle.textarea_document.specs.Prelude.{Splice, DocumentState, after_redo, after_redo_by, after_undo, after_undo_by, edit_redone, edit_undone, group_count, grouped_before, grouped_first}
-use Rattle.textarea_document.specs.Prelude.{is_grouped, newest, newest_group, next, next_group, times, IsSound}
+use Rattle.textarea_document.specs.Prelude.{is_grouped, newest, newest_group, next, next_group, times, IsSound, IsSoundInside, Fits, Log, after_change, inverse, redone_log, undone_log}
 use Rattle.textarea_history.proofs.Groups.{before_within, first_ends, first_none, first_within, group_again, group_begins, group_less}
-use Rattle.textarea_history.proofs.LogLaws.{newest_some, times-front}
-use Rattle.textarea_document.proofs.Sounds.{inside_redone, inside_times, inside_undone, sound_inside, sound_whole}
+use Rattle.textarea_history.proofs.LogLaws.{first_split, newest_some, reverse_last, times-front}
+use Rattle.textarea_document.proofs.Sounds.{inside_redone, inside_times, inside_undone, newest_fits, next_fits, sound_inside, sound_whole}
 
 -- ---- no edits
 
@@ -210,15 +209,9 @@ pub sound_redo : (document : DocumentState) → IsSound document → IsSound (af
 sound_redo document h =
     sound_whole (after_redo document) (inside_times edit_redone inside_redone (next_group document.log) document (sound_inside document h)) (redo_whole document h)
 
--- ---- a group of one edit
+-- ---- a group of several edits
 
-pub undo_of_one : (document : DocumentState) (splice : Splice) → newest_group document.log ≡ 1 → newest document.log ≡ Some splice → after_undo document ≡ after_undo_by (Some splice) document
-undo_of_one document splice one e = ap (λ n. times n edit_undone document) one ∙ ap (λ (o : Option Splice). after_undo_by o document) e
-
-pub redo_of_one : (document : DocumentState) (splice : Splice) → next_group document.log ≡ 1 → next document.log ≡ Some splice → after_redo document ≡ after_redo_by (Some splice) document
-redo_of_one document splice one e = ap (λ n. times n edit_redone document) one ∙ ap (λ (o : Option Splice). after_redo_by o document) e
-
--- a group of several edits has one
+-- it has one
 pub newest_of_several : (document : DocumentState) → 1 < newest_group document.log → is_some (newest document.log) ≡ true
 newest_of_several document several = by (length document.log.done) refl
   where
@@ -227,3 +220,60 @@ newest_of_several document several = by (length document.log.done) refl
         let at : length document.log.done - 1 ≡ 0 = omega (arith, e) in
         absurd (omega (arith, several, ap (grouped_before document.log.marks) at))
     by (suc last) e = ap is_some (newest_some document.log.done (omega (arith, e))).1
+
+pub next_of_several : (document : DocumentState) → IsSound document → 1 < next_group document.log → is_some (next document.log) ≡ true
+next_of_several document sound several = by document.log.undone refl
+  where
+    by : (undone : List Splice) → document.log.undone ≡ undone → is_some (next document.log) ≡ true
+    by [] e =
+        let past : length document.log.marks ≤ length document.log.done + 1 = omega (arith, sound.marks, ap length e) in
+        absurd (omega (arith, several, ap grouped_first (drop_all (length document.log.done + 1) document.log.marks past)))
+    by (splice ∷ undone) e = ap (λ (u : List Splice). is_some (slice_get u 0)) e
+
+-- ---- what holds over one splice after another, over all that are undone or redone
+
+abbrev pub GoesOn : (DocumentState → List Splice → DocumentState → Type 0) → Type 0
+GoesOn Leads =
+    (document : DocumentState) (splice : Splice) (log : Log) (rest : List Splice) (new : DocumentState) → Fits document.text splice → Leads (after_change document splice log) rest new → Leads document (splice ∷ rest) new
+
+pub over_undos : (Leads : DocumentState → List Splice → DocumentState → Type 0) → ((document : DocumentState) → Leads document [] document) → GoesOn Leads → (count : ℕ) (document : DocumentState) →
+    IsSoundInside document → Leads document (map inverse (take count (reverse document.log.done))) (times count edit_undone document)
+over_undos Leads nothing more zero document h = nothing document
+over_undos Leads nothing more (suc count) document h = by (newest document.log) refl (λ d k. over_undos Leads nothing more count d k)
+  where
+    by : (found : Option Splice) → newest document.log ≡ found →
+        ((d : DocumentState) → IsSoundInside d → Leads d (map inverse (take count (reverse d.log.done))) (times count edit_undone d)) →
+        Leads document (map inverse (take (suc count) (reverse document.log.done))) (times (suc count) edit_undone document)
+    by None e later =
+        let stays = none_undone (suc count) document e in
+        subst (Leads document (map inverse (take (suc count) (reverse document.log.done)))) (sym stays.0)
+        (subst (λ (d : List Splice). Leads document (map inverse (take (suc count) (reverse d))) document) (sym stays.1) (nothing document))
+    by (Some splice) e later =
+        let first = after_undo_by (Some splice) document in
+        let is : edit_undone document ≡ first = ap (λ (found : Option Splice). after_undo_by found document) e in
+        let rest = map inverse (take count (reverse first.log.done)) in
+        subst (λ (d : List Splice). Leads document (map inverse (take (suc count) d)) (times (suc count) edit_undone document)) (sym (reverse_last document.log.done splice e))
+        (subst (Leads document (inverse splice ∷ rest)) (sym (times-front count edit_undone document ∙ ap (times count edit_undone) is))
+        (more document (inverse splice) (undone_log document.log splice) rest (times count edit_undone first) (newest_fits document splice h.log e)
+        (later first (subst IsSoundInside is (inside_undone document h)))))
+
+pub over_redos : (Leads : DocumentState → List Splice → DocumentState → Type 0) → ((document : DocumentState) → Leads document [] document) → GoesOn Leads → (count : ℕ) (document : DocumentState) →
+    IsSoundInside document → Leads document (take count document.log.undone) (times count edit_redone document)
+over_redos Leads nothing more zero document h = nothing document
+over_redos Leads nothing more (suc count) document h = by (next document.log) refl (λ d k. over_redos Leads nothing more count d k)
+  where
+    by : (found : Option Splice) → next document.log ≡ found →
+        ((d : DocumentState) → IsSoundInside d → Leads d (take count d.log.undone) (times count edit_redone d)) →
+        Leads document (take (suc count) document.log.undone) (times (suc count) edit_redone document)
+    by None e later =
+        let stays = none_redone (suc count) document e in
+        subst (Leads document (take (suc count) document.log.undone)) (sym stays.0)
+        (subst (λ (d : List Splice). Leads document (take (suc count) d) document) (sym stays.1) (nothing document))
+    by (Some splice) e later =
+        let first = after_redo_by (Some splice) document in
+        let is : edit_redone document ≡ first = ap (λ (found : Option Splice). after_redo_by found document) e in
+        let rest = take count first.log.undone in
+        subst (λ (d : List Splice). Leads document (take (suc count) d) (times (suc count) edit_redone document)) (sym (first_split document.log.undone splice e))
+        (subst (Leads document (splice ∷ rest)) (sym (times-front count edit_redone document ∙ ap (times count edit_redone) is))
+        (more document splice (redone_log document.log splice) rest (times count edit_redone first) (next_fits document splice h.log e)
+        (later first (subst IsSoundInside is (inside_redone document h)))))

@@ -12,6 +12,7 @@ mod replacing;
 mod rows;
 mod selection;
 mod target;
+mod undo;
 
 ghost use Rattle.std.specs.Prelude.{◌≡◌, ◌<◌, ◌≤◌, ◌+◌, ◌↔◌, length, OnOk, OnErr, IsOk, IfOk, IfSome, None, IsTrue, is_some, [], vec_len};
 ghost use Rattle.textarea_document.specs.ChangeLog.{changes_of};
@@ -171,19 +172,7 @@ impl Document {
         if 1 < count {
             return self.undo_group(count);
         }
-        let Some(edit) = self.history.newest() else {
-            return Ok(false);
-        };
-        let cursor = make_change(
-            &mut self.text_layout,
-            &mut self.ranges,
-            &mut self.changes,
-            edit.inverse(),
-        )?;
-        self.cursor = cursor;
-        self.history.step_back();
-        self.anchor = None;
-        Ok(true)
+        self.undo_edit()
     }
 
     /// Redoes the group of edits that was undone last, and returns whether there was an edit. The
@@ -196,22 +185,10 @@ impl Document {
         ensures nothing { next self.old.log ≡ None → IsOk result }
     {
         let count = self.history.next_group();
-        let Some(edit) = self.history.next() else {
-            return Ok(false);
-        };
         if 1 < count {
             return self.redo_group(count);
         }
-        let cursor = make_change(
-            &mut self.text_layout,
-            &mut self.ranges,
-            &mut self.changes,
-            edit.change(),
-        )?;
-        self.cursor = cursor;
-        self.history.step_forward();
-        self.anchor = None;
-        Ok(true)
+        self.redo_edit()
     }
 
     /// Makes an edit that fits the text and splits no range, and records it as typed or not. The
@@ -340,9 +317,22 @@ pub(crate) fn make_change(
     let new = change.cursor_after();
     text_layout.places_are_small();
     let kept = changes.prepare(text_layout.lines(), &change)?;
-    text_layout.apply(change)?;
-    text_layout.places_are_small();
+    change_lines(text_layout, change)?;
     move_ranges(ranges, start, old, new);
     changes.put(kept);
     Ok(new)
+}
+
+// Makes a change that fits the text of the lines. The row and the column of the cursor after it are
+// small, as those of all positions.
+fn change_lines(text_layout: &mut TextLayout, change: Change<'_>) -> Result<(), AllocError>
+    requires { Fits text_layout.old.text change }
+    ensures ok { OnOk result (text_layout.new ≡ applied_to text_layout.old change.entry) }
+    ensures err { OnErr result (text_layout.new ≡ text_layout.old) }
+    ensures small { OnOk result (((place_after change.entry).0 ≤ size_limit)
+        × ((place_after change.entry).1 ≤ size_limit)) }
+{
+    text_layout.apply(change)?;
+    text_layout.places_are_small();
+    Ok(())
 }

@@ -3,7 +3,7 @@ ghost use Rattle.std.specs.Prelude.{◌≡◌, OnOk, OnErr};
 ghost use Rattle.textarea_document.specs.Prelude.{edit_redone, edit_undone, times};
 
 use crate::document::changes::ChangeLog;
-use crate::document::make_change;
+use crate::document::undo::{redo_edit, undo_edit};
 use std::alloc::AllocError;
 use std::marker::Model;
 use textarea_data::range::AtomicRange;
@@ -59,43 +59,33 @@ impl Draft {
         Ok(())
     }
 
-    // Undoes the newest edit, if there is one.
-    fn undo_edit(&mut self) -> Result<(), AllocError>
+    // Undoes the newest edit, and returns whether there was one.
+    fn undo_edit(&mut self) -> Result<bool, AllocError>
         ensures ok { OnOk result (self.new ≡ edit_undone self.old) }
         ensures err { OnErr result (self.new ≡ self.old) }
     {
-        let Some(edit) = self.history.newest() else {
-            return Ok(());
-        };
-        let cursor = make_change(
+        undo_edit(
             &mut self.text_layout,
+            &mut self.cursor,
+            &mut self.anchor,
             &mut self.ranges,
+            &mut self.history,
             &mut self.changes,
-            edit.inverse(),
-        )?;
-        self.cursor = cursor;
-        self.history.step_back();
-        self.anchor = None;
-        Ok(())
+        )
     }
 
-    // Redoes the edit that was undone last, if there is one.
-    fn redo_edit(&mut self) -> Result<(), AllocError>
+    // Redoes the edit that was undone last, and returns whether there was one.
+    fn redo_edit(&mut self) -> Result<bool, AllocError>
         ensures ok { OnOk result (self.new ≡ edit_redone self.old) }
         ensures err { OnErr result (self.new ≡ self.old) }
     {
-        let Some(edit) = self.history.next() else {
-            return Ok(());
-        };
-        let cursor = make_change(
+        redo_edit(
             &mut self.text_layout,
+            &mut self.cursor,
+            &mut self.anchor,
             &mut self.ranges,
+            &mut self.history,
             &mut self.changes,
-            edit.change(),
-        )?;
-        self.cursor = cursor;
-        self.history.step_forward();
-        self.anchor = None;
-        Ok(())
+        )
     }
 }

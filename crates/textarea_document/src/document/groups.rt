@@ -63,7 +63,7 @@ impl Document {
     // Redoes the group that was undone last, which has several edits.
     pub(super) fn redo_group(&mut self, count: usize) -> Result<bool, AllocError>
         requires count { count ≡ next_group self.old.log }
-        requires some { is_some (next self.old.log) ≡ true }
+        requires several { 1 < count }
         ensures redone { IfOk result (λ found. found ≡ is_some (next self.old.log)) }
         ensures ok { OnOk result (self.new ≡ after_redo self.old) }
         ensures err { OnErr result (self.new ≡ self.old) }

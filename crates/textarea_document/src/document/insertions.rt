@@ -23,7 +23,8 @@ impl Document {
         ensures outside { All (λ range. ¬ IsInside result range) self.now.ranges }
     {
         self.text_layout.places_are_small();
-        move_out(self.ranges(), self.cursor(), AtomicCursorBias::Forward)
+        let stored = self.ranges();
+        move_out(stored, self.cursor(), AtomicCursorBias::Forward)
     }
 
     /// Moves the cursor to the insertion position, and drops the selection; nothing is recorded.

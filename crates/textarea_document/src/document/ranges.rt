@@ -54,8 +54,9 @@ impl Document {
         requires in_order { AreInOrder ranges.items }
         ensures { self.new ≡ with_ranges self.old ranges.items }
     {
-        let cursor = lookup::move_out(ranges.as_slice(), self.cursor, AtomicCursorBias::Forward);
-        let anchor = anchor_out(ranges.as_slice(), self.anchor);
+        let stored = ranges.as_slice();
+        let cursor = lookup::move_out(stored, self.cursor, AtomicCursorBias::Forward);
+        let anchor = anchor_out(stored, self.anchor);
         self.cursor = cursor;
         self.anchor = unless_empty(anchor, cursor);
         self.ranges = ranges;
@@ -90,7 +91,8 @@ impl Document {
         ensures before { direction ≡ Backward → IfSome result (λ _. is_at_start self.now ≡ false) }
         ensures after { direction ≡ Forward → IfSome result (λ _. is_at_end self.now ≡ false) }
     {
-        lookup::range_at_place(self.ranges(), self.cursor(), direction)
+        let stored = self.ranges();
+        lookup::range_at_place(stored, self.cursor(), direction)
     }
 
     /// Removes the atomic range at the cursor in this direction, and returns it. The selection

@@ -92,7 +92,8 @@ impl Document {
         ensures ordered { index_of self.now.text result.0 < index_of self.now.text result.1 }
         ensures whole { TakesWhole self.now.ranges result.0 result.1 }
     {
-        lookup::widen(self.ranges(), from, to)
+        let stored = self.ranges();
+        lookup::widen(stored, from, to)
     }
 
     /// Removes the atomic range at the cursor in this direction, and returns it; nothing is

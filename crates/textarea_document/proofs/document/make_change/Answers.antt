@@ -1,7 +1,6 @@
-use Rattle.std.proofs.Common.{◌≡◌, ◌≤◌, ◌∙◌, List, ap, arith, filter_map, subst, sym}
+use Rattle.std.proofs.Common.{◌≤◌, ◌∙◌, List, ap, filter_map, subst, sym}
 use Rattle.textarea_document.specs.ChangeLog.{changes_of}
-use Rattle.textarea_document.specs.Prelude.{size_limit, ChangeView, LoggedChanges, Fits, Symbol, Place, IsPlace, TextAndLayout, applied, lines, place_after, place_before, moved_by, moved_ranges, splice_changes, text_of, with_more}
-use Rattle.textarea_text.proofs.TextPlaces.{takes_back}
+use Rattle.textarea_document.specs.Prelude.{size_limit, ChangeView, LoggedChanges, Fits, Symbol, Place, lines, place_before, moved_by, moved_ranges, splice_changes, text_of, with_more}
 use Rattle.textarea_ranges.proofs.Searching.{AreApart-valid}
 use Rattle.textarea_document.proofs.Ranges.{movable}
 use Rattle.textarea_document.proofs.document.make_change.Goals as goal
@@ -14,11 +13,7 @@ move_ranges-requires-clause-movable c = movable c.args.text_layout.now.text c.ar
 
 pub move_ranges-requires-clause-small : goal.move_ranges-requires-clause-small
 move_ranges-requires-clause-small c =
-    let splice = c.args.change in
-    let text = c.args.text_layout.now.text in
-    let text_is : c.apply.new.self.text ≡ applied text splice = ap (λ (l : TextAndLayout). l.text) c.in_ok-apply.ensures.ok in
-    let small = c.places_are_small-2.ensures (place_after splice) (subst (λ (t : List Symbol). IsPlace t (place_after splice)) (sym text_is) (takes_back text splice c.requires.fits).is_place) in
-    subst (λ (p : Place). (p.0 ≤ size_limit) × (p.1 ≤ size_limit)) (sym c.cursor_after-new.ensures) (omega (arith, small.0), small.1)
+    subst (λ (p : Place). (p.0 ≤ size_limit) × (p.1 ≤ size_limit)) (sym c.cursor_after-new.ensures) c.in_ok-change_lines.ensures.small
 
 pub returns-clause-ranges : goal.returns-clause-ranges
 unfolding moved_ranges

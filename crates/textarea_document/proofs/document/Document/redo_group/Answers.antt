@@ -1,7 +1,7 @@
-use Rattle.std.proofs.Common.{◌≡◌, ◌∙◌, false, length, sym, ap, subst}
+use Rattle.std.proofs.Common.{◌≡◌, ◌∙◌, false, length, sym, ap, subst, arith}
 use Rattle.textarea_document.specs.Prelude.{DocumentState, after_redo, edit_redone, is_grouped, times, with_changes_after}
 use Rattle.textarea_document.proofs.Changing.{redone_in_draft}
-use Rattle.textarea_document.proofs.UndoGroups.{redo_whole}
+use Rattle.textarea_document.proofs.UndoGroups.{next_of_several, redo_whole}
 use Rattle.textarea_document.proofs.document.Document.redo_group.Goals as goal
 
 pub put-requires : goal.put-requires
@@ -15,7 +15,7 @@ put-requires c =
     (redo_whole old c.is_sound.ensures)
 
 pub returns-clause-redone : goal.returns-clause-redone
-returns-clause-redone c = sym c.requires.some
+returns-clause-redone c = sym (next_of_several c.args.self.now c.is_sound.ensures (omega (arith, c.requires.several, c.requires.count)))
 
 pub returns-clause-ok : goal.returns-clause-ok
 returns-clause-ok c =

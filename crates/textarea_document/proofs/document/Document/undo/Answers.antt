@@ -1,41 +1,8 @@
-use Rattle.std.proofs.Common.{◌≡◌, ◌∙◌, None, Some, sym, ap, subst, arith}
-use Rattle.textarea_document.specs.ChangeLog.{changes_of}
-use Rattle.textarea_document.specs.Prelude.{Fits, IsSound, inverse, document_of, undone_log, after_undo, after_undo_by, newest_group}
-use Rattle.textarea_document.proofs.Sounds.{changed_is, logged_sound, newest_fits}
-use Rattle.textarea_document.proofs.UndoGroups.{sound_undo, undo_of_one}
+use Rattle.std.proofs.Common.{◌≡◌, arith, subst}
+use Rattle.textarea_document.specs.Prelude.{DocumentState, newest_group}
 use Rattle.textarea_document.proofs.document.Document.undo.Goals as goal
-use Rattle.textarea_document.proofs.document.Document.undo.Goals.{After-step_back}
 
-pub make_change-requires-clause-fits : goal.make_change-requires-clause-fits
-make_change-requires-clause-fits c =
-    let inside = c.self.inside in
-    let document = document_of inside.text_layout inside.cursor inside.anchor inside.ranges.items inside.history.log (changes_of inside.changes) in
-    subst (Fits inside.text_layout.text) (sym c.inverse.ensures) (newest_fits document c.in-Some.edit.now.splice (logged_sound document c.self.invariant) c.in-Some.ensures.edit)
-
--- the resulting document is the one after the step
-left : (c : After-step_back) →
-    document_of c.make_change.new.text_layout c.in_ok-cursor.cursor None c.make_change.new.ranges.items c.step_back.new.self.log (changes_of c.make_change.new.changes) ≡ after_undo_by (Some c.in-Some.edit.now.splice)
-    (document_of c.self.inside.text_layout c.self.inside.cursor c.self.inside.anchor c.self.inside.ranges.items c.self.inside.history.log (changes_of c.self.inside.changes))
-left c =
-    let inside = c.self.inside in
-    let splice = c.in-Some.edit.now.splice in
-    let is = c.in_ok-cursor.ensures in
-    changed_is inside.text_layout c.make_change.new.text_layout inside.cursor c.in_ok-cursor.cursor inside.anchor inside.ranges.items c.make_change.new.ranges.items inside.history.log
-    c.step_back.new.self.log (undone_log inside.history.log splice) (changes_of inside.changes) (changes_of c.make_change.new.changes) _ (inverse splice) c.inverse.ensures is.text_layout is.cursor is.ranges (c.step_back.ensures splice c.in-Some.ensures.edit) is.changes
-
--- which is the one after the group, of one edit
-undo_is : (c : After-step_back) →
-    document_of c.make_change.new.text_layout c.in_ok-cursor.cursor None c.make_change.new.ranges.items c.step_back.new.self.log (changes_of c.make_change.new.changes) ≡ after_undo
-    (document_of c.self.inside.text_layout c.self.inside.cursor c.self.inside.anchor c.self.inside.ranges.items c.self.inside.history.log (changes_of c.self.inside.changes))
-undo_is c =
-    let inside = c.self.inside in
-    let document = document_of inside.text_layout inside.cursor inside.anchor inside.ranges.items inside.history.log (changes_of inside.changes) in
-    let one : newest_group document.log ≡ 1 = omega (arith, c.newest_group-count.ensures) in
-    left c ∙ sym (undo_of_one document c.in-Some.edit.now.splice one c.in-Some.ensures.edit)
-
-pub invariant_of-self-2 : goal.invariant_of-self-2
-invariant_of-self-2 c =
-    subst IsSound (sym (undo_is (goal.at.invariant_of-self-2 c).After-step_back)) (sound_undo _ c.self.invariant)
-
-pub returns-clause-ok : goal.returns-clause-ok
-returns-clause-ok c = undo_is (goal.at.returns-clause-ok c).After-step_back ∙ ap after_undo c.self.view_is
+pub undo_edit-requires : goal.undo_edit-requires
+undo_edit-requires c =
+    let one : newest_group c.self.inside.history.log ≡ 1 = omega (arith, c.newest_group-count.ensures) in
+    subst (λ (d : DocumentState). newest_group d.log ≡ 1) c.self.view_is one
