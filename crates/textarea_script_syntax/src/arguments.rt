@@ -1,10 +1,10 @@
 // Reads the arguments of commands: numbers, truth values, names, and texts with escapes.
 ghost use Rattle.std.specs.Char.{is_ascii_digit, is_ascii_hexdigit};
 ghost use Rattle.std.specs.List.{list_all};
-ghost use Rattle.std.specs.Prelude.{◌≡◌, ◌<◌, ◌≤◌, ◌++◌, ◌∷◌, length, map, option_copied, option_map, string_bytes, vec_len, IfOk, IfSome, MatchOption};
+ghost use Rattle.std.specs.Prelude.{◌≡◌, ◌<◌, ◌≤◌, ◌++◌, ◌∷◌, [], length, map, option_copied, option_map, string_bytes, vec_len, IfOk, IfSome, MatchOption, OnOk, Some};
 ghost use Rattle.textarea_script_syntax.specs.Arguments.{IsReadAs, byte_number, mode_named, move_named, number, page, split_first, scroll_amounts, short_number, sides, sides_of_area, signed_number, truth, two_numbers, two_places, two_short_numbers, change_unit_named};
 ghost use Rattle.textarea_script_syntax.specs.FirstLine.{IsLinePushed};
-ghost use Rattle.textarea_script_syntax.specs.Escapes.{HasNoBackslash, character, character_numbered, escape, first_character, numbered_escape, unescaped, unescaped_lines};
+ghost use Rattle.textarea_script_syntax.specs.Escapes.{HasNoBackslash, character, character_numbered, escape, first_character, in_front, numbered_escape, unescaped, unescaped_lines};
 ghost use Rattle.textarea_script_syntax.specs.Inputs.{modifiers_named, input_named, key_without_arguments, key_named, key_with};
 ghost use Rattle.textarea_script_syntax.specs.Ranges.{range, ranges, ranges_after_space};
 
@@ -370,7 +370,8 @@ pub fn unescape(alloc: Global, text: &str) -> Result<String, Unparsed>
     let mut rest = push_line(&mut unescaped, text)?;
     while let Some(text) = rest {
         unescaped.push('\n')?;
-        rest = push_line(&mut unescaped, text)?;
+        let after = push_line(&mut unescaped, text)?;
+        rest = after;
     }
     Ok(unescaped)
 }
@@ -411,8 +412,19 @@ fn push_line<'a>(line: &mut String, text: &'a str) -> Result<Option<&'a str>, Un
         line.push(c)?;
         rest = after;
     }
-    line.push_str(rest)?;
+    push_plain(line, rest)?;
     Ok(None)
+}
+
+// Appends a text without escapes to `line`, as all that is left of it.
+fn push_plain(line: &mut String, text: &str) -> Result<(), AllocError>
+    requires { HasNoBackslash text.now }
+    ensures { OnOk result
+        (option_map (λ lines. in_front (string_bytes line.old) lines) (unescaped_lines text.now)
+        ≡ Some (string_bytes line.new ∷ [])) }
+{
+    line.push_str(text)?;
+    Ok(())
 }
 
 // Splits the text at its first backslash: the text before it, and the text after it. Most such texts

@@ -1,8 +1,8 @@
-use Rattle.std.proofs.Common.{arith, rules, ◌∙◌, ◌≤◌, ◌∷◌, ◌++◌, [], ℕ, List, Some, None, length, length-append, option_map, string_bytes, ap, sym, append_assoc, lit<}
+use Rattle.std.proofs.Common.{arith, rules, ◌∙◌, ◌≤◌, ◌∷◌, ◌++◌, ℕ, List, Some, None, length, length-append, option_map, string_bytes, ap, sym, append_assoc, lit<}
 use Rattle.std.proofs.lemmas.Str.Pattern.{strip_prefix_char}
 use Rattle.std.specs.Prelude.{encode_utf8}
 use Rattle.textarea_script_syntax.specs.Escapes.{in_front, unescaped_lines}
-use Rattle.textarea_script_syntax.proofs.Fronts.{line_broken, line_escaped, line_joined, line_plain, line_unread}
+use Rattle.textarea_script_syntax.proofs.Fronts.{line_broken, line_escaped, line_joined, line_unread}
 use Rattle.textarea_script_syntax.proofs.Tokens.{line_grown}
 use Rattle.textarea_script_syntax.proofs.arguments.push_line.Goals as goal
 use Rattle.textarea_util.proofs.Options.{none_of_map}
@@ -50,8 +50,4 @@ loop-front-preserved c =
     (search rules, left, more)
 
 pub returns-clause-value : goal.returns-clause-value
-returns-clause-value c =
-    let line = string_bytes c.loop-front.line in
-    let before : List (List ℕ) → List (List ℕ) = λ lines. in_front line lines in
-    let rest = c.loop-front.rest.now in
-    c.loop-front.invariant.2 ∙ ap (option_map before) (line_plain rest c.loop-front.invariant.0 c.in_default.ensures) ∙ ap (λ (text : List ℕ). Some (text ∷ [])) (sym c.in_ok-push_str-2.ensures.bytes)
+returns-clause-value c = c.loop-front.invariant.2 ∙ c.in_ok-push_plain.ensures

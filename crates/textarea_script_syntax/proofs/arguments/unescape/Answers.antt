@@ -22,15 +22,15 @@ loop-rest-init c =
 read : (c : After-push_line-in-Some) → unescaped c.args.text.now ≡ with_rest (string_bytes c.loop-rest.unescaped) (Some c.in-Some.text.now)
 read c = c.loop-rest.invariant ∙ ap (λ (rest : Option (Bor (List ℕ))). with_rest (string_bytes c.loop-rest.unescaped) (option_copied rest)) c.in-Some.is
 
-pub returns-in_err-rest-2 : goal.returns-in_err-rest-2
-returns-in_err-rest-2 c =
-    let error = c.in_err-rest-2.field-0.0 in
+pub returns-in_err-after : goal.returns-in_err-after
+returns-in_err-after c =
+    let error = c.in_err-after.field-0.0 in
     let unread : IsUnparsedAs (unescaped c.args.text.now) error =
-    rest_unread c.args.text.now (string_bytes c.loop-rest.unescaped) c.in-Some.text.now error (read (goal.at.returns-in_err-rest-2 c).After-push_line-in-Some) c.in_err-rest-2.ensures.value in
+    rest_unread c.args.text.now (string_bytes c.loop-rest.unescaped) c.in-Some.text.now error (read (goal.at.returns-in_err-after c).After-push_line-in-Some) c.in_err-after.ensures.value in
     grind (arith, common_steps)
 
 pub loop-rest-preserved : goal.loop-rest-preserved
 loop-rest-preserved c =
     next_read c.args.text.now (string_bytes c.loop-rest.unescaped) (string_bytes c.push.new.self) (string_bytes c.push_line-in-Some.new.line) c.in-Some.text.now
-    (option_copied c.in_ok-rest-2.rest) (read (goal.at.loop-rest-preserved c).After-push_line-in-Some)
-    (c.in_ok-push.ensures.bytes ∙ ap (λ (bytes : List ℕ). string_bytes c.loop-rest.unescaped ++ bytes) (encode_ascii 10 (lit< tt))) c.in_ok-rest-2.ensures.value
+    (option_copied c.in_ok-after.after) (read (goal.at.loop-rest-preserved c).After-push_line-in-Some)
+    (c.in_ok-push.ensures.bytes ∙ ap (λ (bytes : List ℕ). string_bytes c.loop-rest.unescaped ++ bytes) (encode_ascii 10 (lit< tt))) c.in_ok-after.ensures.value
