@@ -134,14 +134,21 @@ impl<'a> TextArea<'a> {
         ensures { IfOk result (λ area. area ≡ new_state (text_of lines.items)) }
     {
         let alloc = *lines.allocator();
+        let document = Document::new(alloc, lines, DEFAULT_LAYOUT, DEFAULT_MAX_HISTORIES)?;
+        let nothing = Vec::new(alloc);
+        let yank = Arc::new(alloc, nothing)?;
+        let settings = Settings::default();
+        let search = Search::default();
+        let surround = Surround::new(alloc);
+        let drawing = Drawing::new(alloc);
         Ok(TextArea {
-            document: Document::new(alloc, lines, DEFAULT_LAYOUT, DEFAULT_MAX_HISTORIES)?,
-            yank: Arc::new(alloc, Vec::new(alloc))?,
-            settings: Settings::default(),
+            document,
+            yank,
+            settings,
             time: Duration::ZERO,
-            search: Search::default(),
-            surround: Surround::new(alloc),
-            drawing: Drawing::new(alloc),
+            search,
+            surround,
+            drawing,
         })
     }
 

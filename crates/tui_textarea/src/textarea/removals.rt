@@ -194,12 +194,12 @@ impl TextArea<'_> {
             (λ end. index_of self.now.document.text self.now.document.cursor
             < index_of self.now.document.text end) }
     {
-        let cursor = self.document.cursor();
-        let end = ahead(self.document.lines(), cursor, count);
-        if end.0 == cursor.0 && end.1 == cursor.1 {
+        let (row, column) = self.document.cursor();
+        let (end_row, end_column) = ahead(self.document.lines(), (row, column), count);
+        if end_row == row && end_column == column {
             None
         } else {
-            Some(end)
+            Some((end_row, end_column))
         }
     }
 

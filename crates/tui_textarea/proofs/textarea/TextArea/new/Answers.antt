@@ -23,5 +23,6 @@ made_new text document yank settings pattern surround drawing d y s p b f =
 
 pub returns : goal.returns
 returns c =
-    made_new (text_of c.args.lines.items) c.in_ok-new.field-0 (text_of c.in_ok-new-2.field-0.value.items) c.default.result c.default-2.result c.new-4.result c.new-5.result
-    c.in_ok-new.ensures (ap (λ (v : Vec (String Global) Global). text_of v.items) c.in_ok-new-2.ensures.ok ∙ ap text_of c.new-2.ensures.items) c.default.ensures c.default-2.ensures c.new-4.ensures c.new-5.ensures
+    made_new (text_of c.args.lines.items) c.in_ok-document.document (text_of c.in_ok-yank.yank.value.items) c.default-settings.result c.default-search.result c.new-surround.result c.new-drawing.result
+    c.in_ok-document.ensures (ap (λ (v : Vec (String Global) Global). text_of v.items) c.in_ok-yank.ensures.ok ∙ ap text_of c.new-nothing.ensures.items)
+    c.default-settings.ensures c.default-search.ensures c.new-surround.ensures c.new-drawing.ensures
