@@ -41,12 +41,15 @@ bare_row scene row = plain_row (row_bytes row) (cursor_cell scene.look) scene.ro
 abbrev pub number_digits : SceneState → ℕ
 number_digits scene = length (decimal (length scene.rows.lines))
 
--- the line number in a line's first row, as many blanks in its other rows
-abbrev pub with_line_number : SceneState → VisualRow → Highlights → Highlights
-with_line_number scene row h =
-    if row.start == 0
+-- the line number if it is the line's first row, else as many blanks
+abbrev pub with_number_if : Bool → SceneState → VisualRow → Highlights → Highlights
+with_number_if first scene row h =
+    if first
     then with_number h row.line (number_digits scene) scene.look.line_number_style
     else with_placeholder h (number_digits scene) scene.look.line_number_style
+
+abbrev pub with_line_number : SceneState → VisualRow → Highlights → Highlights
+with_line_number scene row h = with_number_if (row.start == 0) scene row h
 
 abbrev pub with_row_number : SceneState → VisualRow → Highlights → Highlights
 with_row_number scene row h = if scene.line_numbers then with_line_number scene row h else h

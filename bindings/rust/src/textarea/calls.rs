@@ -613,8 +613,8 @@ impl TextArea<'_> {
     /// use tui_textarea::TextArea;
     ///
     /// let mut area = TextArea::from(["one"]);
-    /// area.set_style(Style::new().fg(Color::Yellow));
-    /// assert_eq!(area.style().fg, Some(Color::Yellow));
+    /// area.set_style(Style::new().bg(Color::Yellow));
+    /// assert_eq!(area.style().bg, Some(Color::Yellow));
     /// ```
     pub fn set_style(&mut self, style: impl Into<Style>) {
         let style = sys::Style::from(style.into());
@@ -628,8 +628,8 @@ impl TextArea<'_> {
     /// use tui_textarea::TextArea;
     ///
     /// let mut area = TextArea::from(["one"]);
-    /// area.set_cursor_style(Style::new().bg(Color::Cyan));
-    /// assert_eq!(area.cursor_style().bg, Some(Color::Cyan));
+    /// area.set_cursor_style(Style::new().bg(Color::Yellow));
+    /// assert_eq!(area.cursor_style().bg, Some(Color::Yellow));
     /// ```
     pub fn set_cursor_style(&mut self, style: impl Into<Style>) {
         let style = sys::Style::from(style.into());
@@ -660,8 +660,8 @@ impl TextArea<'_> {
     /// use tui_textarea::TextArea;
     ///
     /// let mut area = TextArea::from(["one"]);
-    /// area.set_selection_style(Style::new().bg(Color::LightBlue));
-    /// assert_eq!(area.selection_style().bg, Some(Color::LightBlue));
+    /// area.set_selection_style(Style::new().bg(Color::Yellow));
+    /// assert_eq!(area.selection_style().bg, Some(Color::Yellow));
     /// ```
     pub fn set_selection_style(&mut self, style: impl Into<Style>) {
         let style = sys::Style::from(style.into());
