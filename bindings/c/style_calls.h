@@ -6,6 +6,7 @@ static const struct {
     {ta_set_style, ta_style},
     {ta_set_cursor_style, ta_cursor_style},
     {ta_set_cursor_line_style, ta_cursor_line_style},
+    {ta_set_cursor_line_number_style, ta_cursor_line_number_style},
     {ta_set_selection_style, ta_selection_style},
     {ta_set_search_style, ta_search_style},
 };

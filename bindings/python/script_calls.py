@@ -43,6 +43,7 @@ STYLES = [
     "style",
     "cursor_style",
     "cursor_line_style",
+    "cursor_line_number_style",
     "selection_style",
     "search_style",
 ]

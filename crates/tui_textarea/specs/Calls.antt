@@ -98,6 +98,7 @@ result_of_call state call.MatchIndex = reported.NumberIfAny (match_index state)
 result_of_call state call.Style = reported.Style state.drawing.look.style
 result_of_call state call.CursorStyle = reported.Style state.drawing.look.cursor_style
 result_of_call state call.CursorLineStyle = reported.Style state.drawing.look.cursor_line_style
+result_of_call state call.CursorLineNumberStyle = reported.Style state.drawing.look.cursor_line_number_style
 result_of_call state call.SelectionStyle = reported.Style state.drawing.look.selection_style
 result_of_call state call.SearchStyle = reported.Style state.drawing.look.search_style
 -- End of what tools/calls writes.
@@ -196,6 +197,7 @@ state_after state call.ClearAtomicRanges = ranges_cleared state
 state_after state (call.SetStyle style) = with_look_set state (record state.drawing.look { style = style })
 state_after state (call.SetCursorStyle style) = with_look_set state (record state.drawing.look { cursor_style = style })
 state_after state (call.SetCursorLineStyle style) = with_look_set state (record state.drawing.look { cursor_line_style = style })
+state_after state (call.SetCursorLineNumberStyle style) = with_look_set state (record state.drawing.look { cursor_line_number_style = style })
 state_after state (call.SetSelectionStyle style) = with_look_set state (record state.drawing.look { selection_style = style })
 state_after state (call.SetSearchStyle style) = with_look_set state (record state.drawing.look { search_style = style })
 -- End of what tools/calls writes.

@@ -62,6 +62,26 @@ impl TextArea<'_> {
         self.drawing.look().cursor_line_style
     }
 
+    /// Sets the style of the line number of the cursor's line, over the style of all line numbers.
+    /// The blanks before the line's other visual rows aren't in it.
+    pub fn set_cursor_line_number_style(&mut self, style: Style)
+        ensures { self.new ≡ with_look_set self.old
+            (record self.old.drawing.look { cursor_line_number_style = style }) }
+    {
+        self.drawing.set_look(Look {
+            cursor_line_number_style: style,
+            ..self.drawing.look()
+        });
+    }
+
+    /// Returns the style of the line number of the cursor's line, over the style of all line
+    /// numbers.
+    pub fn cursor_line_number_style(&self) -> Style
+        ensures { result ≡ self.now.drawing.look.cursor_line_number_style }
+    {
+        self.drawing.look().cursor_line_number_style
+    }
+
     /// Sets the style of selected text.
     pub fn set_selection_style(&mut self, style: Style)
         ensures { self.new ≡ with_look_set self.old
