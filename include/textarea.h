@@ -1035,6 +1035,12 @@ uint32_t ta_set_cursor_style(ta_handle_t *handle, const ta_style_t *style);
  * Statuses: ok, invalid argument (a colour's kind does not exist), empty handle. */
 uint32_t ta_set_cursor_line_style(ta_handle_t *handle, const ta_style_t *style);
 
+/** Sets the style of the line number of the cursor's line, over the style of all line numbers. The
+ * blanks before the line's other visual rows aren't in it.
+ *
+ * Statuses: ok, invalid argument (a colour's kind does not exist), empty handle. */
+uint32_t ta_set_cursor_line_number_style(ta_handle_t *handle, const ta_style_t *style);
+
 /** Sets the style of selected text.
  *
  * Statuses: ok, invalid argument (a colour's kind does not exist), empty handle. */
@@ -1059,6 +1065,11 @@ uint32_t ta_cursor_style(ta_handle_t *handle, ta_style_t *style);
  *
  * Statuses: ok, empty handle. */
 uint32_t ta_cursor_line_style(ta_handle_t *handle, ta_style_t *style);
+
+/** Returns the style of the line number of the cursor's line, over the style of all line numbers.
+ *
+ * Statuses: ok, empty handle. */
+uint32_t ta_cursor_line_number_style(ta_handle_t *handle, ta_style_t *style);
 
 /** Returns the style of selected text.
  *

@@ -1,5 +1,6 @@
 /* Tests of each group of calls. Exit status 1, and the check that fails, if one does. */
 #include "check.h"
+#include "style_calls.h"
 
 static const ta_style_t red = {.fg = {.kind = TA_COLOR_RED}, .add_modifier = TA_MODIFIER_BOLD};
 static const ta_style_t rgb = {.bg = {TA_COLOR_RGB, 1, 2, 3}, .sub_modifier = TA_MODIFIER_DIM};
@@ -268,25 +269,16 @@ static void layout(void) {
 
 static void styles(void) {
     ta_handle_t area = area_of("");
-    struct {
-        uint32_t (*set)(ta_handle_t *, const ta_style_t *);
-        uint32_t (*get)(ta_handle_t *, ta_style_t *);
-    } all[] = {
-        {ta_set_style, ta_style},
-        {ta_set_cursor_style, ta_cursor_style},
-        {ta_set_cursor_line_style, ta_cursor_line_style},
-        {ta_set_selection_style, ta_selection_style},
-        {ta_set_search_style, ta_search_style},
-    };
+    size_t count = sizeof style_calls / sizeof *style_calls;
     ta_style_t style;
     CHECK(ta_cursor_style(&area, &style) == TA_OK && style.add_modifier == TA_MODIFIER_REVERSED);
     CHECK(ta_selection_style(&area, &style) == TA_OK && style.bg.kind == TA_COLOR_LIGHT_BLUE);
-    for (int i = 0; i < 5; i++) {
-        CHECK(all[i].set(&area, i % 2 ? &red : &rgb) == TA_OK);
-        CHECK(all[i].set(&area, &wrong) == TA_INVALID_ARGUMENT);
+    for (size_t i = 0; i < count; i++) {
+        CHECK(style_calls[i].set(&area, i % 2 ? &red : &rgb) == TA_OK);
+        CHECK(style_calls[i].set(&area, &wrong) == TA_INVALID_ARGUMENT);
     }
-    for (int i = 0; i < 5; i++)
-        CHECK(all[i].get(&area, &style) == TA_OK && same_style(style, i % 2 ? red : rgb));
+    for (size_t i = 0; i < count; i++)
+        CHECK(style_calls[i].get(&area, &style) == TA_OK && same_style(style, i % 2 ? red : rgb));
     ta_free(&area);
 }
 

@@ -37,3 +37,13 @@ SETTERS = {
     "set_tab_length": ("tab_length", "u8"),
     "set_hard_tab_indent": ("hard_tab_indent", "bool"),
 }
+
+# The styles of a text area.
+STYLES = [
+    "style",
+    "cursor_style",
+    "cursor_line_style",
+    "cursor_line_number_style",
+    "selection_style",
+    "search_style",
+]

@@ -8,6 +8,7 @@ import sys
 import unittest
 
 import textarea
+from script_calls import STYLES
 from textarea import (
     Alignment, Area, Block, Borders, ChangeUnit, Color, CursorRenderMode, Input, Key, Line, Modifier,
     Move, Padding, Page, PatternRejected, Range, RangesRejected, Reason, Side, Span, Style, TextArea,
@@ -213,11 +214,11 @@ class Calls(unittest.TestCase):
 
     def test_looks(self):
         area = TextArea("one")
-        styles = [RED, Style(bg=Color.rgb(1, 2, 3)), Style(Color.indexed(9)), Style(remove=Modifier.DIM), Style(Color.RESET)]
-        names = ["style", "cursor_style", "cursor_line_style", "selection_style", "search_style"]
-        for name, style in zip(names, styles):
+        some = [RED, Style(bg=Color.rgb(1, 2, 3)), Style(Color.indexed(9)), Style(remove=Modifier.DIM), Style(Color.RESET)]
+        styles = {name: some[i % len(some)] for i, name in enumerate(STYLES)}
+        for name, style in styles.items():
             setattr(area, name, style)
-        self.assertEqual([getattr(area, name) for name in names], styles)
+        self.assertEqual({name: getattr(area, name) for name in STYLES}, styles)
         self.assertIsNone(area.mask_char)
         area.mask_char = "•"
         area.cursor_render_mode = CursorRenderMode.HIDDEN

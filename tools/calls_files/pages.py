@@ -1,8 +1,9 @@
-"""The parts of pages in docs that are written, between two marks."""
+"""The parts of pages in docs, and of definitions, that are written, between two marks."""
+from calls_files import text_area
 from calls_files.commands_crate import READINGS, commands
 from calls_files.table import NOTE, ROOT, stop
 
-END = "<!-- End of what tools/calls writes. -->\n"
+END = "End of what tools/calls writes."
 
 
 def command_rows(table):
@@ -43,11 +44,22 @@ def rule_rows(topic):
     return rows
 
 
+def look_rows(table):
+    """The table of the calls that set a style of the look."""
+    rows = [f"| `{call.name}` {call.rule}" for call in text_area.look_setters(table)]
+    return ["| Call | What is in the style | At first |", "|---|---|---|", *rows]
+
+
+def mark(file, words):
+    """A comment of a page, or of a file of definitions."""
+    return f"<!-- {words} -->\n" if file.endswith(".md") else f"-- {words}\n"
+
+
 def filled(file, text, name, written):
     """The text of a page with the rows of one of its parts."""
-    begin = f"<!-- {name}: {NOTE} -->\n"
+    begin, last = mark(file, f"{name}: {NOTE}"), mark(file, END)
     before, found, rest = text.partition(begin)
-    _, end, after = rest.partition(END)
+    _, end, after = rest.partition(last)
     if not found or not end:
         stop(f"{file} doesn't have the two marks of the part `{name}`")
     return before + begin + "\n".join(written) + "\n" + end + after
@@ -55,8 +67,14 @@ def filled(file, text, name, written):
 
 def texts(table):
     parts = {
-        "docs/RULES.md": {"Insertions": rule_rows("insert"), "Removals": rule_rows("remove"), "Commands": command_rows},
+        "docs/RULES.md": {
+            "Insertions": rule_rows("insert"),
+            "Removals": rule_rows("remove"),
+            "Looks": look_rows,
+            "Commands": command_rows,
+        },
         "docs/DIFFERENCES.md": {"Calls": new_rows},
+        "crates/tui_textarea/specs/Calls.antt": {"Styles": text_area.results, "Styles that are set": text_area.states},
     }
     written = {}
     for file, rows_of in parts.items():

@@ -1,4 +1,4 @@
-"""Which commands the random scripts and their replayers in C, Rust and Python have."""
+"""What the tests of the bindings for C, Rust and Python know of calls: the commands of the random scripts, and the styles."""
 from calls_files.table import NOTE
 
 # How the replayer in C makes a call, by the type of its argument.
@@ -70,9 +70,50 @@ def python_commands(table):
     ]
 
 
+def styles(table):
+    """The names of the styles that a call sets and another one reads."""
+    return [call.field() for call in table.calls if call.look and call.arguments]
+
+
+def c_styles(table):
+    out = [
+        f"/* {NOTE} */",
+        "static const struct {",
+        "    uint32_t (*set)(ta_handle_t *, const ta_style_t *);",
+        "    uint32_t (*get)(ta_handle_t *, ta_style_t *);",
+        "} style_calls[] = {",
+    ]
+    return [*out, *[f"    {{ta_set_{name}, ta_{name}}}," for name in styles(table)], "};"]
+
+
+def rust_styles(table):
+    names = list(enumerate(styles(table)))
+    return [
+        f"//! {NOTE}",
+        "//! Each style is read back as it was set.",
+        "",
+        "use tui_textarea::TextArea;",
+        "use tui_textarea::ratatui::style::{Color, Style};",
+        "",
+        "#[test]",
+        "fn styles_are_kept() {",
+        '    let mut area = TextArea::from(["one"]);',
+        "    let style = |number| Style::new().fg(Color::Indexed(number));",
+        *[f"    area.set_{name}(style({number}));" for number, name in names],
+        *[f"    assert_eq!(area.{name}(), style({number}));" for number, name in names],
+        "}",
+    ]
+
+
+def python_styles(table):
+    return ["", "# The styles of a text area.", "STYLES = [", *[f'    "{name}",' for name in styles(table)], "]"]
+
+
 def files(table):
     return {
         "bindings/c/script_calls.h": c_commands(table),
+        "bindings/c/style_calls.h": c_styles(table),
+        "bindings/rust/tests/styles.rs": rust_styles(table),
         "bindings/rust/examples/replay/calls.rs": rust_commands(table),
-        "bindings/python/script_calls.py": python_commands(table),
+        "bindings/python/script_calls.py": python_commands(table) + python_styles(table),
     }

@@ -22,7 +22,7 @@ def rust_wrappers(table):
         "impl TextArea<'_> {",
     ]
     for call in calls:
-        shown = example(call.name)
+        shown = example(call)
         doc = textwrap.wrap(call.doc, COLUMNS - 8) + (["", *shown] if shown else [])
         out += [f"    /// {line}".rstrip() for line in doc]
         out += [f"    {line}".rstrip() for line in rust_wrapper(call)] + [""]

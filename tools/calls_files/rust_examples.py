@@ -142,21 +142,9 @@ assert_eq!(area.measure(20).preferred_rows, 3);"""),
     "set_max_rows": ("one\ntwo\nthree", """\
 area.set_max_rows(2);
 assert_eq!(area.measure(20).preferred_rows, 2);"""),
-    "set_style": ("one", """\
-area.set_style(Style::new().fg(Color::Yellow));
-assert_eq!(area.style().fg, Some(Color::Yellow));"""),
-    "set_cursor_style": ("one", """\
-area.set_cursor_style(Style::new().bg(Color::Cyan));
-assert_eq!(area.cursor_style().bg, Some(Color::Cyan));"""),
     "set_cursor_line_style": ("one", """\
 area.set_cursor_line_style(Style::new()); // the cursor's line looks as any other
 assert_eq!(area.cursor_line_style(), Style::new());"""),
-    "set_selection_style": ("one", """\
-area.set_selection_style(Style::new().bg(Color::LightBlue));
-assert_eq!(area.selection_style().bg, Some(Color::LightBlue));"""),
-    "set_search_style": ("one", """\
-area.set_search_style(Style::new().bg(Color::Yellow));
-assert_eq!(area.search_style().bg, Some(Color::Yellow));"""),
     "clear_mask_char": ("one", """\
 area.set_mask_char('•');
 area.clear_mask_char();
@@ -183,17 +171,23 @@ assert!(area.is_selecting());"""),
 }
 
 
+def of_style(call):
+    """The example of a call that sets or reads a style, unless it has one of its own."""
+    field = call.field()
+    return "one", f"area.set_{field}(Style::new().bg(Color::Yellow));\nassert_eq!(area.{field}().bg, Some(Color::Yellow));"
+
+
 def imports(path, names):
     """The line that imports these names, if there are any."""
     one = names[0] if len(names) == 1 else f"{{{', '.join(names)}}}"
     return [f"use {path}::{one};"] if names else []
 
 
-def example(name):
+def example(call):
     """The example of a call as lines of a page, none if it has none."""
-    if name not in EXAMPLES:
+    if call.name not in EXAMPLES and not call.look:
         return []
-    text, code = EXAMPLES[name]
+    text, code = EXAMPLES.get(call.name) or of_style(call)
     styles = imports("tui_textarea::ratatui::style", [word for word in ("Color", "Style") if f"{word}::" in code])
     moves = ["CursorMove"] if "CursorMove::" in code else []
     lines = ", ".join(f'"{line}"' for line in text.split("\n"))

@@ -55,6 +55,7 @@ class Call:
     def __init__(self, topic, name, arguments, result):
         self.topic, self.name, self.arguments, self.result = topic, name, arguments, result
         self.variant, self.memory, self.edits, self.special = camel(name), False, False, False
+        self.look = False
         self.command, self.by_hand = None, []
         self.languages, self.is_new = set(), False
         self.note, self.notes, self.doc, self.rule = "", {}, "", ""
@@ -64,6 +65,13 @@ class Call:
 
     def names(self):
         return [name for name, _ in self.arguments]
+
+    def field(self):
+        """What it sets or reads, by its name."""
+        return self.name.removeprefix("set_")
+
+    def sets_style(self):
+        return [type for _, type in self.arguments] == ["Style"]
 
     def applied(self, path):
         """The variant with its arguments, as an expression and as a pattern of Rust."""
@@ -94,6 +102,8 @@ class Table:
         for call in self.calls:
             if not call.doc:
                 stop(f"{TABLE}: `{call.name}` does not say what it does")
+            if call.look and not (call.result == "Style" or (call.sets_style() and call.rule)):
+                stop(f"{TABLE}: `{call.name}` neither returns a style nor sets one, with a row in docs/RULES.md")
             if len(call.arguments) > 1 and set(call.notes) != set(call.names()):
                 stop(f"{TABLE}: `{call.name}` says something of some of its arguments only")
 
@@ -160,6 +170,8 @@ class Table:
                 call.edits = True
             elif fact == "special":
                 call.special = True
+            elif fact == "look":
+                call.look = True
             elif fact == "new":
                 call.is_new = True
             elif word == "command":
@@ -171,4 +183,4 @@ class Table:
             elif word == "plain" and set(rest.split()) <= set(LANGUAGES):
                 call.languages = set(rest.split() or LANGUAGES)
             else:
-                raise ValueError(f"`{fact}` is none of `memory`, `edits`, `command`, `by hand`, `special`, `variant`, `plain`, `new`")
+                raise ValueError(f"`{fact}` is none of `memory`, `edits`, `command`, `by hand`, `special`, `look`, `variant`, `plain`, `new`")

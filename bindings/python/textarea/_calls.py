@@ -252,6 +252,16 @@ class Calls(Core):
         self._call(lib.ta_set_cursor_line_style, style._core())
 
     @property
+    def cursor_line_number_style(self) -> Style:
+        """The style of the line number of the cursor's line, over the style of all line numbers.
+        The blanks before the line's other visual rows aren't in it."""
+        return self._style(lib.ta_cursor_line_number_style)
+
+    @cursor_line_number_style.setter
+    def cursor_line_number_style(self, style: Style) -> None:
+        self._call(lib.ta_set_cursor_line_number_style, style._core())
+
+    @property
     def selection_style(self) -> Style:
         """The style of selected text."""
         return self._style(lib.ta_selection_style)

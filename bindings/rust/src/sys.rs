@@ -367,11 +367,13 @@ unsafe extern "C" {
     pub fn ta_set_style(handle: *mut Handle, style: *const Style) -> u32;
     pub fn ta_set_cursor_style(handle: *mut Handle, style: *const Style) -> u32;
     pub fn ta_set_cursor_line_style(handle: *mut Handle, style: *const Style) -> u32;
+    pub fn ta_set_cursor_line_number_style(handle: *mut Handle, style: *const Style) -> u32;
     pub fn ta_set_selection_style(handle: *mut Handle, style: *const Style) -> u32;
     pub fn ta_set_search_style(handle: *mut Handle, style: *const Style) -> u32;
     pub fn ta_style(handle: *mut Handle, style: *mut Style) -> u32;
     pub fn ta_cursor_style(handle: *mut Handle, style: *mut Style) -> u32;
     pub fn ta_cursor_line_style(handle: *mut Handle, style: *mut Style) -> u32;
+    pub fn ta_cursor_line_number_style(handle: *mut Handle, style: *mut Style) -> u32;
     pub fn ta_selection_style(handle: *mut Handle, style: *mut Style) -> u32;
     pub fn ta_search_style(handle: *mut Handle, style: *mut Style) -> u32;
     pub fn ta_clear_mask_char(handle: *mut Handle) -> u32;

@@ -162,6 +162,8 @@ pub enum Call<'a> {
     SetCursorStyle(Style),
     /// `TextArea::set_cursor_line_style`
     SetCursorLineStyle(Style),
+    /// `TextArea::set_cursor_line_number_style`
+    SetCursorLineNumberStyle(Style),
     /// `TextArea::set_selection_style`
     SetSelectionStyle(Style),
     /// `TextArea::set_search_style`
@@ -242,6 +244,8 @@ pub enum Call<'a> {
     CursorStyle,
     /// `TextArea::cursor_line_style`
     CursorLineStyle,
+    /// `TextArea::cursor_line_number_style`
+    CursorLineNumberStyle,
     /// `TextArea::selection_style`
     SelectionStyle,
     /// `TextArea::search_style`

@@ -154,6 +154,7 @@ pub enum AppearanceCall<'a> {
     SetStyle(Style),
     SetCursorStyle(Style),
     SetCursorLineStyle(Style),
+    SetCursorLineNumberStyle(Style),
     SetSelectionStyle(Style),
     SetSearchStyle(Style),
     SetMaskChar(char),
@@ -204,6 +205,7 @@ pub enum ReadCall {
     Style,
     CursorStyle,
     CursorLineStyle,
+    CursorLineNumberStyle,
     SelectionStyle,
     SearchStyle,
     MaskChar,
@@ -309,6 +311,9 @@ pub fn topic_of(call: Call<'_>) -> Topic<'_>
         Call::SetCursorLineStyle(style) => Topic::Appearance(AppearanceCall::SetCursorLineStyle(
             style,
         )),
+        Call::SetCursorLineNumberStyle(style) => Topic::Appearance(
+            AppearanceCall::SetCursorLineNumberStyle(style),
+        ),
         Call::SetSelectionStyle(style) => Topic::Appearance(AppearanceCall::SetSelectionStyle(
             style,
         )),
@@ -354,6 +359,7 @@ pub fn topic_of(call: Call<'_>) -> Topic<'_>
         Call::Style => Topic::Read(ReadCall::Style),
         Call::CursorStyle => Topic::Read(ReadCall::CursorStyle),
         Call::CursorLineStyle => Topic::Read(ReadCall::CursorLineStyle),
+        Call::CursorLineNumberStyle => Topic::Read(ReadCall::CursorLineNumberStyle),
         Call::SelectionStyle => Topic::Read(ReadCall::SelectionStyle),
         Call::SearchStyle => Topic::Read(ReadCall::SearchStyle),
         Call::MaskChar => Topic::Read(ReadCall::MaskChar),

@@ -307,6 +307,10 @@ pub(crate) fn appearance_call(
             area.set_cursor_line_style(style);
             Ok(Answer::Done)
         }
+        AppearanceCall::SetCursorLineNumberStyle(style) => {
+            area.set_cursor_line_number_style(style);
+            Ok(Answer::Done)
+        }
         AppearanceCall::SetSelectionStyle(style) => {
             area.set_selection_style(style);
             Ok(Answer::Done)
@@ -390,6 +394,7 @@ pub(crate) fn read_call(area: &mut TextArea<'_>, call: ReadCall) -> Result<Answe
         ReadCall::Style => Ok(Answer::Style(area.style())),
         ReadCall::CursorStyle => Ok(Answer::Style(area.cursor_style())),
         ReadCall::CursorLineStyle => Ok(Answer::Style(area.cursor_line_style())),
+        ReadCall::CursorLineNumberStyle => Ok(Answer::Style(area.cursor_line_number_style())),
         ReadCall::SelectionStyle => Ok(Answer::Style(area.selection_style())),
         ReadCall::SearchStyle => Ok(Answer::Style(area.search_style())),
         ReadCall::MaskChar => Ok(Answer::Character(area.mask_char())),

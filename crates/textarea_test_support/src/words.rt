@@ -1,8 +1,11 @@
 //! Test commands: a text form for calls that scripts have no command for.
+mod plain;
+
 ghost use Rattle.std.specs.Prelude.{IfSome};
 ghost use Rattle.textarea_calls.specs.Possible.{CanBeMade};
 
 use crate::styles::style_named;
+use crate::words::plain::{reading, setting_style};
 use std::alloc::{AllocError, Global};
 use textarea_calls::Call;
 use textarea_data::cursor::CursorRenderMode;
@@ -89,47 +92,6 @@ fn call_without_arguments<'a>(name: &str, borrows: &'a Borrows) -> Option<Call<'
     })
 }
 
-// The call of this name that returns the cursor, the selection or an option of editing.
-fn reading<'a>(name: &str) -> Option<Call<'a>>
-    ensures { IfSome result CanBeMade }
-{
-    Some(match name {
-        "cursor" => Call::Cursor,
-        "is_empty" => Call::IsEmpty,
-        "is_selecting" => Call::IsSelecting,
-        "selection_range" => Call::SelectionRange,
-        "tab_length" => Call::TabLength,
-        "hard_tab_indent" => Call::HardTabIndent,
-        "max_histories" => Call::MaxHistories,
-        "undo_coalescing" => Call::UndoCoalescing,
-        "undo_grouping" => Call::UndoGrouping,
-        "wrap_mode" => Call::WrapMode,
-        _ => return reading_look(name),
-    })
-}
-
-// The call of this name that returns an option of drawing.
-fn reading_look<'a>(name: &str) -> Option<Call<'a>>
-    ensures { IfSome result CanBeMade }
-{
-    Some(match name {
-        "line_number_style" => Call::LineNumberStyle,
-        "placeholder_style" => Call::PlaceholderStyle,
-        "min_rows" => Call::MinRows,
-        "max_rows" => Call::MaxRows,
-        "mask_char" => Call::MaskChar,
-        "style" => Call::Style,
-        "cursor_style" => Call::CursorStyle,
-        "cursor_line_style" => Call::CursorLineStyle,
-        "selection_style" => Call::SelectionStyle,
-        "search_style" => Call::SearchStyle,
-        "cursor_render_mode" => Call::CursorRenderMode,
-        "alignment" => Call::Alignment,
-        "rendered_cursor_position" => Call::RenderedCursorPosition,
-        _ => return None,
-    })
-}
-
 // The call of this name and these arguments.
 fn call_with<'a>(name: &str, arguments: &'a str) -> Option<Call<'a>>
     ensures { IfSome result CanBeMade }
@@ -156,24 +118,7 @@ fn parsed_call<'a>(name: &str, arguments: &str) -> Option<Call<'a>>
         "atomic_range_at_cursor" => Call::AtomicRangeAtCursor(direction(arguments)?),
         "delete_atomic_range_at_cursor" => Call::DeleteAtomicRangeAtCursor(direction(arguments)?),
         "custom_highlight" => return highlight(arguments),
-        _ => return setting_style(name, arguments),
-    })
-}
-
-// The call of this name that sets a style.
-fn setting_style<'a>(name: &str, style: &str) -> Option<Call<'a>>
-    ensures { IfSome result CanBeMade }
-{
-    let style = style_named(style)?;
-    Some(match name {
-        "set_style" => Call::SetStyle(style),
-        "set_cursor_style" => Call::SetCursorStyle(style),
-        "set_cursor_line_style" => Call::SetCursorLineStyle(style),
-        "set_selection_style" => Call::SetSelectionStyle(style),
-        "set_search_style" => Call::SetSearchStyle(style),
-        "set_line_number_style" => Call::SetLineNumberStyle(style),
-        "set_placeholder_style" => Call::SetPlaceholderStyle(style),
-        _ => return None,
+        _ => return setting_style(name, style_named(arguments)?),
     })
 }
 

@@ -14,8 +14,8 @@ use Rattle.std.proofs.lemmas.Str.Ascii.{IsAscii-from_all}
 use Rattle.unicode_width.specs.Width.{char_width}
 use Rattle.textarea_screen.specs.declared.screen.style.Style.{Style}
 use Rattle.textarea_wrap.specs.Columns.{IsVisible, plain_width}
-use Rattle.textarea_highlight.specs.Highlights.{Highlights, Range, with_base, with_cursor_line, with_highlight, with_number, with_placeholder, with_segment}
-use Rattle.textarea_highlight.specs.Numbers.{number_span, number_text, placeholder_span, spaces}
+use Rattle.textarea_highlight.specs.Highlights.{Highlights, Range, with_base, with_cursor_line, with_highlight, with_segment}
+use Rattle.textarea_highlight.specs.Numbers.{number_text, spaces}
 use Rattle.textarea_highlight.specs.Borders.{search_rank}
 use Rattle.textarea_highlight.specs.Seen.{IsText, span_columns}
 use Rattle.textarea_highlight.specs.Texts.{text_bytes_of}
@@ -24,7 +24,7 @@ use Rattle.textarea_screen.specs.Text.{SpanView}
 use Rattle.textarea_view.specs.Prelude.{SceneState, VisualRow, highlights_of, holds_place, number_digits, number_width, segment_in, with_cursor, with_custom, with_match, with_range_segment}
 use Rattle.textarea_view.specs.Prelude.{with_row_number, with_search_matches, with_selected, with_selected_segment, byte_range, matches_in, searched_lines}
 use Rattle.textarea_view.specs.SceneDrawn.{AreNumbers}
-use Rattle.textarea_view.specs.SceneRows.{bare_row, match_range, with_line_number}
+use Rattle.textarea_view.specs.SceneRows.{bare_row, match_range, with_line_number, with_number_if}
 
 -- ---- later highlights add no spans in front
 
@@ -126,22 +126,17 @@ length-number number width few =
     )
 
 module _ (scene : SceneState) (row : VisualRow) (fits : row.line + 1 < 2 ^ 64) (few : length (decimal (row.line + 1)) ≤ number_digits scene) where
-  line-numbers : (first : Bool) → AreNumbers (cond first (with_number (bare_row scene row) row.line (number_digits scene) scene.look.line_number_style)
-      (with_placeholder (bare_row scene row) (number_digits scene) scene.look.line_number_style)).numbers (number_digits scene + 2)
+  line-numbers : (first : Bool) → AreNumbers (with_number_if first scene row (bare_row scene row)).numbers (number_digits scene + 2)
   line-numbers true =
-      visible-numbers (number_span row.line (number_digits scene) scene.look.line_number_style) (number_text (row.line + 1) (number_digits scene)) (number_digits scene + 2) refl
+      visible-numbers _ (number_text (row.line + 1) (number_digits scene)) (number_digits scene + 2) refl
       (visible-number (row.line + 1) (number_digits scene) fits) (length-number (row.line + 1) (number_digits scene) few)
   line-numbers false =
-      visible-numbers (placeholder_span (number_digits scene) scene.look.line_number_style) (spaces (number_digits scene + 2)) (number_digits scene + 2) refl
+      visible-numbers _ (spaces (number_digits scene + 2)) (number_digits scene + 2) refl
       (visible-spaces (number_digits scene + 2)) (length-spaces (number_digits scene + 2))
 
 row-numbers : (scene : SceneState) (row : VisualRow) → (scene.line_numbers ≡ true → (row.line + 1 < 2 ^ 64) × (length (decimal (row.line + 1)) ≤ number_digits scene)) → (numbered : Bool) → scene.line_numbers ≡ numbered →
     AreNumbers (cond numbered (with_line_number scene row (bare_row scene row)) (bare_row scene row)).numbers (line_number_columns numbered (length scene.rows.lines))
-row-numbers scene row few true is = by (row.start == 0)
-  where
-    by : (first : Bool) → AreNumbers (cond first (with_number (bare_row scene row) row.line (number_digits scene) scene.look.line_number_style)
-        (with_placeholder (bare_row scene row) (number_digits scene) scene.look.line_number_style)).numbers (number_digits scene + 2)
-    by first = line-numbers scene row (few is).0 (few is).1 first
+row-numbers scene row few true is = line-numbers scene row (few is).0 (few is).1 (row.start == 0)
 row-numbers scene row few false is = record { texts = All-nil IsText; columns = refl }
 
 pub are_numbers : (scene : SceneState) (row : VisualRow) → (scene.line_numbers ≡ true → (row.line + 1 < 2 ^ 64) × (length (decimal (row.line + 1)) ≤ number_digits scene)) →

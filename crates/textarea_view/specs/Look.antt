@@ -28,6 +28,7 @@ default_look = record {
   cursor_style = default_cursor_style;
   cursor_line_style = default_cursor_line_style;
   line_number_style = empty_style;
+  cursor_line_number_style = empty_style;
   selection_style = default_selection_style;
   search_style = default_search_style;
   alignment = Left;

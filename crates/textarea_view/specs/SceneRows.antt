@@ -6,6 +6,7 @@ use Rattle.std.specs.Option.{option_map, option_map_or}
 use Rattle.textarea_text.specs.Place.{Place, line_of}
 use Rattle.textarea_screen_map.specs.LineRows.{AreRowsOf}
 use Rattle.textarea_screen_map.specs.VisualRows.{VisualRow, row_at}
+use Rattle.textarea_screen.specs.Style.{patched}
 use Rattle.textarea_screen.specs.declared.screen.style.Style.{Style}
 use Rattle.textarea_search.specs.Matches.{match_spans}
 use Rattle.textarea_highlight.specs.Borders.{search_rank}
@@ -41,12 +42,22 @@ bare_row scene row = plain_row (row_bytes row) (cursor_cell scene.look) scene.ro
 abbrev pub number_digits : SceneState → ℕ
 number_digits scene = length (decimal (length scene.rows.lines))
 
--- the line number in a line's first row, as many blanks in its other rows
-abbrev pub with_line_number : SceneState → VisualRow → Highlights → Highlights
-with_line_number scene row h =
-    if row.start == 0
-    then with_number h row.line (number_digits scene) scene.look.line_number_style
+-- the number of the cursor's line is in a style of its own, over that of all numbers
+abbrev pub style_of_number : SceneState → ℕ → Style
+style_of_number scene line =
+    if scene.cursor.0 == line
+    then patched scene.look.line_number_style scene.look.cursor_line_number_style
+    else scene.look.line_number_style
+
+-- the line number if it is the line's first row, else as many blanks, which are in the style of all numbers
+abbrev pub with_number_if : Bool → SceneState → VisualRow → Highlights → Highlights
+with_number_if first scene row h =
+    if first
+    then with_number h row.line (number_digits scene) (style_of_number scene row.line)
     else with_placeholder h (number_digits scene) scene.look.line_number_style
+
+abbrev pub with_line_number : SceneState → VisualRow → Highlights → Highlights
+with_line_number scene row h = with_number_if (row.start == 0) scene row h
 
 abbrev pub with_row_number : SceneState → VisualRow → Highlights → Highlights
 with_row_number scene row h = if scene.line_numbers then with_line_number scene row h else h

@@ -16,6 +16,8 @@ pub struct Look {
     pub cursor_line_style: Style,
     /// The style of line numbers, if there are any.
     pub line_number_style: Style,
+    /// The style of the line number of the cursor's line, over that of all line numbers.
+    pub cursor_line_number_style: Style,
     /// The style of the selection.
     pub selection_style: Style,
     /// The style of the matches of the pattern.
@@ -38,6 +40,7 @@ impl Default for Look {
             cursor_style: Style::new().add_modifier(Modifier::REVERSED),
             cursor_line_style: Style::new().add_modifier(Modifier::UNDERLINED),
             line_number_style: Style::new(),
+            cursor_line_number_style: Style::new(),
             selection_style: Style::new().bg(Color::LightBlue),
             search_style: Style::new().bg(Color::Blue),
             alignment: Alignment::Left,

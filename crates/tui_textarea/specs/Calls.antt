@@ -94,11 +94,14 @@ result_of_call state (call.SearchForward at_cursor) = Flag (is_some (next_match 
 result_of_call state (call.SearchBack at_cursor) = Flag (is_some (previous_match state at_cursor))
 result_of_call state call.MatchCount = reported.Number (match_count state)
 result_of_call state call.MatchIndex = reported.NumberIfAny (match_index state)
+-- Styles: Written by tools/calls from crates/textarea_calls/calls.txt.
 result_of_call state call.Style = reported.Style state.drawing.look.style
 result_of_call state call.CursorStyle = reported.Style state.drawing.look.cursor_style
 result_of_call state call.CursorLineStyle = reported.Style state.drawing.look.cursor_line_style
+result_of_call state call.CursorLineNumberStyle = reported.Style state.drawing.look.cursor_line_number_style
 result_of_call state call.SelectionStyle = reported.Style state.drawing.look.selection_style
 result_of_call state call.SearchStyle = reported.Style state.drawing.look.search_style
+-- End of what tools/calls writes.
 result_of_call state call.MaskChar = reported.Character state.drawing.look.mask
 result_of_call state call.CursorRenderMode = reported.CursorRenderMode state.drawing.look.cursor_render_mode
 result_of_call state call.Alignment = reported.Alignment state.drawing.look.alignment
@@ -190,11 +193,14 @@ state_after state call.EndUndoGroup = undo_group_ended state
 state_after state call.EndRun = typing_ended state
 state_after state (call.SetNow time) = record state { time = as_nanos time }
 state_after state call.ClearAtomicRanges = ranges_cleared state
+-- Styles that are set: Written by tools/calls from crates/textarea_calls/calls.txt.
 state_after state (call.SetStyle style) = with_look_set state (record state.drawing.look { style = style })
 state_after state (call.SetCursorStyle style) = with_look_set state (record state.drawing.look { cursor_style = style })
 state_after state (call.SetCursorLineStyle style) = with_look_set state (record state.drawing.look { cursor_line_style = style })
+state_after state (call.SetCursorLineNumberStyle style) = with_look_set state (record state.drawing.look { cursor_line_number_style = style })
 state_after state (call.SetSelectionStyle style) = with_look_set state (record state.drawing.look { selection_style = style })
 state_after state (call.SetSearchStyle style) = with_look_set state (record state.drawing.look { search_style = style })
+-- End of what tools/calls writes.
 state_after state (call.SetMaskChar mask) = with_look_set state (record state.drawing.look { mask = Some mask })
 state_after state call.ClearMaskChar = with_look_set state (record state.drawing.look { mask = None })
 state_after state (call.SetCursorRenderMode mode) = with_look_set state (record state.drawing.look { cursor_render_mode = mode })

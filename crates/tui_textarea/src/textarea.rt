@@ -18,6 +18,7 @@ mod replacing;
 mod search;
 mod selection;
 pub mod settings;
+mod styles;
 mod surround;
 
 ghost use Rattle.std.specs.Prelude.{◌≡◌, ◌<◌, ◌≤◌, ◌↔◌, length, OnErr, OnOk, IfOk, IsTrue, [], string_bytes, vec_len};

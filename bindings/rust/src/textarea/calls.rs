@@ -613,8 +613,8 @@ impl TextArea<'_> {
     /// use tui_textarea::TextArea;
     ///
     /// let mut area = TextArea::from(["one"]);
-    /// area.set_style(Style::new().fg(Color::Yellow));
-    /// assert_eq!(area.style().fg, Some(Color::Yellow));
+    /// area.set_style(Style::new().bg(Color::Yellow));
+    /// assert_eq!(area.style().bg, Some(Color::Yellow));
     /// ```
     pub fn set_style(&mut self, style: impl Into<Style>) {
         let style = sys::Style::from(style.into());
@@ -628,8 +628,8 @@ impl TextArea<'_> {
     /// use tui_textarea::TextArea;
     ///
     /// let mut area = TextArea::from(["one"]);
-    /// area.set_cursor_style(Style::new().bg(Color::Cyan));
-    /// assert_eq!(area.cursor_style().bg, Some(Color::Cyan));
+    /// area.set_cursor_style(Style::new().bg(Color::Yellow));
+    /// assert_eq!(area.cursor_style().bg, Some(Color::Yellow));
     /// ```
     pub fn set_cursor_style(&mut self, style: impl Into<Style>) {
         let style = sys::Style::from(style.into());
@@ -653,6 +653,23 @@ impl TextArea<'_> {
             .is(|h| unsafe { sys::ta_set_cursor_line_style(h, &style) });
     }
 
+    /// Sets the style of the line number of the cursor's line, over the style of all line numbers.
+    /// The blanks before the line's other visual rows aren't in it.
+    ///
+    /// ```
+    /// use tui_textarea::ratatui::style::{Color, Style};
+    /// use tui_textarea::TextArea;
+    ///
+    /// let mut area = TextArea::from(["one"]);
+    /// area.set_cursor_line_number_style(Style::new().bg(Color::Yellow));
+    /// assert_eq!(area.cursor_line_number_style().bg, Some(Color::Yellow));
+    /// ```
+    pub fn set_cursor_line_number_style(&mut self, style: impl Into<Style>) {
+        let style = sys::Style::from(style.into());
+        self.core
+            .is(|h| unsafe { sys::ta_set_cursor_line_number_style(h, &style) });
+    }
+
     /// Sets the style of selected text.
     ///
     /// ```
@@ -660,8 +677,8 @@ impl TextArea<'_> {
     /// use tui_textarea::TextArea;
     ///
     /// let mut area = TextArea::from(["one"]);
-    /// area.set_selection_style(Style::new().bg(Color::LightBlue));
-    /// assert_eq!(area.selection_style().bg, Some(Color::LightBlue));
+    /// area.set_selection_style(Style::new().bg(Color::Yellow));
+    /// assert_eq!(area.selection_style().bg, Some(Color::Yellow));
     /// ```
     pub fn set_selection_style(&mut self, style: impl Into<Style>) {
         let style = sys::Style::from(style.into());
@@ -868,6 +885,24 @@ impl TextArea<'_> {
         let mut style = BLANK;
         self.core
             .is(|h| unsafe { sys::ta_cursor_line_style(h, &mut style) });
+        style.into()
+    }
+
+    /// Returns the style of the line number of the cursor's line, over the style of all line
+    /// numbers.
+    ///
+    /// ```
+    /// use tui_textarea::ratatui::style::{Color, Style};
+    /// use tui_textarea::TextArea;
+    ///
+    /// let mut area = TextArea::from(["one"]);
+    /// area.set_cursor_line_number_style(Style::new().bg(Color::Yellow));
+    /// assert_eq!(area.cursor_line_number_style().bg, Some(Color::Yellow));
+    /// ```
+    pub fn cursor_line_number_style(&self) -> Style {
+        let mut style = BLANK;
+        self.core
+            .is(|h| unsafe { sys::ta_cursor_line_number_style(h, &mut style) });
         style.into()
     }
 

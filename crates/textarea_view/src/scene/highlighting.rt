@@ -1,5 +1,6 @@
 //! The highlights of a row, added one after another.
 ghost use Rattle.std.specs.Prelude.{◌≡◌, ◌<◌, chars, encode_utf8_all, length, OnOk};
+ghost use Rattle.textarea_view.specs.SceneRows.{style_of_number};
 ghost use Rattle.textarea_view.specs.Prelude.{row_total, row_at, row_of_texts, IsPlaceOf, byte_place, from_in, holds_place, matches_in, with_row_number, segment_in, searched_lines, to_in, with_cursor, with_customs, with_search_matches, with_range_segment, with_selected};
 
 use super::row_context::RowContext;
@@ -42,9 +43,23 @@ impl RowContext<'_, '_> {
         }
         let digits = num_digits(scene.rows.lines().len());
         if displayed.before.is_empty() {
-            return highlighter.line_number(displayed.line, digits, scene.look.line_number_style);
+            let style = self.number_style(displayed.line);
+            return highlighter.line_number(displayed.line, digits, style);
         }
         highlighter.line_number_placeholder(digits, scene.look.line_number_style)
+    }
+
+    // Returns the style of a line's number: of the cursor's line its own, over that of all numbers.
+    fn number_style(&self, line: usize) -> Style
+        ensures { result ≡ style_of_number self.now line }
+    {
+        let scene = self.scene;
+        let style = scene.look.line_number_style;
+        if scene.cursor.0 == line {
+            style.patch(scene.look.cursor_line_number_style)
+        } else {
+            style
+        }
     }
 
     // Adds the cursor's cell in the cursor's row, and its line's style in all rows of that line.

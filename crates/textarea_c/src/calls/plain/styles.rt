@@ -67,6 +67,28 @@ pub extern "C" fn ta_set_cursor_line_style(
     })
 }
 
+/// Sets the style of the line number of the cursor's line, over the style of all line numbers. The
+/// blanks before the line's other visual rows aren't in it.
+///
+/// Statuses: ok, invalid argument (a colour's kind does not exist), empty handle.
+#[unsafe(no_mangle)]
+pub extern "C" fn ta_set_cursor_line_number_style(
+    handle: &mut Handle,
+    alloc: Global,
+    style: &CStyle,
+) -> u32
+    ensures { Calls handle.old.stored.content result handle.new.stored.content
+        (λ a b. MakesSettingBy (style_of_numbers style.now) call.SetCursorLineNumberStyle result a b) }
+{
+    on!(handle, alloc, editor => match style.read() {
+        Some(style) => {
+            editor.area.set_cursor_line_number_style(style);
+            OK
+        }
+        None => INVALID_ARGUMENT,
+    })
+}
+
 /// Sets the style of selected text.
 ///
 /// Statuses: ok, invalid argument (a colour's kind does not exist), empty handle.
@@ -152,6 +174,27 @@ pub extern "C" fn ta_cursor_line_style(
 {
     on!(handle, alloc, editor => {
         *style = CStyle::of(editor.area.cursor_line_style());
+        OK
+    })
+}
+
+/// Returns the style of the line number of the cursor's line, over the style of all line numbers.
+///
+/// Statuses: ok, empty handle.
+#[unsafe(no_mangle)]
+pub extern "C" fn ta_cursor_line_number_style(
+    handle: &mut Handle,
+    alloc: Global,
+    style: &mut CStyle,
+) -> u32
+    ensures unchanged { Calls handle.old.stored.content result handle.new.stored.content
+        (λ a b. OnlyReads result a b) }
+    ensures value { IfSome handle.old.stored.content
+        (λ a. style_of_numbers style.new ≡ style_in (result_of_call a.area call.CursorLineNumberStyle)) }
+    ensures unwritten { result ≢ 0 → style.new ≡ style.old }
+{
+    on!(handle, alloc, editor => {
+        *style = CStyle::of(editor.area.cursor_line_number_style());
         OK
     })
 }
