@@ -236,29 +236,29 @@ starts_replaced document outdents tab row before passed gap opening (line ∷ re
         ∙ ap (λ t. (gap ++ opening) ++ t) whole
         ∙ append_assoc gap opening (characters (tab ++ drop count line) ++ following new)
 
-over_text : (document : DocumentState) (outdents : Bool) (stretches : List (ℕ × ℕ)) (symbols : List Symbol) (now : ℕ)
-    → (shifted_over document outdents stretches symbols now).text ≡ (all_replaced document stretches symbols now).text
+over_text : (document : DocumentState) (outdents : Bool) (stretches : List (ℕ × ℕ)) (tab : List ℕ) (now : ℕ)
+    → (shifted_over document outdents stretches tab now).text ≡ (all_replaced document stretches (characters tab) now).text
 unfolding shifted_over all_replaced
-over_text document outdents [] symbols now = refl
-over_text document outdents (stretch ∷ rest) symbols now = refl
+over_text document outdents [] tab now = refl
+over_text document outdents (stretch ∷ rest) tab now = refl
 
 length_with_starts : (document : DocumentState) (outdents : Bool) (tab : List ℕ) (row : ℕ) (rows : List (List ℕ)) → length (with_starts document outdents tab row rows) ≡ length rows
 length_with_starts document outdents tab row [] = refl
 length_with_starts document outdents tab row (line ∷ rest) = ap (λ n. n + 1) (length_with_starts document outdents tab (row + 1) rest)
 
 pub shifted_text : (document : DocumentState) (outdents : Bool) (tab : List ℕ) (now : ℕ) → IsSound document
-    → (lines_shifted document outdents (characters tab) now).text ≡ joined (with_starts document outdents tab 0 (lines document.text))
+    → (lines_shifted document outdents tab now).text ≡ joined (with_starts document outdents tab 0 (lines document.text))
 shifted_text document outdents tab now h =
     let rows = lines document.text in
     let stretches = line_stretches document outdents in
-    over_text document outdents stretches (characters tab) now
+    over_text document outdents stretches tab now
     ∙ replaced_text document stretches (characters tab) now h (lines_replaceable document outdents)
     ∙ ap (λ t. with_replaced t 0 stretches (characters tab)) (sym (joined-lines document.text) ∙ joined_is rows)
     ∙ starts_replaced document outdents tab 0 0 0 [] [] rows refl
     ∙ sym (joined_is (with_starts document outdents tab 0 rows))
 
 pub shifted_lines : (document : DocumentState) (outdents : Bool) (tab : List ℕ) (now : ℕ) → IsSound document
-    → lines (lines_shifted document outdents (characters tab) now).text ≡ with_starts document outdents tab 0 (lines document.text)
+    → lines (lines_shifted document outdents tab now).text ≡ with_starts document outdents tab 0 (lines document.text)
 shifted_lines document outdents tab now h =
     let rows = lines document.text in
     ap lines (shifted_text document outdents tab now h)

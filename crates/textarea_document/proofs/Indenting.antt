@@ -1,9 +1,11 @@
 -- What is replaced at the starts of lines.
-use Rattle.std.proofs.Common.{◌≡◌, ◌∙◌, ◌<◌, ◌≤◌, ◌+◌, ℕ, zero, suc, Bool, true, false, cond, List, [], ◌∷◌, ◌++◌, String, length, drop, take, get_or, ap, arith, refl, sym}
-use Rattle.std.proofs.lemmas.List.{drop_more, drop_all}
+use Rattle.std.proofs.Common.{◌≡◌, ◌∙◌, ◌<◌, ◌≤◌, ◌+◌, ◌==◌, ℕ, zero, suc, Bool, true, false, cond, not, List, [], ◌∷◌, ◌++◌, String, length, drop, take, get_or, Option, None, Some, IfSome, option_map, ap, arith, refl, sym}
+use Rattle.std.proofs.lemmas.Bool.{eqb-true}
+use Rattle.std.proofs.lemmas.List.{drop_all, drop_more, nil_from_length}
 use Rattle.textarea_text.proofs.PlaceLemmas.{length-fragment_line}
-use Rattle.textarea_document.specs.Prelude.{AtomicRange, DocumentState, line_of, lines_of, size_of}
-use Rattle.textarea_document.specs.Indenting.{free_spaces, is_free_space, replaced_columns, stretch_from, stretches_from}
+use Rattle.textarea_document.specs.Prelude.{AtomicRange, DocumentState, Place, Symbol, characters, line_of, lines_of, size_limit, size_of}
+use Rattle.textarea_document.specs.Indenting.{free_spaces, is_free_space, line_stretches, lines_shifted, moved_near, replaced_columns, shifted_over, shifted_place, shifts_lines, stretch_from, stretches_from}
+use Rattle.textarea_document.specs.Replacing.{all_replaced}
 
 -- ---- spaces at the start of a line
 
@@ -51,3 +53,42 @@ pub stretches_more : (document : DocumentState) (outdents : Bool) (row before : 
     ≡ so_far ++ (stretch_from before (replaced_columns document outdents row (line_of rows row)) ++ stretches_from document outdents (row + 1) (before + length (line_of rows row) + 1) (drop (row + 1) rows))
 stretches_more document outdents row before rows so_far within =
     ap (λ (left : List (List ℕ)). so_far ++ stretches_from document outdents row before left) (drop_more rows row [] within)
+
+pub room_for : (before : ℕ) (found : Option ℕ) → before ≤ size_limit → IfSome found (λ count. count ≤ 255) → IfSome found (λ count. before + count ≤ 18446744073709551615)
+room_for before None small within = tt
+room_for before (Some count) small within = omega (arith, small, within)
+
+-- ---- lines that are indented or outdented
+
+pub shifts_is : (document : DocumentState) (outdents : Bool) (stretches : List (ℕ × ℕ)) (empty : Bool) → stretches ≡ line_stretches document outdents → (length stretches == 0) ≡ empty
+    → not empty ≡ shifts_lines document outdents
+shifts_is document outdents stretches empty is e = ap not (sym e) ∙ ap (λ (s : List (ℕ × ℕ)). not (length s == 0)) is
+
+-- without stretches nothing changes
+pub none_shifted : (document : DocumentState) (outdents : Bool) (stretches : List (ℕ × ℕ)) (tab : List ℕ) (now : ℕ) → stretches ≡ line_stretches document outdents → (length stretches == 0) ≡ true
+    → document ≡ lines_shifted document outdents tab now
+unfolding shifted_over
+none_shifted document outdents stretches tab now is e =
+    ap (λ (s : List (ℕ × ℕ)). shifted_over document outdents s tab now) (sym (nil_from_length stretches (eqb-true (length stretches) 0 e)) ∙ is)
+
+some_shifted : (document : DocumentState) (outdents : Bool) (stretches : List (ℕ × ℕ)) (tab : List ℕ) (now : ℕ) → (length stretches == 0) ≡ false
+    → moved_near (all_replaced document stretches (characters tab) now) (shifted_place document outdents (length tab) document.cursor) (option_map (shifted_place document outdents (length tab)) document.anchor)
+    ≡ shifted_over document outdents stretches tab now
+unfolding shifted_over
+some_shifted document outdents [] tab now some = absurd cc
+some_shifted document outdents (stretch ∷ rest) tab now some = refl
+
+-- with some they are replaced, and then cursor and anchor move
+pub shifted_as : (document replaced new : DocumentState) (outdents : Bool) (stretches : List (ℕ × ℕ)) (tab : List ℕ) (symbols : List Symbol) (columns now : ℕ) (cursor : Place) (anchor : Option Place)
+    → stretches ≡ line_stretches document outdents → (length stretches == 0) ≡ false → symbols ≡ characters tab → columns ≡ length tab → cursor ≡ shifted_place document outdents columns document.cursor
+    → anchor ≡ option_map (shifted_place document outdents columns) document.anchor → replaced ≡ all_replaced document stretches symbols now → new ≡ moved_near replaced cursor anchor
+    → new ≡ lines_shifted document outdents tab now
+shifted_as document replaced new outdents stretches tab symbols columns now cursor anchor stretches_are some symbols_are columns_are cursor_is anchor_is replaced_is new_is =
+    new_is
+    ∙ ap (λ (d : DocumentState). moved_near d cursor anchor) replaced_is
+    ∙ ap (λ (s : List Symbol). moved_near (all_replaced document stretches s now) cursor anchor) symbols_are
+    ∙ ap (λ (p : Place). moved_near (all_replaced document stretches (characters tab) now) p anchor) cursor_is
+    ∙ ap (λ (p : Option Place). moved_near (all_replaced document stretches (characters tab) now) (shifted_place document outdents columns document.cursor) p) anchor_is
+    ∙ ap (λ n. moved_near (all_replaced document stretches (characters tab) now) (shifted_place document outdents n document.cursor) (option_map (shifted_place document outdents n) document.anchor)) columns_are
+    ∙ some_shifted document outdents stretches tab now some
+    ∙ ap (λ (s : List (ℕ × ℕ)). shifted_over document outdents s tab now) stretches_are

@@ -3,7 +3,7 @@ use Rattle.std.specs.Prelude.{Bool, ℕ, ◌+◌, ◌-◌, ◌==◌, ◌&&◌, n
 use Rattle.textarea_text.specs.Between.{clip}
 use Rattle.textarea_text.specs.Place.{Place, line_of}
 use Rattle.textarea_text.specs.Splice.{Splice}
-use Rattle.textarea_text.specs.Text.{Symbol, Character, lines}
+use Rattle.textarea_text.specs.Text.{characters, lines}
 use Rattle.textarea_data.specs.declared.range.AtomicRange.{AtomicRange}
 use Rattle.textarea_data.specs.declared.range.AtomicDeleteDirection.TheVariants.{Forward}
 use Rattle.textarea_ranges.specs.Lookup.{range_at_place}
@@ -121,25 +121,28 @@ abbrev pub moved_near : DocumentState → Place → Option Place → DocumentSta
 moved_near document cursor anchor =
     anchored (after_move document (clip (lines document.text) cursor) None) anchor
 
--- the stretches are replaced, and cursor and anchor move with the text; without any nothing changes
-unfoldable pub shifted_over : DocumentState → Bool → List (ℕ × ℕ) → List Symbol → ℕ → DocumentState
-shifted_over document outdents [] symbols now = document
-shifted_over document outdents (stretch ∷ rest) symbols now =
-    let place = shifted_place document outdents (length symbols) in
-    moved_near (all_replaced document (stretch ∷ rest) symbols now) (place document.cursor) (option_map place document.anchor)
+-- the stretches are replaced by the tab, and cursor and anchor move with the text; without any
+-- nothing changes
+unfoldable pub shifted_over : DocumentState → Bool → List (ℕ × ℕ) → List ℕ → ℕ → DocumentState
+shifted_over document outdents [] tab now = document
+shifted_over document outdents (stretch ∷ rest) tab now =
+    let place = shifted_place document outdents (length tab) in
+    moved_near (all_replaced document (stretch ∷ rest) (characters tab) now) (place document.cursor) (option_map place document.anchor)
 
-abbrev pub lines_shifted : DocumentState → Bool → List Symbol → ℕ → DocumentState
-lines_shifted document outdents symbols now =
-    shifted_over document outdents (line_stretches document outdents) symbols now
+abbrev pub lines_shifted : DocumentState → Bool → List ℕ → ℕ → DocumentState
+lines_shifted document outdents tab now =
+    shifted_over document outdents (line_stretches document outdents) tab now
 
 -- a tab character, or as many spaces as the tab length
-abbrev pub tab_symbols : DocumentState → Bool → List Symbol
-tab_symbols document hard =
-    if hard then Character 9 ∷ [] else replicate document.layout.settings.tab_len (Character 32)
+abbrev pub tab_characters : Bool → ℕ → List ℕ
+tab_characters hard tab_length = if hard then 9 ∷ [] else replicate tab_length 32
+
+abbrev pub tab_of : DocumentState → Bool → List ℕ
+tab_of document hard = tab_characters hard document.layout.settings.tab_len
 
 -- a tab is inserted at the start of each line of the selection, or of the cursor's line without one
 abbrev pub lines_indented : DocumentState → Bool → ℕ → DocumentState
-lines_indented document hard now = lines_shifted document false (tab_symbols document hard) now
+lines_indented document hard now = lines_shifted document false (tab_of document hard) now
 
 -- a tab, or spaces in its place, are removed there
 abbrev pub lines_outdented : DocumentState → ℕ → DocumentState
@@ -147,9 +150,12 @@ lines_outdented document now = lines_shifted document true [] now
 
 -- ---- their splices
 
+abbrev pub shift_splices : DocumentState → Bool → List ℕ → ℕ → List Splice
+shift_splices document outdents tab now =
+    all_splices document (line_stretches document outdents) (characters tab) now
+
 abbrev pub indent_splices : DocumentState → Bool → ℕ → List Splice
-indent_splices document hard now =
-    all_splices document (line_stretches document false) (tab_symbols document hard) now
+indent_splices document hard now = shift_splices document false (tab_of document hard) now
 
 abbrev pub outdent_splices : DocumentState → ℕ → List Splice
-outdent_splices document now = all_splices document (line_stretches document true) [] now
+outdent_splices document now = shift_splices document true [] now

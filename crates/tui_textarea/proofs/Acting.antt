@@ -21,7 +21,7 @@ use Rattle.textarea_text.specs.Text.{characters_of, lines, lines_of, text_of}
 use Rattle.textarea_text.proofs.Befores.{text_place}
 use Rattle.textarea_document.specs.Changes.{no_changes, with_lines_replaced}
 use Rattle.textarea_document.specs.DocumentState.{DocumentState, fresh_document}
-use Rattle.textarea_document.specs.Indenting.{line_stretches, tab_symbols}
+use Rattle.textarea_document.specs.Indenting.{line_stretches, tab_of}
 use Rattle.textarea_document.specs.Outcomes.{after_edit, after_redo, after_undo}
 use Rattle.textarea_document.specs.Selection.{lines_duplicated, selection_duplication}
 use Rattle.textarea_document.specs.Sound.{IsSound}
@@ -139,7 +139,7 @@ module _ (By Own : Fact) (by : Reckoning By) (past : Past Own) where
       given _ (moved By by document (after_edit document (selection_duplication document) false old.time) (lines_duplicated document old.time) (selection_duplication document ∷ []) refl
       (sound_duplicated document old.time h) once)
   by_state old call.IndentLines h =
-      given _ (lines_shifted_by By by old.document false (line_stretches old.document false) (tab_symbols old.document old.settings.hard_tab_indent) old.time h)
+      given _ (lines_shifted_by By by old.document false (line_stretches old.document false) (tab_of old.document old.settings.hard_tab_indent) old.time h)
   by_state old call.OutdentLines h = given _ (lines_shifted_by By by old.document true (line_stretches old.document true) [] old.time h)
   by_state old (call.ReplaceRange from to text) h = given _ (range_by By by old.document from to (fragment_symbols (chars text.now)) old.time h)
   by_state old (call.ReplaceMatch text) h = given _ (match_by By by old (match_at_cursor old) (fragment_symbols (chars text.now)) h)

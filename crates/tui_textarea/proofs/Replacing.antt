@@ -3,7 +3,7 @@ use Rattle.std.proofs.Common.{◌≡◌, ◌<◌, ℕ, ◌-◌, Bool, true, fals
 use Rattle.textarea_text.specs.Between.{clip}
 use Rattle.textarea_text.specs.Place.{IsPlace, Place, is_before}
 use Rattle.textarea_text.specs.Splice.{Splice}
-use Rattle.textarea_text.specs.Text.{Symbol, lines}
+use Rattle.textarea_text.specs.Text.{Symbol, characters, lines}
 use Rattle.textarea_history.specs.Groups.{is_open}
 use Rattle.textarea_history.specs.Log.{group_ended}
 use Rattle.textarea_search.specs.declared.search.direction.Direction.TheVariants as toward
@@ -137,15 +137,15 @@ module _ (By : DocumentState → List Splice → DocumentState → Type 0) (by :
       (sound_from there (option_map (clip rows) anchor) (sound_at after (clip rows cursor) None h.1 (clip_is_place rows cursor some) tt) (clipped after.text anchor some)) h
 
   -- the starts of lines are replaced
-  pub lines_shifted_by : (document : DocumentState) (outdents : Bool) (stretches : List (ℕ × ℕ)) (symbols : List Symbol) (now : ℕ) → IsSound document
-      → Keeps document (all_splices document stretches symbols now) (shifted_over document outdents stretches symbols now)
+  pub lines_shifted_by : (document : DocumentState) (outdents : Bool) (stretches : List (ℕ × ℕ)) (tab : List ℕ) (now : ℕ) → IsSound document
+      → Keeps document (all_splices document stretches (characters tab) now) (shifted_over document outdents stretches tab now)
   unfolding shifted_over
-  lines_shifted_by document outdents [] symbols now h = kept By by document document refl h
-  lines_shifted_by document outdents (stretch ∷ rest) symbols now h =
-      let place = shifted_place document outdents (length symbols) in
-      let after = all_replaced document (stretch ∷ rest) symbols now in
-      near_by document after (all_splices document (stretch ∷ rest) symbols now) (place document.cursor) (option_map place document.anchor)
-      (all_by document (stretch ∷ rest) symbols now h)
+  lines_shifted_by document outdents [] tab now h = kept By by document document refl h
+  lines_shifted_by document outdents (stretch ∷ rest) tab now h =
+      let place = shifted_place document outdents (length tab) in
+      let after = all_replaced document (stretch ∷ rest) (characters tab) now in
+      near_by document after (all_splices document (stretch ∷ rest) (characters tab) now) (place document.cursor) (option_map place document.anchor)
+      (all_by document (stretch ∷ rest) (characters tab) now h)
 
   -- ---- a match and then a search
 

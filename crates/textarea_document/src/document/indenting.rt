@@ -1,8 +1,8 @@
 //! Lines that are indented and outdented: the text at their starts is replaced, in one group.
-ghost use Rattle.std.specs.Prelude.{◌≡◌, ◌≤◌, ◌+◌, ◌++◌, false, true, length, replicate, take, option_map, IfOk, IfSome, OnErr, OnOk};
+ghost use Rattle.std.specs.Prelude.{◌≡◌, ◌≤◌, ◌+◌, ◌++◌, false, true, length, take, option_map, IfOk, IfSome, OnErr, OnOk};
 ghost use Rattle.std.specs.Arc.{arc_value};
-ghost use Rattle.textarea_document.specs.Prelude.{as_nanos, chars, characters, size_limit, text_of, AreApart, IsPlace, Character};
-ghost use Rattle.textarea_document.specs.Indenting.{begins_with_tab, free_spaces, indent_columns, is_free, is_free_space, line_stretches, lines_indented, lines_outdented, lines_shifted, moved_near, outdent_columns, replaced_columns, shifted_by, shifted_column, shifted_place, shifts_lines, unless_zero, stretch_from, tab_symbols};
+ghost use Rattle.textarea_document.specs.Prelude.{as_nanos, chars, characters, lines, text_of, AreApart, IsPlace};
+ghost use Rattle.textarea_document.specs.Indenting.{begins_with_tab, free_spaces, indent_columns, is_free, is_free_space, line_stretches, lines_indented, lines_outdented, lines_shifted, moved_near, outdent_columns, replaced_columns, shifted_column, shifted_place, shifts_lines, stretch_from, tab_characters, tab_of, unless_zero, with_starts};
 
 use crate::document::Document;
 use std::alloc::{AllocError, Global};
@@ -25,10 +25,11 @@ impl Document {
         ensures indented { IfOk result (λ indented. indented ≡ shifts_lines self.old false) }
         ensures ok { OnOk result (self.new ≡ lines_indented self.old hard (as_nanos now)) }
         ensures err { OnErr result (self.new ≡ self.old) }
+        ensures lines { OnOk result (lines self.new.text
+            ≡ with_starts self.old false (tab_of self.old hard) 0 (lines self.old.text)) }
     {
-        let columns = self.tab_columns(hard);
-        let tab = self.tab_fragment(hard)?;
-        self.shift_lines(false, &tab, columns, now)
+        let tab = tab_characters(hard, self.layout_settings().tab_len);
+        self.shift_lines(false, tab, now)
     }
 
     /// Removes a tab from the start of each line of the selection, or of the cursor's line without
@@ -39,33 +40,38 @@ impl Document {
         ensures outdented { IfOk result (λ outdented. outdented ≡ shifts_lines self.old true) }
         ensures ok { OnOk result (self.new ≡ lines_outdented self.old (as_nanos now)) }
         ensures err { OnErr result (self.new ≡ self.old) }
+        ensures lines { OnOk result
+            (lines self.new.text ≡ with_starts self.old true [] 0 (lines self.old.text)) }
     {
-        let nothing = spaces_as_fragment(self.allocator(), 0)?;
-        self.shift_lines(true, &nothing, 0, now)
+        self.shift_lines(true, "", now)
     }
 
-    // Replaces the start of each line that is indented or outdented by the fragment, which has this
-    // many columns, and returns whether there was such a line.
+    // Replaces the start of each line that is indented or outdented by the tab, and returns whether
+    // there was such a line.
     fn shift_lines(
         &mut self,
         outdents: bool,
-        fragment_lines: &Arc<Vec<String>>,
-        columns: u8,
+        tab: &str,
         now: Duration,
     ) -> Result<bool, AllocError>
-        requires columns { columns ≡ length (text_of (arc_value fragment_lines.now).items) }
+        requires short { length (chars tab.now) ≤ 255 }
         ensures shifted { IfOk result (λ shifted. shifted ≡ shifts_lines self.old outdents) }
-        ensures ok { OnOk result (self.new ≡ lines_shifted self.old outdents
-            (text_of (arc_value fragment_lines.now).items) (as_nanos now)) }
+        ensures ok { OnOk result
+            (self.new ≡ lines_shifted self.old outdents (chars tab.now) (as_nanos now)) }
         ensures err { OnErr result (self.new ≡ self.old) }
+        ensures lines { OnOk result (lines self.new.text
+            ≡ with_starts self.old outdents (chars tab.now) 0 (lines self.old.text)) }
     {
+        self.is_sound();
         let stretches = self.line_stretches(outdents)?;
         if stretches.is_empty() {
             return Ok(false);
         }
+        let columns = column_count(tab);
         let cursor = self.shifted_place(outdents, columns, self.cursor());
         let anchor = self.shifted_anchor(outdents, columns);
-        self.replace_all(stretches.as_slice(), fragment_lines, now)?;
+        let fragment_lines = line_as_fragment(self.allocator(), tab)?;
+        self.replace_all(stretches.as_slice(), &fragment_lines, now)?;
         self.move_near(cursor, anchor);
         Ok(true)
     }
@@ -104,8 +110,9 @@ impl Document {
     }
 
     // Returns where a position is after the starts of lines are replaced.
-    fn shifted_place(&self, outdents: bool, columns: u8, place: (usize, usize)) -> (usize, usize)
-        requires { IsPlace self.now.text place }
+    fn shifted_place(&self, outdents: bool, columns: usize, place: (usize, usize)) -> (usize, usize)
+        requires place { IsPlace self.now.text place }
+        requires short { columns ≤ 255 }
         ensures { result ≡ shifted_place self.now outdents columns place }
     {
         self.text_layout.places_are_small();
@@ -119,7 +126,8 @@ impl Document {
     }
 
     // The same for where the selection began.
-    fn shifted_anchor(&self, outdents: bool, columns: u8) -> Option<(usize, usize)>
+    fn shifted_anchor(&self, outdents: bool, columns: usize) -> Option<(usize, usize)>
+        requires { columns ≤ 255 }
         ensures { result ≡ option_map (shifted_place self.now outdents columns) self.now.anchor }
     {
         let anchor = self.anchor()?;
@@ -133,29 +141,6 @@ impl Document {
         let place = clip(self.lines(), cursor);
         self.move_to(place, None);
         self.set_clipped_anchor(anchor);
-    }
-
-    // The number of characters of a tab.
-    fn tab_columns(&self, hard: bool) -> u8
-        ensures { result ≡ length (tab_symbols self.now hard) }
-    {
-        if hard {
-            1
-        } else {
-            self.layout_settings().tab_len
-        }
-    }
-
-    // Returns a tab as a fragment.
-    fn tab_fragment(&self, hard: bool) -> Result<Arc<Vec<String>>, AllocError>
-        ensures { IfOk result (λ fragment_lines.
-            text_of (arc_value fragment_lines).items ≡ tab_symbols self.now hard) }
-    {
-        if hard {
-            return line_as_fragment(self.allocator(), "\t");
-        }
-        let tab_length = self.layout_settings().tab_len;
-        spaces_as_fragment(self.allocator(), tab_length)
     }
 }
 
@@ -174,14 +159,14 @@ fn push_stretch(
     Ok(())
 }
 
-fn shifted_column(stays: bool, count: usize, columns: u8, column: usize) -> usize
-    requires { column ≤ size_limit }
+fn shifted_column(stays: bool, count: usize, columns: usize, column: usize) -> usize
+    requires { column + columns ≤ usize.MAX }
     ensures { result ≡ shifted_column stays count columns column }
 {
     if stays && column == 0 {
         return 0;
     }
-    column.saturating_sub(count) + usize::from(columns)
+    column.saturating_sub(count) + columns
 }
 
 fn unless_zero(count: usize) -> Option<usize>
@@ -255,12 +240,15 @@ fn is_free(ranges: &[AtomicRange], place: (usize, usize)) -> bool
     range_at_place(ranges, place, AtomicDeleteDirection::Forward).is_none()
 }
 
-// Returns a fragment of one line, of `count` spaces.
-fn spaces_as_fragment(alloc: Global, count: u8) -> Result<Arc<Vec<String>>, AllocError>
-    ensures { IfOk result (λ fragment_lines.
-        text_of (arc_value fragment_lines).items ≡ replicate count (Character 32)) }
+// Returns a tab character, or as many spaces as the tab length.
+fn tab_characters(hard: bool, tab_length: u8) -> &'static str
+    ensures value { chars result.now ≡ tab_characters hard tab_length }
+    ensures short { length (chars result.now) ≤ 255 }
 {
-    line_as_fragment(alloc, spaces(count))
+    if hard {
+        return "\t";
+    }
+    spaces(tab_length)
 }
 
 // Returns a fragment of this one line.
