@@ -1,51 +1,64 @@
 -- What is replaced at the starts of lines.
-use Rattle.std.proofs.Common.{◌≡◌, ◌∙◌, ◌<◌, ◌≤◌, ◌+◌, ◌==◌, ℕ, zero, suc, Bool, true, false, cond, not, List, [], ◌∷◌, ◌++◌, String, length, drop, take, get_or, Option, None, Some, IfSome, option_map, ap, arith, refl, sym}
+use Rattle.std.proofs.Common.{◌≡◌, ◌∙◌, ◌<◌, ◌≤◌, ◌+◌, ◌==◌, ℕ, zero, suc, Bool, true, false, cond, not, List, [], ◌∷◌, ◌++◌, String, length, drop, take, get_or, replicate, Option, None, Some, IfSome, option_map, ap, arith, refl, subst, sym}
+use Rattle.std.specs.Prelude.{All}
 use Rattle.std.proofs.lemmas.Bool.{eqb-true}
 use Rattle.std.proofs.lemmas.List.{drop_all, drop_more, nil_from_length}
+use Rattle.std.proofs.lemmas.List.Elements.{All-cons, All-nil}
+use Rattle.std.proofs.lemmas.Str.{chars-IsAscii}
+use Rattle.std.proofs.lemmas.Str.Ascii.{IsAscii-from_all}
 use Rattle.textarea_text.proofs.PlaceLemmas.{length-fragment_line}
-use Rattle.textarea_document.specs.Prelude.{AtomicRange, DocumentState, Place, Symbol, characters, line_of, lines_of, size_limit, size_of}
+use Rattle.textarea_document.specs.Prelude.{AtomicRange, DocumentState, Place, Symbol, characters, chars, line_of, lines_of, size_limit, size_of}
 use Rattle.textarea_document.specs.Indenting.{free_spaces, is_free_space, line_stretches, lines_shifted, moved_near, replaced_columns, shifted_over, shifted_place, shifts_lines, stretch_from, stretches_from}
 use Rattle.textarea_document.specs.Replacing.{all_replaced}
 
+-- ---- the characters of a tab
+
+all_spaces : (n : ℕ) → All (λ b. b < 128) (replicate n 32)
+all_spaces zero = All-nil (λ b. b < 128)
+all_spaces (suc n) = All-cons (λ b. b < 128) 32 (replicate n 32) (omega arith) (all_spaces n)
+
+pub chars_of_spaces : (n : ℕ) → chars (replicate n 32) ≡ replicate n 32
+chars_of_spaces n = chars-IsAscii (replicate n 32) (IsAscii-from_all (replicate n 32) (all_spaces n))
+
+pub chars_of_tab : chars (9 ∷ []) ≡ 9 ∷ []
+chars_of_tab = chars-IsAscii (9 ∷ []) (IsAscii-from_all (9 ∷ []) (All-cons (λ b. b < 128) 9 [] (omega arith) (All-nil (λ b. b < 128))))
+
 -- ---- spaces at the start of a line
 
-by_space : (ranges : List AtomicRange) (row column c : ℕ) (line : List ℕ) (is : Bool) → is_free_space ranges (row, column) c ≡ is
-    → free_spaces ranges row column (c ∷ line) ≡ cond is (free_spaces ranges row (column + 1) line + 1) 0
-by_space ranges row column c line is e = ap (λ (b : Bool). cond b (free_spaces ranges row (column + 1) line + 1) 0) e
+by_space : (ranges : List AtomicRange) (row column c : ℕ) (line : List ℕ) (is : Bool) → column < length line → c ≡ get_or line column c → is_free_space ranges (row, column) c ≡ is
+    → free_spaces ranges row column (drop column line) ≡ cond is (free_spaces ranges row (column + 1) (drop (column + 1) line) + 1) 0
+by_space ranges row column c line is within at e =
+    ap (free_spaces ranges row column) (drop_more line column c within ∙ ap (λ d. d ∷ drop (column + 1) line) (sym at))
+    ∙ ap (λ (b : Bool). cond b (free_spaces ranges row (column + 1) (drop (column + 1) line) + 1) 0) e
 
 -- a space more
 pub space_more : (ranges : List AtomicRange) (row column c whole : ℕ) (line : List ℕ) → column < length line → c ≡ get_or line column c → is_free_space ranges (row, column) c ≡ true
     → column + free_spaces ranges row column (drop column line) ≡ whole → column + 1 + free_spaces ranges row (column + 1) (drop (column + 1) line) ≡ whole
-space_more ranges row column c whole line within is free h =
-    omega (
-      arith,
-      h,
-      ap (free_spaces ranges row column) (drop_more line column c within ∙ ap (λ d. d ∷ drop (column + 1) line) (sym is)),
-      by_space ranges row column c (drop (column + 1) line) true free,
-    )
+space_more ranges row column c whole line within at free h =
+    let more : free_spaces ranges row column (drop column line) ≡ free_spaces ranges row (column + 1) (drop (column + 1) line) + 1 = by_space ranges row column c line true within at free in
+    omega (arith, h, more)
 
 -- another character
 pub space_none : (ranges : List AtomicRange) (row column c whole : ℕ) (line : List ℕ) → column < length line → c ≡ get_or line column c → is_free_space ranges (row, column) c ≡ false
     → column + free_spaces ranges row column (drop column line) ≡ whole → column ≡ whole
-space_none ranges row column c whole line within is free h =
-    omega (
-      arith,
-      h,
-      ap (free_spaces ranges row column) (drop_more line column c within ∙ ap (λ d. d ∷ drop (column + 1) line) (sym is)),
-      by_space ranges row column c (drop (column + 1) line) false free,
-    )
+space_none ranges row column c whole line within at free h =
+    let none : free_spaces ranges row column (drop column line) ≡ 0 = by_space ranges row column c line false within at free in
+    omega (arith, h, none)
 
 pub spaces_done : (ranges : List AtomicRange) (row column whole : ℕ) (line : List ℕ) → length line ≤ column
     → column + free_spaces ranges row column (drop column line) ≡ whole → column ≡ whole
 spaces_done ranges row column whole line past h =
-    omega (arith, h, ap (free_spaces ranges row column) (drop_all column line past))
+    let none : free_spaces ranges row column (drop column line) ≡ 0 = ap (free_spaces ranges row column) (drop_all column line past) in
+    omega (arith, h, none)
 
 -- ---- the stretches of lines
 
 pub size_left : {Z : Type 0} (lines : List (String Z)) (i : ℕ) → i < length lines → length (line_of (lines_of lines) i) + 1 + size_of (drop (i + 1) lines) ≤ size_of (drop i lines)
 size_left [] i within = absurd (omega (arith, within))
 size_left (line ∷ lines) zero within = omega (arith, length-fragment_line (line ∷ []) 0 (omega arith))
-size_left (line ∷ lines) (suc i) within = size_left lines i (omega (arith, within))
+size_left (line ∷ lines) (suc i) within =
+    let next : suc (i + 1) ≡ suc i + 1 = omega arith in
+    subst (λ n. length (line_of (lines_of lines) i) + 1 + size_of (drop n (line ∷ lines)) ≤ size_of (drop i lines)) next (size_left lines i (omega (arith, within)))
 
 -- one line more
 pub stretches_more : (document : DocumentState) (outdents : Bool) (row before : ℕ) (rows : List (List ℕ)) (so_far : List (ℕ × ℕ)) → row < length rows

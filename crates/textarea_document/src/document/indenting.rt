@@ -1,5 +1,5 @@
 //! Lines that are indented and outdented: the text at their starts is replaced, in one group.
-ghost use Rattle.std.specs.Prelude.{◌≡◌, ◌≤◌, ◌+◌, ◌++◌, false, true, length, take, option_map, IfOk, IfSome, OnErr, OnOk};
+ghost use Rattle.std.specs.Prelude.{◌≡◌, ◌≤◌, ◌+◌, [], ◌++◌, false, true, length, take, option_map, IfOk, IfSome, OnErr, OnOk};
 ghost use Rattle.std.specs.Arc.{arc_value};
 ghost use Rattle.textarea_document.specs.Prelude.{as_nanos, chars, characters, lines, text_of, AreApart, IsPlace};
 ghost use Rattle.textarea_document.specs.Indenting.{begins_with_tab, free_spaces, indent_columns, is_free, is_free_space, line_stretches, lines_indented, lines_outdented, lines_shifted, moved_near, outdent_columns, replaced_columns, shifted_column, shifted_place, shifts_lines, stretch_from, tab_characters, tab_of, unless_zero, with_starts};

@@ -1,7 +1,7 @@
 //! Lines that are indented and outdented, each call one group of edits.
-ghost use Rattle.std.specs.Prelude.{◌≡◌, IfOk, OnErr, OnOk, false, true};
-ghost use Rattle.textarea_document.specs.Indenting.{lines_indented, lines_outdented, shifts_lines};
-ghost use Rattle.tui_textarea.specs.Prelude.{with_document};
+ghost use Rattle.std.specs.Prelude.{◌≡◌, IfOk, OnErr, OnOk, [], false, true};
+ghost use Rattle.textarea_document.specs.Indenting.{lines_indented, lines_outdented, shifts_lines, tab_of, with_starts};
+ghost use Rattle.tui_textarea.specs.Prelude.{lines, with_document};
 
 use crate::textarea::TextArea;
 use std::alloc::AllocError;
@@ -20,6 +20,10 @@ impl TextArea<'_> {
         ensures ok { OnOk result (self.new ≡ with_document self.old (lines_indented
             self.old.document self.old.settings.hard_tab_indent self.old.time)) }
         ensures err { OnErr result (self.new ≡ self.old) }
+        ensures lines { OnOk result (lines self.new.document.text
+            ≡ with_starts self.old.document false
+            (tab_of self.old.document self.old.settings.hard_tab_indent) 0
+            (lines self.old.document.text)) }
     {
         self.document
             .indent_lines(self.settings.hard_tab_indent, self.time)
@@ -35,6 +39,8 @@ impl TextArea<'_> {
         ensures ok { OnOk result (self.new ≡ with_document self.old
             (lines_outdented self.old.document self.old.time)) }
         ensures err { OnErr result (self.new ≡ self.old) }
+        ensures lines { OnOk result (lines self.new.document.text
+            ≡ with_starts self.old.document true [] 0 (lines self.old.document.text)) }
     {
         self.document.outdent_lines(self.time)
     }
