@@ -1,4 +1,4 @@
-use Rattle.std.proofs.Common.{◌∙◌, [], ◌∷◌, ap, arith, cond, length, replicate, sym}
+use Rattle.std.proofs.Common.{◌∙◌, ℕ, [], ◌∷◌, ap, arith, cond, length, replicate, sym}
 use Rattle.std.proofs.lemmas.List.{length-replicate}
 use Rattle.textarea_document.specs.Prelude.{chars}
 use Rattle.textarea_document.proofs.Indenting.{chars_of_spaces, chars_of_tab}
@@ -15,4 +15,4 @@ returns-clause-value c =
     ap chars c.spaces.ensures ∙ chars_of_spaces c.args.tab_length ∙ sym (ap (λ b. cond b (9 ∷ []) (replicate c.args.tab_length 32)) c.if-hard.false)
 
 pub returns-clause-short : goal.returns-clause-short
-returns-clause-short c = omega (arith, ap (λ bs. length (chars bs)) c.spaces.ensures, ap length (chars_of_spaces c.args.tab_length), length-replicate c.args.tab_length 32)
+returns-clause-short c = omega (arith, ap (λ bs. length (chars bs)) c.spaces.ensures, ap length (chars_of_spaces c.args.tab_length), length-replicate {A = ℕ} c.args.tab_length 32)
