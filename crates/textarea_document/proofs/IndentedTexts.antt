@@ -93,6 +93,7 @@ starts_fit document outdents row line = by (is_selected_row document row) outden
   where
     tab_length : ℕ
     tab_length = document.layout.settings.tab_len
+
     by : (selected outdents : Bool) → IfSome (cond selected (cond outdents (unless_zero (outdent_columns document.ranges tab_length row line)) (indent_columns tab_length line)) None) (IsStart document.ranges row line)
     by false outdents = tt
     by true true = some_fits (IsStart document.ranges row line) (outdent_columns document.ranges tab_length row line) (outdent_fits document.ranges tab_length row line)
@@ -171,6 +172,7 @@ stretches_are document outdents row before passed place gap opening (line ∷ re
   where
     others : List (ℕ × ℕ)
     others = stretches_from document outdents (row + 1) (before + length line + 1) rest
+
     by : (found : Option ℕ) → IfSome found (IsStart document.ranges row line)
         → ((row before passed : ℕ) (place : Place) (gap opening : List Symbol) → passed + (length gap + length opening) ≡ before → end place (gap ++ opening) ≡ (row, 0)
         → AreStretches document.ranges place (gap ++ opened opening rest) passed (stretches_from document outdents row before rest))
@@ -221,8 +223,10 @@ starts_replaced document outdents tab row before passed gap opening (line ∷ re
   where
     others : List (ℕ × ℕ)
     others = stretches_from document outdents (row + 1) (before + length line + 1) rest
+
     new : List (List ℕ)
     new = with_starts document outdents tab (row + 1) rest
+
     by : (found : Option ℕ) → IfSome found (IsStart document.ranges row line)
         → ((row before passed : ℕ) (gap opening : List Symbol) → passed + (length gap + length opening) ≡ before
         → with_replaced (gap ++ opened opening rest) passed (stretches_from document outdents row before rest) (characters tab) ≡ gap ++ opened opening (with_starts document outdents tab row rest))

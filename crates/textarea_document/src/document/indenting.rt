@@ -48,12 +48,7 @@ impl Document {
 
     // Replaces the start of each line that is indented or outdented by the tab, and returns whether
     // there was such a line.
-    fn shift_lines(
-        &mut self,
-        outdents: bool,
-        tab: &str,
-        now: Duration,
-    ) -> Result<bool, AllocError>
+    fn shift_lines(&mut self, outdents: bool, tab: &str, now: Duration) -> Result<bool, AllocError>
         requires short { length (chars tab.now) ≤ 255 }
         ensures shifted { IfOk result (λ shifted. shifted ≡ shifts_lines self.old outdents) }
         ensures ok { OnOk result
@@ -172,11 +167,7 @@ fn shifted_column(stays: bool, count: usize, columns: usize, column: usize) -> u
 fn unless_zero(count: usize) -> Option<usize>
     ensures { result ≡ unless_zero count }
 {
-    if count == 0 {
-        None
-    } else {
-        Some(count)
-    }
+    if count == 0 { None } else { Some(count) }
 }
 
 fn indent_columns(tab_length: u8, line: &str) -> Option<usize>
