@@ -476,6 +476,22 @@ uint32_t ta_is_empty(ta_handle_t *handle);
  * Statuses: ok, out of memory, empty handle. */
 uint32_t ta_duplicate_line(ta_handle_t *handle);
 
+/** Inserts a tab at the start of the cursor's line, or of each line of the selection, as one group
+ * of edits, and returns whether it inserted one. Empty lines are left, and at tab length 0 all
+ * lines. Cursor and selection move with the text, but a selection that begins at column 0 still
+ * does.
+ *
+ * Statuses: ok (true), false, out of memory, empty handle. */
+uint32_t ta_indent_lines(ta_handle_t *handle);
+
+/** Removes a tab character, or spaces, at most as many as the tab length, from the start of the
+ * cursor's line, or of each line of the selection, as one group of edits, and returns whether
+ * there were any. It removes no character of an atomic range. Cursor and selection move with the
+ * text.
+ *
+ * Statuses: ok (true), false, out of memory, empty handle. */
+uint32_t ta_outdent_lines(ta_handle_t *handle);
+
 /** Inserts the character with this number at the cursor, or at the end of the atomic range that
  * strictly contains it, as typed; a line feed and a carriage return break the line.
  *

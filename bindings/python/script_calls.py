@@ -6,6 +6,8 @@ METHODS = {
     "insert_tab": (None, True),
     "paste": (None, True),
     "duplicate_line": (None, False),
+    "indent_lines": (None, True),
+    "outdent_lines": (None, True),
     "delete_char": (None, True),
     "delete_next_char": (None, True),
     "delete_newline": (None, True),

@@ -32,6 +32,20 @@ class Calls(Core):
         the break. Cursor and selection move down into the copy, and keep their columns."""
         self._edit(lib.ta_duplicate_line)
 
+    def indent_lines(self) -> bool:
+        """Inserts a tab at the start of the cursor's line, or of each line of the selection, as one
+        group of edits, and returns whether it inserted one. Empty lines are left, and at tab length
+        0 all lines. Cursor and selection move with the text, but a selection that begins at column
+        0 still does."""
+        return self._edit(lib.ta_indent_lines)
+
+    def outdent_lines(self) -> bool:
+        """Removes a tab character, or spaces, at most as many as the tab length, from the start of
+        the cursor's line, or of each line of the selection, as one group of edits, and returns
+        whether there were any. It removes no character of an atomic range. Cursor and selection
+        move with the text."""
+        return self._edit(lib.ta_outdent_lines)
+
     def delete_char(self) -> bool:
         """Removes the atomic range that ends at the cursor or strictly contains it, or else the
         character before the cursor, or at column 0 the line break. Returns whether it removed

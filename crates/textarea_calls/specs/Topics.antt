@@ -38,6 +38,8 @@ call_of_insert (insert.InsertPasted text) = call.InsertPasted text
 call_of_insert insert.InsertTab = call.InsertTab
 call_of_insert insert.Paste = call.Paste
 call_of_insert insert.DuplicateLine = call.DuplicateLine
+call_of_insert insert.IndentLines = call.IndentLines
+call_of_insert insert.OutdentLines = call.OutdentLines
 call_of_insert (insert.ReplaceRange from to text) = call.ReplaceRange from to text
 call_of_insert (insert.SetLines lines cursor) = call.SetLines lines cursor
 

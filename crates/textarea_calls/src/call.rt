@@ -27,6 +27,10 @@ pub enum Call<'a> {
     Paste,
     /// `TextArea::duplicate_line`
     DuplicateLine,
+    /// `TextArea::indent_lines`
+    IndentLines,
+    /// `TextArea::outdent_lines`
+    OutdentLines,
     /// `TextArea::replace_range`
     ReplaceRange {
         /// The one end of the text that is replaced (row, column).

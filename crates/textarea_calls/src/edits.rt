@@ -22,6 +22,8 @@ impl Call<'_> {
             | Call::InsertTab
             | Call::Paste
             | Call::DuplicateLine
+            | Call::IndentLines
+            | Call::OutdentLines
             | Call::ReplaceRange { .. }
             | Call::SetLines { .. }
             | Call::DeleteChar

@@ -40,6 +40,8 @@ pub enum InsertCall<'a> {
     InsertTab,
     Paste,
     DuplicateLine,
+    IndentLines,
+    OutdentLines,
     ReplaceRange {
         from: (usize, usize),
         to: (usize, usize),
@@ -227,6 +229,8 @@ pub fn topic_of(call: Call<'_>) -> Topic<'_>
         Call::InsertTab => Topic::Insert(InsertCall::InsertTab),
         Call::Paste => Topic::Insert(InsertCall::Paste),
         Call::DuplicateLine => Topic::Insert(InsertCall::DuplicateLine),
+        Call::IndentLines => Topic::Insert(InsertCall::IndentLines),
+        Call::OutdentLines => Topic::Insert(InsertCall::OutdentLines),
         Call::ReplaceRange { from, to, text } => Topic::Insert(InsertCall::ReplaceRange {
             from,
             to,

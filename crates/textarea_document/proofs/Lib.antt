@@ -4,7 +4,9 @@ pub mod UndoGroups
 pub mod UndoLaw
 pub mod Orders
 pub mod Replacing
+pub mod Indenting
 pub mod ReplacedTexts
+pub mod IndentedTexts
 pub mod Betweens
 pub mod Ranges
 pub mod Sounds

@@ -14,5 +14,6 @@ pub mod RangesOverSplices
 pub mod Splices
 pub mod Replacing
 pub mod ReplacedText
+pub mod Indenting
 pub mod Target
 pub mod Prelude

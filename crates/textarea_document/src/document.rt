@@ -3,6 +3,7 @@ mod changes;
 mod draft;
 mod edits;
 mod groups;
+mod indenting;
 pub mod insertions;
 mod laws;
 mod next_symbol;

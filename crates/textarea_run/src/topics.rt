@@ -36,6 +36,8 @@ pub(crate) fn insert_call(
         InsertCall::InsertTab => area.insert_tab().map(Answer::Flag),
         InsertCall::Paste => area.paste().map(Answer::Flag),
         InsertCall::DuplicateLine => area.duplicate_line().map(|()| Answer::Done),
+        InsertCall::IndentLines => area.indent_lines().map(Answer::Flag),
+        InsertCall::OutdentLines => area.outdent_lines().map(Answer::Flag),
         InsertCall::ReplaceRange { from, to, text } => area
             .replace_range(from, to, text)
             .map(Answer::Flag),

@@ -34,6 +34,8 @@ bare_commands =
     ∷ (codes "insert_tab", without_arguments call.InsertTab)
     ∷ (codes "paste", without_arguments call.Paste)
     ∷ (codes "duplicate_line", without_arguments call.DuplicateLine)
+    ∷ (codes "indent_lines", without_arguments call.IndentLines)
+    ∷ (codes "outdent_lines", without_arguments call.OutdentLines)
     ∷ (codes "delete_char", without_arguments call.DeleteChar)
     ∷ (codes "delete_next_char", without_arguments call.DeleteNextChar)
     ∷ (codes "delete_newline", without_arguments call.DeleteNewline)

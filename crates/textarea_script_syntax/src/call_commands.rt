@@ -25,6 +25,8 @@ pub fn call_without_arguments(name: &str) -> Option<Call<'static>>
         "insert_tab" => Some(Call::InsertTab),
         "paste" => Some(Call::Paste),
         "duplicate_line" => Some(Call::DuplicateLine),
+        "indent_lines" => Some(Call::IndentLines),
+        "outdent_lines" => Some(Call::OutdentLines),
         "delete_char" => Some(Call::DeleteChar),
         "delete_next_char" => Some(Call::DeleteNextChar),
         "delete_newline" => Some(Call::DeleteNewline),

@@ -21,6 +21,7 @@ use Rattle.textarea_text.specs.Text.{characters_of, lines, lines_of, text_of}
 use Rattle.textarea_text.proofs.Befores.{text_place}
 use Rattle.textarea_document.specs.Changes.{no_changes, with_lines_replaced}
 use Rattle.textarea_document.specs.DocumentState.{DocumentState, fresh_document}
+use Rattle.textarea_document.specs.Indenting.{line_stretches, tab_of}
 use Rattle.textarea_document.specs.Outcomes.{after_edit, after_redo, after_undo}
 use Rattle.textarea_document.specs.Selection.{lines_duplicated, selection_duplication}
 use Rattle.textarea_document.specs.Sound.{IsSound}
@@ -42,7 +43,7 @@ use Rattle.tui_textarea.specs.Search.{after_search, next_match, previous_match}
 use Rattle.tui_textarea.specs.Selection.{IsInsertOutOfMemory, unselected}
 use Rattle.tui_textarea.specs.State.{State}
 use Rattle.tui_textarea.proofs.FoundPlaces.{match_is_place}
-use Rattle.tui_textarea.proofs.Replacing.{all_by, match_by, range_by, search_unchanged}
+use Rattle.tui_textarea.proofs.Replacing.{all_by, lines_shifted_by, match_by, range_by, search_unchanged}
 use Rattle.tui_textarea.proofs.SoundStates.{sound_at, sound_cursor, sound_from, sound_goes, sound_ranges, sound_search, sound_settings, sound_unanchored}
 use Rattle.textarea_document.proofs.UndoGroups.{sound_redo, sound_undo}
 use Rattle.tui_textarea.proofs.Stepping.{Reckoning, after_by, ahead_by, before_by, break_by, char_by, cleared_by, copied_by, cursor_range_by, cut_by, edited, kept, moved}
@@ -137,6 +138,9 @@ module _ (By Own : Fact) (by : Reckoning By) (past : Past Own) where
       let once = edited By by document (selection_duplication document) false old.time h fits (duplication_splits_none document h) in
       given _ (moved By by document (after_edit document (selection_duplication document) false old.time) (lines_duplicated document old.time) (selection_duplication document ∷ []) refl
       (sound_duplicated document old.time h) once)
+  by_state old call.IndentLines h =
+      given _ (lines_shifted_by By by old.document false (line_stretches old.document false) (tab_of old.document old.settings.hard_tab_indent) old.time h)
+  by_state old call.OutdentLines h = given _ (lines_shifted_by By by old.document true (line_stretches old.document true) [] old.time h)
   by_state old (call.ReplaceRange from to text) h = given _ (range_by By by old.document from to (fragment_symbols (chars text.now)) old.time h)
   by_state old (call.ReplaceMatch text) h = given _ (match_by By by old (match_at_cursor old) (fragment_symbols (chars text.now)) h)
   by_state old (call.ReplaceAll text) h = given _ (all_by By by old.document (replaceable old) (fragment_symbols (chars text.now)) old.time h)

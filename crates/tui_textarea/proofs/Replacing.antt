@@ -1,14 +1,15 @@
 -- Replacements lead by their splices to sound documents.
-use Rattle.std.proofs.Common.{◌≡◌, ℕ, ◌-◌, true, false, List, [], ◌∷◌, ◌++◌, Option, None, Some, IfSome, ap, arith, refl, sym, not}
+use Rattle.std.proofs.Common.{◌≡◌, ◌<◌, ℕ, ◌-◌, Bool, true, false, List, [], ◌∷◌, ◌++◌, length, Option, None, Some, IfSome, option_map, ap, arith, refl, sym, not}
 use Rattle.textarea_text.specs.Between.{clip}
 use Rattle.textarea_text.specs.Place.{IsPlace, Place, is_before}
 use Rattle.textarea_text.specs.Splice.{Splice}
-use Rattle.textarea_text.specs.Text.{Symbol, lines}
+use Rattle.textarea_text.specs.Text.{Symbol, characters, lines}
 use Rattle.textarea_history.specs.Groups.{is_open}
 use Rattle.textarea_history.specs.Log.{group_ended}
 use Rattle.textarea_search.specs.declared.search.direction.Direction.TheVariants as toward
 use Rattle.textarea_search.specs.declared.search.text_matches.TextMatch.{TextMatch}
 use Rattle.textarea_document.specs.DocumentState.{DocumentState}
+use Rattle.textarea_document.specs.Indenting.{moved_near, shifted_over, shifted_place}
 use Rattle.textarea_document.specs.Outcomes.{after_move}
 use Rattle.textarea_document.specs.Replacing.{ahead_end, ahead_replaced, ahead_start, all_replaced, all_splices, begun, begun_at_start, each_replaced, each_splices, ended_after, range_replaced, range_splices}
 use Rattle.textarea_document.specs.Replacing.{stretch_end, stretch_removal, stretch_removed, stretch_replaced, stretch_splices, stretch_start}
@@ -21,7 +22,7 @@ use Rattle.tui_textarea.specs.Search.{after_search, next_match}
 use Rattle.tui_textarea.specs.State.{State, with_document}
 use Rattle.tui_textarea.proofs.Cases.{by_both, by_test}
 use Rattle.tui_textarea.proofs.FoundPlaces.{match_is_place}
-use Rattle.tui_textarea.proofs.SoundStates.{sound_at, sound_search}
+use Rattle.tui_textarea.proofs.SoundStates.{clipped, sound_at, sound_from, sound_search}
 use Rattle.tui_textarea.proofs.Stepping.{Reckoning, between_by, kept, layout_and_ranges, moved, symbols_by}
 use Rattle.tui_textarea.proofs.Targets.{clip_is_place, index_is_place}
 
@@ -124,6 +125,27 @@ module _ (By : DocumentState → List Splice → DocumentState → Type 0) (by :
       ended_by document after (all_splices document stretches symbols now)
       (then_by document (begun_at_start document) after [] (all_splices document stretches symbols now)
       (start_by document h) (λ sound. each_by (begun_at_start document) 0 stretches symbols now sound))
+
+  -- cursor and anchor move near other positions
+  near_by : (document after : DocumentState) (splices : List Splice) (cursor : Place) (anchor : Option Place) → Keeps document splices after
+      → Keeps document splices (moved_near after cursor anchor)
+  near_by document after splices cursor anchor h =
+      let rows = lines after.text in
+      let some : 0 < length rows = omega (arith, h.1.cursor.0) in
+      let there = after_move after (clip rows cursor) None in
+      moved By by document after (moved_near after cursor anchor) splices refl
+      (sound_from there (option_map (clip rows) anchor) (sound_at after (clip rows cursor) None h.1 (clip_is_place rows cursor some) tt) (clipped after.text anchor some)) h
+
+  -- the starts of lines are replaced
+  pub lines_shifted_by : (document : DocumentState) (outdents : Bool) (stretches : List (ℕ × ℕ)) (tab : List ℕ) (now : ℕ) → IsSound document
+      → Keeps document (all_splices document stretches (characters tab) now) (shifted_over document outdents stretches tab now)
+  unfolding shifted_over
+  lines_shifted_by document outdents [] tab now h = kept By by document document refl h
+  lines_shifted_by document outdents (stretch ∷ rest) tab now h =
+      let place = shifted_place document outdents (length tab) in
+      let after = all_replaced document (stretch ∷ rest) (characters tab) now in
+      near_by document after (all_splices document (stretch ∷ rest) (characters tab) now) (place document.cursor) (option_map place document.anchor)
+      (all_by document (stretch ∷ rest) (characters tab) now h)
 
   -- ---- a match and then a search
 

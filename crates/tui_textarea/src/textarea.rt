@@ -4,6 +4,7 @@ mod changes;
 mod constructors;
 mod edits;
 mod grouping;
+mod indenting;
 mod input;
 pub(crate) mod laws;
 mod layout;

@@ -18,6 +18,8 @@ pub fn call(area: &mut TextArea, name: &str, words: &str) -> Option<&'static str
         "insert_tab" => flag(area.insert_tab()),
         "paste" => flag(area.paste()),
         "duplicate_line" => done(area.duplicate_line()),
+        "indent_lines" => flag(area.indent_lines()),
+        "outdent_lines" => flag(area.outdent_lines()),
         "delete_char" => flag(area.delete_char()),
         "delete_next_char" => flag(area.delete_next_char()),
         "delete_newline" => flag(area.delete_newline()),

@@ -82,6 +82,32 @@ impl TextArea<'_> {
         Ok(())
     }
 
+    /// Inserts a tab at the start of the cursor's line, or of each line of the selection, as one
+    /// group of edits, and returns whether it inserted one. Empty lines are left, and at tab length
+    /// 0 all lines. Cursor and selection move with the text, but a selection that begins at column
+    /// 0 still does.
+    pub fn indent_lines(&mut self) -> bool {
+        must(self.try_indent_lines())
+    }
+
+    /// As `indent_lines`, but returns that memory ran out.
+    pub fn try_indent_lines(&mut self) -> Result<bool, OutOfMemory> {
+        self.edit(|h| unsafe { sys::ta_indent_lines(h) })
+    }
+
+    /// Removes a tab character, or spaces, at most as many as the tab length, from the start of the
+    /// cursor's line, or of each line of the selection, as one group of edits, and returns whether
+    /// there were any. It removes no character of an atomic range. Cursor and selection move with
+    /// the text.
+    pub fn outdent_lines(&mut self) -> bool {
+        must(self.try_outdent_lines())
+    }
+
+    /// As `outdent_lines`, but returns that memory ran out.
+    pub fn try_outdent_lines(&mut self) -> Result<bool, OutOfMemory> {
+        self.edit(|h| unsafe { sys::ta_outdent_lines(h) })
+    }
+
     /// Removes the atomic range that ends at the cursor or strictly contains it, or else the
     /// character before the cursor, or at column 0 the line break. Returns whether it removed text.
     ///

@@ -118,7 +118,7 @@ impl Document {
     }
 
     // Sets the selection's beginning to the nearest position of the text.
-    fn set_clipped_anchor(&mut self, anchor: Option<(usize, usize)>)
+    pub(super) fn set_clipped_anchor(&mut self, anchor: Option<(usize, usize)>)
         ensures { self.new ≡ anchored self.old anchor }
     {
         self.anchor = anchor.map(|place| clip(self.lines(), place));
