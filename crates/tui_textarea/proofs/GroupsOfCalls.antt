@@ -1,10 +1,11 @@
 -- The edits of a group, and the undo that takes them back.
-use Rattle.std.proofs.Common.{◌≡◌, ◌∙◌, ◌+◌, ◌-◌, ◌<◌, ◌≤◌, ◌&&◌, ◌||◌, ℕ, zero, suc, Bool, true, false, cond, List, [], ◌∷◌, ◌++◌, length, take, drop, get_or, ap, arith, refl, replicate, subst, sym}
+use Rattle.std.proofs.Common.{◌≡◌, ◌∙◌, ◌+◌, ◌-◌, ◌<◌, ◌≤◌, ◌&&◌, ◌||◌}
+use Rattle.std.proofs.Common.{ℕ, zero, suc, Bool, true, false, cond, List, [], ◌∷◌, ◌++◌, length, take, drop, get_or, ap, arith, refl, replicate, subst, sym}
 use Rattle.std.proofs.Math.Bool.{and-false}
 use Rattle.std.proofs.Math.Seq.{drop-append_seam}
 use Rattle.std.proofs.lemmas.Bool.{eqb-true}
 use Rattle.std.proofs.lemmas.List.{append_assoc, drop-append-le, get_or-append-add, get_or-replicate, length-append, length-drop, length-replicate, replicate-append-replicate, take_all}
-use Rattle.textarea_text.specs.Splice.{Fits, IsTextBefore, Splice, applied, inverse}
+use Rattle.textarea_text.specs.Splice.{IsTextBefore, Splice, applied, inverse}
 use Rattle.textarea_text.specs.Text.{Symbol}
 use Rattle.textarea_text.proofs.TextPlaces.{takes_back}
 use Rattle.textarea_history.specs.Groups.{group_count, grouped_before, grouped_first, is_filled, is_forgotten, with_edit}

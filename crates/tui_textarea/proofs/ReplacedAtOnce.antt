@@ -1,5 +1,5 @@
 -- One undo takes a replacement back: its removals and insertions are one group.
-use Rattle.std.proofs.Common.{◌≡◌, ◌∙◌, ◌+◌, ◌-◌, ◌<◌, ◌≤◌, ℕ, Bool, true, false, cond, List, [], ◌∷◌, ◌++◌, length, Option, None, Some, not, ap, arith, refl, subst, sym}
+use Rattle.std.proofs.Common.{◌≡◌, ◌∙◌, ◌+◌, ◌-◌, ◌*◌, ◌<◌, ◌≤◌, ℕ, false, cond, List, [], ◌∷◌, ◌++◌, length, Option, None, Some, not, ap, arith, refl, subst, sym}
 use Rattle.std.proofs.lemmas.List.{append-nil, append_assoc, length-append}
 use Rattle.textarea_text.specs.Fragment.{fragment_symbols}
 use Rattle.std.specs.Str.{chars}
@@ -24,7 +24,7 @@ use Rattle.textarea_document.proofs.Orders.{index_before}
 use Rattle.textarea_document.proofs.Sounds.{sound_begun, sound_edited, start_is_place}
 use Rattle.textarea_document.proofs.StepLaw.{step_keeps}
 use Rattle.tui_textarea.specs.Calls.{call_splices, state_after}
-use Rattle.tui_textarea.specs.GroupLaw.{IsReplacement, IsReplacementUndoneAtOnce}
+use Rattle.tui_textarea.specs.GroupLaw.{IsReplacement, IsReplacementUndoneAtOnce, MakesFewEdits}
 use Rattle.tui_textarea.specs.Replacing.{end_of_match, is_empty_match, match_at_cursor, match_replaced_by, match_splices_by, replaceable, start_of_match, with_range_replaced}
 use Rattle.tui_textarea.specs.Search.{after_search, next_match}
 use Rattle.tui_textarea.specs.State.{State}
@@ -224,3 +224,36 @@ module _ (state : State) (sound : IsSound state.document) (closed : is_open stat
 
 pub replacement_undone_at_once : (state : State) (made : Call) → IsSound state.document → IsReplacement made → IsReplacementUndoneAtOnce state made
 replacement_undone_at_once state made sound is closed some room = by_call state sound closed made is some room
+
+-- ---- the number of edits
+
+removals_few : (document : DocumentState) (start stop : Place) → length (stretch_removal document start stop) ≤ 1
+removals_few document start stop = by_test (λ (s : List Splice). length s ≤ 1) (is_before start stop) _ _ (λ some. omega arith) (λ empty. omega arith)
+
+insertions_few : (document : DocumentState) (symbols : List Symbol) → length (insertion_splices document symbols) ≤ 1
+insertions_few document [] = omega arith
+insertions_few document (symbol ∷ symbols) = omega arith
+
+stretch_few : (document : DocumentState) (start stop : Place) (symbols : List Symbol) (now : ℕ) → length (stretch_splices document start stop symbols now) ≤ 2
+unfolding stretch_splices
+stretch_few document start stop symbols now =
+    let left = stretch_removed document start stop now in
+    omega (arith, removals_few document start stop, insertions_few left symbols, length-append (stretch_removal document start stop) (insertion_splices left symbols))
+
+each_few : (document : DocumentState) (passed : ℕ) (stretches : List (ℕ × ℕ)) (symbols : List Symbol) (now : ℕ)
+    → length (each_splices document passed stretches symbols now) ≤ 2 * length stretches
+each_few document passed [] symbols now = omega arith
+each_few document passed (stretch ∷ rest) symbols now =
+    let skip = stretch.0 - passed in
+    let count = stretch.1 - stretch.0 in
+    let first = stretch_splices document (ahead_start document skip) (ahead_end document skip count) symbols now in
+    let after = ahead_replaced document skip count symbols now in
+    omega (
+      arith,
+      stretch_few document (ahead_start document skip) (ahead_end document skip count) symbols now,
+      each_few after stretch.1 rest symbols now,
+      length-append first (each_splices after stretch.1 rest symbols now),
+    )
+
+pub few_edits : (state : State) (symbols : List Symbol) → MakesFewEdits state symbols
+few_edits state symbols = record { few = each_few (begun_at_start state.document) 0 (replaceable state) symbols state.time }

@@ -73,11 +73,11 @@ impl TextArea<'_> {
     /// the text. The cursor is then after the last one that was replaced, and nothing is selected;
     /// without matches nothing changes.
     ///
-    /// All are one group of edits, at most two for each match. If no group was open, one undo takes
-    /// all back (`laws::calls_are_undone_at_once`), as long as so many edits are remembered. If
-    /// they are more than `max_histories`, 50 at first, none of them is remembered, and no edit from
-    /// before, so nothing can be undone: a caller that wants it raises `set_max_histories` early,
-    /// which forgets all edits, as to 2 times a `match_count` that it allows.
+    /// All are one group of edits, at most two for each match. If no group was open, and as many
+    /// edits are remembered, one undo takes all back (`laws::calls_are_undone_at_once`). If they are
+    /// more than `max_histories`, which is 50 at first, none of them is remembered, and no edit from
+    /// before, so nothing can be undone. `set_max_histories` with twice the number of matches makes
+    /// room for them; since it forgets all edits, it is best called before the first one.
     pub fn replace_all(&mut self, text: &str) -> Result<usize, AllocError>
         ensures count { IfOk result (λ count. count ≡ length (replaceable self.old)) }
         ensures ok { OnOk result
