@@ -1,7 +1,8 @@
 /* Refuses each request for memory of a list of calls, one in turn. The call that is refused says so,
- * leaves what is behind its handles as it was, and, made again, leads to the same end. At the end all
- * handles are freed, and then no block of memory is left. Linked with
- * -Wl,--wrap=malloc,--wrap=realloc,--wrap=free. Exit status 1, and what fails, if something does. */
+ * leaves what is behind its handles as it was, and, made again, leads to the same end and to the same
+ * changes of the text. At the end all handles are freed, and then no block of memory is left. Linked
+ * with -Wl,--wrap=malloc,--wrap=realloc,--wrap=free. Exit status 1, and what fails, if something
+ * does. */
 #include "check.h"
 
 static long refused_at; /* the number of the request to refuse; 0 for none */
@@ -44,6 +45,26 @@ static uint32_t one_match(ta_handle_t *a) { return ta_replace_match(a, TEXT("y\n
 static uint32_t all_matches(ta_handle_t *a) {
     size_t count;
     return ta_replace_all(a, TEXT("Tx"), &count);
+}
+static uint32_t log_begun(ta_handle_t *a) { return ta_set_change_log(a, TA_UNIT_UTF16); }
+static char log_text[8000]; /* the changes that were taken last */
+static uint32_t log_taken(ta_handle_t *a) {
+    size_t count = 0, n[5], needed;
+    uint8_t line[200];
+    char *at = log_text;
+    uint32_t status = ta_take_changes(a, &count);
+    for (size_t i = 0; i < count; i++) {
+        CHECK(ta_change(a, i, &n[0], &n[1], &n[2], &n[3], &n[4]) == TA_OK);
+        at += sprintf(at, "%zu:%zu-%zu:%zu", n[0], n[1], n[2], n[3]);
+        for (size_t row = 0; row < n[4]; row++) {
+            CHECK(ta_change_line(a, i, row, line, sizeof line, &needed) == TA_OK);
+            at += sprintf(at, "|%.*s", (int)needed, line);
+        }
+        *at++ = '\n';
+    }
+    *at = 0;
+    CHECK(count > 0);
+    return status;
 }
 static uint32_t part(ta_handle_t *a) {
     uint8_t out[4];
@@ -156,10 +177,10 @@ static uint32_t titled(ta_handle_t *a) {
 }
 
 static uint32_t (*const steps[])(ta_handle_t *) = {
-    made,    written, typed,    broken,  selected,  over,       tabbed,      copied, pasted, top,
+    made,    log_begun, written, typed,  broken,  selected,  over,       tabbed,      copied, pasted, top,
     typed,   undone,  redone,   wrapped, numbered,  screen,     drawn,       some,   drawn,  next_word,
     to_end,  undone,  undone,   ranges,  bad_ranges, next_char, undone,      pattern, wrong, found,
-    matches_counted, plain_text, matches_counted, one_match, all_matches, undone,
+    matches_counted, plain_text, matches_counted, one_match, all_matches, undone, log_taken,
     block,   placeholder, styled, highlight, drawn, long_cell,  measured,    yank,   pasted, cloned,
     key,     lines,   key,      drawn,   cleared,   drawn,     loaded,      whole,  pasted_in, replaced, part, cloned,
     terminal_made, fed, taken, idle, screen, drawn, painted, typed, drawn, painted,
@@ -231,12 +252,13 @@ static const char *run(long refused, int *was_refused) {
 
 int main(void) {
     int was_refused;
-    char end[8000];
+    char end[8000], changes[8000];
     strcpy(end, run(0, &was_refused));
+    strcpy(changes, log_text);
     long count = requests;
     for (long k = 1; k <= count; k++) {
         const char *other = run(k, &was_refused);
-        CHECK(!strcmp(end, other));
+        CHECK(!strcmp(end, other) && !strcmp(changes, log_text));
     }
     printf("%ld requests refused, each in turn\n", count);
     return 0;

@@ -14,6 +14,8 @@ pub mod Copying
 mod Filled
 pub mod Grouping
 mod UndoneAtOnce
+mod GroupsOfCalls
+mod ReplacedAtOnce
 mod UndoneTexts
 pub mod FragmentTexts
 pub mod Searches

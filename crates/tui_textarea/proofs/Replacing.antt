@@ -39,7 +39,7 @@ nothing_replaced state symbols stretches none =
     ap (λ (s : List (ℕ × ℕ)). with_document state (all_replaced state.document s symbols state.time)) (sym none)
 
 -- the ends of the text between two positions
-stretch_is : (document : DocumentState) (from to : Place) → IsSound document
+pub stretch_is : (document : DocumentState) (from to : Place) → IsSound document
     → IsPlace document.text (stretch_start document.text from to) × IsPlace document.text (stretch_end document.text from to)
 stretch_is document from to h =
     let rows = lines document.text in

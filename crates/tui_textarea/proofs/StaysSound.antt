@@ -40,7 +40,7 @@ any = record { none = λ old new same. tt; same = λ old new other splices same 
 past_any : Past Any
 past_any = record { undos = λ document h. tt; redos = λ document h. tt }
 
-state_stays_sound : (old : State) (made : Call) → HasSound old → CanBeMade made → HasSound (state_after old made)
+pub state_stays_sound : (old : State) (made : Call) → HasSound old → CanBeMade made → HasSound (state_after old made)
 state_stays_sound old made h can = (by_state Any Any any past_any old made h).1 can
 
 -- ---- each call

@@ -65,6 +65,9 @@ moves_unchanged old new shift cursor_move h =
 
 -- ---- steps
 
+pub nothing_stays_sound : (document : DocumentState) → IsSound document → IsSound (nothing_inserted document)
+nothing_stays_sound document h = sound_unanchored (record document { cursor = moved_out document.ranges document.cursor BiasForward }) (sound_cursor document BiasForward h)
+
 pub some_symbols : (symbols : List Symbol) → has_symbols symbols ≡ true → 0 < length symbols
 some_symbols [] e = absurd cc
 some_symbols (symbol ∷ symbols) e = omega arith
@@ -256,8 +259,7 @@ module _ (By : DocumentState → List Splice → DocumentState → Type 0) (by :
   pub symbols_by : (document : DocumentState) (symbols : List Symbol) (now : ℕ) → IsSound document
       → Sound document (insertion_splices document symbols) (symbols_inserted document symbols now)
   symbols_by document [] now h =
-      kept document (nothing_inserted document) refl
-      (sound_unanchored (record document { cursor = moved_out document.ranges document.cursor BiasForward }) (sound_cursor document BiasForward h))
+      kept document (nothing_inserted document) refl (nothing_stays_sound document h)
   symbols_by document (symbol ∷ symbols) now h = step_by document (Insert (symbol ∷ symbols)) false now h (omega arith)
 
   after_removal : (state new : State) (splices : List Splice) → IsSound state.document

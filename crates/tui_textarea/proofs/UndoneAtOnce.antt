@@ -83,7 +83,7 @@ apart log splice typed now closed = ap (λ b. (is_typed splice typed && b) && re
     rest = is_empty log.undone && (nat_lt (now - log.last) pause && continues_newest (newest log) splice)
 
 -- so it is recorded separately
-separate : (log : Log) (splice : Splice) (typed : Bool) (now : ℕ) → 0 < log.maximum → joins log splice typed now ≡ false → is_outgrown log ≡ false →
+pub separate : (log : Log) (splice : Splice) (typed : Bool) (now : ℕ) → 0 < log.maximum → joins log splice typed now ≡ false → is_outgrown log ≡ false →
     recorded log splice typed now ≡ appended_log log splice typed now
 separate log splice typed now some joins_none grows =
     let none : (log.maximum == 0) ≡ false = by (log.maximum == 0) refl in

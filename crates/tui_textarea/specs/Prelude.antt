@@ -61,7 +61,7 @@ pub use Rattle.tui_textarea.specs.DrawnFrame.{frame_of}
 pub use Rattle.tui_textarea.specs.Edits.{breaks_line, char_inserted, char_or_break_inserted, inserts_tab, inserts_text}
 pub use Rattle.tui_textarea.specs.Edits.{line_broken, newline_inserted, spaces_to_stop, str_inserted, symbols_or_none_inserted, tab_inserted, tab_or_spaces_inserted}
 pub use Rattle.tui_textarea.specs.Frames.{HasLayoutFor}
-pub use Rattle.tui_textarea.specs.GroupLaw.{IsEditUndoneAtOnce, IsInsertion, IsUndoneAtOnce}
+pub use Rattle.tui_textarea.specs.GroupLaw.{IsEditUndoneAtOnce, IsInsertion, IsReplacement, IsReplacementUndoneAtOnce, IsUndoneAtOnce, MakesFewEdits}
 pub use Rattle.tui_textarea.specs.Grouping.{call_begun, call_ended, closed_if, opens_group, typing_ended, undo_group_begun, undo_group_ended, with_group}
 pub use Rattle.tui_textarea.specs.Hit.{IsHitTest, IsLastArea, IsWithoutCell}
 pub use Rattle.tui_textarea.specs.Input.{ActMayRunOutOfMemory, IsAfterAction, IsInputOutOfMemory, action_flag, asked_by, asked_without_shortcuts}

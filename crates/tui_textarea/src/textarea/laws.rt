@@ -1,6 +1,7 @@
 //! Laws of text areas, each the contract of a function that does nothing.
-ghost use Rattle.std.specs.Prelude.{ℕ, ◌≡◌, ◌<◌, ◌≤◌, Bool, true, IfSome};
-ghost use Rattle.tui_textarea.specs.Prelude.{Call, IsEditUndoneAtOnce, IsInsertion, IsPlace, IsUndoneAtOnce, Fits, Splice, done_groups, RestoresAll, RestoresDocument, ListsFit, AreInTextOrder, LeadsToFirstMatch, LeadsToMatchAfter, starts_in, after_edit, is_selected, IsSound, HasRowsFromScratch, PastesCopy};
+ghost use Rattle.std.specs.Prelude.{ℕ, ◌≡◌, ◌<◌, ◌≤◌, Bool, true, IfSome, List};
+ghost use Rattle.textarea_text.specs.Text.{Symbol};
+ghost use Rattle.tui_textarea.specs.Prelude.{Call, IsEditUndoneAtOnce, IsInsertion, IsPlace, IsReplacement, IsReplacementUndoneAtOnce, IsUndoneAtOnce, MakesFewEdits, Fits, Splice, done_groups, RestoresAll, RestoresDocument, ListsFit, AreInTextOrder, LeadsToFirstMatch, LeadsToMatchAfter, starts_in, after_edit, is_selected, IsSound, HasRowsFromScratch, PastesCopy};
 ghost use Rattle.tui_textarea.specs.Matches.{BeginsWithFirst, GoesThroughMatches};
 ghost use Rattle.tui_textarea.specs.TextsBefore.{StepsBack};
 
@@ -41,11 +42,16 @@ pub fn redo_restores_all(area: &TextArea<'_>)
 /// The law of one undo, for every text area, if no group is open. With `undo_grouping`, and if at
 /// least two edits are remembered, it takes back an insertion that changed the text, also over a
 /// selection; without a selection no run of typing may be open, since what is typed may join it,
-/// and is then undone with it. It takes back any other edit that joins none.
+/// and is then undone with it. It takes back any other edit that joins none. With grouping or
+/// without, it takes back a whole replacement, if as many edits are remembered as that made, which
+/// for `replace_all` are at most two for each match.
 pub fn calls_are_undone_at_once(area: &TextArea<'_>)
     ensures insertions { (made : Call) → IsInsertion made → IsUndoneAtOnce area.now made }
     ensures edits { (splice : Splice) (typed : Bool) (now : ℕ) →
         IsEditUndoneAtOnce area.now.document splice typed now }
+    ensures replacements { (made : Call) → IsReplacement made
+        → IsReplacementUndoneAtOnce area.now made }
+    ensures few { (symbols : List Symbol) → MakesFewEdits area.now symbols }
 {
     area.document.is_sound();
 }

@@ -24,10 +24,11 @@ impl TextArea<'_> {
     }
 
     /// Replaces the text between two positions, in either order, by this one, and returns whether
-    /// it removed or inserted something; one undo takes both back. Positions beyond the text count
-    /// as the nearest ones in it. Each atomic range that the replaced text overlaps is removed, and
-    /// each line feed of the text breaks the line, as for `insert_str`. The cursor is then after
-    /// what was inserted, and nothing is selected.
+    /// it removed or inserted something. Positions beyond the text count as the nearest ones in it.
+    /// Each atomic range that the replaced text overlaps is removed, and each line feed of the text
+    /// breaks the line, as for `insert_str`. The cursor is then after what was inserted, and nothing
+    /// is selected. The removal and the insertion are one group of two edits: if no group was open,
+    /// and two edits are remembered, one undo takes both back (`laws::calls_are_undone_at_once`).
     pub fn replace_range(
         &mut self,
         from: (usize, usize),
@@ -67,10 +68,16 @@ impl TextArea<'_> {
     }
 
     /// Replaces each match of the search pattern in the text as it is now by this text, and returns
-    /// their number; one undo takes all back. Matches in what is inserted are left, and so is a
-    /// match of which an end is strictly inside an atomic range; one that contains a range removes
-    /// it. An empty match inserts the text. The cursor is then after the last one that was
-    /// replaced, and nothing is selected; without matches nothing changes.
+    /// their number. Matches in what is inserted are left, and so is a match of which an end is
+    /// strictly inside an atomic range; one that contains a range removes it. An empty match inserts
+    /// the text. The cursor is then after the last one that was replaced, and nothing is selected;
+    /// without matches nothing changes.
+    ///
+    /// All are one group of edits, at most two for each match. If no group was open, and as many
+    /// edits are remembered, one undo takes all back (`laws::calls_are_undone_at_once`). If they are
+    /// more than `max_histories`, which is 50 at first, none of them is remembered, and no edit from
+    /// before, so nothing can be undone. `set_max_histories` with twice the number of matches makes
+    /// room for them; since it forgets all edits, it is best called before the first one.
     pub fn replace_all(&mut self, text: &str) -> Result<usize, AllocError>
         ensures count { IfOk result (λ count. count ≡ length (replaceable self.old)) }
         ensures ok { OnOk result
