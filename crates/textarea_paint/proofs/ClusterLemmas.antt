@@ -1,7 +1,7 @@
 -- The grapheme clusters that are left after texts and spans are taken.
-use Rattle.std.proofs.Common.{◌≡◌, true, List, [], ◌∷◌, ◌++◌, ◌≤◌, length, map, refl, ap}
+use Rattle.std.proofs.Common.{◌≡◌, ℕ, ◌<◌, ◌≤◌, true, List, [], ◌∷◌, ◌++◌, length, map, refl, sym, ap, subst, ◌∙◌, arith}
 use Rattle.std.specs.List.{All, flat_map}
-use Rattle.std.proofs.lemmas.List.{append_assoc}
+use Rattle.std.proofs.lemmas.List.{append_assoc, length-map}
 use Rattle.std.proofs.lemmas.List.Elements.{All-cons, All-head, All-nil, All-tail}
 use Rattle.std.specs.Slice.Iter.{iter_rest}
 use Rattle.unicode_segmentation.specs.Grapheme.{graphemes}
@@ -12,10 +12,14 @@ use Rattle.textarea_screen.specs.declared.screen.style.Style.{Style}
 use Rattle.textarea_screen.specs.declared.screen.text.Span.{Span}
 use Rattle.textarea_screen.specs.declared.screen.text.SpanText.{SpanText}
 use Rattle.textarea_screen.specs.declared.screen.text.SpanText.TheVariants.{Borrowed, Owned}
-use Rattle.textarea_paint.specs.Clusters.{AreInline, Cluster, content_bytes, in_style, span_clusters}
+use Rattle.textarea_paint.specs.Clusters.{AreInline, Cluster, content_bytes, in_style, letter_clusters, plain_clusters, span_clusters}
 use Rattle.textarea_paint.specs.DrawnText.{spans_clusters}
-use Rattle.textarea_paint.specs.LineClusters.{clusters_left, rest_clusters}
+use Rattle.textarea_paint.specs.Letters.{AreLetters, letter_texts}
+use Rattle.textarea_paint.specs.LineClusters.{FitsKind, IsClusterRun, clusters_left, kind_clusters, rest_clusters, run_clusters}
+use Rattle.textarea_paint.specs.Plain.{IsPrintable, singles}
+use Rattle.textarea_paint.specs.declared.paint.clusters.ClusterRun.{ClusterRun}
 use Rattle.textarea_paint.specs.declared.paint.clusters.LineClusters.{LineClusters}
+use Rattle.textarea_paint.specs.declared.paint.clusters.RunKind.TheVariants.{Letters, Plain}
 
 content_bytes-displayed : (content : SpanText) → content_bytes (content_view content) ≡ text_bytes content
 content_bytes-displayed (Borrowed text) = refl
@@ -48,6 +52,41 @@ pub clusters_left-spans : (s : LineClusters) (style : Style) (spans : List Span)
     clusters_left s ≡ spans_clusters style (map span_view spans)
 unfolding clusters_left
 clusters_left-spans s style spans none rest base = rw (none, rest, base) refl
+
+-- ---- runs
+
+plain-single : (style : Style) (text : List ℕ) → 0 < length text → length (plain_clusters style text) ≤ 1 → plain_clusters style text ≡ in_style style text ∷ []
+plain-single style [] some few = absurd (omega (arith, some))
+plain-single style (byte ∷ []) some few = refl
+plain-single style (first ∷ second ∷ text) some few = absurd (omega (arith, few))
+
+pub plain_run : (most : ℕ) (run : ClusterRun) → run.kind ≡ Plain → All IsPrintable run.text.now → 0 < length run.text.now → length run.text.now ≤ most → IsClusterRun most run
+plain_run most run is printable some few =
+    let are : run_clusters run ≡ plain_clusters run.style run.text.now = ap (λ kind. kind_clusters kind run.style run.text.now) is in
+    let count : length (run_clusters run) ≡ length run.text.now =
+    ap length are ∙ length-map (singles run.text.now) (in_style run.style) ∙ length-map run.text.now (λ byte. byte ∷ []) in
+    record {
+      fits = subst (λ kind. FitsKind kind run.columns run.text.now) (sym is) printable;
+      some = omega (arith, count, some);
+      bound = omega (arith, count, few);
+      single = λ one. are ∙ plain-single run.style run.text.now some (subst (λ (cs : List Cluster). length cs ≤ 1) are one);
+    }
+
+pub letters_run : (most : ℕ) (run : ClusterRun) → run.kind ≡ Letters → AreLetters run.columns run.text.now → 0 < length (letter_texts run.text.now) → length (letter_texts run.text.now) ≤ most →
+    (length (letter_texts run.text.now) ≤ 1 → letter_texts run.text.now ≡ run.text.now ∷ []) → IsClusterRun most run
+letters_run most run is letters some few one =
+    let are : run_clusters run ≡ letter_clusters run.style run.text.now = ap (λ kind. kind_clusters kind run.style run.text.now) is in
+    let count : length (run_clusters run) ≡ length (letter_texts run.text.now) = ap length are ∙ length-map (letter_texts run.text.now) (in_style run.style) in
+    record {
+      fits = subst (λ kind. FitsKind kind run.columns run.text.now) (sym is) letters;
+      some = omega (arith, count, some);
+      bound = omega (arith, count, few);
+      single = λ single. are ∙ ap (map (in_style run.style)) (one (omega (arith, count, single)));
+    }
+
+-- the one cluster of a run of at most one
+pub one_cluster : (run : ClusterRun) → IsClusterRun 1 run → run_clusters run ≡ in_style run.style run.text.now ∷ []
+one_cluster run is = is.single is.bound
 
 -- ---- short clusters
 

@@ -4,6 +4,8 @@ mod ClusterLemmas
 mod ColumnLemmas
 pub mod RowAreaLemmas
 mod FrontLemmas
+mod LetterLemmas
+mod LetterRowLemmas
 pub mod PartLemmas
 pub mod PlainLemmas
 mod PlainRowLemmas

@@ -44,11 +44,11 @@ either_way simple fits = not simple || fits
 joiner_stepped : Stepped (λ c. has_no_joiner (grapheme_cluster_break c) (indic_conjunct_break c))
 joiner_stepped = zip_stepped has_no_joiner grapheme_cluster_break indic_conjunct_break grapheme_cluster_break_stepped indic_conjunct_break_stepped
 
-early_stepped : Stepped (in_ranges early_ranges)
+unfoldable pub early_stepped : Stepped (in_ranges early_ranges)
 unfolding tables
 early_stepped = of_ranges early_ranges refl
 
-late_stepped : Stepped (in_ranges late_ranges)
+unfoldable pub late_stepped : Stepped (in_ranges late_ranges)
 unfolding tables
 late_stepped = of_ranges late_ranges refl
 
@@ -224,7 +224,7 @@ first-scalar c cs scalar = grind (arith, nat_tests)
 first-scalars : (b c : ℕ) (cs : List ℕ) → all_scalars (b ∷ c ∷ cs) ≡ true → all_scalars (b ∷ c ∷ []) ≡ true
 first-scalars b c cs scalar = grind (arith, nat_tests)
 
-columns-simple : (text after : List ℕ) (c : ℕ) → IsUtf8 text → text ≡ encode_utf8 c ++ after → is_simple c ≡ true → columns_of (encode_utf8 c) ≡ char_columns c
+pub columns-simple : (text after : List ℕ) (c : ℕ) → IsUtf8 text → text ≡ encode_utf8 c ++ after → is_simple c ≡ true → columns_of (encode_utf8 c) ≡ char_columns c
 columns-simple text after c utf8 is simple =
     let scalar = first-scalar c (chars after) (ap all_scalars (sym (chars_past_char text after c utf8 is)) ∙ scalars-chars text utf8) in
     ap columns_of (sym (append-nil (encode_utf8 c))) ∙ columns_of-encoded (c ∷ []) scalar

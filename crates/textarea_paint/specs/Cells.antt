@@ -63,3 +63,7 @@ row_change cells left row x y cell =
 pub record IsPenAt (cells : RowCells) (left column : ℕ) (pen : Pen) : Type 0 where
   pub hidden : pen.hidden ≡ left - column
   pub x : pen.x ≡ cells.x + min (column - left) cells.width
+
+-- the pen is at some column of a row
+abbrev pub IsAnyPen : RowCells → Pen → Type 0
+IsAnyPen cells pen = (left : ℕ) × (column : ℕ) × IsPenAt cells left column pen

@@ -7,6 +7,7 @@ use Rattle.textarea_screen.specs.Text.{ContentView, SpanView, LineView}
 use Rattle.textarea_screen.specs.Text.ContentView.{BorrowedBytes, OwnedBytes}
 use Rattle.textarea_screen.specs.declared.screen.cell.TheConstants.{INLINE_BYTES}
 use Rattle.textarea_screen.specs.declared.screen.style.Style.{Style}
+use Rattle.textarea_paint.specs.Letters.{letter_texts}
 use Rattle.textarea_paint.specs.Plain.{singles}
 
 -- a grapheme cluster, by its bytes, in a style
@@ -20,6 +21,10 @@ in_style style text = record { text = text; style = style }
 -- each byte as a cluster
 abbrev pub plain_clusters : Style → List ℕ → List Cluster
 plain_clusters style text = map (in_style style) (singles text)
+
+-- each character as a cluster
+abbrev pub letter_clusters : Style → List ℕ → List Cluster
+letter_clusters style text = map (in_style style) (letter_texts text)
 
 -- the bytes of a text, borrowed or owned
 abbrev pub content_bytes : ContentView → List ℕ

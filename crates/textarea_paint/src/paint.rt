@@ -4,6 +4,7 @@ pub mod block;
 mod cells;
 mod clusters;
 pub mod columns;
+mod letters;
 pub mod row;
 mod simple;
 pub mod text;

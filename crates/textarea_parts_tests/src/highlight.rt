@@ -138,17 +138,23 @@ static OWNED: [Case; 7] = [
 /// A row, the columns from which and up to which it is shown, and the text that is shown.
 type Part = (&'static str, (usize, usize), &'static str);
 
-/// Rows that are shown from a seam to another one; at the end, rows with marks, joiners and halves
-/// of flags, at which is no seam.
-static PARTS: [Part; 11] = [
+/// Rows that are shown from a seam to another one, or to the end where few bytes are left; at the
+/// end, rows with marks, joiners and halves of flags, at which is no seam.
+static PARTS: [Part; 13] = [
     ("abcdefgh", (3, 5), "cde"),
-    ("éèêëéèêë", (3, 5), "êëé"),
-    ("αβγδεζηθ", (3, 5), "γδε"),
-    ("абвгдежз", (3, 5), "вгд"),
-    ("日本語日本語", (3, 5), "本語"),
-    ("あいうえおか", (3, 5), "いう"),
-    ("한국어한국어", (3, 5), "국어"),
-    ("abc日本de\u{301}fg", (1, 9), "abc日本de\u{301}f"),
+    ("éèêëéèêëéè", (3, 5), "êëé"),
+    ("éèêëéèêëé", (3, 5), "êëéèêëé"),
+    ("αβγδεζηθικλμ", (3, 5), "γδε"),
+    ("абвгдежзийкл", (3, 5), "вгд"),
+    ("日本語日本語日本語", (3, 5), "本語"),
+    ("日本語日本語", (3, 5), "本語日本語"),
+    ("あいうえおかきくけ", (3, 5), "いう"),
+    ("한국어한국어한국어", (3, 5), "국어"),
+    (
+        "abc日本de\u{301}fghijklmnopqrstuvwxyz",
+        (1, 9),
+        "abc日本de\u{301}f",
+    ),
     (
         "e\u{301}e\u{301}e\u{301}",
         (1, 2),

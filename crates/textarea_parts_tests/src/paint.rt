@@ -6,11 +6,13 @@ use crate::paint::Drawing::*;
 use std::alloc::{AllocError, Global};
 use std::process::Abort;
 use std::test::Fail;
+use textarea_paint::paint::columns::cluster_columns;
 use textarea_paint::paint::{DrawText, RowArea, draw_block, draw_row};
 use textarea_screen::screen::Alignment::{Center, Left, Right};
 use textarea_screen::screen::{
     Alignment, Block, Borders, Buffer, Color, Line, Modifier, Rect, Style,
 };
+use unicode_width::UnicodeWidthChar;
 
 /// What is drawn.
 #[derive(Clone, Copy)]
@@ -32,7 +34,7 @@ type Case = (Drawing, &'static str);
 
 const UNTOUCHED: &str = " | | | |\n | | | |\n | | | |\n";
 
-static CASES: [Case; 37] = [
+static CASES: [Case; 48] = [
     (Row(("a犬b", ""), Left, 0, 2), " |a| | | | |\n"),
     (Row(("a犬b", ""), Left, 0, 5), " |a|犬||b| |\n"),
     (Row(("a犬b", ""), Left, 1, 4), " |犬||b| | |\n"),
@@ -51,6 +53,22 @@ static CASES: [Case; 37] = [
         " |a| | |b|e\u{301}|\n",
     ),
     (Row(("a\u{7}b", "\tc"), Left, 0, 5), " |a|b|c| | |\n"),
+    // Letters, from the first one on, from the middle, and up to the last column in view.
+    (Row(("éàü", ""), Left, 0, 5), " |é|à|ü| | |\n"),
+    (Row(("éàüê", ""), Left, 1, 2), " |à|ü| | | |\n"),
+    (Row(("éàü", ""), Left, 3, 2), " | | | | | |\n"),
+    (Row(("犬語日犬", ""), Left, 2, 4), " |語||日|| |\n"),
+    (Row(("犬語日犬", ""), Left, 1, 5), " | |語||日||\n"),
+    (Row(("犬語日犬", ""), Left, 3, 4), " | |日|| | |\n"),
+    (Row(("é犬я", "한a"), Left, 0, 5), " |é|犬||я| |\n"),
+    (Row(("éд", ""), Right, 0, 5), " | | | |é|д|\n"),
+    // An accent joins the letter before it, also after other letters, but not over the end of a span.
+    (Row(("éàu\u{301}ü", ""), Left, 0, 5), " |é|à|u\u{301}|ü| |\n"),
+    (
+        Row(("éд\u{301}犬\u{301}", ""), Left, 0, 5),
+        " |é|д\u{301}|犬\u{301}|| |\n",
+    ),
+    (Row(("éд", "\u{301}я"), Left, 0, 5), " |é|д|я| | |\n"),
     (Row(("a", "\u{301}b"), Left, 0, 5), " |a|b| | | |\n"),
     (Row(("ab", "c"), Center, 9, 5), " | |a|b|c| |\n"),
     (Row(("ab", "c"), Center, 0, 4), " | |a|b|c| |\n"),
@@ -168,6 +186,56 @@ fn is_drawn(alloc: Global, (drawing, wanted): &Case) -> Result<bool, AllocError>
 #[test]
 fn rows_and_blocks(rt: HostRuntime) -> Result<(), Fail> {
     check_each(&rt, &CASES, is_drawn)
+}
+
+/// The first and the last character of each range whose columns are found without a table, and those
+/// beside them.
+static EDGES: [char; 94] = [
+    '\u{9F}', '\u{A0}', '\u{AC}', '\u{AD}', '\u{AE}', '\u{2FF}', '\u{300}', '\u{36F}', '\u{370}',
+    '\u{482}', '\u{483}', '\u{489}', '\u{48A}', '\u{52F}', '\u{530}', '\u{5CF}', '\u{5D0}',
+    '\u{5DB}', '\u{5DC}', '\u{5DD}', '\u{5EA}', '\u{5EB}', '\u{61F}', '\u{620}', '\u{64A}',
+    '\u{64B}', '\u{670}', '\u{671}', '\u{6D3}', '\u{6D4}', '\u{10CF}', '\u{10D0}', '\u{10FF}',
+    '\u{1100}', '\u{1DFF}', '\u{1E00}', '\u{1FFF}', '\u{2000}', '\u{200F}', '\u{2010}', '\u{2027}',
+    '\u{2028}', '\u{206F}', '\u{2070}', '\u{20C0}', '\u{20C1}', '\u{20FF}', '\u{2100}', '\u{2319}',
+    '\u{231A}', '\u{24FF}', '\u{2500}', '\u{25FC}', '\u{25FD}', '\u{2FFF}', '\u{3000}', '\u{3029}',
+    '\u{302A}', '\u{3040}', '\u{3041}', '\u{3096}', '\u{3097}', '\u{309A}', '\u{309B}', '\u{30FF}',
+    '\u{3100}', '\u{33FF}', '\u{3400}', '\u{4DBF}', '\u{4DC0}', '\u{4DFF}', '\u{4E00}', '\u{A48C}',
+    '\u{A48D}', '\u{FF00}', '\u{FF01}', '\u{FF60}', '\u{FF61}', '\u{1F3FF}', '\u{1F400}',
+    '\u{1F43E}', '\u{1F43F}', '\u{1F441}', '\u{1F442}', '\u{1F4FC}', '\u{1F4FD}', '\u{1F5FF}',
+    '\u{1F600}', '\u{1F64F}', '\u{1F650}', '\u{1FFFF}', '\u{20000}', '\u{2FA1D}', '\u{2FA1E}',
+];
+
+fn has_its_columns(alloc: Global, c: &char) -> Result<bool, AllocError> {
+    let mut text = String::new(alloc);
+    text.push(*c)?;
+    Ok(cluster_columns(text.as_str()) == c.width().unwrap_or(0))
+}
+
+// Draws a character twice and then `b`, and returns whether this is after the columns of both.
+fn is_drawn_twice(alloc: Global, c: &char) -> Result<bool, AllocError> {
+    let mut text = String::new(alloc);
+    text.push(*c)?;
+    text.push(*c)?;
+    text.push('b')?;
+    let area = Rect::new(0, 0, 5, 1);
+    let mut buffer = Buffer::empty(alloc, area)?;
+    let line = line(alloc, text.as_str(), "")?;
+    draw_row(&mut buffer, rows_in(area, Left, 0), 0, &line)?;
+    let column = match c.width() {
+        Some(2) => 4,
+        Some(1) => 2,
+        _ => 0,
+    };
+    match buffer.cell(column, 0) {
+        Some(cell) => Ok(cell.symbol() == "b"),
+        None => Ok(false),
+    }
+}
+
+#[test]
+fn columns_without_a_table(rt: HostRuntime) -> Result<(), Fail> {
+    check_each(&rt, &EDGES, has_its_columns)?;
+    check_each(&rt, &EDGES, is_drawn_twice)
 }
 
 // Draws a frame: a block and a row, in styles of their own.

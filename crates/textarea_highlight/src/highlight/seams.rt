@@ -106,8 +106,9 @@ fn seam_after(row: &str, tab_len: u8, start: RowOffset, column: usize) -> usize
     row.len()
 }
 
-// The most bytes for each column with which a rest that begins with an emoji or a flag is short. Such
-// a rest hardly ends right of the view, and to draw it costs less than to look for a seam in it.
+// The most bytes for each column with which a rest is short that begins with a character outside of
+// ASCII. Such a rest hardly ends right of the view, and to draw it costs less than to look for a seam
+// in it.
 const BYTES_OF_COLUMN: usize = 4;
 
 // Returns whether few bytes follow an offset, for the columns that are left up to another column.
@@ -117,7 +118,7 @@ fn is_rest_short(row: &str, at: RowOffset, column: usize) -> bool
 {
     let columns = column.saturating_sub(at.column);
     let rest = &row.as_bytes()[at.offset..];
-    rest.len() <= columns || rest.len() / BYTES_OF_COLUMN <= columns && 0xf0 <= rest[0]
+    rest.len() <= columns || rest.len() / BYTES_OF_COLUMN <= columns && !rest[0].is_ascii()
 }
 
 fn walk_from(start: RowOffset) -> Walk

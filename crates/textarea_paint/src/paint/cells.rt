@@ -1,8 +1,11 @@
 //! Grapheme clusters in the cells of a row, from left to right.
-ghost use Rattle.std.specs.Prelude.{◌≡◌, ◌+◌, ◌≤◌, ℕ, false, length, [], ◌∷◌, All, IfOk, IsOk, IsTrue, OnOk, OnErr};
-ghost use Rattle.textarea_paint.specs.Prelude.{AreInline, Changes, KeepsOutside, INLINE_BYTES, IsPenAt, IsColumnWithin, IsPrintable, row_change, is_in_cells, place_from, placed_at, clusters_width, columns_of, plain_clusters, run_clusters, styled_cluster};
+ghost use Rattle.std.specs.Prelude.{◌≡◌, ◌+◌, ◌≤◌, ℕ, length, [], ◌∷◌, All, IfOk, IsOk, OnOk, OnErr};
+ghost use Rattle.textarea_paint.specs.Letters.{AreLetters};
+ghost use Rattle.textarea_paint.specs.LineClusters.{FitsKind};
+ghost use Rattle.textarea_paint.specs.Prelude.{AreInline, letter_clusters, Changes, KeepsOutside, INLINE_BYTES, IsAnyPen, IsPenAt, IsColumnWithin, IsPrintable, row_change, is_in_cells, place_from, placed_at, clusters_width, columns_of, plain_clusters, run_clusters, styled_cluster};
 
-use super::clusters::{ClusterRun, StyledCluster};
+use super::clusters::{ClusterRun, RunKind, StyledCluster};
+use super::letters::split_letter;
 use std::alloc::AllocError;
 use textarea_screen::screen::{Buffer, Style};
 
@@ -31,8 +34,8 @@ pub(crate) fn draw_run(
 ) -> Result<Pen, AllocError>
     requires edge { cells.x + cells.width ≤ 65535 }
     requires within { IsColumnWithin cells pen.x }
-    requires columns { run.is_plain ≡ false → run.columns ≡ columns_of run.text.now }
-    requires plain { IsTrue run.is_plain → All IsPrintable run.text.now }
+    requires fits { FitsKind run.kind run.columns run.text.now }
+    requires pen { IsAnyPen cells pen }
     ensures moved { (left column : ℕ) → IsPenAt cells left column pen
         → IfOk result (IsPenAt cells left (column + clusters_width (run_clusters run.entry))) }
     ensures drawn { (left column : ℕ) → IsPenAt cells left column pen
@@ -42,15 +45,59 @@ pub(crate) fn draw_run(
     ensures inline { AreInline (run_clusters run.entry) → IsOk result }
     ensures err { OnErr result (KeepsOutside (is_in_cells cells) buffer.old buffer.new) }
 {
-    if run.is_plain {
-        Ok(draw_plain(buffer, cells, pen, run.text, run.style))
-    } else {
-        let cluster = StyledCluster {
-            text: run.text,
-            style: run.style,
-        };
-        draw_cluster(buffer, cells, pen, cluster, run.columns)
+    match run.kind {
+        RunKind::One => {
+            let cluster = StyledCluster {
+                text: run.text,
+                style: run.style,
+            };
+            draw_cluster(buffer, cells, pen, cluster, run.columns)
+        }
+        RunKind::Plain => Ok(draw_plain(buffer, cells, pen, run.text, run.style)),
+        RunKind::Letters => {
+            let letters = StyledCluster {
+                text: run.text,
+                style: run.style,
+            };
+            draw_letters(buffer, cells, pen, letters, run.columns)
+        }
     }
+}
+
+/// Draws letters of this many columns each at the pen, and moves the pen after them, at most to the
+/// end of the cells.
+fn draw_letters(
+    buffer: &mut Buffer,
+    cells: RowCells,
+    pen: Pen,
+    letters: StyledCluster,
+    columns: usize,
+) -> Result<Pen, AllocError>
+    requires edge { cells.x + cells.width ≤ 65535 }
+    requires within { IsColumnWithin cells pen.x }
+    requires letters { AreLetters columns letters.text.now }
+    requires pen { IsAnyPen cells pen }
+    ensures moved { (left column : ℕ) → IsPenAt cells left column pen
+        → IfOk result (IsPenAt cells left
+        (column + clusters_width (letter_clusters letters.entry.style letters.entry.text.now))) }
+    ensures drawn { (left column : ℕ) → IsPenAt cells left column pen
+        → OnOk result (Changes buffer.old buffer.new (row_change cells left
+        (place_from column (letter_clusters letters.entry.style letters.entry.text.now)))) }
+    ensures within { IfOk result (λ moved. IsColumnWithin cells moved.x) }
+    ensures inline { AreInline (letter_clusters letters.entry.style letters.entry.text.now)
+        → IsOk result }
+    ensures err { OnErr result (KeepsOutside (is_in_cells cells) buffer.old buffer.new) }
+{
+    let style = letters.style;
+    let mut pen = pen;
+    let mut rest = letters.text;
+    'letters: while !rest.is_empty() {
+        let (text, after) = split_letter(rest);
+        let letter = StyledCluster { text, style };
+        pen = draw_cluster(buffer, cells, pen, letter, columns)?;
+        rest = after;
+    }
+    Ok(pen)
 }
 
 /// Draws characters of printable ASCII at the pen, one in each cell, and moves the pen after them,

@@ -6,6 +6,7 @@ ghost use Rattle.std.specs.Iterator.{YieldsFirstBy, item_count};
 ghost use Rattle.unicode_segmentation.specs.Iter.{graphemes_left};
 
 use super::columns::cluster_columns;
+use super::letters::split_letters;
 use super::simple::split_simple;
 use std::slice;
 use textarea_screen::screen::{Line, Span, Style};
@@ -18,15 +19,24 @@ pub(crate) struct StyledCluster<'a> {
     pub(crate) style: Style,
 }
 
-/// Clusters of a line that follow each other in one style: one cluster or, if `is_plain`,
-/// characters of printable ASCII of which each is a cluster.
+/// The clusters that a run has.
+#[derive(Clone, Copy)]
+pub(crate) enum RunKind {
+    One,
+    /// Each character is printable ASCII and a cluster.
+    Plain,
+    /// Each character is a letter and a cluster.
+    Letters,
+}
+
+/// Clusters of a line that follow each other in one style, of the same number of columns each.
 #[derive(Clone, Copy)]
 pub(crate) struct ClusterRun<'a> {
     pub(crate) text: &'a str,
     pub(crate) style: Style,
     /// The columns of each of the clusters.
     pub(crate) columns: usize,
-    pub(crate) is_plain: bool,
+    pub(crate) kind: RunKind,
 }
 
 /// The rest of a span's text. It is split into clusters once it begins with one that isn't found
@@ -38,7 +48,7 @@ enum SpanRest<'a> {
 }
 
 impl<'a> SpanRest<'a> {
-    /// Returns the next clusters, or `None` at the end: one, or at most `most` plain ones.
+    /// Returns the next clusters, or `None` at the end: one, or at most `most` plain ones or letters.
     fn next_run(&mut self, most: usize, style: Style) -> Option<ClusterRun<'a>>
         requires { 0 < most }
         ensures steps { MatchOption result
@@ -100,7 +110,7 @@ impl<'a, 'b> LineClusters<'a, 'b> {
         }
     }
 
-    /// Returns the next clusters, or `None` at the end: one, or at most `most` plain ones.
+    /// Returns the next clusters, or `None` at the end: one, or at most `most` plain ones or letters.
     pub(crate) fn next_run(&mut self, most: usize) -> Option<ClusterRun<'a>>
         requires { 0 < most }
         ensures steps { MatchOption result
@@ -129,6 +139,7 @@ impl<'a, 'b> Iterator for LineClusters<'a, 'b> {
 
     ghost remaining = { item_count clusters_left };
 
+    #[tactic(auto, using(crate::proofs::ClusterLemmas::one_cluster))]
     fn next(&mut self) -> Option<StyledCluster<'a>> {
         let run = self.next_run(1)?;
         Some(StyledCluster {
@@ -151,12 +162,13 @@ fn next_split<'a>(texts: &mut Graphemes<'a>, style: Style) -> Option<ClusterRun<
         text,
         style,
         columns: cluster_columns(text),
-        is_plain: false,
+        kind: RunKind::One,
     })
 }
 
 /// Splits clusters that are found without a table off the start of a text: one, or at most `most`
-/// plain ones.
+/// plain ones or letters.
+#[tactic(auto, using(crate::proofs::ClusterLemmas::plain_run, crate::proofs::ClusterLemmas::letters_run))]
 fn split_run<'a>(text: &'a str, most: usize, style: Style) -> Option<(ClusterRun<'a>, &'a str)>
     requires { 0 < most }
     ensures steps { IfSome result (λ parts. map (in_style style) (graphemes true text.now)
@@ -168,16 +180,25 @@ fn split_run<'a>(text: &'a str, most: usize, style: Style) -> Option<(ClusterRun
             text,
             style,
             columns: 1,
-            is_plain: true,
+            kind: RunKind::Plain,
         };
         return Some((run, after));
+    }
+    if let Some(letters) = split_letters(text, most) {
+        let run = ClusterRun {
+            text: letters.text,
+            style,
+            columns: letters.columns,
+            kind: RunKind::Letters,
+        };
+        return Some((run, letters.after));
     }
     let first = split_simple(text)?;
     let run = ClusterRun {
         text: first.text,
         style,
         columns: first.columns,
-        is_plain: false,
+        kind: RunKind::One,
     };
     Some((run, first.after))
 }

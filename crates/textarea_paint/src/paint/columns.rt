@@ -2,8 +2,9 @@
 ghost use Rattle.std.specs.Prelude.{◌≡◌, ◌^◌, ◌<◌, chars, sum_by};
 ghost use Rattle.std.specs.Char.{is_control};
 ghost use Rattle.std.specs.List.{list_any};
-ghost use Rattle.textarea_paint.specs.Columns.{columns_of, char_columns, is_wide};
+ghost use Rattle.textarea_paint.specs.Columns.{columns_of, char_columns};
 
+use super::letters::letter_columns;
 use unicode_width::UnicodeWidthChar;
 
 /// Returns the number of columns that a grapheme cluster takes: the sum of its characters' columns
@@ -28,23 +29,17 @@ pub fn cluster_columns(cluster: &str) -> usize
     }
 }
 
-/// Returns the number of columns that a character takes, 0 if it is a control character.
+/// Returns the number of columns that a character takes, 0 if it is a control character. Those of a
+/// letter are found without a table.
 pub(super) fn columns_of_char(c: char) -> usize
     ensures { result ≡ char_columns c }
 {
-    if is_wide(c) {
-        2
+    let columns = letter_columns(c);
+    if 0 < columns {
+        columns
     } else {
         c.width().unwrap_or(0)
     }
-}
-
-/// Returns whether the character is an ideograph or a face. Each of them takes two columns, and
-/// they are found without a table.
-fn is_wide(c: char) -> bool
-    ensures { result ≡ is_wide c }
-{
-    ('\u{4E00}' <= c && c <= '\u{9FFF}') || ('\u{1F600}' <= c && c <= '\u{1F64F}')
 }
 
 fn has_control(text: &str) -> bool

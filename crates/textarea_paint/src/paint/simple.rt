@@ -5,9 +5,9 @@ ghost use Rattle.textarea_paint.specs.Prelude.{begins_apart, columns_of, early_r
 
 use super::columns::columns_of_char;
 
-/// The first cluster of a text, the columns that it takes, and the text after it.
+/// The front of a text, the columns that each of its clusters takes, and the text after it.
 #[derive(Clone, Copy)]
-pub(super) struct FirstCluster<'a> {
+pub(super) struct Front<'a> {
     pub(super) text: &'a str,
     pub(super) columns: usize,
     pub(super) after: &'a str,
@@ -15,7 +15,7 @@ pub(super) struct FirstCluster<'a> {
 
 /// Splits the first cluster off a text, if it is a simple character or a flag and a simple
 /// character, a flag or the end of the text follows.
-pub(super) fn split_simple<'a>(text: &'a str) -> Option<FirstCluster<'a>>
+pub(super) fn split_simple<'a>(text: &'a str) -> Option<Front<'a>>
     ensures clusters { IfSome result (λ first.
         graphemes true text.now ≡ first.text.now ∷ graphemes true first.after.now) }
     ensures columns { IfSome result (λ first. first.columns ≡ columns_of first.text.now) }
@@ -35,7 +35,7 @@ pub(super) fn split_simple<'a>(text: &'a str) -> Option<FirstCluster<'a>>
 
 /// Splits a flag off a text that begins with half of one, `first`, and goes on with `rest`, if a
 /// simple character, a flag or the end of the text follows it.
-fn split_flag<'a>(text: &'a str, first: char, rest: &str) -> Option<FirstCluster<'a>>
+fn split_flag<'a>(text: &'a str, first: char, rest: &str) -> Option<Front<'a>>
     requires half { is_flag_half first ≡ true }
     requires text { text.now ≡ encode_utf8 first ++ rest.now }
     ensures clusters { IfSome result (λ first.
@@ -52,8 +52,9 @@ fn split_flag<'a>(text: &'a str, first: char, rest: &str) -> Option<FirstCluster
     }
 }
 
-/// Splits a text before its end, which is as long as `after`. The first part takes `columns`.
-fn split_before<'a>(text: &'a str, after: &str, columns: usize) -> Option<FirstCluster<'a>>
+/// Splits a text before its end, which is as long as `after`. Each cluster of the first part takes
+/// `columns`.
+pub(super) fn split_before<'a>(text: &'a str, after: &str, columns: usize) -> Option<Front<'a>>
     requires { length after.now ≤ length text.now }
     ensures text { IfSome result (λ first.
         first.text.now ≡ take (length text.now - length after.now) text.now) }
@@ -62,7 +63,7 @@ fn split_before<'a>(text: &'a str, after: &str, columns: usize) -> Option<FirstC
     ensures columns { IfSome result (λ first. first.columns ≡ columns) }
 {
     let (text, after) = text.split_at_checked(text.len() - after.len())?;
-    Some(FirstCluster {
+    Some(Front {
         text,
         columns,
         after,
@@ -70,7 +71,7 @@ fn split_before<'a>(text: &'a str, after: &str, columns: usize) -> Option<FirstC
 }
 
 /// Returns whether a cluster begins with this text after a simple character or a flag.
-fn begins_apart(text: &str) -> bool
+pub(super) fn begins_apart(text: &str) -> bool
     ensures { result ≡ begins_apart (chars text.now) }
 {
     match text.chars().next() {
@@ -102,29 +103,37 @@ fn is_early(c: char) -> bool
     ensures { result ≡ in_ranges early_ranges c }
 {
     let ascii = is_within(c, ' ', '~');
+    let signs = is_within(c, '\u{A0}', '\u{AC}');
     let latin = is_within(c, '\u{AE}', '\u{2FF}');
     let greek = is_within(c, '\u{370}', '\u{482}');
     let cyrillic = is_within(c, '\u{48A}', '\u{590}');
+    let hebrew = is_within(c, '\u{5D0}', '\u{5EA}');
+    let arabic = is_within(c, '\u{620}', '\u{64A}');
+    let persian = is_within(c, '\u{671}', '\u{6D3}');
+    let georgian = is_within(c, '\u{10A0}', '\u{10FF}');
     let extended = is_within(c, '\u{1E00}', '\u{200A}');
     let punctuation = is_within(c, '\u{2010}', '\u{2027}');
+    let currencies = is_within(c, '\u{2070}', '\u{20CF}');
     let symbols = is_within(c, '\u{2100}', '\u{2CEE}');
-    ascii | latin | greek | cyrillic | extended | punctuation | symbols
+    let western = ascii | signs | latin | greek | cyrillic;
+    western | hebrew | arabic | persian | georgian | extended | punctuation | currencies | symbols
 }
 
 /// Returns whether the character is in one of the ranges of East Asia and those above.
 fn is_late(c: char) -> bool
     ensures { result ≡ in_ranges late_ranges c }
 {
+    let brackets = is_within(c, '\u{3000}', '\u{3029}');
     let hiragana = is_within(c, '\u{3030}', '\u{3098}');
     let ideographs = is_within(c, '\u{309B}', '\u{A66E}');
     let wide_forms = is_within(c, '\u{FF00}', '\u{FF9D}');
     let tiles = is_within(c, '\u{1F000}', '\u{1F1E5}');
     let pictures = is_within(c, '\u{1F200}', '\u{1F3FA}');
     let faces = is_within(c, '\u{1F400}', '\u{3FFFF}');
-    hiragana | ideographs | wide_forms | tiles | pictures | faces
+    brackets | hiragana | ideographs | wide_forms | tiles | pictures | faces
 }
 
-fn is_within(c: char, first: char, last: char) -> bool
+pub(super) fn is_within(c: char, first: char, last: char) -> bool
     ensures { result ≡ is_in_range first last c }
 {
     first <= c && c <= last

@@ -1,6 +1,6 @@
-use Rattle.std.proofs.Common.{sym, ◌∙◌}
-use Rattle.textarea_paint.proofs.ColumnLemmas.{wide_columns}
+use Rattle.std.proofs.Common.{sym, ◌∙◌, arith}
+use Rattle.textarea_paint.proofs.LetterLemmas.{letter-columns}
 use Rattle.textarea_paint.proofs.paint.columns.columns_of_char.Goals as goal
 
-pub returns-then-is_wide : goal.returns-then-is_wide
-returns-then-is_wide c = sym (wide_columns c.args.c (sym c.is_wide.ensures ∙ c.if-is_wide.true))
+pub returns-then-columns-gt0 : goal.returns-then-columns-gt0
+returns-then-columns-gt0 c = c.letter_columns-columns.ensures ∙ sym (letter-columns c.args.c (omega (arith, c.letter_columns-columns.ensures)))

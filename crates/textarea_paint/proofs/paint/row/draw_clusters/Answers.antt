@@ -23,3 +23,13 @@ returns-after-loop-pen-clause-ok c = drawing_past c.loop-pen.invariant.drawing (
 
 pub returns-in_default-clause-ok : goal.returns-in_default-clause-ok
 returns-in_default-clause-ok c = drawing_end c.loop-pen.invariant.drawing c.in_default.ensures.steps.0
+
+pub draw_run-requires : goal.draw_run-requires
+draw_run-requires c =
+    let d = c.loop-pen.invariant.drawing in
+    record {
+      edge = c.requires.edge;
+      within = (omega (arith, d.at.x), omega (arith, d.at.x));
+      fits = c.in-Some.ensures.run.fits;
+      pen = (c.args.left, d.column, d.at);
+    }

@@ -1,0 +1,51 @@
+use Rattle.std.proofs.Common.{◌≡◌, [], ap, sym, subst, ◌∙◌, ◌+◌, arith, rules}
+use Rattle.std.proofs.lemmas.Bool.{eqb-true}
+use Rattle.std.proofs.lemmas.List.{nil_from_length}
+use Rattle.std.specs.Prelude.{length}
+use Rattle.textarea_screen.specs.Buffer.{Changes}
+use Rattle.textarea_screen.proofs.ChangeLemmas.{KeepsOutside-then}
+use Rattle.textarea_paint.specs.Cells.{IsPenAt, place_from, row_change}
+use Rattle.textarea_paint.specs.Row.{clusters_width}
+use Rattle.textarea_paint.proofs.LetterRowLemmas.{first-columns, first-short, on_err, walk-all, walk-next, walk-outside, walk-start}
+use Rattle.textarea_paint.proofs.paint.cells.draw_letters.Goals as goal
+
+pub letters-init : goal.letters-init
+letters-init c = record {
+  text = search rules;
+  walk = walk-start c.args.cells c.args.letters.style c.args.columns c.args.pen c.args.letters.text.now c.args.buffer.now c.requires.within c.requires.letters;
+}
+
+pub letters-preserved : goal.letters-preserved
+letters-preserved c = record {
+  text = search rules;
+  walk = walk-next c.letters.invariant.walk c.split_letter.ensures (λ left column at. c.in_ok-pen.ensures.moved left column at)
+      (λ left column at. c.in_ok-pen.ensures.drawn left column at) c.in_ok-pen.ensures.within;
+}
+
+pub letters-smaller : goal.letters-smaller
+letters-smaller c = omega (arith, ap length c.split_letter.ensures.chars_are)
+
+pub returns-in_err-pen-clause-inline : goal.returns-in_err-pen-clause-inline
+returns-in_err-pen-clause-inline c = λ short. cc (c.in_err-pen.ensures.inline (first-short c.args.letters.style (c.letters.invariant.walk.short short) c.split_letter.ensures))
+
+pub returns-in_err-pen-clause-err : goal.returns-in_err-pen-clause-err
+returns-in_err-pen-clause-err c = on_err c.from_residual.result (KeepsOutside-then (walk-outside c.letters.invariant.walk c.requires.pen) c.in_err-pen.ensures.err)
+
+pub returns-clause-moved : goal.returns-clause-moved
+returns-clause-moved c = λ left column at.
+    let none : c.letters.rest.now ≡ [] = nil_from_length _ (eqb-true _ _ (sym c.is_empty.ensures ∙ c.letters-test.false)) in
+    subst (λ cs. IsPenAt c.args.cells left (column + clusters_width cs) c.letters.pen) (walk-all c.letters.invariant.walk none)
+    (c.letters.invariant.walk.at left column at)
+
+pub returns-clause-drawn : goal.returns-clause-drawn
+returns-clause-drawn c = λ left column at.
+    let none : c.letters.rest.now ≡ [] = nil_from_length _ (eqb-true _ _ (sym c.is_empty.ensures ∙ c.letters-test.false)) in
+    subst (λ cs. Changes c.args.buffer.now c.letters.buffer (row_change c.args.cells left (place_from column cs))) (walk-all c.letters.invariant.walk none)
+    (c.letters.invariant.walk.drawn left column at)
+
+pub draw_cluster-requires : goal.draw_cluster-requires
+draw_cluster-requires c = record {
+  edge = c.requires.edge;
+  columns = first-columns c.letters.invariant.walk.letters c.split_letter.ensures;
+  within = c.letters.invariant.walk.within;
+}
