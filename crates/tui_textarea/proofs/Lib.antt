@@ -17,7 +17,9 @@ mod UndoneAtOnce
 mod UndoneTexts
 pub mod FragmentTexts
 pub mod Searches
-pub mod EachSymbol
+mod EachSymbol
+mod ActionTexts
+pub mod Ends
 mod TypedLines
 mod MatchOrder
 mod MatchSteps
