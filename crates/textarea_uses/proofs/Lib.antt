@@ -1,10 +1,3 @@
-mod Ends
 mod Halves
 mod Heights
 mod Masking
-mod MatchSteps
-mod Naming
-mod Playing
-mod Saving
-mod Sending
-mod Written

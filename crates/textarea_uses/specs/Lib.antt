@@ -1,6 +1,5 @@
 pub mod Height
 pub mod LogView
-pub mod Matches
 pub mod Mentions
 pub mod OneLine
 pub mod Password

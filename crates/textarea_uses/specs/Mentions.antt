@@ -1,13 +1,12 @@
 -- The mentions of a note.
-use Rattle.std.specs.Prelude.{ℕ, List, [], ◌∷◌, ◌++◌, map, All, Contains}
+use Rattle.std.specs.Prelude.{ℕ, List, [], ◌∷◌, ◌++◌, All, Contains}
 use Rattle.textarea_data.specs.declared.range.AtomicRange.{AtomicRange}
-use Rattle.textarea_text.specs.Text.{lines}
-use Rattle.textarea_ranges.specs.Moved.{covered_characters}
+use Rattle.tui_textarea.specs.ActionTexts.{covered_texts}
 use Rattle.tui_textarea.specs.State.{State}
 
 -- the names: the characters of each range, in the order of the text
 abbrev pub names_in : State → List (List ℕ)
-names_in state = map (covered_characters (lines state.document.text)) state.document.ranges
+names_in state = covered_texts state
 
 -- each name that is mentioned in the new state is mentioned in the old one
 abbrev pub HasOnlyNamesOf : State → State → Type 0

@@ -17,7 +17,8 @@ abbrev pub sent_by : Key → List ℕ → Option (List ℕ)
 sent_by key.Enter typed = Some typed
 sent_by other typed = None
 
--- what the keys send, one after another, if this was typed before them
-abbrev pub sent : List ℕ → List Key → List (List ℕ)
-sent typed [] = []
-sent typed (first ∷ keys) = option_to_list (sent_by first typed) ++ sent (typed_after first typed) keys
+-- the texts that are sent after the keys, one after another, if this was typed and these were sent
+-- before them
+abbrev pub sent_after : List Key → List ℕ → List (List ℕ) → List (List ℕ)
+sent_after [] typed texts = texts
+sent_after (first ∷ keys) typed texts = sent_after keys (typed_after first typed) (texts ++ option_to_list (sent_by first typed))

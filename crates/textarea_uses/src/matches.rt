@@ -1,10 +1,9 @@
 //! A list of all matches, made by stepping through them. Its user can rely on it that each match is
 //! listed exactly once, in the order of the text.
-ghost use Rattle.std.specs.Prelude.{◌≡◌, ◌++◌, ◌∷◌, List, IfOk, OnOk, false};
+ghost use Rattle.std.specs.Prelude.{◌≡◌, ◌++◌, ◌∷◌, [], IfOk, List, OnOk, false, true};
 ghost use Rattle.textarea_search.specs.Starts.{is_later};
-ghost use Rattle.tui_textarea.specs.Matches.{GoesToNext};
-ghost use Rattle.tui_textarea.specs.Prelude.{Place};
-ghost use Rattle.tui_textarea.specs.Search.{starts_in};
+ghost use Rattle.tui_textarea.specs.Matches.{HasPassed};
+ghost use Rattle.tui_textarea.specs.Prelude.{Place, starts_in};
 
 use std::alloc::AllocError;
 use tui_textarea::TextArea;
@@ -21,25 +20,22 @@ pub fn all_matches(area: &mut TextArea<'_>) -> Result<Vec<(usize, usize)>, Alloc
     area.go_to((0, 0));
     let mut goes_on = area.search_forward(true)?;
     'steps: while goes_on {
-        places.push(area.cursor())?;
-        let after = step(area)?;
+        let after = step(area, &mut places)?;
         goes_on = after;
     }
     Ok(places)
 }
 
-// Goes to the next match, and returns whether it is after the cursor.
-fn step(area: &mut TextArea<'_>) -> Result<bool, AllocError>
-    ensures stay { OnOk result (starts_in area.new.pattern area.new.document.text
-        ≡ starts_in area.old.pattern area.old.document.text) }
-    ensures after { IfOk result (λ after. after
-        ≡ is_later area.old.document.cursor false area.new.document.cursor) }
-    ensures next { (front back : List Place) →
-        starts_in area.old.pattern area.old.document.text ≡ front ++ area.old.document.cursor ∷ back
-        → OnOk result (GoesToNext back area.old.document.cursor area.new.document.cursor) }
+// Lists the match at the cursor, goes to the next one, and returns whether that is after it.
+fn step(area: &mut TextArea<'_>, places: &mut Vec<(usize, usize)>) -> Result<bool, AllocError>
+    ensures listed { OnOk result (places.new.items
+        ≡ places.old.items ++ area.old.document.cursor ∷ []) }
+    ensures passed { (starts : List Place) → HasPassed starts places.old.items true area.old →
+        IfOk result (λ after. HasPassed starts places.new.items after area.new) }
 {
     matches_in_order(area);
     let place = area.cursor();
+    places.push(place)?;
     area.search_forward(false)?;
     Ok(is_after(area.cursor(), place))
 }

@@ -8,10 +8,9 @@ ghost use Rattle.textarea_uses.specs.Mentions.{HasOnlyNamesOf, names_in, with_me
 ghost use Rattle.tui_textarea.specs.Prelude.{AreValid, ranges_accepted};
 
 use std::alloc::{AllocError, Global};
-use textarea_document::laws::ranges_follow_splices;
 use textarea_text::places::line_of;
+use tui_textarea::input_laws::ranges_cover_as_before;
 use tui_textarea::laws::is_sound;
-use tui_textarea::outcomes::laws::ranges_follow_each_call;
 use tui_textarea::{AtomicRange, Input, TextArea};
 
 /// A note, whose atomic ranges are its mentions.
@@ -53,8 +52,7 @@ impl Note {
         ensures { HasOnlyNamesOf self.old.area self.new.area }
     {
         is_sound(&self.area);
-        ranges_follow_each_call();
-        ranges_follow_splices();
+        ranges_cover_as_before();
         self.area.input(input)
     }
 

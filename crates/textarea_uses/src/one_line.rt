@@ -8,8 +8,8 @@ ghost use Rattle.tui_textarea.specs.Prelude.{asked_without_shortcuts};
 use std::alloc::{AllocError, Global};
 use textarea_calls::Action;
 use textarea_calls::keys::action_without_shortcuts;
+use tui_textarea::input_laws::symbols_stay_or_are_inserted;
 use tui_textarea::laws::is_sound;
-use tui_textarea::outcomes::laws::ranges_follow_each_call;
 use tui_textarea::{Input, TextArea};
 
 /// A field, whose text has no line break.
@@ -28,7 +28,7 @@ fn insert(area: &mut TextArea<'_>, character: char) -> Result<bool, AllocError>
         return Ok(false);
     }
     is_sound(area);
-    ranges_follow_each_call();
+    symbols_stay_or_are_inserted();
     area.insert_char(character)?;
     Ok(true)
 }
@@ -49,7 +49,7 @@ fn edit(area: &mut TextArea<'_>, action: Action) -> Result<bool, AllocError>
     ensures edited { OnOk result (area.new ≡ after_action area.old action) }
 {
     is_sound(area);
-    ranges_follow_each_call();
+    symbols_stay_or_are_inserted();
     match action {
         Action::InsertChar(character) => insert(area, character),
         Action::InsertTab => area.insert_tab(),

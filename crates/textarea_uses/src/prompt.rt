@@ -3,7 +3,7 @@
 ghost use Rattle.std.specs.Prelude.{◌≡◌, ◌++◌, [], IfOk, List, OnErr, OnOk, Some, ℕ};
 ghost use Rattle.std.specs.Option.{option_map, option_to_list};
 ghost use Rattle.textarea_text.specs.Text.{characters_of, lines_of};
-ghost use Rattle.textarea_uses.specs.Prompt.{sent, sent_by, typed_after};
+ghost use Rattle.textarea_uses.specs.Prompt.{sent_after, sent_by, typed_after};
 ghost use Rattle.tui_textarea.specs.Prelude.{IsTypedLine};
 
 use std::alloc::{AllocError, Global};
@@ -69,21 +69,21 @@ pub fn send_all(
     texts: &mut Vec<String>,
 ) -> Result<(), AllocError>
     ensures { IsTypedLine prompt.old.area [] → OnOk result
-        (lines_of texts.new.items ≡ lines_of texts.old.items ++ sent [] keys.now) }
+        (lines_of texts.new.items ≡ sent_after keys.now [] (lines_of texts.old.items)) }
 {
     for key in keys {
-        take_into(prompt, *key, texts)?;
+        let sent = prompt.take(*key)?;
+        push_some(texts, sent)?;
     }
     Ok(())
 }
 
-// Takes a key, and adds what it sends to the texts.
-fn take_into(prompt: &mut LinePrompt, key: Key, texts: &mut Vec<String>) -> Result<(), AllocError>
-    ensures { (typed : List ℕ) → IsTypedLine prompt.old.area typed → OnOk result
-        (IsTypedLine prompt.new.area (typed_after key typed) × (lines_of texts.new.items
-        ≡ lines_of texts.old.items ++ option_to_list (sent_by key typed))) }
+// Adds the text, if there is one.
+fn push_some(texts: &mut Vec<String>, text: Option<String>) -> Result<(), AllocError>
+    ensures { OnOk result (lines_of texts.new.items
+        ≡ lines_of texts.old.items ++ option_to_list (option_map characters_of text)) }
 {
-    match prompt.take(key)? {
+    match text {
         Some(text) => {
             texts.push(text)?;
             Ok(())

@@ -1,6 +1,7 @@
 //! A text with a saved state. Its user can rely on it that `revert` gives exactly the text that was
 //! saved, whenever the undo history reaches back to it.
 ghost use Rattle.std.specs.Prelude.{◌≡◌, ◌↔◌, IfOk, IsTrue, OnOk};
+ghost use Rattle.std.specs.Str.{chars};
 ghost use Rattle.textarea_text.specs.Text.{characters_of};
 ghost use Rattle.textarea_uses.specs.Save.{file_text};
 ghost use Rattle.tui_textarea.specs.TextsBefore.{ReachesBack};
@@ -56,30 +57,38 @@ impl SavedText {
         ensures reverted { IfOk result (λ reached. IsTrue reached →
             file_text self.new.area ≡ characters_of self.old.saved) }
     {
-        'undoing: loop {
-            let saved = self.is_saved()?;
-            undos_reach_back(&self.area);
-            if saved {
-                return Ok(true);
-            }
-            let undone = self.area.undo()?;
-            if undone {
-                continue;
-            }
-            return Ok(false);
-        }
+        undo_to(&mut self.area, self.saved.as_str())
     }
+}
 
-    // Returns whether the text is the saved one.
-    fn is_saved(&self) -> Result<bool, AllocError>
-        ensures { IfOk result (λ same. IsTrue same ↔
-            (file_text self.now.area ≡ characters_of self.now.saved)) }
-    {
-        let text = self.area.text()?;
-        let written = text.as_str();
-        let saved = self.saved.as_str();
-        Ok(is_same(written, saved))
+// Undoes edits until the text is the wanted one, and returns whether it is.
+fn undo_to(area: &mut TextArea<'_>, wanted: &str) -> Result<bool, AllocError>
+    ensures reached { IfOk result (λ reached. IsTrue reached ↔
+        ReachesBack area.old.document (chars wanted.now)) }
+    ensures reverted { IfOk result (λ reached. IsTrue reached →
+        file_text area.new ≡ chars wanted.now) }
+{
+    'undoing: loop {
+        let there = has_text(area, wanted)?;
+        undos_reach_back(area);
+        if there {
+            return Ok(true);
+        }
+        let undone = area.undo()?;
+        if undone {
+            continue;
+        }
+        return Ok(false);
     }
+}
+
+// Returns whether the text is the wanted one.
+fn has_text(area: &TextArea<'_>, wanted: &str) -> Result<bool, AllocError>
+    ensures { IfOk result (λ there. IsTrue there ↔ (file_text area.now ≡ chars wanted.now)) }
+{
+    let text = area.text()?;
+    let written = text.as_str();
+    Ok(is_same(written, wanted))
 }
 
 // Returns whether two texts are the same.

@@ -255,7 +255,7 @@ call_left old new call.InsertNewline k = k
 call_left old new call.Paste k = k
 call_left old new made k = inl k
 
-any_left : (old new : State) (found : Option Call) → IsAnyOutOfMemory old found new → IsInsertOutOfMemory old new
+pub any_left : (old new : State) (found : Option Call) → IsAnyOutOfMemory old found new → IsInsertOutOfMemory old new
 any_left old new None k = inl k
 any_left old new (Some made) k = call_left old new made k
 

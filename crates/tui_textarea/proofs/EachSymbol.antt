@@ -1,23 +1,24 @@
 -- What the text has after the splices of calls.
-use Rattle.std.proofs.Common.{◌≡◌, ◌∙◌, ◌+◌, ◌==◌, inl, inr, ℕ, Bool, true, false, cond, List, [], ◌∷◌, ◌++◌, length, take, drop, replicate, Option, None, Some, refl, subst, sym}
-use Rattle.std.specs.Prelude.{All, Result, Ok, Err, OnOk, OnErr}
+use Rattle.std.proofs.Common.{◌≡◌, ◌∙◌, ◌+◌, ◌==◌, Bool, true, false, cond, List, [], ◌∷◌, ◌++◌, length, take, drop, replicate, Option, None, Some, refl, subst, sym}
+use Rattle.std.specs.Prelude.{All}
 use Rattle.std.proofs.lemmas.List.Elements.{All-append, All-cons, All-drop, All-nil, All-replicate, All-take}
 use Rattle.textarea_data.specs.declared.range.AtomicRange.{AtomicRange}
 use Rattle.textarea_ranges.specs.Lookup.{range_end, range_start}
-use Rattle.textarea_text.specs.Text.{Symbol, Break, Character}
+use Rattle.textarea_text.specs.Text.{Symbol, Character}
 use Rattle.textarea_text.specs.Place.{Place, index_of, inserted, removed}
 use Rattle.textarea_text.specs.Splice.{Splice, applied, applied_all, IsTextBefore}
 use Rattle.textarea_calls.specs.declared.call.Call.TheVariants as call
 use Rattle.textarea_document.specs.DocumentState.{DocumentState}
-use Rattle.textarea_document.specs.Edits.{Remove, RemoveAfter, RemoveBefore, is_at_end, is_at_start, range_after, range_before, splice_of_step}
-use Rattle.textarea_document.specs.RangesOverSplices.{RangesStayWhole}
+use Rattle.textarea_document.specs.Edits.{Remove, RemoveAfter, RemoveBefore, RemoveBreak, is_at_end, is_at_start, range_after, range_before, splice_of_step}
 use Rattle.textarea_document.specs.Selection.{is_selected, selection_end, selection_start}
-use Rattle.textarea_document.specs.Splices.{after_splices, before_splices, insertion_splices, range_splices_or, removal_splices, selected_splices}
-use Rattle.tui_textarea.specs.CallSplices.{OfSplicesOutOfMemory, splices_of}
-use Rattle.tui_textarea.specs.Edits.{breaks_line, spaces_to_stop}
+use Rattle.textarea_document.specs.Splices.{after_splices, before_splices, break_splices, insertion_splices, range_splices_or, removal_splices, selected_splices}
+use Rattle.textarea_document.specs.Target.{word_end_after, word_start_before}
+use Rattle.tui_textarea.specs.CallSplices.{splices_of}
+use Rattle.tui_textarea.specs.Edits.{spaces_to_stop}
 use Rattle.tui_textarea.specs.LayoutCalls.{tab_length}
+use Rattle.tui_textarea.specs.Removals.{cursor_line, in_line, is_at_line_end}
 use Rattle.tui_textarea.specs.Selection.{unselected}
-use Rattle.tui_textarea.specs.Splices.{selected_splices_or, str_splices}
+use Rattle.tui_textarea.specs.Splices.{line_end_splices, line_head_splices, selected_splices_or, str_splices, word_after_splices, word_before_splices}
 use Rattle.tui_textarea.specs.State.{State}
 
 -- each splice that inserts, inserts only such symbols
@@ -84,15 +85,23 @@ only_after P document =
     only_range_or P (range_after document) document (cond (is_at_end document) [] (splice_of_step document RemoveAfter ∷ []))
     (only-if P (is_at_end document) [] (splice_of_step document RemoveAfter ∷ []) tt (removes P (splice_of_step document RemoveAfter) refl))
 
+only_removal : (P : Symbol → Type 0) (document : DocumentState) (from to : Place) → InsertOnly P (removal_splices document from to)
+only_removal P document from to = removes P (splice_of_step document (Remove from to)) refl
+
+only_break : (P : Symbol → Type 0) (document : DocumentState) → InsertOnly P (break_splices document)
+only_break P document =
+    only-if P (document.cursor.0 == 0) [] (splice_of_step document RemoveBreak ∷ []) tt (removes P (splice_of_step document RemoveBreak) refl)
+
+-- back to a position of the line, or at its start the break before it
+only_back_to : (P : Symbol → Type 0) (document : DocumentState) (from : Place)
+    → InsertOnly P (cond (document.cursor.1 == 0) (break_splices document) (removal_splices document from document.cursor))
+only_back_to P document from =
+    only-if P (document.cursor.1 == 0) (break_splices document) (removal_splices document from document.cursor) (only_break P document) (only_removal P document from document.cursor)
+
 only_selected_or : (P : Symbol → Type 0) (document : DocumentState) (other : List Splice) → InsertOnly P other → InsertOnly P (selected_splices_or document other)
 only_selected_or P document other h = only-if P (is_selected document) (selected_splices document) other (only_selected P document) h
 
--- what each call inserts: a character; a tab, as a character or as spaces; nothing
-pub only_char : (P : Symbol → Type 0) (state : State) (c : ℕ) → breaks_line c ≡ false → P (Character c) → InsertOnly P (splices_of state (call.InsertChar c))
-only_char P state c breaks p =
-    subst (λ (b : Bool). InsertOnly P (cond b (str_splices state (Break ∷ [])) (str_splices state (Character c ∷ [])))) (sym breaks)
-    (only_str P state (Character c ∷ []) (All-cons P (Character c) [] p (All-nil P)))
-
+-- what each call inserts: a tab, as a character or as spaces; nothing
 pub only_tab : (P : Symbol → Type 0) (state : State) → P (Character 9) → P (Character 32) → InsertOnly P (splices_of state call.InsertTab)
 only_tab P state tab space =
     let spaces = replicate (spaces_to_stop (unselected state).document (tab_length state.document)) (Character 32) in
@@ -108,16 +117,27 @@ only_delete_char P state = only_selected_or P state.document (before_splices sta
 pub only_delete_next_char : (P : Symbol → Type 0) (state : State) → InsertOnly P (splices_of state call.DeleteNextChar)
 only_delete_next_char P state = only_selected_or P state.document (after_splices state.document) (only_after P state.document)
 
--- ---- after a call
+pub only_line_end : (P : Symbol → Type 0) (state : State) → InsertOnly P (splices_of state call.DeleteLineByEnd)
+only_line_end P state =
+    let document = state.document in
+    let to = in_line document (length (cursor_line document)) in
+    only_selected_or P document (line_end_splices document)
+    (only-if P (is_at_line_end document) (after_splices document) (removal_splices document document.cursor to) (only_after P document) (only_removal P document document.cursor to))
 
--- the text after a call that inserts only such symbols, or that ran out of memory, has only such
--- symbols
-pub only_after_call : {T E : Type 0} (P : Symbol → Type 0) (result : Result T E) (old new : State) (splices : List Splice) {made left : Type 0} → OnOk result made → OnErr result left
-    → (made → RangesStayWhole old.document splices new.document) → (left → OfSplicesOutOfMemory old (λ spliced. RangesStayWhole old.document spliced new.document))
-    → All P old.document.text → InsertOnly P splices → All P new.document.text
-only_after_call P (Ok value) old new splices ok err leads stays all only = only_after_splices P old.document.text new.document.text splices (leads ok).0.text all only
-only_after_call P (Err error) old new splices ok err leads stays all only = by_end (stays err)
-  where
-    by_end : OfSplicesOutOfMemory old (λ spliced. RangesStayWhole old.document spliced new.document) → All P new.document.text
-    by_end (inl kept) = only_after_splices P old.document.text new.document.text [] kept.0.text all tt
-    by_end (inr kept) = only_after_splices P old.document.text new.document.text (selected_splices old.document) kept.0.text all (only_selected P old.document)
+pub only_line_head : (P : Symbol → Type 0) (state : State) → InsertOnly P (splices_of state call.DeleteLineByHead)
+only_line_head P state = only_selected_or P state.document (line_head_splices state.document) (only_back_to P state.document (in_line state.document 0))
+
+pub only_word_before : (P : Symbol → Type 0) (state : State) → InsertOnly P (splices_of state call.DeleteWord)
+only_word_before P state =
+    let document = state.document in
+    let from = in_line document (word_start_before (cursor_line document) document.cursor.1) in
+    only_selected_or P document (word_before_splices document)
+    (only_range_or P (range_before document) document (cond (document.cursor.1 == 0) (break_splices document) (removal_splices document from document.cursor)) (only_back_to P document from))
+
+pub only_word_after : (P : Symbol → Type 0) (state : State) → InsertOnly P (splices_of state call.DeleteNextWord)
+only_word_after P state =
+    let document = state.document in
+    let to = in_line document (word_end_after (cursor_line document) document.cursor.1) in
+    only_selected_or P document (word_after_splices document)
+    (only_range_or P (range_after document) document (cond (is_at_line_end document) (after_splices document) (removal_splices document document.cursor to))
+    (only-if P (is_at_line_end document) (after_splices document) (removal_splices document document.cursor to) (only_after P document) (only_removal P document document.cursor to)))

@@ -1,12 +1,14 @@
--- Texts as symbols, and runs of spaces.
+-- Texts as symbols and symbols as written texts, and runs of spaces.
 use Rattle.std.proofs.Common.{◌≡◌, ℕ, zero, suc, ◌==◌, ◌&&◌, Bool, true, false, not, List, [], ◌∷◌, ◌++◌, length, sym, ap, refl, ◌∙◌, arith, encode_utf8_all, String, string_bytes, cond, replicate}
+use Rattle.std.specs.Prelude.{All}
 use Rattle.std.specs.Str.{chars, IsUtf8}
 use Rattle.std.proofs.lemmas.List.{append-nil, nil_from_length}
+use Rattle.std.proofs.lemmas.List.Elements.{All-cons, All-head, All-nil, All-tail}
 use Rattle.std.proofs.lemmas.Str.{IsUtf8-string_bytes, chars-nil, encode_ascii, encodes-chars}
 use Rattle.std.proofs.lemmas.Bool.{eqb-true}
 use Rattle.textarea_text.specs.Text.{Symbol, Character, Break, characters, characters_of, text_of}
 use Rattle.textarea_text.proofs.Columns.{chars_from_bytes}
-use Rattle.textarea_text.specs.Fragment.{begins_with_line_feed, fragment_symbols, pasted_symbols, unified_after}
+use Rattle.textarea_text.specs.Fragment.{begins_with_line_feed, fragment_symbols, fragment_text, pasted_symbols, unified_after}
 use Rattle.textarea_document.specs.Edits.{has_symbols}
 use Rattle.textarea_history.proofs.Joins.{right_of}
 
@@ -62,3 +64,11 @@ spaces_text items old fragment_line count is none e =
     ∙ append-nil (characters (characters_of fragment_line))
     ∙ ap characters (chars_from_bytes (string_bytes fragment_line) (replicate count 32) (IsUtf8-string_bytes fragment_line) (e ∙ replicate_bytes count))
     ∙ replicate_characters count 32
+
+-- a fact of each character of the written text, from one of each symbol: a break is a line feed
+pub each_written : (P : Symbol → Type 0) (Q : ℕ → Type 0) → ((c : ℕ) → P (Character c) → Q c) → (P Break → Q 10) → (text : List Symbol) → All P text → All Q (fragment_text text)
+each_written P Q character feed [] all = All-nil Q
+each_written P Q character feed (Character c ∷ text) all =
+    All-cons Q c (fragment_text text) (character c (All-head P (Character c) text all)) (each_written P Q character feed text (All-tail P (Character c) text all))
+each_written P Q character feed (Break ∷ text) all =
+    All-cons Q 10 (fragment_text text) (feed (All-head P Break text all)) (each_written P Q character feed text (All-tail P Break text all))

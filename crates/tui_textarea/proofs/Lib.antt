@@ -19,7 +19,9 @@ mod ReplacedAtOnce
 mod UndoneTexts
 pub mod FragmentTexts
 pub mod Searches
-pub mod EachSymbol
+mod EachSymbol
+mod ActionTexts
+pub mod Ends
 mod TypedLines
 mod MatchOrder
 mod MatchSteps

@@ -1,5 +1,5 @@
 -- The texts that undos reach.
-use Rattle.std.proofs.Common.{◌≡◌, ◌≢◌, ◌∙◌, ℕ, zero, suc, ◌-◌, ◌<◌, ◌≤◌, Bool, true, false, List, [], ◌∷◌, length, is_some, refl, sym, ap, arith}
+use Rattle.std.proofs.Common.{◌≡◌, ◌≢◌, ◌↔◌, ◌∙◌, ℕ, zero, suc, ◌-◌, ◌<◌, ◌≤◌, Bool, true, false, List, [], ◌∷◌, length, is_some, refl, sym, subst, ap, arith}
 use Rattle.std.specs.List.{slice_get}
 use Rattle.textarea_history.specs.Groups.{group_count}
 use Rattle.textarea_history.specs.HistoryLaw.{times}
@@ -11,6 +11,7 @@ use Rattle.textarea_text.specs.Splice.{Splice}
 use Rattle.textarea_document.specs.DocumentLaw.{RestoresDocument}
 use Rattle.textarea_document.specs.DocumentState.{DocumentState}
 use Rattle.textarea_document.specs.Outcomes.{after_undo}
+use Rattle.tui_textarea.specs.State.{State}
 use Rattle.tui_textarea.specs.TextsBefore.{ReachesBack, StepsBack}
 
 -- ---- the number of done groups
@@ -58,10 +59,15 @@ at_last : (document : DocumentState) (written : List ℕ) (count : ℕ) → is_s
 at_last document written zero none within is = is
 at_last document written (suc count) none within is = absurd (omega (arith, within, no_groups document.log none))
 
-pub steps_back : (document : DocumentState) → Restores document → StepsBack document
-steps_back document restores = record {
-  here = λ written is. (0, omega arith, is);
-  before = λ written some other. ((λ h. after_one document written h.0 restores some other h.1 h.2), (λ h. further document written restores some h));
-  fewer = λ some. omega (arith, one_less document restores some, some_groups document.log some);
-  last = λ written none h. at_last document written h.0 none h.1 h.2;
-}
+pub steps_back : (state : State) → Restores state.document → StepsBack state
+steps_back state restores =
+    let document = state.document in
+    record {
+      here = λ written is. (0, omega arith, is);
+      before = λ written new some is other.
+          subst (λ (s : State). ReachesBack document written ↔ ReachesBack s.document written) (sym is)
+          ((λ h. after_one document written h.0 restores some other h.1 h.2), (λ h. further document written restores some h));
+      fewer = λ new some is.
+          subst (λ (s : State). done_groups s.document.log < done_groups document.log) (sym is) (omega (arith, one_less document restores some, some_groups document.log some));
+      last = λ written none other h. other (at_last document written h.0 none h.1 h.2);
+    }

@@ -34,6 +34,7 @@ pub mod CallSplices
 pub mod CallResults
 pub mod TypedLine
 pub mod TextsBefore
+pub mod ActionTexts
 pub mod Matches
 pub mod ChangesOverCalls
 pub mod Prelude

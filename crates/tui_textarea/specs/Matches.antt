@@ -1,5 +1,5 @@
--- The order of matches, and the one that follows another.
-use Rattle.std.specs.Prelude.{◌≡◌, ◌++◌, ◌∷◌, true, false, List, [], All, slice_get}
+-- The order of matches, the one that follows another, and a walk through all.
+use Rattle.std.specs.Prelude.{◌≡◌, ◌++◌, ◌∷◌, Bool, true, false, List, [], All, is_some, slice_get}
 use Rattle.textarea_text.specs.Place.{Place}
 use Rattle.textarea_search.specs.Starts.{is_later}
 use Rattle.tui_textarea.specs.Moves.{gone_to}
@@ -22,18 +22,28 @@ LeadsToMatchAfter state =
 abbrev pub LeadsToFirstMatch : State → Type 0
 LeadsToFirstMatch state = state.document.cursor ≡ (0, 0) → next_match state true ≡ slice_get (starts_in state.pattern state.document.text) 0
 
--- a search that leads from the one position, a match that these follow, to the other: that is the
--- next of them, and after the one; if none follows, it isn't after the one
-abbrev pub GoesToNext : List Place → Place → Place → Type 0
-GoesToNext [] place found = is_later place false found ≡ false
-GoesToNext (next ∷ rest) place found = (found ≡ next) × (is_later place false found ≡ true)
+-- A walk through the matches that start at these positions: it has passed the first of them, and
+-- goes on from the cursor, which is at the next one, or has passed all.
+abbrev pub IsPast : List Place → Bool → Place → List Place → Type 0
+IsPast passed false cursor starts = passed ≡ starts
+IsPast passed true cursor starts = (back : List Place) × (starts ≡ passed ++ cursor ∷ back)
 
--- With the cursor at the start of a match, a search goes to the next one, and to none after the last.
+-- a walk through the matches that start at these positions, as far as the state: which it has
+-- passed, and whether it goes on
+pub record HasPassed (starts passed : List Place) (goes_on : Bool) (state : State) : Type 0 where
+  pub same : starts_in state.pattern state.document.text ≡ starts
+  pub past : IsPast passed goes_on state.document.cursor starts
+
+-- A walk goes on by a search. It then has passed the match at the cursor too, and goes on if the
+-- search led to a position after it.
 abbrev pub GoesThroughMatches : State → Type 0
 GoesThroughMatches state =
-    (front back : List Place) → starts_in state.pattern state.document.text ≡ front ++ state.document.cursor ∷ back
-    → GoesToNext back state.document.cursor (after_search state (next_match state false)).document.cursor
+    (starts passed : List Place) (new : State) → HasPassed starts passed true state → new ≡ after_search state (next_match state false)
+    → HasPassed starts (passed ++ state.document.cursor ∷ []) (is_later state.document.cursor false new.document.cursor) new
 
--- From the text's start, to which the cursor has gone, the first match of the text is found.
+-- A walk begins with a search from the text's start, to which the cursor has gone, that may stay
+-- there. It goes on if that found a match.
 abbrev pub BeginsWithFirst : State → Type 0
-BeginsWithFirst state = next_match (gone_to state (0, 0)) true ≡ slice_get (starts_in state.pattern state.document.text) 0
+BeginsWithFirst state =
+    (gone new : State) (found : Bool) → gone ≡ gone_to state (0, 0) → found ≡ is_some (next_match gone true) → new ≡ after_search gone (next_match gone true)
+    → HasPassed (starts_in state.pattern state.document.text) [] found new

@@ -35,13 +35,13 @@ pub fn one_input()
 /// removes all. An insertion that runs out of memory leaves it as it was. Its text is written as its
 /// characters.
 pub fn typed_line_stays()
-    ensures typed { (state : State) (line : List ℕ) (c : ℕ) → IsTypedLine state line →
-        breaks_line c ≡ false → IsTypedLine (char_inserted state c) (line ++ c ∷ []) }
-    ensures removed { (state : State) (line : List ℕ) → IsTypedLine state line →
-        IsTypedLine (unselected_or state (symbol_before_removed state))
-        (take (length line - 1) line) }
-    ensures cleared { (state : State) (line : List ℕ) → IsTypedLine state line →
-        IsTypedLine (text_cleared state) [] }
+    ensures typed { (old new : State) (line : List ℕ) (c : ℕ) → IsTypedLine old line →
+        breaks_line c ≡ false → new ≡ char_inserted old c → IsTypedLine new (line ++ c ∷ []) }
+    ensures removed { (old new : State) (line : List ℕ) → IsTypedLine old line →
+        new ≡ unselected_or old (symbol_before_removed old) →
+        IsTypedLine new (take (length line - 1) line) }
+    ensures cleared { (old new : State) (line : List ℕ) → IsTypedLine old line →
+        new ≡ text_cleared old → IsTypedLine new [] }
     ensures out_of_memory { (old new : State) (line : List ℕ) → IsTypedLine old line →
         IsInsertOutOfMemory old new → IsTypedLine new line }
     ensures written { (state : State) (line : List ℕ) → IsTypedLine state line →

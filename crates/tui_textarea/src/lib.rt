@@ -2,6 +2,7 @@
 #![tactic(auto)]
 
 mod drawing;
+pub mod input_laws;
 pub mod laws;
 mod matches;
 pub mod outcomes;

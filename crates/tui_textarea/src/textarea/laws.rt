@@ -24,7 +24,7 @@ pub fn undos_restore(area: &TextArea<'_>)
 /// exactly if it is the present text, or if they can give it from where one undo leads, with fewer
 /// groups left to undo. So one undo after another finds it, or ends without it.
 pub fn undos_reach_back(area: &TextArea<'_>)
-    ensures { StepsBack area.now.document }
+    ensures { StepsBack area.now }
 {
     area.document.undos_restore();
 }
@@ -58,8 +58,9 @@ pub fn calls_are_undone_at_once(area: &TextArea<'_>)
 
 /// The law of matches, for every text area: their starts are in the order of the text, each once. A
 /// search from one of them goes to the next, and from the last one to the first; a search from the
-/// text's start that may stay there goes to the first. So steps from the first match on, as long as
-/// one leads to a position after the last, visit each match once, in order.
+/// text's start that may stay there goes to the first. So a walk that begins there, and goes on as
+/// long as a search leads to a position after the last, passes each match once, in order: `begin`
+/// and `next` say what it has passed after each search (`HasPassed`).
 pub fn matches_in_order(area: &TextArea<'_>)
     ensures order { AreInTextOrder (starts_in area.now.pattern area.now.document.text) }
     ensures after { LeadsToMatchAfter area.now }

@@ -1,8 +1,7 @@
 use Rattle.std.proofs.Common.{subst}
-use Rattle.tui_textarea.specs.State.{State}
 use Rattle.tui_textarea.specs.TextsBefore.{StepsBack}
 use Rattle.tui_textarea.proofs.UndoneTexts.{steps_back}
 use Rattle.tui_textarea.proofs.textarea.laws.undos_reach_back.Goals as goal
 
 pub returns : goal.returns
-returns c = subst (λ (s : State). StepsBack s.document) c.area.view_is (steps_back _ c.undos_restore.ensures)
+returns c = subst StepsBack c.area.view_is (steps_back _ c.undos_restore.ensures)
