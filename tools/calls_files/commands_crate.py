@@ -3,7 +3,7 @@ from calls_files.layout import used
 from calls_files.table import NOTE, TABLE, stop
 
 # How scripts write an argument of a type: its reading in specs/Arguments.antt and specs/Escapes.antt of
-# textarea_script_syntax, the function of src/arguments.rt that reads it, and its letters and meaning in RULES.md.
+# textarea_script_syntax, the function of src/arguments.rt that reads it, and its letters and meaning on the page of tascript.
 READINGS = {
     "char": ("character", "one_character", "K", "one character"),
     "usize": ("number", "size", "N", "a decimal number"),

@@ -71,9 +71,9 @@ def texts(table):
             "Insertions": rule_rows("insert"),
             "Removals": rule_rows("remove"),
             "Looks": look_rows,
-            "Commands": command_rows,
         },
         "docs/DIFFERENCES.md": {"Calls": new_rows},
+        "crates/tascript/README.md": {"Commands": command_rows},
         "crates/tui_textarea/specs/Calls.antt": {"Styles": text_area.results, "Styles that are set": text_area.states},
     }
     written = {}
