@@ -76,6 +76,13 @@ impl Draft {
         self.is_changed = false;
     }
 
+    /// Notes that the text may differ from the saved one.
+    pub fn set_changed(&mut self)
+        ensures { self.new ≡ record self.old { is_changed = true } }
+    {
+        self.is_changed = true;
+    }
+
     /// Sets the time, by which typed characters join to one edit.
     pub fn set_time(&mut self, now: Duration)
         ensures made { Makes self.old (SetNow now ∷ []) self.new }

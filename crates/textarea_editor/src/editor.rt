@@ -17,6 +17,7 @@ mod keys;
 mod mouse;
 mod parts;
 mod prompt;
+mod recovery;
 mod saving;
 mod status;
 

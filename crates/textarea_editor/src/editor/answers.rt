@@ -54,6 +54,19 @@ impl Editor {
                 self.leave_prompt(Asked::Name);
                 Ok(Effect::Nothing)
             }
+            (Question::Recover, KeyReply::Yes) => {
+                self.leave();
+                Ok(Effect::Recover)
+            }
+            (Question::Recover, KeyReply::No) | (Question::Discard, KeyReply::Yes) => {
+                self.leave();
+                Ok(Effect::Discard)
+            }
+            (Question::Discard, KeyReply::No) => {
+                self.leave();
+                Ok(Effect::Nothing)
+            }
+            (Question::Recover | Question::Discard, KeyReply::Back) => Ok(Effect::Nothing),
             (_, KeyReply::Other) => Ok(Effect::Nothing),
         }
     }
