@@ -47,6 +47,7 @@ equal_lines (x ∷ xs) (y ∷ ys) is =
     ∙ ap (λ (l : List (List ℕ)). characters_of y ∷ l) (equal_lines xs ys both.1)
 
 lines_equal : (xs ys : List (String Global)) → lines_of xs ≡ lines_of ys → pointwise string_eq xs ys ≡ true
+unfolding chars head_of tail_of
 lines_equal [] [] is = refl
 lines_equal [] (y ∷ ys) is = let no : [] ≡ characters_of y ∷ lines_of ys = is in cc
 lines_equal (x ∷ xs) [] is = let no : characters_of x ∷ lines_of xs ≡ [] = is in cc
