@@ -24,7 +24,7 @@ impl Editor {
         requires { self.old.controls.focus ≡ focus.Question question }
         ensures draft { self.new.draft ≡ self.old.draft }
         ensures carries { IfOk result
-            (Carries (MayQuit self.old) self.new.draft.area self.new.line_end) }
+            (Carries (MayQuit self.old self.new.draft) self.new.draft.area self.new.line_end) }
         ensures effect { IfOk result (IsAnswered question (reply_of input.now)
             (is_some self.old.name) (name_bytes self.old.name)) }
         ensures end { self.new.line_end ≡ self.old.line_end }
