@@ -9,7 +9,7 @@ use std::time::{Duration, Instant};
 use textarea_editor::message::Message;
 use textarea_editor::screen::Colors;
 use textarea_editor::terminal_colors::terminal_colors;
-use textarea_editor::{Arguments, DiskFile, Editor, Effect, Event, Screen};
+use textarea_editor::{Arguments, Editor, Effect, Event, Screen, Storage};
 use textarea_host::{SizeFile, Watch, size_in};
 
 // The alternate screen, reports of the mouse with its buttons down, in SGR's form, and bracketed
@@ -43,9 +43,24 @@ fn is_console(rt: &HostRuntime) -> bool {
 }
 
 fn edit_with(rt: &HostRuntime, editor: &mut Editor, arguments: Arguments<'_>) -> Result<()> {
-    let mut file = DiskFile::default();
+    let mut storage = Storage::default();
+    let outcome = edit_stored(rt, editor, arguments, &mut storage);
+    if outcome.is_err() {
+        storage.write(rt, editor);
+    }
+    drop(storage);
+    outcome
+}
+
+// Edits the file of the arguments, which is kept in this storage.
+fn edit_stored(
+    rt: &HostRuntime,
+    editor: &mut Editor,
+    arguments: Arguments<'_>,
+    storage: &mut Storage,
+) -> Result<()> {
     if let Some(name) = arguments.name {
-        open(rt, editor, &mut file, name)?;
+        open(rt, editor, storage, name)?;
     }
     if let Some(position) = arguments.position {
         editor.go_to(position)?;
@@ -53,7 +68,7 @@ fn edit_with(rt: &HostRuntime, editor: &mut Editor, arguments: Arguments<'_>) ->
     let mut screen = Screen::new(rt.alloc(), editor.screen_area())?;
     screen.set_console(is_console(rt));
     screen.set_colors(colors(rt));
-    let outcome = run(rt, editor, &mut screen, &mut file);
+    let outcome = run(rt, editor, &mut screen, storage);
     drop(screen);
     outcome
 }
@@ -72,12 +87,11 @@ fn variable(rt: &HostRuntime, name: &str) -> String {
 }
 
 // Opens a file, before the program takes the screen. A text that can't be opened ends the program.
-fn open(rt: &HostRuntime, editor: &mut Editor, file: &mut DiskFile, name: &str) -> Result<()> {
-    match file.read(rt, name) {
-        Ok(text) => editor.open(name, text)?,
-        Err(trouble) => bail!("{name}: not opened: {}", trouble.text()),
+fn open(rt: &HostRuntime, editor: &mut Editor, storage: &mut Storage, name: &str) -> Result<()> {
+    match storage.open(rt, editor, name)? {
+        None => Ok(()),
+        Some(trouble) => bail!("{name}: not opened: {}", trouble.text()),
     }
-    Ok(())
 }
 
 // Takes what the terminal sends, until the editor quits or the terminal is gone.
@@ -85,7 +99,7 @@ fn run(
     rt: &HostRuntime,
     editor: &mut Editor,
     screen: &mut Screen,
-    file: &mut DiskFile,
+    storage: &mut Storage,
 ) -> Result<()> {
     let begin = Instant::now(rt)?;
     let mut sizes = SizeFile::new(rt);
@@ -102,10 +116,17 @@ fn run(
         if count == 0 {
             take_size(rt, editor, screen, time, &mut sizes)?;
         }
-        if watch.is_gone(count, waited)
-            || !take(rt, editor, screen, file, time, waited, &bytes[..count])?
-        {
+        if watch.is_gone(count, waited) {
+            storage.write(rt, editor);
             break;
+        }
+        if !take(rt, editor, screen, storage, time, waited, &bytes[..count])? {
+            storage.end(rt);
+            break;
+        }
+        if storage.is_due(time) {
+            storage.write(rt, editor);
+            show(rt, editor, screen)?;
         }
     }
     Ok(())
@@ -133,7 +154,7 @@ fn take(
     rt: &HostRuntime,
     editor: &mut Editor,
     screen: &mut Screen,
-    file: &mut DiskFile,
+    storage: &mut Storage,
     time: Duration,
     waited: Duration,
     bytes: &[u8],
@@ -145,15 +166,13 @@ fn take(
     };
     for event in &events {
         let effect = editor.step(time, event);
-        if !carry_out(rt, editor, screen, file, effect)? {
+        if !carry_out(rt, editor, screen, storage, effect)? {
             return Ok(false);
         }
     }
     if !events.is_empty() {
         show(rt, editor, screen)?;
-    }
-    if editor.is_changed() {
-        file.make_hash(rt, editor.name().unwrap_or(""));
+        storage.note(rt, editor, time);
     }
     Ok(true)
 }
@@ -163,19 +182,29 @@ fn carry_out(
     rt: &HostRuntime,
     editor: &mut Editor,
     screen: &Screen,
-    file: &mut DiskFile,
+    storage: &mut Storage,
     effect: Effect,
 ) -> Result<bool> {
     match effect {
         Effect::Nothing => Ok(true),
         Effect::Quit => Ok(false),
+        Effect::Recover => {
+            if storage.recover(editor).is_err() {
+                editor.show_message(Message::Memory);
+            }
+            Ok(true)
+        }
+        Effect::Discard => {
+            storage.discard(rt);
+            Ok(true)
+        }
         Effect::Copy(text) => copy(rt, screen, text.as_str()),
         Effect::Save {
             name,
             text,
             overwrites,
         } => {
-            let end = file.save(rt, name.as_str(), text.as_str(), overwrites);
+            let end = storage.save(rt, name.as_str(), text.as_str(), overwrites);
             Ok(editor.saved(end) != Effect::Quit)
         }
     }

@@ -14,7 +14,7 @@ use Rattle.textarea_disk.proofs.Saves.{◌&◌}
 
 -- ---- journals
 
-journal_append : (a b : List (List ℕ)) → journal_of (a ++ b) ≡ journal_of a ++ journal_of b
+pub journal_append : (a b : List (List ℕ)) → journal_of (a ++ b) ≡ journal_of a ++ journal_of b
 journal_append [] b = refl
 journal_append (payload ∷ a) b =
     ap (λ (x : List ℕ). framed payload ++ x) (journal_append a b) ∙ sym (append_assoc (framed payload) (journal_of a) (journal_of b))

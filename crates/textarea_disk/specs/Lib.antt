@@ -1,7 +1,10 @@
 pub mod ContentHash
 pub mod Disk
+pub mod EventTimes
 pub mod Journal
 pub mod JournalSteps
+pub mod JournalWrites
 pub mod Plan
 pub mod Recovery
 pub mod Save
+pub mod TextChange

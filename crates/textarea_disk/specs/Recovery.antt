@@ -22,11 +22,15 @@ IsRecovered change bytes [] text = text ≡ bytes
 IsRecovered change bytes (header ∷ payloads) text =
     (header ≡ header_of bytes → text ≡ text_after change bytes payloads) × (header ≢ header_of bytes → text ≡ bytes)
 
--- A file that a crash may leave while its journal is written, and while its text is saved: the old one, or a new one with all
--- changes, whose size and hash are others if its bytes are.
-pub record IsOldOrSaved (change : List ℕ → List ℕ → List ℕ) (old : List ℕ) (payloads : List (List ℕ)) (bytes : List ℕ) : Type 0 where
-  pub either : (bytes ≡ old) ⊎ (bytes ≡ text_after change old payloads)
+-- A file that a crash may leave while its journal is written, and while its text is saved: the old one, or a new one with the text,
+-- whose size and hash are others if its bytes are.
+pub record IsOldOrSavedText (old text bytes : List ℕ) : Type 0 where
+  pub either : (bytes ≡ old) ⊎ (bytes ≡ text)
   pub told_apart : header_of old ≡ header_of bytes → bytes ≡ old
+
+-- the same with the text after all changes
+abbrev pub IsOldOrSaved : (List ℕ → List ℕ → List ℕ) → List ℕ → List (List ℕ) → List ℕ → Type 0
+IsOldOrSaved change old payloads bytes = IsOldOrSavedText old (text_after change old payloads) bytes
 
 -- the text as it was at one of the pauses, at which a record each was written
 abbrev pub IsAtPause : (List ℕ → List ℕ → List ℕ) → List ℕ → List (List ℕ) → List ℕ → Type 0

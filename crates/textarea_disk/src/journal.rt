@@ -63,7 +63,7 @@ fn first_record(bytes: &[u8]) -> Option<(&[u8], &[u8])>
 }
 
 // The number in the first eight bytes.
-fn number_in(bytes: &[u8]) -> u64
+pub(crate) fn number_in(bytes: &[u8]) -> u64
     requires { 8 ≤ length bytes.now }
     ensures { to_le_bytes w64 result ≡ take 8 bytes.now }
 {

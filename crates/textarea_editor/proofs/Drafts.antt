@@ -1,5 +1,5 @@
 -- Calls on a draft, one list after another.
-use Rattle.std.proofs.Common.{◌≡◌, ◌+◌, ◌<◌, ◌∙◌, ◌⊎◌, ◌||◌, ℕ, Bool, true, false, List, [], ◌∷◌, ◌++◌, OnErr, OnOk, Result, Ok, Err, ap, append-nil, inl, inr, is_err, length, map, refl, subst, sym, take, zero-add, arith, length-append}
+use Rattle.std.proofs.Common.{◌≡◌, ◌+◌, ◌<◌, ◌∙◌, ◌⊎◌, ◌||◌, ℕ, Bool, true, false, List, [], ◌∷◌, ◌++◌, None, Some, OnErr, OnOk, Result, Ok, Err, ap, append-nil, inl, inr, is_err, length, map, refl, subst, sym, take, zero-add, arith, length-append}
 use Rattle.std.proofs.Math.Bool.{or-false}
 use Rattle.std.proofs.Math.Seq.{take-append-add}
 use Rattle.std.specs.List.{list_any}
@@ -9,10 +9,11 @@ use Rattle.textarea_calls.specs.Edits.{edits}
 use Rattle.textarea_calls.specs.Topics.{draws}
 use Rattle.textarea_calls.specs.declared.call.Call.{Call}
 use Rattle.textarea_calls.specs.declared.call.Call.TheVariants as call
-use Rattle.textarea_editor.specs.Draft.{FailsIn, FailsInSome, IsHonest, Makes, RunsShort, plain_call, plain_calls}
+use Rattle.textarea_editor.specs.Draft.{Copy, FailsIn, FailsInSome, IsExact, IsHonest, IsChangeMark, IsMarkAfter, Makes, RunsShort, plain_call, plain_calls}
 use Rattle.textarea_editor.specs.declared.draft.Draft.{Draft}
 use Rattle.textarea_modal.proofs.Runs.{made_after, none_made, or_apart, ran_out_after}
 use Rattle.textarea_modal.specs.Runs.{AllMade, OneRunsOut, RunsOutAt}
+use Rattle.textarea_text.specs.Text.{Symbol, lines}
 use Rattle.tui_textarea.specs.CallResults.{CallResult}
 use Rattle.tui_textarea.specs.Outcomes.{IsAfterCall, IsResultOf, RanOutOfMemory}
 use Rattle.tui_textarea.specs.State.{State}
@@ -52,11 +53,21 @@ any_edits_plain (this ∷ calls) =
 
 -- ---- one list after another
 
+pub honest_same : (draft : Draft) → IsHonest draft draft
+honest_same draft = record { kept = refl; exact = λ was. was; alone = λ none same. (same, refl) }
+
 pub makes_none : (draft : Draft) → Makes draft [] draft
-makes_none draft = record { made = none_made draft.area; honest = λ same. (same, refl) }
+makes_none draft = record { made = none_made draft.area; honest = honest_same draft }
 
 pub honest_then : (a b c : Draft) → IsHonest a b → IsHonest b c → IsHonest a c
-honest_then a b c first second = λ same. let later = second same in let earlier = first later.0 in (earlier.0, later.1 ∙ earlier.1)
+honest_then a b c first second = record {
+  kept = second.kept ∙ first.kept;
+  exact = λ was. second.exact (first.exact was);
+  alone = λ none same.
+      let later = second.alone (first.kept ∙ none) same in
+      let earlier = first.alone none later.0 in
+      (earlier.0, later.1 ∙ earlier.1);
+}
 
 pub makes_then : (a b c : Draft) (calls more : List Call) → Makes a calls b → Makes b more c → Makes a (calls ++ more) c
 makes_then a b c calls more first second = record {
@@ -68,7 +79,7 @@ makes_then a b c calls more first second = record {
 pub fails_first : (draft : Draft) (calls : List Call) → FailsIn draft calls draft
 fails_first draft calls = record {
   short = record { index = 0; within = omega arith; made = inl (none_made draft.area) };
-  honest = λ same. (same, refl);
+  honest = honest_same draft;
 }
 
 short_then : (a b c : State) (calls more : List Call) → AllMade a calls b → RunsShort b more c → RunsShort a (calls ++ more) c
@@ -114,58 +125,103 @@ fails_early IsAsked draft = inl (fails_first draft [])
 
 -- ---- calls that are noted
 
--- the draft counts as changed if it did, if the calls may have changed it, or if they failed
-abbrev pub noted : Draft → Bool → Bool → Draft
-noted draft may failed = record draft { is_changed = draft.is_changed || (may || failed) }
+exact_of : (copy : Copy) (area : State) (changed : Bool) → IsChangeMark copy area changed → IsExact copy area changed
+exact_of None area changed is = tt
+exact_of (Some copy) area changed is = is
+
+-- what is exact of a text is so of the same text
+exact_there : (copy : Copy) (old new : State) (was changed : Bool) → new.document.text ≡ old.document.text → changed ≡ was → IsExact copy old was → IsExact copy new changed
+exact_there None old new was changed text same is = tt
+exact_there (Some copy) old new was changed text same is =
+    let rows = ap (λ (t : List Symbol). lines t) text in
+    ((λ h. rows ∙ is.0 (sym same ∙ h)), (λ h. same ∙ is.1 (sym rows ∙ h)))
+
+pub mark_compared_after : (was may : Bool) (new : Draft) → may ≡ true → IsChangeMark new.saved new.area new.is_changed → IsMarkAfter was may new
+mark_compared_after was may new is mark = subst (λ (b : Bool). IsMarkAfter was b new) (sym is) mark
+
+pub mark_stays_after : (was may : Bool) (new : Draft) → may ≡ false → new.is_changed ≡ was → IsMarkAfter was may new
+mark_stays_after was may new is same = subst (λ (b : Bool). IsMarkAfter was b new) (sym is) same
+
+-- a draft whose calls were made is noted: some of them may have changed the text, or none
+pub record IsNoted (left : Draft) (may : Bool) (new : Draft) : Type 0 where
+  pub same : new ≡ record left { is_changed = new.is_changed }
+  pub mark : IsMarkAfter left.is_changed may new
+
+noted_exact : (left new : Draft) (may : Bool) → IsNoted left may new → (text : State) → (may ≡ false → left.area.document.text ≡ text.document.text)
+    → IsExact left.saved text left.is_changed → IsExact left.saved new.area new.is_changed
+noted_exact left new true note text keeps was =
+    subst (λ (c : Copy). IsExact c new.area new.is_changed) (ap (λ (d : Draft). d.saved) note.same) (exact_of new.saved new.area new.is_changed note.mark)
+noted_exact left new false note text keeps was =
+    exact_there left.saved text new.area left.is_changed new.is_changed (ap (λ (d : Draft). d.area.document.text) note.same ∙ keeps refl) note.mark was
+
+noted_alone : (left new : Draft) (may : Bool) → IsNoted left may new → (text : State) → (may ≡ false → left.area.document.text ≡ text.document.text)
+    → left.saved ≡ None → new.is_changed ≡ false → (left.is_changed ≡ false) × (new.area.document.text ≡ text.document.text)
+noted_alone left new true note text keeps none is =
+    let changed : IsChangeMark None new.area new.is_changed = subst (λ (c : Copy). IsChangeMark c new.area new.is_changed) (ap (λ (d : Draft). d.saved) note.same ∙ none) note.mark in
+    absurd (false≢true (sym is ∙ changed))
+noted_alone left new false note text keeps none is =
+    (sym note.mark ∙ is, ap (λ (d : Draft). d.area.document.text) note.same ∙ keeps refl)
+
+noted_honest : (old left new : Draft) (may : Bool) → left.saved ≡ old.saved → left.is_changed ≡ old.is_changed → (may ≡ false → left.area.document.text ≡ old.area.document.text)
+    → IsNoted left may new → IsHonest old new
+noted_honest old left new may copy same keeps note =
+    let kept = ap (λ (d : Draft). d.saved) note.same in
+    record {
+      kept = kept ∙ copy;
+      exact = λ was.
+          subst (λ (c : Copy). IsExact c new.area new.is_changed) (sym kept)
+          (noted_exact left new may note old.area keeps
+          (subst (λ (c : Copy). IsExact c old.area left.is_changed) (sym copy) (subst (λ (b : Bool). IsExact old.saved old.area b) (sym same) was)));
+      alone = λ none is.
+          let both = noted_alone left new may note old.area keeps (copy ∙ none) is in
+          (sym same ∙ both.0, both.1);
+    }
 
 -- the calls were made
-pub noted_made : (old left : Draft) (calls : List Call) (may : Bool) → left.is_changed ≡ old.is_changed → may ≡ list_any edits calls → AllMade old.area calls left.area → Makes old calls (noted left may false)
-noted_made old left calls may same edit led = record {
-  made = led;
-  honest = λ none.
-      let apart = or_apart left.is_changed (may || false) none in
-      (sym same ∙ apart.0, led.text (sym edit ∙ (or_apart may false apart.1).0));
+pub noted_made : (old left new : Draft) (calls : List Call) (may : Bool) → left.saved ≡ old.saved → left.is_changed ≡ old.is_changed → may ≡ list_any edits calls → AllMade old.area calls left.area
+    → IsNoted left (may || false) new → Makes old calls new
+noted_made old left new calls may copy same edit led note = record {
+  made = subst (λ (s : State). AllMade old.area calls s) (sym (ap (λ (d : Draft). d.area) note.same)) led;
+  honest = noted_honest old left new (may || false) copy same (λ none. led.text (sym edit ∙ (or_apart may false none).0)) note;
 }
 
 -- memory ran out in them
-pub noted_failed : (old left : Draft) (calls : List Call) (may : Bool) → OneRunsOut old.area calls left.area → FailsIn old calls (noted left may true)
-noted_failed old left calls may ran = record {
-  short = record { index = ran.index; within = omega (arith, ran.ran_out.within); made = inr ran.ran_out };
-  honest = λ none.
-      absurd (false≢true (sym (or_apart may true (or_apart left.is_changed (may || true) none).1).1));
+pub noted_failed : (old left new : Draft) (calls : List Call) (may : Bool) → left.saved ≡ old.saved → left.is_changed ≡ old.is_changed → OneRunsOut old.area calls left.area
+    → IsNoted left (may || true) new → FailsIn old calls new
+noted_failed old left new calls may copy same ran note = record {
+  short = subst (λ (s : State). RunsShort old.area calls s) (sym (ap (λ (d : Draft). d.area) note.same))
+      (record { index = ran.index; within = omega (arith, ran.ran_out.within); made = inr ran.ran_out });
+  honest = noted_honest old left new (may || true) copy same (λ none. absurd (false≢true (sym (or_apart may true none).1))) note;
 }
 
 -- of either result
-pub makes_noted : {E : Type 0} (result made : Result Bool E) (old left new : Draft) (calls : List Call) (may : Bool) → result ≡ made → left.is_changed ≡ old.is_changed
-    → new ≡ noted left may (is_err made) → may ≡ list_any edits calls → OnOk made (AllMade old.area calls left.area) → OnOk result (Makes old calls new)
-makes_noted {E} result made old left new calls may is same note edit led =
-    subst (λ (d : Draft). OnOk result (Makes old calls d)) (sym note)
-    (subst (λ (r : Result Bool E). OnOk r (Makes old calls (noted left may (is_err made)))) (sym is) (by_result made led))
+pub makes_noted : {E : Type 0} (result made : Result Bool E) (old left new : Draft) (calls : List Call) (may : Bool) → result ≡ made → left.saved ≡ old.saved → left.is_changed ≡ old.is_changed
+    → IsNoted left (may || is_err made) new → may ≡ list_any edits calls → OnOk made (AllMade old.area calls left.area) → OnOk result (Makes old calls new)
+makes_noted {E} result made old left new calls may is copy same note edit led =
+    subst (λ (r : Result Bool E). OnOk r (Makes old calls new)) (sym is) (by_result made note led)
   where
-    by_result : (made : Result Bool E) → OnOk made (AllMade old.area calls left.area) → OnOk made (Makes old calls (noted left may (is_err made)))
-    by_result (Err error) led = tt
-    by_result (Ok found) led = noted_made old left calls may same edit led
+    by_result : (made : Result Bool E) → IsNoted left (may || is_err made) new → OnOk made (AllMade old.area calls left.area) → OnOk made (Makes old calls new)
+    by_result (Err error) note led = tt
+    by_result (Ok found) note led = noted_made old left new calls may copy same edit led note
 
-pub fails_noted : {E : Type 0} (result made : Result Bool E) (old left new : Draft) (calls : List Call) (may : Bool) → result ≡ made → new ≡ noted left may (is_err made)
-    → OnErr made (OneRunsOut old.area calls left.area) → OnErr result (FailsIn old calls new)
-fails_noted {E} result made old left new calls may is note ran =
-    subst (λ (d : Draft). OnErr result (FailsIn old calls d)) (sym note)
-    (subst (λ (r : Result Bool E). OnErr r (FailsIn old calls (noted left may (is_err made)))) (sym is) (by_result made ran))
+pub fails_noted : {E : Type 0} (result made : Result Bool E) (old left new : Draft) (calls : List Call) (may : Bool) → result ≡ made → left.saved ≡ old.saved → left.is_changed ≡ old.is_changed
+    → IsNoted left (may || is_err made) new → OnErr made (OneRunsOut old.area calls left.area) → OnErr result (FailsIn old calls new)
+fails_noted {E} result made old left new calls may is copy same note ran =
+    subst (λ (r : Result Bool E). OnErr r (FailsIn old calls new)) (sym is) (by_result made note ran)
   where
-    by_result : (made : Result Bool E) → OnErr made (OneRunsOut old.area calls left.area) → OnErr made (FailsIn old calls (noted left may (is_err made)))
-    by_result (Ok found) ran = tt
-    by_result (Err error) ran = noted_failed old left calls may ran
+    by_result : (made : Result Bool E) → IsNoted left (may || is_err made) new → OnErr made (OneRunsOut old.area calls left.area) → OnErr made (FailsIn old calls new)
+    by_result (Ok found) note ran = tt
+    by_result (Err error) note ran = noted_failed old left new calls may copy same ran note
 
 -- whether the draft then counts as changed
-pub changed_noted : {E : Type 0} (result made : Result Bool E) (left new : Draft) (calls : List Call) (may : Bool) → result ≡ made → new ≡ noted left may (is_err made)
-    → may ≡ list_any edits calls → OnOk result (new.is_changed ≡ (left.is_changed || list_any edits calls))
-changed_noted {E} result made left new calls may is note edit =
-    subst (λ (d : Draft). OnOk result (d.is_changed ≡ (left.is_changed || list_any edits calls))) (sym note)
-    (subst (λ (r : Result Bool E). OnOk r ((noted left may (is_err made)).is_changed ≡ (left.is_changed || list_any edits calls))) (sym is) (by_result made))
+pub mark_noted : {E : Type 0} (result made : Result Bool E) (left new : Draft) (calls : List Call) (may : Bool) → result ≡ made → IsMarkAfter left.is_changed (may || is_err made) new
+    → may ≡ list_any edits calls → OnOk result (IsMarkAfter left.is_changed (list_any edits calls) new)
+mark_noted {E} result made left new calls may is mark edit =
+    subst (λ (r : Result Bool E). OnOk r (IsMarkAfter left.is_changed (list_any edits calls) new)) (sym is) (by_result made mark)
   where
-    by_result : (made : Result Bool E) → OnOk made ((noted left may (is_err made)).is_changed ≡ (left.is_changed || list_any edits calls))
-    by_result (Err error) = tt
-    by_result (Ok found) = ap (λ b. left.is_changed || b) (or-false may ∙ edit)
+    by_result : (made : Result Bool E) → IsMarkAfter left.is_changed (may || is_err made) new → OnOk made (IsMarkAfter left.is_changed (list_any edits calls) new)
+    by_result (Err error) mark = tt
+    by_result (Ok found) mark = subst (λ (b : Bool). IsMarkAfter left.is_changed b new) (or-false may ∙ edit) mark
 
 -- ---- results
 

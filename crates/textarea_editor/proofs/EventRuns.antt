@@ -3,8 +3,9 @@ use Rattle.std.proofs.Common.{◌≡◌, ◌≢◌, ◌⊎◌, false, List, [], 
 use Rattle.std.specs.declared.time.Duration.{Duration}
 use Rattle.textarea_calls.specs.declared.call.Call.{Call}
 use Rattle.textarea_calls.specs.declared.call.Call.TheVariants.{SetNow}
-use Rattle.textarea_editor.proofs.Drafts.{honest_then, makes_none, makes_then}
-use Rattle.textarea_editor.specs.Draft.{FailsIn, FailsInAsked, IsHonest, Makes, MakesSome}
+use Rattle.textarea_editor.proofs.Drafts.{honest_same, honest_then, makes_none, makes_then}
+use Rattle.textarea_editor.proofs.Saved.{saved_is_unchanged, unchanged_is_saved}
+use Rattle.textarea_editor.specs.Draft.{FailsIn, FailsInAsked, HasCopy, IsHonest, IsSaved, Makes, MakesSome}
 use Rattle.textarea_editor.specs.declared.draft.Draft.{Draft}
 use Rattle.textarea_editor.specs.Editor.{AsksToSave, MayQuit}
 use Rattle.textarea_editor.specs.Steps.{AreSteps, FailsAt, IsStep, IsTimed, MakesCallsOf, Moment, NoneFails, Succeeds}
@@ -25,20 +26,27 @@ step_honest old new now event effect (inl made) = made.makes.makes.honest
 step_honest old new now event effect (inr failed) = failed_honest old.draft new.draft (SetNow now ∷ []) (IsTimed old now event) failed.fails
 
 run_honest : (old new : Editor) (moments : List Moment) → AreSteps old moments new → IsHonest old.draft new.draft
-run_honest old new [] same = subst (λ (e : Editor). IsHonest old.draft e.draft) (sym same) (λ is. (is, refl))
+run_honest old new [] same = subst (λ (e : Editor). IsHonest old.draft e.draft) (sym same) (honest_same old.draft)
 run_honest old new (this ∷ later) steps =
     honest_then old.draft this.after.draft new.draft (step_honest old this.after this.now this.event this.effect steps.0.led) (run_honest this.after new later steps.1)
 
-pub unchanged_since : (saved now : Editor) (moments : List Moment) → AreSteps saved moments now → now.draft.is_changed ≡ false → now.draft.area.document.text ≡ saved.draft.area.document.text
-unchanged_since saved now moments steps is = (run_honest saved now moments steps is).1
+pub unchanged_since : (saved now : Editor) (moments : List Moment) → AreSteps saved moments now → IsSaved saved.draft → now.draft.is_changed ≡ false → now.draft.area.document.text ≡ saved.draft.area.document.text
+unchanged_since saved now moments steps at_first is =
+    unchanged_is_saved saved.draft now.draft (run_honest saved now moments steps) at_first is
 
-may_quit : (saved old : Editor) (moments : List Moment) → AreSteps saved moments old → MayQuit old → (AsksToSave old ⊎ (old.draft.area.document.text ≡ saved.draft.area.document.text))
-may_quit saved old moments steps (inl is) = inr (unchanged_since saved old moments steps is)
-may_quit saved old moments steps (inr asked) = inl asked
+pub saved_since : (saved now : Editor) (moments : List Moment) → AreSteps saved moments now → IsSaved saved.draft → HasCopy saved.draft → now.draft.area.document.text ≡ saved.draft.area.document.text → now.draft.is_changed ≡ false
+saved_since saved now moments steps at_first has is =
+    saved_is_unchanged saved.draft now.draft (run_honest saved now moments steps) at_first has is
 
-pub quits_after : (saved old new : Editor) (moments : List Moment) (now : Duration) (event : Event) → AreSteps saved moments old → IsStep old now event Quit new
-    → (AsksToSave old ⊎ (old.draft.area.document.text ≡ saved.draft.area.document.text))
-quits_after saved old new moments now event steps step = may_quit saved old moments steps step.carries
+may_quit : (saved old new : Editor) → IsHonest saved.draft new.draft → IsSaved saved.draft → MayQuit old new.draft → (AsksToSave old ⊎ (new.draft.area.document.text ≡ saved.draft.area.document.text))
+may_quit saved old new honest at_first (inl is) = inr (unchanged_is_saved saved.draft new.draft honest at_first is)
+may_quit saved old new honest at_first (inr asked) = inl asked
+
+pub quits_after : (saved old new : Editor) (moments : List Moment) (now : Duration) (event : Event) → AreSteps saved moments old → IsSaved saved.draft → IsStep old now event Quit new
+    → (AsksToSave old ⊎ (new.draft.area.document.text ≡ saved.draft.area.document.text))
+quits_after saved old new moments now event steps at_first step =
+    let honest = honest_then saved.draft old.draft new.draft (run_honest saved old moments steps) (step_honest old new now event Quit step.led) in
+    may_quit saved old new honest at_first step.carries
 
 -- ---- the calls of events
 

@@ -5,3 +5,4 @@ mod FileLines
 mod Texts
 mod Times
 mod Clicks
+mod Saved

@@ -1,5 +1,5 @@
 -- Events after the time was set: the calls of the table don't depend on it.
-use Rattle.std.proofs.Common.{◌≡◌, ◌⊎◌, ◌-◌, ℕ, Bool, true, false, List, [], ◌∷◌, ap, inl, inr, lit<, refl, string_bytes, subst}
+use Rattle.std.proofs.Common.{◌≡◌, ◌⊎◌, ◌-◌, ℕ, Bool, true, false, List, [], ◌∷◌, None, Some, ap, inl, inr, lit<, refl, string_bytes, subst, sym}
 use Rattle.std.specs.Duration.{as_nanos}
 use Rattle.std.specs.declared.time.Duration.{Duration}
 use Rattle.textarea_calls.specs.declared.answer.Answer.TheVariants as answer
@@ -8,7 +8,7 @@ use Rattle.textarea_calls.specs.declared.call.Call.TheVariants.{SetNow}
 use Rattle.textarea_data.specs.declared.input.Input.{Input}
 use Rattle.textarea_data.specs.declared.measure.TextAreaMeasure.{TextAreaMeasure}
 use Rattle.textarea_editor.proofs.Drafts.{fails_then, makes_then}
-use Rattle.textarea_editor.specs.Draft.{FailsIn, FailsInAsked, FailsInSome, Makes, MakesSome}
+use Rattle.textarea_editor.specs.Draft.{Copy, FailsIn, FailsInAsked, FailsInSome, IsExact, IsHonest, Makes, MakesSome}
 use Rattle.textarea_editor.specs.declared.draft.Draft.{Draft}
 use Rattle.textarea_editor.specs.EventCalls.{IsEvent, IsFit, IsInput, IsPaste}
 use Rattle.textarea_editor.specs.Steps.{IsTimed}
@@ -32,6 +32,18 @@ pub time_made : (old new : State) (now : Duration) → new ≡ at_time old (as_n
 time_made old new now is =
     let made = SetNow now in
     made_more old old new (made ∷ []) 0 made answer.Done (lit< tt) refl (none_made old) refl is (draws_nothing_of made refl) (λ none. ap (λ (s : State). s.document.text) is)
+
+exact_at : (copy : Copy) (area : State) (changed : Bool) (time : ℕ) → IsExact copy area changed → IsExact copy (at_time area time) changed
+exact_at None area changed time was = tt
+exact_at (Some copy) area changed time was = was
+
+-- the text, and whether it counts as changed, are as before
+pub time_honest : (old : Draft) (area : State) (now : Duration) → area ≡ at_time old.area (as_nanos now) → IsHonest old (record old { area = area })
+time_honest old area now is = record {
+  kept = refl;
+  exact = λ was. subst (λ (s : State). IsExact old.saved s old.is_changed) (sym is) (exact_at old.saved old.area old.is_changed (as_nanos now) was);
+  alone = λ none same. (same, ap (λ (s : State). s.document.text) is);
+}
 
 -- ---- the calls of an event then
 

@@ -18,7 +18,7 @@ use Rattle.textarea_editor.specs.declared.focus.HelpKey.TheVariants as help
 use Rattle.textarea_editor.specs.declared.focus.PromptKey.{PromptKey}
 use Rattle.textarea_editor.specs.declared.focus.PromptKey.TheVariants as prompt
 use Rattle.textarea_editor.specs.declared.focus.Question.{Question}
-use Rattle.textarea_editor.specs.declared.focus.Question.TheVariants.{Overwrite, SaveFirst}
+use Rattle.textarea_editor.specs.declared.focus.Question.TheVariants.{Discard, Overwrite, Recover, SaveFirst}
 use Rattle.textarea_editor.specs.declared.focus.KeyReply.{KeyReply}
 use Rattle.textarea_editor.specs.declared.focus.KeyReply.TheVariants as reply
 use Rattle.textarea_editor.specs.declared.keys.KeyCommand.{KeyCommand}
@@ -121,6 +121,12 @@ after_reply SaveFirst reply.Yes controls named cursor = record (save_asked contr
 after_reply SaveFirst reply.No controls named cursor = controls
 after_reply Overwrite reply.Yes controls named cursor = save_asked controls named cursor
 after_reply Overwrite reply.No controls named cursor = prompt_opened (left controls) cursor asks.Name
+after_reply Recover reply.Yes controls named cursor = left controls
+after_reply Recover reply.No controls named cursor = left controls
+after_reply Discard reply.Yes controls named cursor = left controls
+after_reply Discard reply.No controls named cursor = left controls
+after_reply Recover reply.Back controls named cursor = controls
+after_reply Discard reply.Back controls named cursor = controls
 after_reply question reply.Back controls named cursor = left controls
 after_reply question reply.Other controls named cursor = controls
 

@@ -53,10 +53,10 @@ screen_rows_of editor = editor.rows
 abbrev pub AsksToSave : Editor → Type 0
 AsksToSave editor = editor.controls.focus ≡ focus.Question SaveFirst
 
--- the program may end at the next key without a further question: the text counts as unchanged, or
--- that question was asked
-abbrev pub MayQuit : Editor → Type 0
-MayQuit editor = (editor.draft.is_changed ≡ false) ⊎ AsksToSave editor
+-- the program may end at an event without a further question: after the event the text counts as
+-- unchanged, or that question was asked before it
+abbrev pub MayQuit : Editor → Draft → Type 0
+MayQuit old draft = (draft.is_changed ≡ false) ⊎ AsksToSave old
 
 -- the screen shows the help instead of the text
 abbrev pub ShowsHelp : Editor → Type 0

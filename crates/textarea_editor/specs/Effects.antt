@@ -4,12 +4,13 @@ use Rattle.std.specs.Str.{chars}
 use Rattle.std.specs.declared.alloc.Global.{Global}
 use Rattle.textarea_editor.specs.FileText.{file_bytes}
 use Rattle.textarea_editor.specs.declared.effect.Effect.{Effect}
+use Rattle.textarea_editor.specs.declared.effect.Effect.TheVariants as does
 use Rattle.textarea_editor.specs.declared.effect.Effect.TheVariants.{Copy, Nothing, Quit, Save}
 use Rattle.textarea_editor.specs.declared.effect.SaveEnd.{SaveEnd}
 use Rattle.textarea_editor.specs.declared.effect.SaveEnd.TheVariants as save_end
 use Rattle.textarea_editor.specs.declared.file_text.LineEnds.{LineEnds}
 use Rattle.textarea_editor.specs.declared.focus.Question.{Question}
-use Rattle.textarea_editor.specs.declared.focus.Question.TheVariants.{Overwrite, SaveFirst}
+use Rattle.textarea_editor.specs.declared.focus.Question.TheVariants.{Discard, Overwrite, Recover, SaveFirst}
 use Rattle.textarea_editor.specs.declared.focus.KeyReply.{KeyReply}
 use Rattle.textarea_editor.specs.declared.focus.KeyReply.TheVariants as reply
 use Rattle.textarea_text.specs.Fragment.{fragment_text}
@@ -40,11 +41,14 @@ IsSaveAsked true name overwrites (Save asked text asks) = (string_bytes asked �
 IsSaveAsked true name overwrites effect = ⊥
 IsSaveAsked false name overwrites effect = effect ≡ Nothing
 
--- what the program does after a reply to a question; only `n` to the first one ends it
+-- what the program does after a reply to a question; only `n` to whether to save ends it
 abbrev pub IsAnswered : Question → KeyReply → Bool → List ℕ → Effect → Type 0
 IsAnswered SaveFirst reply.Yes named name effect = IsSaveAsked named name false effect
 IsAnswered SaveFirst reply.No named name effect = effect ≡ Quit
 IsAnswered Overwrite reply.Yes named name effect = IsSaveAsked named name true effect
+IsAnswered Recover reply.Yes named name effect = effect ≡ does.Recover
+IsAnswered Recover reply.No named name effect = effect ≡ does.Discard
+IsAnswered Discard reply.Yes named name effect = effect ≡ does.Discard
 IsAnswered question answer named name effect = effect ≡ Nothing
 
 -- a text to save is that of the text area, one to copy is what was yanked last, and the program
@@ -53,4 +57,6 @@ abbrev pub Carries : Type 0 → State → LineEnds → Effect → Type 0
 Carries MayQuit state ends Nothing = Unit {0}
 Carries MayQuit state ends (Save name text overwrites) = IsWritten state ends (string_bytes text)
 Carries MayQuit state ends (Copy text) = chars (string_bytes text) ≡ fragment_text state.yank
+Carries MayQuit state ends does.Recover = Unit {0}
+Carries MayQuit state ends does.Discard = Unit {0}
 Carries MayQuit state ends Quit = MayQuit

@@ -7,7 +7,7 @@ use Rattle.textarea_editor.specs.declared.editor.Editor.{Editor}
 use Rattle.textarea_editor.specs.declared.focus.Asked.TheVariants as asks
 use Rattle.textarea_editor.specs.declared.focus.Focus.{Focus}
 use Rattle.textarea_editor.specs.declared.focus.Focus.TheVariants as focus
-use Rattle.textarea_editor.specs.declared.focus.Question.TheVariants.{Overwrite, SaveFirst}
+use Rattle.textarea_editor.specs.declared.focus.Question.TheVariants.{Discard, Overwrite, Recover, SaveFirst}
 use Rattle.textarea_editor.specs.declared.message.Message.{Message}
 use Rattle.textarea_editor.specs.declared.message.Message.TheVariants as message
 use Rattle.textarea_paint.specs.Row.{row_cell}
@@ -40,6 +40,8 @@ IsAskedBy (focus.Prompt asks.Line) message name words = words ≡ codes " Go to 
 IsAskedBy (focus.Prompt asks.Name) message name words = words ≡ codes " Save as: "
 IsAskedBy (focus.Question SaveFirst) message name words = words ≡ codes " Save the changes? y: yes  n: no  Esc: back to the text"
 IsAskedBy (focus.Question Overwrite) message name words = words ≡ overwrite_question message name
+IsAskedBy (focus.Question Recover) message name words = words ≡ codes " Unsaved changes were found. y: recover them  n: discard them"
+IsAskedBy (focus.Question Discard) message name words = words ≡ codes " Its journal is of another version. y: discard it  n: keep it"
 IsAskedBy focus.Help message name words = words ≡ codes " Keys  (arrows scroll, Esc: back to the text)"
 IsAskedBy focus.Text message name words = Unit {0}
 

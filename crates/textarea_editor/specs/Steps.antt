@@ -36,10 +36,10 @@ pub record FailsAt (old : Editor) (now : Duration) (event : Event) (effect : Eff
   pub silent : effect ≡ Nothing
 
 -- a step by an event: its calls, and its effect; the file's line end stays. The program ends without
--- a question only if the text counted as unchanged
+-- a question only if the text then counts as unchanged
 pub record IsStep (old : Editor) (now : Duration) (event : Event) (effect : Effect) (new : Editor) : Type 0 where
   pub led : Succeeds old now event effect new ⊎ FailsAt old now event effect new
-  pub carries : Carries (MayQuit old) new.draft.area new.line_end effect
+  pub carries : Carries (MayQuit old new.draft) new.draft.area new.line_end effect
   pub end : new.line_end ≡ old.line_end
 
 -- an event at a time, its effect, and the editor after it

@@ -1,6 +1,7 @@
 //! Files: read whole, and saved by a list of steps that never leaves a part of a text alone.
 
 mod carrying_out;
+pub(crate) mod journal_file;
 mod names;
 mod new_file;
 
@@ -197,6 +198,20 @@ impl DiskFile {
             if known.content.is_none() && known.name == hash_of(name) {
                 self.known = Some(known.with_hash(rt, name));
             }
+        }
+    }
+
+    /// Returns the bytes of the file of this name as they are on the disk now; none if there is no
+    /// file.
+    pub fn bytes<R: Files + AllocGlobal>(&self, rt: &R, name: &str) -> io::Result<Vec<u8>> {
+        let mut bytes = Vec::new(rt.alloc());
+        match File::open(rt, name) {
+            Ok(mut file) => {
+                file.read_to_end(&mut bytes)?;
+                Ok(bytes)
+            }
+            Err(error) if error.kind() == ErrorKind::NotFound => Ok(bytes),
+            Err(error) => Err(error),
         }
     }
 

@@ -1,5 +1,5 @@
 //! The text that is edited, and whether it may differ from the saved one.
-ghost use Rattle.std.specs.Prelude.{◌≡◌, ◌||◌, ◌∷◌, [], false, true, All, IsOk, IsTrue, OnErr, OnOk, IfOk, is_err};
+ghost use Rattle.std.specs.Prelude.{◌≡◌, ◌↔◌, ◌||◌, ◌∷◌, [], None, true, All, IsOk, IsTrue, OnErr, OnOk, IfOk, IfSome, is_err};
 ghost use Rattle.std.specs.Duration.{as_nanos};
 ghost use Rattle.std.specs.List.{list_all, list_any};
 ghost use Rattle.textarea_calls.specs.Edits.{edits};
@@ -13,7 +13,8 @@ ghost use Rattle.textarea_screen.specs.Rect.{contains};
 ghost use Rattle.tui_textarea.specs.Drawing.{IsRendered, widget_of};
 ghost use Rattle.tui_textarea.specs.Measure.{reads_rows};
 ghost use Rattle.tui_textarea.specs.Rendered.{IsDrawn};
-ghost use Rattle.textarea_editor.specs.Draft.{FailsIn, IsMeasuredRows, IsUndrawn, Makes, is_made, plain_calls};
+ghost use Rattle.textarea_editor.specs.Draft.{FailsIn, IsChangeMark, IsMarkAfter, IsMeasuredRows, IsSaved, IsSavedFrom, IsUndrawn, Makes, is_made, plain_calls};
+ghost use Rattle.textarea_text.specs.Text.{lines_of};
 
 pub mod moving;
 
@@ -27,25 +28,34 @@ use textarea_modal::step::KeyCall;
 use textarea_modal::{Modal, Reaction};
 use textarea_run::perform::make;
 use textarea_screen::screen::{Buffer, Rect};
+use textarea_text::fragment::copy_fragment;
 use tui_textarea::TextArea;
 use tui_textarea::outcomes::laws::others_edit_nothing;
 
-/// A text that is edited by calls. It knows whether it may differ from the text that it had when it
-/// was made or saved last.
+// The most bytes of a saved text that is kept, to be compared with the edited one.
+const KEPT_BYTES: usize = 1 << 20;
+
+/// A text that is edited by calls. It knows whether it may differ from the saved text: the one that
+/// it had when it was made or saved last.
 #[derive(Drop)]
 pub struct Draft {
     area: TextArea<'static>,
+    /// The lines of the saved text, if they have few bytes and memory sufficed for them.
+    saved: Option<Vec<String>>,
     is_changed: bool,
 }
 
 impl Draft {
     /// Returns the draft of a text area, as it was saved.
+    #[tactic(auto, using(crate::proofs::Saved::copy_of))]
     pub fn new(area: TextArea<'static>) -> Draft
         ensures area { result.area ≡ area.entry }
-        ensures unchanged { result.is_changed ≡ false }
+        ensures saved { IsSaved result }
     {
+        let saved = kept_lines(area.allocator(), area.lines());
         Draft {
             area,
+            saved,
             is_changed: false,
         }
     }
@@ -69,11 +79,23 @@ impl Draft {
         self.is_changed
     }
 
-    /// Notes that the text was saved.
+    /// Notes that the text was saved. A run of typing ends.
+    #[tactic(auto, using(crate::proofs::Saved::copy_of))]
     pub fn set_saved(&mut self)
-        ensures { self.new ≡ record self.old { is_changed = false } }
+        ensures { IsSavedFrom self.old self.new }
     {
+        self.area.end_run();
+        self.saved = kept_lines(self.allocator(), self.area.lines());
         self.is_changed = false;
+    }
+
+    /// Notes that the text differs from the saved one, of which there is no copy: it counts as
+    /// changed until it is saved.
+    pub fn set_changed(&mut self)
+        ensures { self.new ≡ record self.old { saved = None; is_changed = true } }
+    {
+        self.saved = None;
+        self.is_changed = true;
     }
 
     /// Sets the time, by which typed characters join to one edit.
@@ -87,14 +109,15 @@ impl Draft {
     }
 
     /// Makes calls, and returns false if the last one found nothing. If one of them may edit, the text
-    /// counts as changed.
+    /// is compared with the saved one, or counts as changed if there is no copy of that.
     ///
-    /// If memory runs out, the calls before one of them were made, and the text counts as changed.
+    /// If memory runs out, the calls before one of them were made, and the text counts as changed in
+    /// the same way.
     pub fn make(&mut self, calls: &[Call<'_>]) -> Result<bool, AllocError>
         requires { IsTrue (list_all is_made calls.now) }
         ensures ok { OnOk result (Makes self.old (plain_calls calls.now) self.new) }
-        ensures changed { OnOk result (self.new.is_changed
-            ≡ (self.old.is_changed || list_any edits calls.now)) }
+        ensures mark { OnOk result
+            (IsMarkAfter self.old.is_changed (list_any edits calls.now) self.new) }
         ensures err { OnErr result (FailsIn self.old (plain_calls calls.now) self.new) }
     {
         let may_change = any_edits(calls);
@@ -128,14 +151,28 @@ impl Draft {
 
     // Notes that calls were made, which may have changed the text, as those have that ran out of
     // memory.
+    #[tactic(auto, using(crate::proofs::Drafts::mark_compared_after, crate::proofs::Drafts::mark_stays_after))]
     fn note(&mut self, may_change: bool, made: Result<bool, AllocError>) -> Result<bool, AllocError>
         ensures made { result ≡ made }
-        ensures noted { self.new ≡ record self.old {
-          is_changed = self.old.is_changed || (may_change || is_err made);
-        } }
+        ensures same { self.new ≡ record self.old { is_changed = self.new.is_changed } }
+        ensures mark { IsMarkAfter self.old.is_changed (may_change || is_err made) self.new }
     {
-        self.is_changed = self.is_changed || (may_change || made.is_err());
+        let may_differ = may_change || made.is_err();
+        if may_differ {
+            self.is_changed = self.differs();
+        }
         made
+    }
+
+    // Returns whether the text differs from the saved one. Without a copy of that it is taken to.
+    #[tactic(auto, using(crate::proofs::Saved::mark_compared))]
+    fn differs(&self) -> bool
+        ensures { IsChangeMark self.now.saved self.now.area result }
+    {
+        match &self.saved {
+            Some(copy) => !are_same(self.area.lines(), copy.as_slice()),
+            None => true,
+        }
     }
 
     /// Returns the number of rows that the text needs at this width.
@@ -155,9 +192,37 @@ impl Draft {
         ensures outside { KeepsOutside (contains area) buffer.old buffer.new }
         ensures err { OnErr result (self.new.area ≡ self.old.area) }
         ensures changed { self.new.is_changed ≡ self.old.is_changed }
+        ensures saved { self.new.saved ≡ self.old.saved }
     {
         self.area.render(area, buffer)
     }
+}
+
+// Returns a copy of the lines, if they have few bytes and memory suffices.
+fn kept_lines(alloc: Global, lines: &[String]) -> Option<Vec<String>>
+    ensures { IfSome result (λ copy. lines_of copy.items ≡ lines_of lines.now) }
+{
+    if byte_count(lines) > KEPT_BYTES {
+        return None;
+    }
+    match copy_fragment(alloc, lines) {
+        Ok(copy) => Some(copy),
+        Err(_) => None,
+    }
+}
+
+// The number of bytes of lines, or the greatest number.
+fn byte_count(lines: &[String]) -> usize {
+    lines
+        .iter()
+        .fold(0usize, |count, line| count.saturating_add(line.len()))
+}
+
+// Returns whether the lines are those of the copy.
+fn are_same(lines: &[String], copy: &[String]) -> bool
+    ensures { IsTrue result ↔ (lines_of lines.now ≡ lines_of copy.now) }
+{
+    lines == copy
 }
 
 // Makes calls in turn, and returns false if the last one found nothing.

@@ -3,7 +3,7 @@
 ghost use Rattle.std.specs.Prelude.{◌≡◌, ◌≢◌, ◌^◌, ◌≤◌, ◌↔◌, ◌∷◌, [], false, true, IfOk, IfSome, IsTrue, None, OnErr, OnOk, length, string_bytes};
 ghost use Rattle.textarea_calls.specs.declared.call.Call.TheVariants.{GoTo};
 ghost use Rattle.textarea_editor.specs.ControlCharacters.{IsCountShown};
-ghost use Rattle.textarea_editor.specs.Draft.{Makes};
+ghost use Rattle.textarea_editor.specs.Draft.{IsSaved, Makes};
 ghost use Rattle.textarea_editor.specs.Editor.{draft_of, end_of, message_of, new_ends, numbers_of, wraps_of};
 ghost use Rattle.textarea_editor.specs.Effects.{IsWritten};
 ghost use Rattle.textarea_editor.specs.SetUp.{IsOpened, opened};
@@ -17,6 +17,7 @@ mod keys;
 mod mouse;
 mod parts;
 mod prompt;
+mod recovery;
 mod saving;
 mod status;
 
@@ -66,7 +67,7 @@ pub struct Editor {
 impl Editor {
     /// Returns an editor of an empty text without a name, on a screen of this size.
     pub fn new(alloc: Global, columns: u16, rows: u16, is_modal: bool) -> Result<Editor, AllocError>
-        ensures unchanged { IfOk result (λ editor. (draft_of editor).is_changed ≡ false) }
+        ensures saved { IfOk result (λ editor. IsSaved (draft_of editor)) }
         ensures area { IfOk result (λ editor. (draft_of editor).area ≡ opened [] true) }
         ensures ends { IfOk result (λ editor. end_of editor ≡ new_ends true) }
     {
@@ -117,8 +118,7 @@ impl Editor {
         ensures wraps { OnOk result (IfSome text (λ text.
             IsTrue (wraps_of self.new) ↔ (length (string_bytes text) ≤ 2 ^ 20))) }
         ensures unnumbered { OnOk result (IfSome text (λ text. numbers_of self.new ≡ false)) }
-        ensures unchanged { OnOk result (IfSome text (λ text.
-            (draft_of self.new).is_changed ≡ false)) }
+        ensures saved { OnOk result (IfSome text (λ text. IsSaved (draft_of self.new))) }
         ensures counted { OnOk result (IfSome text (λ text.
             IsCountShown (draft_of self.new).area Message.Nothing (message_of self.new))) }
         ensures new_file { OnOk result (text ≡ None →
@@ -143,7 +143,7 @@ impl Editor {
         ensures wraps { OnOk result
             (IsTrue (wraps_of self.new) ↔ (length (string_bytes text) ≤ 2 ^ 20)) }
         ensures unnumbered { OnOk result (numbers_of self.new ≡ false) }
-        ensures unchanged { OnOk result ((draft_of self.new).is_changed ≡ false) }
+        ensures saved { OnOk result (IsSaved (draft_of self.new)) }
         ensures counted { OnOk result
             (IsCountShown (draft_of self.new).area Message.Nothing (message_of self.new)) }
         ensures err { OnErr result (self.new ≡ self.old) }
@@ -191,7 +191,9 @@ impl Editor {
         }
     }
 
-    /// Returns whether the text may differ from the saved one.
+    /// Returns whether the text may differ from the saved one. A text of at most 2^20 bytes, when it
+    /// was opened or saved, is compared with that, if there was memory for a copy; a larger one
+    /// counts as changed from the first event on that may edit it until it is saved.
     pub fn is_changed(&self) -> bool
         ensures { result ≡ (draft_of self.now).is_changed }
     {

@@ -1,5 +1,8 @@
 //! What the editor asks its program to do, and how that ended.
 
+ghost use Rattle.std.specs.Prelude.{◌≡◌};
+ghost use Rattle.textarea_editor.specs.Effects.{is_saved};
+
 use crate::message::Trouble;
 
 /// What a step of the editor asks its program to do.
@@ -17,6 +20,11 @@ pub enum Effect {
         /// Whether to overwrite a file that changed on disk, or that was not opened.
         overwrites: bool,
     },
+    /// Go on with the text of the journal that was found, by
+    /// [`Editor::recover`](crate::Editor::recover).
+    Recover,
+    /// Remove the journal that was found.
+    Discard,
     /// Give this text to the terminal's clipboard.
     Copy(String),
     /// End the program.
@@ -38,4 +46,16 @@ pub enum SaveEnd {
     Exists,
     /// It failed, and the file is as it was.
     Failed(Trouble),
+}
+
+impl SaveEnd {
+    /// Returns whether the file has the new bytes.
+    pub fn is_saved(self) -> bool
+        ensures { result ≡ is_saved self }
+    {
+        matches!(
+            self,
+            SaveEnd::Saved | SaveEnd::SavedAnew | SaveEnd::Unsynced
+        )
+    }
 }

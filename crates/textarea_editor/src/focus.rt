@@ -28,6 +28,10 @@ pub enum Question {
     SaveFirst,
     /// Whether to overwrite a file that changed on disk, or that was not opened.
     Overwrite,
+    /// Whether to go on with the text of a journal that was found.
+    Recover,
+    /// Whether to remove a journal that was found, of another version of the file.
+    Discard,
 }
 
 /// What a key answers to a question.

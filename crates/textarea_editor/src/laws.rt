@@ -2,6 +2,7 @@
 //! editor after it.
 ghost use Rattle.std.specs.Prelude.{◌≡◌, ◌⊎◌, false, List};
 ghost use Rattle.std.specs.declared.time.Duration.{Duration};
+ghost use Rattle.textarea_editor.specs.Draft.{HasCopy, IsSaved};
 ghost use Rattle.textarea_editor.specs.Editor.{AsksToSave, draft_of};
 ghost use Rattle.textarea_editor.specs.Steps.{AreSteps, IsStep, MakesCallsOf, Moment, NoneFails};
 ghost use Rattle.textarea_editor.specs.declared.editor.Editor.{Editor};
@@ -18,15 +19,25 @@ pub fn run_makes_the_calls_of_its_events()
 /// After any run since the text was opened or saved: if it counts as unchanged, it is that text.
 pub fn unchanged_text_is_the_saved_one()
     ensures { (saved now : Editor) (moments : List Moment) → AreSteps saved moments now
-        → (draft_of now).is_changed ≡ false
+        → IsSaved (draft_of saved) → (draft_of now).is_changed ≡ false
         → (draft_of now).area.document.text ≡ (draft_of saved).area.document.text }
 {}
 
+/// After any run since the text was opened or saved, and a copy of it was kept: if it is that text,
+/// it counts as unchanged. So undo and redo remove the mark of a changed text where they lead back.
+pub fn saved_text_counts_as_unchanged()
+    ensures { (saved now : Editor) (moments : List Moment) → AreSteps saved moments now
+        → IsSaved (draft_of saved) → HasCopy (draft_of saved)
+        → (draft_of now).area.document.text ≡ (draft_of saved).area.document.text
+        → (draft_of now).is_changed ≡ false }
+{}
+
 /// After any run since the text was opened or saved: an event ends the program only after the
-/// question whether to save, or if the text is the saved one.
+/// question whether to save, or if it leaves the saved text.
 pub fn quits_without_a_question_only_with_the_saved_text()
     ensures { (saved old new : Editor) (moments : List Moment) (now : Duration) (event : Event)
-        → AreSteps saved moments old → IsStep old now event Quit new
+        → AreSteps saved moments old → IsSaved (draft_of saved)
+        → IsStep old now event Quit new
         → AsksToSave old
-        ⊎ ((draft_of old).area.document.text ≡ (draft_of saved).area.document.text) }
+        ⊎ ((draft_of new).area.document.text ≡ (draft_of saved).area.document.text) }
 {}

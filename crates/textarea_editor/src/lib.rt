@@ -23,6 +23,7 @@ pub mod message;
 pub mod pattern;
 pub mod screen;
 mod shortened;
+pub mod storage;
 pub mod terminal_colors;
 
 pub use arguments::Arguments;
@@ -30,4 +31,5 @@ pub use disk::DiskFile;
 pub use editor::Editor;
 pub use effect::{Effect, SaveEnd};
 pub use screen::Screen;
+pub use storage::Storage;
 pub use textarea_terminal::input::Event;

@@ -71,6 +71,10 @@ pub enum Message {
     Unsynced,
     /// Nothing, but that the question whether to overwrite is for a file that was not opened.
     Exists,
+    /// Another editor has the file open.
+    OpenElsewhere,
+    /// No journal can be written, so that unsaved changes are lost if the program is killed.
+    NoJournal,
     /// The file was not saved. The text is as it was.
     NotSaved(Trouble),
     /// The searched text has no match.
@@ -91,6 +95,8 @@ impl Message {
             Message::Saved => ("saved", ""),
             Message::SavedAnew => ("it was deleted; saved anew", ""),
             Message::Unsynced => ("saved, but the disk failed to make sure of it", ""),
+            Message::OpenElsewhere => ("another editor has it open", ""),
+            Message::NoJournal => ("no journal can be written", ""),
             Message::NotSaved(trouble) => ("not saved: ", trouble.text()),
             Message::NoMatch => ("no match", ""),
             Message::NoLine => ("not a line number", ""),

@@ -298,7 +298,7 @@ fn restore_mode<F: OpenFile>(file: &F, old: &Metadata) -> io::Result<()> {
 }
 
 // Brings to the disk what is under the names of a folder. One that may not be read can't be synced.
-fn sync_folder<R: Files>(rt: &R, folder: &str) -> io::Result<()> {
+pub(super) fn sync_folder<R: Files>(rt: &R, folder: &str) -> io::Result<()> {
     let Ok(folder) = File::open(rt, folder) else {
         return Ok(());
     };

@@ -24,7 +24,7 @@ impl Editor {
         requires { self.old.controls.focus ≡ focus.Question question }
         ensures draft { self.new.draft ≡ self.old.draft }
         ensures carries { IfOk result
-            (Carries (MayQuit self.old) self.new.draft.area self.new.line_end) }
+            (Carries (MayQuit self.old self.new.draft) self.new.draft.area self.new.line_end) }
         ensures effect { IfOk result (IsAnswered question (reply_of input.now)
             (is_some self.old.name) (name_bytes self.old.name)) }
         ensures end { self.new.line_end ≡ self.old.line_end }
@@ -54,6 +54,19 @@ impl Editor {
                 self.leave_prompt(Asked::Name);
                 Ok(Effect::Nothing)
             }
+            (Question::Recover, KeyReply::Yes) => {
+                self.leave();
+                Ok(Effect::Recover)
+            }
+            (Question::Recover, KeyReply::No) | (Question::Discard, KeyReply::Yes) => {
+                self.leave();
+                Ok(Effect::Discard)
+            }
+            (Question::Discard, KeyReply::No) => {
+                self.leave();
+                Ok(Effect::Nothing)
+            }
+            (Question::Recover | Question::Discard, KeyReply::Back) => Ok(Effect::Nothing),
             (_, KeyReply::Other) => Ok(Effect::Nothing),
         }
     }

@@ -33,7 +33,7 @@ impl Editor {
         ensures err { OnErr result (FailsIn self.old.draft (command_calls self.old.controls.wraps
             self.old.controls.numbers (is_selecting self.old.draft.area) command) self.new.draft) }
         ensures carries { IfOk result
-            (Carries (MayQuit self.old) self.new.draft.area self.new.line_end) }
+            (Carries (MayQuit self.old self.new.draft) self.new.draft.area self.new.line_end) }
         ensures effect { IfOk result (IsCommandEffect self.old.name self.new.draft.is_changed
             (is_selecting self.old.draft.area) command) }
         ensures end { self.new.line_end ≡ self.old.line_end }
@@ -83,7 +83,7 @@ impl Editor {
         ensures ok { OnOk result (Makes self.old.draft (plain_calls calls.now) self.new.draft) }
         ensures err { OnErr result (FailsIn self.old.draft (plain_calls calls.now) self.new.draft) }
         ensures carries { IfOk result
-            (Carries (MayQuit self.old) self.new.draft.area self.new.line_end) }
+            (Carries (MayQuit self.old self.new.draft) self.new.draft.area self.new.line_end) }
         ensures effect { IfOk result IsNothing }
         ensures end { self.new.line_end ≡ self.old.line_end }
         ensures controls { self.new.controls ≡ self.old.controls }
@@ -95,7 +95,7 @@ impl Editor {
     fn open_prompt(&mut self, asked: Asked) -> Result<Effect, AllocError>
         ensures draft { self.new.draft ≡ self.old.draft }
         ensures carries { IfOk result
-            (Carries (MayQuit self.old) self.new.draft.area self.new.line_end) }
+            (Carries (MayQuit self.old self.new.draft) self.new.draft.area self.new.line_end) }
         ensures effect { IfOk result IsNothing }
         ensures end { self.new.line_end ≡ self.old.line_end }
         ensures controls { OnOk result (self.new.controls ≡ prompt_opened self.old.controls
@@ -113,7 +113,7 @@ impl Editor {
         ensures err { OnErr result (FailsIn self.old.draft (command_calls self.old.controls.wraps
             self.old.controls.numbers (is_selecting self.old.draft.area) KeyCommand.Copy) self.new.draft) }
         ensures carries { IfOk result
-            (Carries (MayQuit self.old) self.new.draft.area self.new.line_end) }
+            (Carries (MayQuit self.old self.new.draft) self.new.draft.area self.new.line_end) }
         ensures effect { IfOk result
             (IsSelectionCopied (is_selecting self.old.draft.area)) }
         ensures end { self.new.line_end ≡ self.old.line_end }
@@ -133,7 +133,7 @@ impl Editor {
         ensures err { OnErr result (FailsIn self.old.draft (command_calls self.old.controls.wraps
             self.old.controls.numbers (is_selecting self.old.draft.area) KeyCommand.Cut) self.new.draft) }
         ensures carries { IfOk result
-            (Carries (MayQuit self.old) self.new.draft.area self.new.line_end) }
+            (Carries (MayQuit self.old self.new.draft) self.new.draft.area self.new.line_end) }
         ensures effect { IfOk result
             (IsSelectionCopied (is_selecting self.old.draft.area)) }
         ensures end { self.new.line_end ≡ self.old.line_end }
@@ -163,7 +163,7 @@ impl Editor {
         ensures ok { OnOk result (Makes self.old.draft (find_calls is_forward) self.new.draft) }
         ensures err { OnErr result (FailsIn self.old.draft (find_calls is_forward) self.new.draft) }
         ensures carries { IfOk result
-            (Carries (MayQuit self.old) self.new.draft.area self.new.line_end) }
+            (Carries (MayQuit self.old self.new.draft) self.new.draft.area self.new.line_end) }
         ensures effect { IfOk result IsNothing }
         ensures end { self.new.line_end ≡ self.old.line_end }
         ensures controls { self.new.controls ≡ self.old.controls }
@@ -184,7 +184,7 @@ impl Editor {
         ensures ok { OnOk result (Makes self.old.draft control_calls self.new.draft) }
         ensures err { OnErr result (FailsIn self.old.draft control_calls self.new.draft) }
         ensures carries { IfOk result
-            (Carries (MayQuit self.old) self.new.draft.area self.new.line_end) }
+            (Carries (MayQuit self.old self.new.draft) self.new.draft.area self.new.line_end) }
         ensures effect { IfOk result IsNothing }
         ensures end { self.new.line_end ≡ self.old.line_end }
         ensures controls { self.new.controls ≡ self.old.controls }
@@ -203,7 +203,7 @@ impl Editor {
         ensures err { OnErr result
             (FailsIn self.old.draft (call.SetWrapMode (wrap_mode wraps) ∷ []) self.new.draft) }
         ensures carries { IfOk result
-            (Carries (MayQuit self.old) self.new.draft.area self.new.line_end) }
+            (Carries (MayQuit self.old self.new.draft) self.new.draft.area self.new.line_end) }
         ensures effect { IfOk result IsNothing }
         ensures end { self.new.line_end ≡ self.old.line_end }
         ensures controls { OnOk result
@@ -222,7 +222,7 @@ impl Editor {
         ensures err { OnErr result
             (FailsIn self.old.draft (numbers_call numbers ∷ []) self.new.draft) }
         ensures carries { IfOk result
-            (Carries (MayQuit self.old) self.new.draft.area self.new.line_end) }
+            (Carries (MayQuit self.old self.new.draft) self.new.draft.area self.new.line_end) }
         ensures effect { IfOk result IsNothing }
         ensures end { self.new.line_end ≡ self.old.line_end }
         ensures controls { OnOk result

@@ -27,7 +27,7 @@ impl Editor {
         ensures err { OnErr result (FailsIn self.old.draft (SetNow now ∷ []) self.new.draft
             ⊎ FailsInAsked (IsTimed self.old now event.now) self.old.draft self.new.draft) }
         ensures carries { IfOk result
-            (Carries (MayQuit self.old) self.new.draft.area self.new.line_end) }
+            (Carries (MayQuit self.old self.new.draft) self.new.draft.area self.new.line_end) }
         ensures effect { IfOk result (IsEventEffect self.old.controls self.old.name
             self.new.draft.is_changed (is_selecting self.old.draft.area) self.old.field event.now) }
         ensures end { self.new.line_end ≡ self.old.line_end }
@@ -47,7 +47,7 @@ impl Editor {
         ensures err { OnErr result (FailsInSome (IsEvent self.old self.old.draft.area event.now)
             self.old.draft self.new.draft) }
         ensures carries { IfOk result
-            (Carries (MayQuit self.old) self.new.draft.area self.new.line_end) }
+            (Carries (MayQuit self.old self.new.draft) self.new.draft.area self.new.line_end) }
         ensures effect { IfOk result (IsEventEffect self.old.controls self.old.name
             self.new.draft.is_changed (is_selecting self.old.draft.area) self.old.field event.now) }
         ensures end { self.new.line_end ≡ self.old.line_end }
@@ -89,7 +89,7 @@ impl Editor {
             (FailsInSome (IsInput self.old.controls.focus self.old self.old.draft.area input.now)
             self.old.draft self.new.draft) }
         ensures carries { IfOk result
-            (Carries (MayQuit self.old) self.new.draft.area self.new.line_end) }
+            (Carries (MayQuit self.old self.new.draft) self.new.draft.area self.new.line_end) }
         ensures effect { IfOk result (IsInputEffect self.old.controls.focus self.old.controls
             self.old.name self.new.draft.is_changed (is_selecting self.old.draft.area)
             self.old.field input.now) }
@@ -118,7 +118,7 @@ impl Editor {
         ensures err { OnErr result (FailsInSome (IsPaste self.old.controls.focus self.old text.now)
             self.old.draft self.new.draft) }
         ensures carries { IfOk result
-            (Carries (MayQuit self.old) self.new.draft.area self.new.line_end) }
+            (Carries (MayQuit self.old self.new.draft) self.new.draft.area self.new.line_end) }
         ensures effect { IfOk result IsNothing }
         ensures end { self.new.line_end ≡ self.old.line_end }
         ensures controls { self.new.controls ≡ self.old.controls }

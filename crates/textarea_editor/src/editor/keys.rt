@@ -25,7 +25,7 @@ impl Editor {
         ensures err { OnErr result (FailsInSome (IsKeyInText self.old.controls self.old.draft.area
             self.old.columns (self.old.rows - 1) input.now) self.old.draft self.new.draft) }
         ensures carries { IfOk result
-            (Carries (MayQuit self.old) self.new.draft.area self.new.line_end) }
+            (Carries (MayQuit self.old self.new.draft) self.new.draft.area self.new.line_end) }
         ensures effect { IfOk result (IsKeyEffect self.old.controls self.old.name
             self.new.draft.is_changed (is_selecting self.old.draft.area) input.now) }
         ensures end { self.new.line_end ≡ self.old.line_end }
@@ -60,7 +60,7 @@ impl Editor {
         ensures err { OnErr result (FailsIn self.old.draft
             (unbound_calls fits self.old.controls.modal input.now.key input.now) self.new.draft) }
         ensures carries { IfOk result
-            (Carries (MayQuit self.old) self.new.draft.area self.new.line_end) }
+            (Carries (MayQuit self.old self.new.draft) self.new.draft.area self.new.line_end) }
         ensures effect { IfOk result (IsUnboundEffect input.now.key self.old.controls.modal
             self.new.draft.is_changed input.now) }
         ensures end { self.new.line_end ≡ self.old.line_end }
@@ -83,7 +83,7 @@ impl Editor {
         ensures err { OnErr result
             (FailsIn self.old.draft (typed_calls self.old.controls.modal input.now) self.new.draft) }
         ensures carries { IfOk result
-            (Carries (MayQuit self.old) self.new.draft.area self.new.line_end) }
+            (Carries (MayQuit self.old self.new.draft) self.new.draft.area self.new.line_end) }
         ensures effect { IfOk result (IsTypedEffect self.old.controls.modal
             self.new.draft.is_changed input.now) }
         ensures end { self.new.line_end ≡ self.old.line_end }
@@ -107,7 +107,7 @@ impl Editor {
         ensures err { OnErr result
             (FailsIn self.old.draft (step modal input.now).calls self.new.draft) }
         ensures carries { IfOk result
-            (Carries (MayQuit self.old) self.new.draft.area self.new.line_end) }
+            (Carries (MayQuit self.old self.new.draft) self.new.draft.area self.new.line_end) }
         ensures effect { IfOk result
             (IsModalEffect (step modal input.now).quits self.new.draft.is_changed) }
         ensures end { self.new.line_end ≡ self.old.line_end }
@@ -133,7 +133,7 @@ impl Editor {
         ensures ok { OnOk result (Makes self.old.draft (paste_calls text.now) self.new.draft) }
         ensures err { OnErr result (FailsIn self.old.draft (paste_calls text.now) self.new.draft) }
         ensures carries { IfOk result
-            (Carries (MayQuit self.old) self.new.draft.area self.new.line_end) }
+            (Carries (MayQuit self.old self.new.draft) self.new.draft.area self.new.line_end) }
         ensures effect { IfOk result IsNothing }
         ensures end { self.new.line_end ≡ self.old.line_end }
         ensures controls { self.new.controls ≡ self.old.controls }

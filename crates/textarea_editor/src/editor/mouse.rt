@@ -26,7 +26,7 @@ impl Editor {
             (is_selecting self.old.draft.area) (widget_of self.old.draft.area) mouse.now)
             self.old.draft self.new.draft) }
         ensures carries { IfOk result
-            (Carries (MayQuit self.old) self.new.draft.area self.new.line_end) }
+            (Carries (MayQuit self.old self.new.draft) self.new.draft.area self.new.line_end) }
         ensures effect { IfOk result IsNothing }
         ensures end { self.new.line_end ≡ self.old.line_end }
         ensures controls { self.new.controls ≡ self.old.controls }
@@ -47,7 +47,7 @@ impl Editor {
             (is_selecting self.old.draft.area) (widget_of self.old.draft.area)
             mouse.now.column mouse.now.row) self.old.draft self.new.draft) }
         ensures carries { IfOk result
-            (Carries (MayQuit self.old) self.new.draft.area self.new.line_end) }
+            (Carries (MayQuit self.old self.new.draft) self.new.draft.area self.new.line_end) }
         ensures effect { IfOk result IsNothing }
         ensures end { self.new.line_end ≡ self.old.line_end }
         ensures controls { self.new.controls ≡ self.old.controls }

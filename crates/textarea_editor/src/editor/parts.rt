@@ -1,5 +1,6 @@
 // The text areas of an editor.
-ghost use Rattle.std.specs.Prelude.{◌≡◌, [], false, IfOk, OnOk, string_bytes};
+ghost use Rattle.std.specs.Prelude.{◌≡◌, [], IfOk, OnOk, string_bytes};
+ghost use Rattle.textarea_editor.specs.Draft.{IsSaved};
 ghost use Rattle.textarea_editor.specs.Effects.{IsWritten};
 ghost use Rattle.textarea_editor.specs.EventCalls.{wrap_mode};
 ghost use Rattle.textarea_editor.specs.SetUp.{IsOpened, IsShown, opened, set_up, with_hidden_cursor};
@@ -30,10 +31,10 @@ pub fn wrap_mode(wraps: bool) -> WrapMode
     }
 }
 
-/// Returns a draft of these lines, which is not changed.
+/// Returns a draft of these lines, which count as saved.
 pub fn opened(alloc: Global, lines: Vec<String>, wraps: bool) -> Result<Draft, AllocError>
     ensures area { IfOk result (λ draft. draft.area ≡ opened (text_of lines.items) wraps) }
-    ensures unchanged { IfOk result (λ draft. draft.is_changed ≡ false) }
+    ensures saved { IfOk result IsSaved }
 {
     let mut area = TextArea::new(lines)?;
     let set = set_up(&mut area, wraps);
@@ -45,6 +46,7 @@ fn set_up(area: &mut TextArea<'_>, wraps: bool) -> Result<(), AllocError>
     ensures { OnOk result (area.new ≡ with_wrap_mode (set_up area.old) (wrap_mode wraps)) }
 {
     area.set_undo_coalescing(true);
+    area.set_undo_grouping(true);
     area.set_max_histories(UNDOS);
     area.set_hard_tab_indent(true);
     area.set_search_style(Style::default().fg(Color::Black).bg(Color::Yellow));
@@ -57,7 +59,7 @@ fn set_up(area: &mut TextArea<'_>, wraps: bool) -> Result<(), AllocError>
 pub fn file_draft(alloc: Global, text: String, wraps: bool) -> Result<(Draft, LineEnds), AllocError>
     ensures written { IfOk result (λ made. IsWritten made.0.area made.1 (string_bytes text)) }
     ensures opened { IfOk result (λ made. IsOpened made.0.area wraps) }
-    ensures unchanged { IfOk result (λ made. made.0.is_changed ≡ false) }
+    ensures saved { IfOk result (λ made. IsSaved made.0) }
 {
     let line_end = line_end_of(text.as_str());
     let lines = lines_of(alloc, text.as_str(), line_end)?;

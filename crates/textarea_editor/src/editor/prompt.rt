@@ -55,7 +55,7 @@ impl Editor {
         ensures err { OnErr result (FailsInSome (IsKeyInPrompt (prompt_key asked input.now) asked
             self.old.controls.origin self.old.field input.now) self.old.draft self.new.draft) }
         ensures carries { IfOk result
-            (Carries (MayQuit self.old) self.new.draft.area self.new.line_end) }
+            (Carries (MayQuit self.old self.new.draft) self.new.draft.area self.new.line_end) }
         ensures effect { IfOk result (IsPromptEffect (prompt_key asked input.now) asked
             self.new.draft.is_changed self.old.field) }
         ensures end { self.new.line_end ≡ self.old.line_end }
@@ -85,7 +85,7 @@ impl Editor {
             (FailsInSome (IsPromptInput asked self.old.controls.origin self.old.field input.now)
             self.old.draft self.new.draft) }
         ensures carries { IfOk result
-            (Carries (MayQuit self.old) self.new.draft.area self.new.line_end) }
+            (Carries (MayQuit self.old self.new.draft) self.new.draft.area self.new.line_end) }
         ensures effect { IfOk result IsNothing }
         ensures end { self.new.line_end ≡ self.old.line_end }
         ensures controls { self.new.controls ≡ self.old.controls }
@@ -107,7 +107,7 @@ impl Editor {
             (FailsInSome (IsPasteInPrompt asked self.old.controls.origin self.old.field text.now)
             self.old.draft self.new.draft) }
         ensures carries { IfOk result
-            (Carries (MayQuit self.old) self.new.draft.area self.new.line_end) }
+            (Carries (MayQuit self.old self.new.draft) self.new.draft.area self.new.line_end) }
         ensures effect { IfOk result IsNothing }
         ensures end { self.new.line_end ≡ self.old.line_end }
         ensures controls { self.new.controls ≡ self.old.controls }
@@ -129,7 +129,7 @@ impl Editor {
             (FailsInSome (IsPromptChanged asked self.old.controls.origin self.old.field)
             self.old.draft self.new.draft) }
         ensures carries { IfOk result
-            (Carries (MayQuit self.old) self.new.draft.area self.new.line_end) }
+            (Carries (MayQuit self.old self.new.draft) self.new.draft.area self.new.line_end) }
         ensures effect { IfOk result IsNothing }
         ensures end { self.new.line_end ≡ self.old.line_end }
         ensures controls { self.new.controls ≡ self.old.controls }
@@ -148,7 +148,7 @@ impl Editor {
         ensures err { OnErr result (FailsInSome (IsLookingFor self.old.controls.origin self.old.field)
             self.old.draft self.new.draft) }
         ensures carries { IfOk result
-            (Carries (MayQuit self.old) self.new.draft.area self.new.line_end) }
+            (Carries (MayQuit self.old self.new.draft) self.new.draft.area self.new.line_end) }
         ensures effect { IfOk result IsNothing }
         ensures end { self.new.line_end ≡ self.old.line_end }
         ensures controls { self.new.controls ≡ self.old.controls }
@@ -168,7 +168,7 @@ impl Editor {
         ensures err { OnErr result
             (FailsInSome (IsPromptTaken asked self.old.field) self.old.draft self.new.draft) }
         ensures carries { IfOk result
-            (Carries (MayQuit self.old) self.new.draft.area self.new.line_end) }
+            (Carries (MayQuit self.old self.new.draft) self.new.draft.area self.new.line_end) }
         ensures effect { IfOk result (IsTakenEffect asked self.old.field) }
         ensures end { self.new.line_end ≡ self.old.line_end }
         ensures controls { OnOk result
@@ -190,7 +190,7 @@ impl Editor {
         ensures err { OnErr result
             (FailsInSome (IsLineAsked self.old.field) self.old.draft self.new.draft) }
         ensures carries { IfOk result
-            (Carries (MayQuit self.old) self.new.draft.area self.new.line_end) }
+            (Carries (MayQuit self.old self.new.draft) self.new.draft.area self.new.line_end) }
         ensures effect { IfOk result IsNothing }
         ensures end { self.new.line_end ≡ self.old.line_end }
         ensures controls { OnOk result
@@ -212,7 +212,7 @@ impl Editor {
         ensures ok { OnOk result (Makes self.old.draft (row_calls (Some row)) self.new.draft) }
         ensures err { OnErr result (FailsIn self.old.draft (row_calls (Some row)) self.new.draft) }
         ensures carries { IfOk result
-            (Carries (MayQuit self.old) self.new.draft.area self.new.line_end) }
+            (Carries (MayQuit self.old self.new.draft) self.new.draft.area self.new.line_end) }
         ensures effect { IfOk result IsNothing }
         ensures end { self.new.line_end ≡ self.old.line_end }
         ensures controls { OnOk result
@@ -228,7 +228,7 @@ impl Editor {
     fn take_name(&mut self) -> Result<Effect, AllocError>
         ensures draft { self.new.draft ≡ self.old.draft }
         ensures carries { IfOk result
-            (Carries (MayQuit self.old) self.new.draft.area self.new.line_end) }
+            (Carries (MayQuit self.old self.new.draft) self.new.draft.area self.new.line_end) }
         ensures effect { IfOk result (IsNameEffect self.old.field) }
         ensures end { self.new.line_end ≡ self.old.line_end }
         ensures controls { OnOk result

@@ -1,6 +1,7 @@
 // Saving the text, and ending the program.
 ghost use Rattle.std.specs.Prelude.{◌≡◌, false, true, IfOk, Some, OnErr, OnOk, is_some, string_bytes};
 ghost use Rattle.textarea_editor.specs.Controls.{quit_asked, save_asked, with_focus};
+ghost use Rattle.textarea_editor.specs.Draft.{IsSavedFrom};
 ghost use Rattle.textarea_editor.specs.Editor.{MayQuit, controls_of, draft_of, end_of, message_of};
 ghost use Rattle.textarea_editor.specs.Effects.{Carries, IsSaveAsked, is_saved, name_bytes};
 ghost use Rattle.textarea_editor.specs.EventEffects.{quit_effect};
@@ -19,7 +20,7 @@ impl Editor {
     pub(super) fn save(&mut self, overwrites: bool) -> Result<Effect, AllocError>
         ensures draft { self.new.draft ≡ self.old.draft }
         ensures carries { IfOk result
-            (Carries (MayQuit self.old) self.new.draft.area self.new.line_end) }
+            (Carries (MayQuit self.old self.new.draft) self.new.draft.area self.new.line_end) }
         ensures end { self.new.line_end ≡ self.old.line_end }
         ensures effect { IfOk result
             (IsSaveAsked (is_some self.old.name) (name_bytes self.old.name) overwrites) }
@@ -43,11 +44,14 @@ impl Editor {
 
     /// Takes how a save ended. The text has to be the one that was saved.
     ///
+    /// After a save the text counts as unchanged, and a run of typing has ended, so that an undo of
+    /// what is typed next leads back to the saved text.
+    ///
     /// After a save that failed the text is as it was, and counts as changed if it did before; the
     /// status row tells why, and the prompt for the name is open if another name may help.
     pub fn saved(&mut self, end: SaveEnd) -> Effect
         ensures saved { is_saved end ≡ true
-            → draft_of self.new ≡ record (draft_of self.old) { is_changed = false } }
+            → IsSavedFrom (draft_of self.old) (draft_of self.new) }
         ensures failed { is_saved end ≡ false → draft_of self.new ≡ draft_of self.old }
         ensures carries { Carries (is_saved end ≡ true) (draft_of self.new).area
             (end_of self.new) result }
@@ -79,7 +83,7 @@ impl Editor {
 
     // The text is the saved one. The program ends if it was to be saved for that.
     fn end_save(&mut self, message: Message) -> Effect
-        ensures draft { self.new.draft ≡ record self.old.draft { is_changed = false } }
+        ensures draft { IsSavedFrom self.old.draft self.new.draft }
         ensures end { self.new.line_end ≡ self.old.line_end }
         ensures carries { Carries (self.new.draft.is_changed ≡ false) self.new.draft.area
             self.new.line_end result }

@@ -26,6 +26,18 @@ impl Editor {
                 )
             }
             Focus::Question(Question::Overwrite) => self.overwrite_question(alloc),
+            Focus::Question(Question::Recover) => {
+                String::from_str(
+                    alloc,
+                    " Unsaved changes were found. y: recover them  n: discard them",
+                )
+            }
+            Focus::Question(Question::Discard) => {
+                String::from_str(
+                    alloc,
+                    " Its journal is of another version. y: discard it  n: keep it",
+                )
+            }
             Focus::Help => String::from_str(alloc, " Keys  (arrows scroll, Esc: back to the text)"),
             Focus::Text => self.name_and_message(alloc, columns),
         }

@@ -1,7 +1,7 @@
-use Rattle.std.proofs.Common.{◌≡◌, ◌∙◌, refl, sym}
+use Rattle.std.proofs.Common.{◌≡◌, ◌∙◌, ◌||◌, is_err, refl, sym}
 use Rattle.std.specs.List.{list_any}
 use Rattle.textarea_calls.specs.Edits.{edits}
-use Rattle.textarea_editor.proofs.Drafts.{any_edits_plain, changed_noted, fails_noted, makes_noted}
+use Rattle.textarea_editor.proofs.Drafts.{IsNoted, any_edits_plain, fails_noted, makes_noted, mark_noted}
 use Rattle.textarea_editor.proofs.draft.Draft.make.Goals as goal
 use Rattle.textarea_editor.specs.Draft.{plain_calls}
 use Rattle.textarea_editor.specs.declared.draft.Draft.{Draft}
@@ -10,18 +10,22 @@ use Rattle.textarea_editor.specs.declared.draft.Draft.{Draft}
 left : goal.After-note → Draft
 left c = record c.args.self.now { area = c.make_all-made.new.area }
 
+noted : (c : goal.After-note) → IsNoted (left c) (c.any_edits-may_change.result || is_err c.make_all-made.result) c.note.new.self
+unfolding left
+noted c = record { same = c.note.ensures.same; mark = c.note.ensures.mark }
+
 pub returns-clause-ok : goal.returns-clause-ok
 unfolding left
 returns-clause-ok c =
-    makes_noted c.note.result c.make_all-made.result c.args.self.now (left c) c.note.new.self (plain_calls c.args.calls.now) c.any_edits-may_change.result c.note.ensures.made refl c.note.ensures.noted
+    makes_noted c.note.result c.make_all-made.result c.args.self.now (left c) c.note.new.self (plain_calls c.args.calls.now) c.any_edits-may_change.result c.note.ensures.made refl refl (noted c)
     (c.any_edits-may_change.ensures ∙ sym (any_edits_plain c.args.calls.now)) c.make_all-made.ensures.ok
 
-pub returns-clause-changed : goal.returns-clause-changed
+pub returns-clause-mark : goal.returns-clause-mark
 unfolding left
-returns-clause-changed c =
-    changed_noted c.note.result c.make_all-made.result (left c) c.note.new.self c.args.calls.now c.any_edits-may_change.result c.note.ensures.made c.note.ensures.noted c.any_edits-may_change.ensures
+returns-clause-mark c =
+    mark_noted c.note.result c.make_all-made.result (left c) c.note.new.self c.args.calls.now c.any_edits-may_change.result c.note.ensures.made c.note.ensures.mark c.any_edits-may_change.ensures
 
 pub returns-clause-err : goal.returns-clause-err
 unfolding left
 returns-clause-err c =
-    fails_noted c.note.result c.make_all-made.result c.args.self.now (left c) c.note.new.self (plain_calls c.args.calls.now) c.any_edits-may_change.result c.note.ensures.made c.note.ensures.noted c.make_all-made.ensures.err
+    fails_noted c.note.result c.make_all-made.result c.args.self.now (left c) c.note.new.self (plain_calls c.args.calls.now) c.any_edits-may_change.result c.note.ensures.made refl refl (noted c) c.make_all-made.ensures.err

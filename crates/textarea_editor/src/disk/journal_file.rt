@@ -1,0 +1,205 @@
+//! The journal of a file on disk: beside the file, or in the user's folder for state where that
+//! can't be.
+
+use super::carrying_out::sync_folder;
+use super::names::{folder_of, in_folder_of, last_part, state_folder, target_of};
+use std::fs::{File, OpenOptions, TryLockError};
+use std::io::{ErrorKind, Read, Write};
+use std::os::unix::fs::OpenOptionsExt;
+use std::{fs, io};
+use textarea_disk::{JournalStep, JournalWrite, NEW_HASH, hash_with};
+
+// A journal that is open. It is locked, so that another editor of the file sees that.
+#[derive(Drop)]
+struct OpenJournal {
+    name: String,
+    file: File,
+}
+
+/// The journal of a file, if there is one on the disk.
+#[derive(Default, Drop)]
+pub struct JournalFile {
+    open: Option<OpenJournal>,
+}
+
+/// What there is of a file's journal.
+#[derive(Drop)]
+pub enum FoundJournal {
+    /// There is none, or it can't be read.
+    Nothing,
+    /// Another editor has it.
+    Busy,
+    /// It has these bytes.
+    Bytes(Vec<u8>),
+}
+
+impl JournalFile {
+    /// Opens the journal of the file of this name, if there is one, and returns its bytes.
+    pub fn find(&mut self, rt: &HostRuntime, name: &str) -> FoundJournal {
+        match self.read_beside(rt, name) {
+            Ok(bytes) => FoundJournal::Bytes(bytes),
+            Err(error) if error.kind() == ErrorKind::ResourceBusy => FoundJournal::Busy,
+            Err(_) => match self.read_elsewhere(rt, name) {
+                Ok(bytes) => FoundJournal::Bytes(bytes),
+                Err(error) if error.kind() == ErrorKind::ResourceBusy => FoundJournal::Busy,
+                Err(_) => FoundJournal::Nothing,
+            },
+        }
+    }
+
+    fn read_beside(&mut self, rt: &HostRuntime, name: &str) -> io::Result<Vec<u8>> {
+        let name = beside(rt, name)?;
+        self.read(rt, name)
+    }
+
+    fn read_elsewhere(&mut self, rt: &HostRuntime, name: &str) -> io::Result<Vec<u8>> {
+        let name = elsewhere(rt, name)?;
+        self.read(rt, name)
+    }
+
+    // Opens a journal that exists, and returns its bytes.
+    fn read(&mut self, rt: &HostRuntime, name: String) -> io::Result<Vec<u8>> {
+        if !fs::symlink_metadata(rt, name.as_str())?.is_file() {
+            return Err(io::Error::from(ErrorKind::NotFound));
+        }
+        let mut file = OpenOptions::new()
+            .read(true)
+            .append(true)
+            .open(rt, name.as_str())?;
+        lock(&file)?;
+        let mut bytes = Vec::new(rt.alloc());
+        file.read_to_end(&mut bytes)?;
+        self.open = Some(OpenJournal { name, file });
+        Ok(bytes)
+    }
+
+    /// Cuts the open journal to this size, so that records can be added after those that were read.
+    pub fn cut(&mut self, size: u64) -> io::Result<()> {
+        match &self.open {
+            Some(open) => open.file.set_len(size),
+            None => Err(io::Error::from(ErrorKind::NotFound)),
+        }
+    }
+
+    /// Makes the steps of a write to the journal of the file of this name, up to the first that
+    /// fails.
+    pub fn carry_out(
+        &mut self,
+        rt: &HostRuntime,
+        name: &str,
+        write: &JournalWrite,
+    ) -> io::Result<()> {
+        for &step in write.steps {
+            self.make_step(rt, name, step, write.bytes.as_slice())?;
+        }
+        Ok(())
+    }
+
+    /// Removes the open journal from the disk, if there is one.
+    pub fn remove(&mut self, rt: &HostRuntime) {
+        for &step in JournalStep::removing() {
+            if self.make_step(rt, "", step, b"").is_err() {
+                break;
+            }
+        }
+        self.open = None;
+    }
+
+    fn make_step(
+        &mut self,
+        rt: &HostRuntime,
+        name: &str,
+        step: JournalStep,
+        bytes: &[u8],
+    ) -> io::Result<()> {
+        if step == JournalStep::Create {
+            self.open = Some(create(rt, name)?);
+            return Ok(());
+        }
+        match &mut self.open {
+            Some(open) => change(rt, open, step, bytes),
+            None => Err(io::Error::from(ErrorKind::NotFound)),
+        }
+    }
+}
+
+// Makes a step on an open journal.
+fn change(
+    rt: &HostRuntime,
+    open: &mut OpenJournal,
+    step: JournalStep,
+    bytes: &[u8],
+) -> io::Result<()> {
+    match step {
+        JournalStep::Create => Ok(()),
+        JournalStep::Append => open.file.write_all(bytes),
+        JournalStep::Sync => open.file.sync_all(),
+        JournalStep::SyncFolder => sync_folder(rt, folder_of(open.name.as_str())),
+        JournalStep::Remove => fs::remove_file(rt, open.name.as_str()),
+    }
+}
+
+// Makes the journal of a file, for its user alone.
+fn create(rt: &HostRuntime, name: &str) -> io::Result<OpenJournal> {
+    match create_new(rt, beside(rt, name)?) {
+        Err(error)
+            if matches!(
+                error.kind(),
+                ErrorKind::PermissionDenied
+                    | ErrorKind::ReadOnlyFilesystem
+                    | ErrorKind::InvalidFilename
+            ) => {
+            let folder = state_folder(rt)?;
+            fs::create_dir_all(rt, folder.as_str())?;
+            create_new(rt, elsewhere(rt, name)?)
+        }
+        outcome => outcome,
+    }
+}
+
+fn create_new(rt: &HostRuntime, name: String) -> io::Result<OpenJournal> {
+    let file = OpenOptions::new()
+        .append(true)
+        .create_new(true)
+        .mode(0o600)
+        .open(rt, name.as_str())?;
+    lock(&file)?;
+    Ok(OpenJournal { name, file })
+}
+
+/// Opens the file of this name and locks it, so that another editor of it sees that. Returns no file
+/// where there is none, and an error of the kind `ResourceBusy` where another program has it locked.
+pub fn open_locked(rt: &HostRuntime, name: &str) -> io::Result<Option<File>> {
+    let Ok(file) = File::open(rt, name) else {
+        return Ok(None);
+    };
+    lock(&file)?;
+    Ok(Some(file))
+}
+
+// Locks a file. Where a file system has no locks, none is needed.
+fn lock(file: &File) -> io::Result<()> {
+    match file.try_lock() {
+        Err(TryLockError::WouldBlock) => Err(io::Error::from(ErrorKind::ResourceBusy)),
+        _ => Ok(()),
+    }
+}
+
+// The name of the journal of a file, in the file's folder.
+fn beside(rt: &HostRuntime, name: &str) -> io::Result<String> {
+    let alloc = rt.alloc();
+    let target = target_of(rt, name)?;
+    let last = last_part(target.as_str());
+    let journal = format!(in alloc; ".{last}.taedit-journal")?;
+    in_folder_of(alloc, target.as_str(), journal.as_str())
+}
+
+// The name of the journal of a file in the user's folder for state, by the hash of its path.
+fn elsewhere(rt: &HostRuntime, name: &str) -> io::Result<String> {
+    let target = target_of(rt, name)?;
+    let folder = fs::canonicalize(rt, folder_of(target.as_str()))?;
+    let hash = hash_with(NEW_HASH, folder.as_path().as_str().as_bytes());
+    let hash = hash_with(hash, last_part(target.as_str()).as_bytes());
+    let state = state_folder(rt)?;
+    Ok(format!(in rt.alloc(); "{state}/{hash}.taedit-journal")?)
+}

@@ -1,0 +1,77 @@
+// What is done about a journal that is found.
+ghost use Rattle.std.specs.Prelude.{◌≡◌, false, true, IfOk, OnErr, OnOk, string_bytes};
+ghost use Rattle.textarea_editor.specs.Controls.{with_focus};
+ghost use Rattle.textarea_editor.specs.Editor.{controls_of, draft_of, end_of, message_of, wraps_of};
+ghost use Rattle.textarea_editor.specs.Effects.{IsWritten};
+ghost use Rattle.textarea_editor.specs.JournalQuestions.{journal_question};
+ghost use Rattle.textarea_editor.specs.SetUp.{IsOpened};
+
+use super::Editor;
+use crate::file_text::joined;
+use crate::focus::{Focus, Question};
+use crate::message::Message;
+use std::alloc::AllocError;
+
+impl Editor {
+    /// Asks about a journal that was found: of one of the file as it is, whether to go on with its
+    /// text, and of another one, whether to discard it. The reply is an
+    /// [`Effect::Recover`](crate::Effect::Recover) or
+    /// [`Effect::Discard`](crate::Effect::Discard), or nothing for a journal that stays.
+    pub fn ask_about_journal(&mut self, is_of_file: bool)
+        ensures draft { draft_of self.new ≡ draft_of self.old }
+        ensures end { end_of self.new ≡ end_of self.old }
+        ensures controls { controls_of self.new
+            ≡ with_focus (controls_of self.old) (Focus.Question (journal_question is_of_file)) }
+    {
+        self.controls.focus = Focus::Question(journal_question(is_of_file));
+    }
+
+    /// Replaces the text by one with unsaved changes. It is as after
+    /// [`open`](Editor::open), but the text counts as changed.
+    ///
+    /// If memory runs out, the editor is as before.
+    pub fn recover(&mut self, text: String) -> Result<(), AllocError>
+        ensures written { OnOk result
+            (IsWritten (draft_of self.new).area (end_of self.new) (string_bytes text)) }
+        ensures opened { OnOk result (IsOpened (draft_of self.new).area (wraps_of self.new)) }
+        ensures changed { OnOk result ((draft_of self.new).is_changed ≡ true) }
+        ensures err { OnErr result (self.new ≡ self.old) }
+    {
+        self.take_text(text)?;
+        self.draft.set_changed();
+        Ok(())
+    }
+
+    /// Shows a message until the next key, unless another one is shown. Returns whether it is shown.
+    pub fn add_message(&mut self, message: Message) -> bool
+        ensures draft { draft_of self.new ≡ draft_of self.old }
+        ensures end { end_of self.new ≡ end_of self.old }
+        ensures shown { result ≡ true → message_of self.new ≡ message }
+        ensures other { result ≡ false → self.new ≡ self.old }
+    {
+        if self.message != Message::Nothing {
+            return false;
+        }
+        self.message = message;
+        true
+    }
+
+    /// Returns the bytes that a save of the text would give the file.
+    pub fn text(&self) -> Result<String, AllocError>
+        ensures { IfOk result (λ text.
+            IsWritten (draft_of self.now).area (end_of self.now) (string_bytes text)) }
+    {
+        joined(self.allocator(), self.draft.area().lines(), self.line_end)
+    }
+}
+
+// The question about a journal.
+fn journal_question(is_of_file: bool) -> Question
+    ensures { result ≡ journal_question is_of_file }
+{
+    if is_of_file {
+        Question::Recover
+    } else {
+        Question::Discard
+    }
+}
