@@ -1,10 +1,10 @@
 //! Styled texts and blocks that C passes.
-ghost use Rattle.std.specs.Prelude.{◌≡◌, ◌+◌, IfOk, IfSome, map, option_map};
+ghost use Rattle.std.specs.Prelude.{◌≡◌, ◌≤◌, ◌+◌, IfOk, IfSome, length, map, option_map, slice_range};
 ghost use Rattle.textarea_screen.specs.Block.{block_view};
 ghost use Rattle.textarea_screen.specs.Text.{line_view, span_view, text_view};
-ghost use Rattle.textarea_c_data.specs.Spans.{block_read, line_read, lines_read, span_read, spans_end, spans_read, text_read, whole_line};
+ghost use Rattle.textarea_c_data.specs.Spans.{block_read, line_read, lines_read, own_spans_read, span_read, spans_end, spans_read, text_read, whole_line};
 ghost use Rattle.textarea_c_data.specs.Styles.{style_of_numbers};
-ghost use Rattle.textarea_c_data.specs.Texts.{text_between};
+ghost use Rattle.textarea_c_data.specs.Texts.{items_between, text_between};
 
 use crate::slices::{end_of, text_between};
 use crate::spans::{CBlock, CLine, CSpan};
@@ -97,22 +97,42 @@ fn read_lines(
     let mut from: usize = 0;
     let mut first: usize = 0;
     for line in lines {
-        let Some(end) = end_of(first, line.spans, spans.len()) else {
-            return Ok(None);
-        };
-        let Some((own, after)) = read_line(alloc, text, from, &spans[first..end], line.style)?
-        else {
+        let Some((own, after)) = read_next_line(alloc, text, from, spans, first, *line)? else {
             return Ok(None);
         };
         read.push(own)?;
         from = after;
-        first = end;
+        first += line.spans;
     }
     if from == text.len() && first == spans.len() {
         Ok(Some(read))
     } else {
         Ok(None)
     }
+}
+
+// Returns the line whose spans begin at index `first` and whose text begins at byte `start`, and the
+// byte after it; `None` as `read_text`.
+fn read_next_line(
+    alloc: Global,
+    text: &[u8],
+    start: usize,
+    spans: &[CSpan],
+    first: usize,
+    line: CLine,
+) -> Result<Option<(screen::Line<'static>, usize)>, AllocError>
+    ensures line { IfOk result (λ read. option_map (λ r. line_view r.0) read
+        ≡ line_read (own_spans_read text.now start
+        (items_between spans.now first (first + line.spans))) (style_of_numbers line.style)) }
+    ensures end { IfOk result (λ read. IfSome read (λ r. r.1
+        ≡ spans_end start (slice_range spans.now first (first + line.spans)))) }
+    ensures within { IfOk result (λ read. IfSome read
+        (λ _. first + line.spans ≤ length spans.now)) }
+{
+    let Some(end) = end_of(first, line.spans, spans.len()) else {
+        return Ok(None);
+    };
+    read_line(alloc, text, start, &spans[first..end], line.style)
 }
 
 // Returns the line of these spans, in this style, and the byte after them; `None` as `read_spans`.

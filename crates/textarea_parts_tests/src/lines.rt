@@ -2,7 +2,7 @@
 //! rows as those of a layout from scratch.
 ghost use Rattle.std.specs.Prelude.{◌≡◌, ◌+◌, ◌<◌, false, length, vec_len, OnOk, if◌then◌else◌};
 ghost use Rattle.textarea_text.specs.Place.{IsPlace};
-ghost use Rattle.textarea_text.specs.Splice.{Fits};
+ghost use Rattle.textarea_text.specs.Splice.{Fits, inverse};
 ghost use Rattle.textarea_text.specs.Text.{lines};
 ghost use Rattle.textarea_history.specs.Edit.{IsWellFormed};
 ghost use Rattle.textarea_lines.specs.TextLayout.{at_width, keeps_wrapping};
@@ -260,9 +260,18 @@ fn make_and_take_back(
     text_layout.apply(edit.change())?;
     let end = visual_end(text_layout);
     let was_as_fresh = is_as_fresh(text_layout)?;
-    text_layout.apply(edit.inverse())?;
-    let is_right = was_as_fresh && is_as_fresh(text_layout)?;
+    let stays_fresh = take_back(text_layout, edit)?;
+    let is_right = was_as_fresh && stays_fresh;
     Ok(if is_right { Some(end) } else { None })
+}
+
+// Undoes an edit. Returns whether the layout is then as from scratch.
+fn take_back(text_layout: &mut TextLayout, edit: &Edit) -> Result<bool, AllocError>
+    requires well_formed { IsWellFormed edit.now }
+    requires fits { Fits text_layout.old.text (inverse edit.now.splice) }
+{
+    text_layout.apply(edit.inverse())?;
+    is_as_fresh(text_layout)
 }
 
 fn type_and_take_back(

@@ -155,9 +155,9 @@ fn nearest(lines: &[String], place: Place) -> Option<Place>
     ensures text { IfSome result (IsPlace (text_of lines.now)) }
     ensures small { IfSome result (λ place. (place.0 ≤ 2 ^ 32) × (place.1 ≤ 2 ^ 32)) }
 {
-    let place = clip(lines, place);
-    if place.0 <= LIMIT && place.1 <= LIMIT {
-        Some(place)
+    let (row, column) = clip(lines, place);
+    if row <= LIMIT && column <= LIMIT {
+        Some((row, column))
     } else {
         None
     }

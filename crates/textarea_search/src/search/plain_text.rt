@@ -28,12 +28,26 @@ pub fn text_pattern(
     if text.is_empty() {
         return Ok(pattern);
     }
-    push_case_flag(&mut pattern, ignore_case)?;
-    push_bound(&mut pattern, whole_word, first_character(text))?;
+    push_front(&mut pattern, text, ignore_case, whole_word)?;
     let escaped = escape(alloc, text)?;
     pattern.push_str(escaped.as_str())?;
     push_bound(&mut pattern, whole_word, last_character(text))?;
     Ok(pattern)
+}
+
+// Appends what comes before the text: the flag that ignores case, and the bound of a word.
+fn push_front(
+    pattern: &mut String,
+    text: &str,
+    ignore_case: bool,
+    whole_word: bool,
+) -> Result<(), AllocError>
+    ensures { OnOk result
+        (string_bytes pattern.new ≡ (string_bytes pattern.old ++ case_flag ignore_case)
+        ++ bound_at whole_word (slice_get (chars text.now) 0)) }
+{
+    push_case_flag(pattern, ignore_case)?;
+    push_bound(pattern, whole_word, first_character(text))
 }
 
 // Appends the flag that ignores case, if that is wanted.

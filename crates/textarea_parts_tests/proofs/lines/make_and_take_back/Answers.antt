@@ -5,10 +5,10 @@ use Rattle.textarea_lines.specs.TextLayout.{TextAndLayout}
 use Rattle.textarea_parts_tests.proofs.lines.make_and_take_back.Goals as goal
 
 -- an edit that was made can be undone
-pub apply-requires-2 : goal.apply-requires-2
-apply-requires-2 c =
+pub take_back-requires-clause-fits : goal.take_back-requires-clause-fits
+take_back-requires-clause-fits c =
     let text = c.args.text_layout.now.text in
     let splice = c.args.edit.now.splice in
     let back = subst (λ s. Fits (applied text s) (inverse splice)) (sym c.change.ensures) (takes_back text splice c.requires.fits).fits in
     let text_is = sym (ap (λ (l : TextAndLayout). l.text) c.in_ok-apply.ensures.ok) in
-    subst (Fits _) (sym c.inverse.ensures) (subst (λ t. Fits t (inverse splice)) text_is back)
+    subst (λ t. Fits t (inverse splice)) text_is back

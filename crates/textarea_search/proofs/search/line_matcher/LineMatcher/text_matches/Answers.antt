@@ -1,10 +1,11 @@
-use Rattle.std.proofs.Common.{◌≡◌, ◌∙◌, ℕ, ◌+◌, ◌≤◌, ◌<◌, List, ◌∷◌, ◌++◌, String, append_assoc, ap, arith, drop, get_or, length, map, string_bytes, string_len, sym, Global}
+use Rattle.std.proofs.Common.{◌≡◌, ◌∙◌, ℕ, ◌+◌, ◌≤◌, ◌<◌, List, ◌∷◌, ◌++◌, IsUtf8, String, append_assoc, ap, arith, drop, get_or, length, map, string_bytes, string_len, sym, Global}
 use Rattle.std.specs.Prelude.{All}
 use Rattle.std.specs.Str.{chars}
 use Rattle.std.proofs.lemmas.List.{drop_more}
 use Rattle.std.proofs.lemmas.List.Elements.{All-weaker}
 use Rattle.textarea_text.specs.Size.{size_of}
 use Rattle.textarea_util.proofs.Characters.{length-chars}
+use Rattle.textarea_util.specs.Limit.{size_limit}
 use Rattle.textarea_search.specs.ColumnPairs.{match_column_pairs}
 use Rattle.textarea_search.specs.TextMatches.{matches_from, text_match}
 use Rattle.textarea_search.proofs.search.line_matcher.LineMatcher.text_matches.Goals as goal
@@ -28,46 +29,47 @@ matches_more pairs lines row before i line within is next_row next_before rows b
     ∙ ap (λ n. here ++ matches_from pairs n (before + length (chars (string_bytes line)) + 1) rest) (sym rows)
     ∙ ap (λ n. here ++ matches_from pairs next_row n rest) (sym befores)
 
+-- the characters before a line that is left, its own and its break are within the limit
+line_fits : (lines : List (String Global)) (i before : ℕ) (line : String Global) (text : List ℕ) → i < length lines → line ≡ get_or lines i line → before + size_of (drop i lines) ≤ size_limit →
+    IsUtf8 text → text ≡ string_bytes line → before + (length (chars text) + 1) + size_of (drop (i + 1) lines) ≤ size_limit
+line_fits lines i before line text within is left utf8 same = omega (arith, left, length-chars text utf8, ap length same, line.bytes.ok.0, size_left lines i line within is)
+
+-- columns within a line, after what is before it
+columns_fit : (column : ℕ × ℕ → ℕ) (before width : ℕ) (pairs : List (ℕ × ℕ)) → before + width ≤ 18446744073709551615 → All (λ columns. column columns ≤ width) pairs →
+    All (λ columns. before + column columns ≤ 18446744073709551615) pairs
+columns_fit column before width pairs fits =
+    All-weaker (λ columns. column columns ≤ width) (λ columns. before + column columns ≤ 18446744073709551615) (λ columns le. omega (arith, le, fits)) pairs
+
 pub push_matches-requires-clause-starts : goal.push_matches-requires-clause-starts
 push_matches-requires-clause-starts c =
-    let line = c.index-lines-index.result in
     rw (← c.as_slice.ensures.value) at
-    (All-weaker (λ (columns : ℕ × ℕ). columns.0 ≤ length (chars c.deref.result.now)) (λ (columns : ℕ × ℕ). c.loop-index.before + columns.0 ≤ 18446744073709551615)
-    (λ columns le. omega (arith, le, c.loop-index.invariant.1, length-chars c.deref.result.now c.deref.utf8, ap length c.deref.ensures, line.bytes.ok.0, size_left c.args.lines.now c.loop-index.index line (omega arith) c.index-lines-index.is))
-    c.column_pairs_into.new.pairs.items c.in_ok-column_pairs_into.ensures.starts)
+    (columns_fit (λ columns. columns.0) c.loop-index.before (length (chars c.deref.result.now)) c.column_pairs_into.new.pairs.items
+    (omega (arith, line_fits c.args.lines.now c.loop-index.index c.loop-index.before c.index-lines-index.result c.deref.result.now (omega arith) c.index-lines-index.is c.loop-index.invariant.1 c.deref.utf8 c.deref.ensures))
+    c.in_ok-column_pairs_into.ensures.starts)
 
 pub push_matches-requires-clause-ends : goal.push_matches-requires-clause-ends
 push_matches-requires-clause-ends c =
-    let line = c.index-lines-index.result in
     rw (← c.as_slice.ensures.value) at
-    (All-weaker (λ (columns : ℕ × ℕ). columns.1 ≤ length (chars c.deref.result.now)) (λ (columns : ℕ × ℕ). c.loop-index.before + columns.1 ≤ 18446744073709551615)
-    (λ columns le. omega (arith, le, c.loop-index.invariant.1, length-chars c.deref.result.now c.deref.utf8, ap length c.deref.ensures, line.bytes.ok.0, size_left c.args.lines.now c.loop-index.index line (omega arith) c.index-lines-index.is))
-    c.column_pairs_into.new.pairs.items c.in_ok-column_pairs_into.ensures.ends)
+    (columns_fit (λ columns. columns.1) c.loop-index.before (length (chars c.deref.result.now)) c.column_pairs_into.new.pairs.items
+    (omega (arith, line_fits c.args.lines.now c.loop-index.index c.loop-index.before c.index-lines-index.result c.deref.result.now (omega arith) c.index-lines-index.is c.loop-index.invariant.1 c.deref.utf8 c.deref.ensures))
+    c.in_ok-column_pairs_into.ensures.ends)
 
 pub overflow_add-before : goal.overflow_add-before
 overflow_add-before c =
-    let line = c.index-lines-index.result in
     omega (
       arith,
-      c.loop-index.invariant.1,
       c.column_count.ensures,
-      length-chars c.deref-in-loop-index.result.now c.deref-in-loop-index.utf8,
-      ap length c.deref-in-loop-index.ensures,
-      line.bytes.ok.0,
-      size_left c.args.lines.now c.loop-index.index line (omega arith) c.index-lines-index.is,
+      line_fits c.args.lines.now c.loop-index.index c.loop-index.before c.index-lines-index.result
+          c.deref-in-loop-index.result.now (omega arith) c.index-lines-index.is c.loop-index.invariant.1 c.deref-in-loop-index.utf8 c.deref-in-loop-index.ensures,
     )
 
 pub overflow_add-before-in-loop-index : goal.overflow_add-before-in-loop-index
 overflow_add-before-in-loop-index c =
-    let line = c.index-lines-index.result in
     omega (
       arith,
-      c.loop-index.invariant.1,
       c.column_count.ensures,
-      length-chars c.deref-in-loop-index.result.now c.deref-in-loop-index.utf8,
-      ap length c.deref-in-loop-index.ensures,
-      line.bytes.ok.0,
-      size_left c.args.lines.now c.loop-index.index line (omega arith) c.index-lines-index.is,
+      line_fits c.args.lines.now c.loop-index.index c.loop-index.before c.index-lines-index.result
+          c.deref-in-loop-index.result.now (omega arith) c.index-lines-index.is c.loop-index.invariant.1 c.deref-in-loop-index.utf8 c.deref-in-loop-index.ensures,
     )
 
 pub loop-index-preserved : goal.loop-index-preserved
@@ -87,12 +89,9 @@ loop-index-preserved c =
       c.in_ok-column_pairs_into.ensures.same ∙ inv.0,
       omega (
         arith,
-        inv.1,
         c.column_count.ensures,
-        length-chars c.deref-in-loop-index.result.now c.deref-in-loop-index.utf8,
-        ap length c.deref-in-loop-index.ensures,
-        line.bytes.ok.0,
-        size_left lines i line (omega arith) c.index-lines-index.is,
+        line_fits c.args.lines.now c.loop-index.index c.loop-index.before c.index-lines-index.result
+            c.deref-in-loop-index.result.now (omega arith) c.index-lines-index.is c.loop-index.invariant.1 c.deref-in-loop-index.utf8 c.deref-in-loop-index.ensures,
       ),
       ap (λ l. l ++ rest) (c.in_ok-push_matches.ensures ∙ ap (λ found. c.loop-index.matches.items ++ map (text_match row before) found) found)
           ∙ append_assoc c.loop-index.matches.items (map (text_match row before) (pairs (string_bytes line))) rest
