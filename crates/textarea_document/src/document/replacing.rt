@@ -204,7 +204,7 @@ impl Document {
         ended
     }
 
-    // Replaces the document by another one.
+    /// Replaces the document by another one.
     pub fn replace_with(&mut self, other: Document)
         ensures { self.new ≡ other }
     {
