@@ -1,11 +1,15 @@
 //! Moves of the cursor to a position.
-ghost use Rattle.std.specs.Prelude.{◌∷◌, [], Some, OnErr, OnOk};
+ghost use Rattle.std.specs.Prelude.{◌≡◌, ◌∷◌, [], Some, OnErr, OnOk, not};
+ghost use Rattle.textarea_calls.specs.declared.call.Call.TheVariants as call;
 ghost use Rattle.textarea_calls.specs.declared.call.Call.TheVariants.{GoTo};
 ghost use Rattle.textarea_editor.specs.Draft.{FailsIn, FailsInSome, Makes, MakesSome};
-ghost use Rattle.textarea_editor.specs.EventCalls.{IsClick, is_selecting, look_calls, row_calls, selection_calls};
+ghost use Rattle.textarea_editor.specs.EventCalls.{IsClick, find_calls, is_selecting, look_calls, row_calls, selection_calls};
+ghost use Rattle.textarea_editor.specs.Patterns.{search_call};
 ghost use Rattle.tui_textarea.specs.Drawing.{widget_of};
 
 use crate::draft::Draft;
+use crate::pattern::pattern_of;
+use crate::search::SearchOptions;
 use std::alloc::AllocError;
 use textarea_calls::Call;
 use textarea_screen::screen::Position;
@@ -61,16 +65,75 @@ impl Draft {
         Ok(())
     }
 
-    /// Lights the matches of a pattern, and moves to the first one from a position; returns whether
-    /// there is one.
-    pub fn look_for(&mut self, origin: (usize, usize), pattern: &str) -> Result<bool, AllocError>
-        ensures ok { OnOk result (Makes self.old (look_calls origin pattern.now) self.new) }
-        ensures err { OnErr result (FailsIn self.old (look_calls origin pattern.now) self.new) }
+    /// Lights the matches of a text, by these options, and moves to the first one from a position;
+    /// returns whether there is one. A rejected pattern leaves the one before.
+    pub fn look_for(
+        &mut self,
+        origin: (usize, usize),
+        options: SearchOptions,
+        text: &str,
+    ) -> Result<bool, AllocError>
+        ensures ok { OnOk result
+            (Makes self.old (look_calls origin (search_call options text.now)) self.new) }
+        ensures err { OnErr result
+            (FailsIn self.old (look_calls origin (search_call options text.now)) self.new) }
     {
+        if options.is_pattern {
+            let pattern = pattern_of(self.allocator(), options, text)?;
+            return self.make(&[
+                Call::GoTo(origin),
+                Call::SetSearchPattern(pattern.as_str()),
+                Call::SearchForward(true),
+            ]);
+        }
         self.make(&[
             Call::GoTo(origin),
-            Call::SetSearchPattern(pattern),
+            plain_search(options, text),
             Call::SearchForward(true),
         ])
+    }
+
+    /// Lights the matches of a text, by these options, and moves to the next one or to the one
+    /// before; returns whether there is one. A rejected pattern leaves the one before.
+    pub fn seek(
+        &mut self,
+        is_forward: bool,
+        options: SearchOptions,
+        text: &str,
+    ) -> Result<bool, AllocError>
+        ensures ok { OnOk result (Makes self.old
+            (search_call options text.now ∷ find_calls is_forward) self.new) }
+        ensures err { OnErr result (FailsIn self.old
+            (search_call options text.now ∷ find_calls is_forward) self.new) }
+    {
+        let find = find_call(is_forward);
+        if options.is_pattern {
+            let pattern = pattern_of(self.allocator(), options, text)?;
+            return self.make(&[Call::SetSearchPattern(pattern.as_str()), find]);
+        }
+        self.make(&[plain_search(options, text), find])
+    }
+}
+
+// The call that lights the matches of a plain text.
+fn plain_search(options: SearchOptions, text: &str) -> Call<'_>
+    ensures { result
+        ≡ call.SetSearchText text.entry (not options.keeps_case) options.whole_words }
+{
+    Call::SetSearchText {
+        text,
+        ignore_case: !options.keeps_case,
+        whole_word: options.whole_words,
+    }
+}
+
+/// The call that moves to the next match, or to the one before.
+pub fn find_call(is_forward: bool) -> Call<'static>
+    ensures { result ∷ [] ≡ find_calls is_forward }
+{
+    if is_forward {
+        Call::SearchForward(false)
+    } else {
+        Call::SearchBack(false)
     }
 }
