@@ -139,6 +139,12 @@ exact_there (Some copy) old new was changed text same is =
     let rows = ap (λ (t : List Symbol). lines t) text in
     ((λ h. rows ∙ is.0 (sym same ∙ h)), (λ h. same ∙ is.1 (sym rows ∙ h)))
 
+pub mark_compared_after : (was may : Bool) (new : Draft) → may ≡ true → IsMark new.saved new.area new.is_changed → IsMarkAfter was may new
+mark_compared_after was may new is mark = subst (λ (b : Bool). IsMarkAfter was b new) (sym is) mark
+
+pub mark_stays_after : (was may : Bool) (new : Draft) → may ≡ false → new.is_changed ≡ was → IsMarkAfter was may new
+mark_stays_after was may new is same = subst (λ (b : Bool). IsMarkAfter was b new) (sym is) same
+
 -- a draft whose calls were made is noted: some of them may have changed the text, or none
 pub record IsNoted (left : Draft) (may : Bool) (new : Draft) : Type 0 where
   pub same : new ≡ record left { is_changed = new.is_changed }

@@ -33,21 +33,17 @@ time_made old new now is =
     let made = SetNow now in
     made_more old old new (made ∷ []) 0 made answer.Done (lit< tt) refl (none_made old) refl is (draws_nothing_of made refl) (λ none. ap (λ (s : State). s.document.text) is)
 
+exact_at : (copy : Copy) (area : State) (changed : Bool) (time : ℕ) → IsExact copy area changed → IsExact copy (at_time area time) changed
+exact_at None area changed time was = tt
+exact_at (Some copy) area changed time was = was
+
 -- the text, and whether it counts as changed, are as before
 pub time_honest : (old : Draft) (area : State) (now : Duration) → area ≡ at_time old.area (as_nanos now) → IsHonest old (record old { area = area })
-time_honest old area now is =
-    subst (λ (s : State). IsHonest old (record old { area = s })) (sym is) (of_time old.saved old.area old.is_changed (as_nanos now))
-  where
-    exact_at : (copy : Copy) (area : State) (changed : Bool) (time : ℕ) → IsExact copy area changed → IsExact copy (at_time area time) changed
-    exact_at None area changed time was = tt
-    exact_at (Some copy) area changed time was = was
-
-    of_time : (copy : Copy) (area : State) (changed : Bool) (time : ℕ) → IsHonest (record old { area = area; saved = copy; is_changed = changed }) (record old { area = at_time area time; saved = copy; is_changed = changed })
-    of_time copy area changed time = record {
-      kept = refl;
-      exact = exact_at copy area changed time;
-      alone = λ none same. (same, refl);
-    }
+time_honest old area now is = record {
+  kept = refl;
+  exact = λ was. subst (λ (s : State). IsExact old.saved s old.is_changed) (sym is) (exact_at old.saved old.area old.is_changed (as_nanos now) was);
+  alone = λ none same. (same, ap (λ (s : State). s.document.text) is);
+}
 
 -- ---- the calls of an event then
 

@@ -47,6 +47,7 @@ pub struct Draft {
 
 impl Draft {
     /// Returns the draft of a text area, as it was saved.
+    #[tactic(auto, using(crate::proofs::Saved::copy_of))]
     pub fn new(area: TextArea<'static>) -> Draft
         ensures area { result.area ≡ area.entry }
         ensures saved { IsSaved result }
@@ -79,6 +80,7 @@ impl Draft {
     }
 
     /// Notes that the text was saved. A run of typing ends.
+    #[tactic(auto, using(crate::proofs::Saved::copy_of))]
     pub fn set_saved(&mut self)
         ensures { IsSavedFrom self.old self.new }
     {
@@ -140,18 +142,21 @@ impl Draft {
 
     // Notes that calls were made, which may have changed the text, as those have that ran out of
     // memory.
+    #[tactic(auto, using(crate::proofs::Drafts::mark_compared_after, crate::proofs::Drafts::mark_stays_after))]
     fn note(&mut self, may_change: bool, made: Result<bool, AllocError>) -> Result<bool, AllocError>
         ensures made { result ≡ made }
         ensures same { self.new ≡ record self.old { is_changed = self.new.is_changed } }
         ensures mark { IsMarkAfter self.old.is_changed (may_change || is_err made) self.new }
     {
-        if may_change || made.is_err() {
+        let may_differ = may_change || made.is_err();
+        if may_differ {
             self.is_changed = self.differs();
         }
         made
     }
 
     // Returns whether the text differs from the saved one. Without a copy of that it is taken to.
+    #[tactic(auto, using(crate::proofs::Saved::mark_compared))]
     fn differs(&self) -> bool
         ensures { IsMark self.now.saved self.now.area result }
     {

@@ -1,6 +1,5 @@
 //! Moves of the cursor to a position.
-ghost use Rattle.std.specs.Prelude.{◌≡◌, ◌∷◌, [], Some, OnErr, OnOk, not};
-ghost use Rattle.textarea_calls.specs.declared.call.Call.TheVariants as call;
+ghost use Rattle.std.specs.Prelude.{◌∷◌, [], Some, OnErr, OnOk};
 ghost use Rattle.textarea_calls.specs.declared.call.Call.TheVariants.{GoTo};
 ghost use Rattle.textarea_editor.specs.Draft.{FailsIn, FailsInSome, Makes, MakesSome};
 ghost use Rattle.textarea_editor.specs.EventCalls.{IsClick, find_calls, is_selecting, look_calls, row_calls, selection_calls};
@@ -78,19 +77,21 @@ impl Draft {
         ensures err { OnErr result
             (FailsIn self.old (look_calls origin (search_call options text.now)) self.new) }
     {
-        if options.is_pattern {
-            let pattern = pattern_of(self.allocator(), options, text)?;
-            return self.make(&[
-                Call::GoTo(origin),
-                Call::SetSearchPattern(pattern.as_str()),
-                Call::SearchForward(true),
-            ]);
+        self.move_to(origin)?;
+        self.light(options, text)?;
+        self.make(&[Call::SearchForward(true)])
+    }
+
+    /// Returns whether the pattern is that of a text, by these options, and was not rejected. If memory
+    /// runs out, it returns true.
+    pub fn has_pattern(&self, options: SearchOptions, text: &str) -> bool {
+        let Ok(pattern) = pattern_of(self.allocator(), options, text) else {
+            return true;
+        };
+        match self.area().search_pattern() {
+            Some(present) => present == pattern.as_str(),
+            None => pattern.is_empty(),
         }
-        self.make(&[
-            Call::GoTo(origin),
-            plain_search(options, text),
-            Call::SearchForward(true),
-        ])
     }
 
     /// Lights the matches of a text, by these options, and moves to the next one or to the one
@@ -106,34 +107,36 @@ impl Draft {
         ensures err { OnErr result (FailsIn self.old
             (search_call options text.now ∷ find_calls is_forward) self.new) }
     {
-        let find = find_call(is_forward);
+        self.light(options, text)?;
+        self.find(is_forward)
+    }
+
+    // Lights the matches of a text, by these options.
+    fn light(&mut self, options: SearchOptions, text: &str) -> Result<bool, AllocError>
+        ensures ok { OnOk result (Makes self.old (search_call options text.now ∷ []) self.new) }
+        ensures err { OnErr result (FailsIn self.old (search_call options text.now ∷ []) self.new) }
+    {
         if options.is_pattern {
             let pattern = pattern_of(self.allocator(), options, text)?;
-            return self.make(&[Call::SetSearchPattern(pattern.as_str()), find]);
+            return self.make(&[Call::SetSearchPattern(pattern.as_str())]);
         }
-        self.make(&[plain_search(options, text), find])
+        self.make(&[Call::SetSearchText {
+            text,
+            ignore_case: !options.keeps_case,
+            whole_word: options.whole_words,
+        }])
     }
-}
 
-// The call that lights the matches of a plain text.
-fn plain_search(options: SearchOptions, text: &str) -> Call<'_>
-    ensures { result
-        ≡ call.SetSearchText text.entry (not options.keeps_case) options.whole_words }
-{
-    Call::SetSearchText {
-        text,
-        ignore_case: !options.keeps_case,
-        whole_word: options.whole_words,
-    }
-}
-
-/// The call that moves to the next match, or to the one before.
-pub fn find_call(is_forward: bool) -> Call<'static>
-    ensures { result ∷ [] ≡ find_calls is_forward }
-{
-    if is_forward {
-        Call::SearchForward(false)
-    } else {
-        Call::SearchBack(false)
+    /// Moves to the next match, or to the one before; returns whether there is one.
+    pub fn find(&mut self, is_forward: bool) -> Result<bool, AllocError>
+        ensures ok { OnOk result (Makes self.old (find_calls is_forward) self.new) }
+        ensures err { OnErr result (FailsIn self.old (find_calls is_forward) self.new) }
+    {
+        let call = if is_forward {
+            Call::SearchForward(false)
+        } else {
+            Call::SearchBack(false)
+        };
+        self.make(&[call])
     }
 }

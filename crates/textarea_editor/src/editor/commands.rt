@@ -12,7 +12,6 @@ ghost use Rattle.textarea_editor.specs.EventCalls.{command_calls, control_calls,
 
 use super::Editor;
 use crate::control_characters::count_message;
-use crate::draft::moving::find_call;
 use crate::editor::parts::wrap_mode;
 use crate::effect::Effect;
 use crate::focus::{Asked, Focus};
@@ -169,7 +168,7 @@ impl Editor {
         ensures end { self.new.line_end ≡ self.old.line_end }
         ensures controls { self.new.controls ≡ self.old.controls }
     {
-        if !self.draft.make(&[find_call(is_forward)])? {
+        if !self.draft.find(is_forward)? {
             self.message = Message::NoMatch;
         }
         Ok(Effect::Nothing)

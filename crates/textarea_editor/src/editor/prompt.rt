@@ -186,7 +186,9 @@ impl Editor {
     {
         let text = self.field.lines()[0].as_str();
         let found = self.draft.look_for(self.controls.origin, options, text)?;
-        if !found && !text.is_empty() {
+        if options.is_pattern && !self.draft.has_pattern(options, text) {
+            self.message = Message::BrokenPattern;
+        } else if !found && !text.is_empty() {
             self.message = Message::NoMatch;
         }
         Ok(Effect::Nothing)
@@ -207,7 +209,11 @@ impl Editor {
         ensures controls { self.new.controls ≡ self.old.controls }
     {
         let text = self.field.lines()[0].as_str();
-        if !self.draft.seek(is_forward, self.controls.search, text)? {
+        let options = self.controls.search;
+        let found = self.draft.seek(is_forward, options, text)?;
+        if options.is_pattern && !self.draft.has_pattern(options, text) {
+            self.message = Message::BrokenPattern;
+        } else if !found {
             self.message = Message::NoMatch;
         }
         Ok(Effect::Nothing)
