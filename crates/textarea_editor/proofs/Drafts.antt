@@ -9,7 +9,7 @@ use Rattle.textarea_calls.specs.Edits.{edits}
 use Rattle.textarea_calls.specs.Topics.{draws}
 use Rattle.textarea_calls.specs.declared.call.Call.{Call}
 use Rattle.textarea_calls.specs.declared.call.Call.TheVariants as call
-use Rattle.textarea_editor.specs.Draft.{Copy, FailsIn, FailsInSome, IsExact, IsHonest, IsMark, IsMarkAfter, Makes, RunsShort, plain_call, plain_calls}
+use Rattle.textarea_editor.specs.Draft.{Copy, FailsIn, FailsInSome, IsExact, IsHonest, IsChangeMark, IsMarkAfter, Makes, RunsShort, plain_call, plain_calls}
 use Rattle.textarea_editor.specs.declared.draft.Draft.{Draft}
 use Rattle.textarea_modal.proofs.Runs.{made_after, none_made, or_apart, ran_out_after}
 use Rattle.textarea_modal.specs.Runs.{AllMade, OneRunsOut, RunsOutAt}
@@ -128,7 +128,7 @@ fails_early IsAsked draft = inl (fails_first draft [])
 
 -- ---- calls that are noted
 
-exact_of : (copy : Copy) (area : State) (changed : Bool) → IsMark copy area changed → IsExact copy area changed
+exact_of : (copy : Copy) (area : State) (changed : Bool) → IsChangeMark copy area changed → IsExact copy area changed
 exact_of None area changed is = tt
 exact_of (Some copy) area changed is = is
 
@@ -139,7 +139,7 @@ exact_there (Some copy) old new was changed text same is =
     let rows = ap (λ (t : List Symbol). lines t) text in
     ((λ h. rows ∙ is.0 (sym same ∙ h)), (λ h. same ∙ is.1 (sym rows ∙ h)))
 
-pub mark_compared_after : (was may : Bool) (new : Draft) → may ≡ true → IsMark new.saved new.area new.is_changed → IsMarkAfter was may new
+pub mark_compared_after : (was may : Bool) (new : Draft) → may ≡ true → IsChangeMark new.saved new.area new.is_changed → IsMarkAfter was may new
 mark_compared_after was may new is mark = subst (λ (b : Bool). IsMarkAfter was b new) (sym is) mark
 
 pub mark_stays_after : (was may : Bool) (new : Draft) → may ≡ false → new.is_changed ≡ was → IsMarkAfter was may new
@@ -160,7 +160,7 @@ noted_exact left new false note text keeps was =
 noted_alone : (left new : Draft) (may : Bool) → IsNoted left may new → (text : State) → (may ≡ false → left.area.document.text ≡ text.document.text)
     → left.saved ≡ None → new.is_changed ≡ false → (left.is_changed ≡ false) × (new.area.document.text ≡ text.document.text)
 noted_alone left new true note text keeps none is =
-    let changed : IsMark None new.area new.is_changed = subst (λ (c : Copy). IsMark c new.area new.is_changed) (ap (λ (d : Draft). d.saved) note.same ∙ none) note.mark in
+    let changed : IsChangeMark None new.area new.is_changed = subst (λ (c : Copy). IsChangeMark c new.area new.is_changed) (ap (λ (d : Draft). d.saved) note.same ∙ none) note.mark in
     absurd (false≢true (sym is ∙ changed))
 noted_alone left new false note text keeps none is =
     (sym note.mark ∙ is, ap (λ (d : Draft). d.area.document.text) note.same ∙ keeps refl)
@@ -225,3 +225,9 @@ mark_noted {E} result made left new calls may is mark edit =
     by_result : (made : Result Bool E) → IsMarkAfter left.is_changed (may || is_err made) new → OnOk made (IsMarkAfter left.is_changed (list_any edits calls) new)
     by_result (Err error) mark = tt
     by_result (Ok found) mark = subst (λ (b : Bool). IsMarkAfter left.is_changed b new) (or-false may ∙ edit) mark
+
+-- ---- results
+
+pub on_err : {T E P : Type 0} (result : Result T E) → P → OnErr result P
+on_err (Ok value) holds = tt
+on_err (Err error) holds = holds

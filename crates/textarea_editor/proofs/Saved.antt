@@ -7,7 +7,7 @@ use Rattle.std.proofs.lemmas.Bool.{false≢true}
 use Rattle.std.proofs.lemmas.Slice.Eq.{bytes_eq-Decides}
 use Rattle.std.proofs.lemmas.Str.{IsUtf8-string_bytes, encodes-chars}
 use Rattle.std.specs.declared.alloc.Global.{Global}
-use Rattle.textarea_editor.specs.Draft.{Copy, HasCopy, IsCopyOf, IsExact, IsHonest, IsMark, IsSaved}
+use Rattle.textarea_editor.specs.Draft.{Copy, HasCopy, IsCopyOf, IsExact, IsHonest, IsChangeMark, IsSaved}
 use Rattle.textarea_editor.specs.declared.draft.Draft.{Draft}
 use Rattle.textarea_text.proofs.TextPlaces.{joined-lines}
 use Rattle.textarea_text.specs.Text.{Symbol, characters_of, joined, lines, lines_of}
@@ -83,7 +83,7 @@ unchanged_by : (copy : Copy) (old new : Draft) → old.saved ≡ copy → IsHone
 unchanged_by None old new none honest is same now = (honest.alone none now).1
 unchanged_by (Some copy) old new some honest is same now =
     let at_first = subst (λ (c : Copy). IsExact c old.area old.is_changed) (sym some) (saved_exact (Some copy) old.area old.is_changed same is) in
-    let at_last : IsMark (Some copy) new.area new.is_changed = subst (λ (c : Copy). IsExact c new.area new.is_changed) (honest.kept ∙ some) (honest.exact at_first) in
+    let at_last : IsChangeMark (Some copy) new.area new.is_changed = subst (λ (c : Copy). IsExact c new.area new.is_changed) (honest.kept ∙ some) (honest.exact at_first) in
     same_text new.area.document.text old.area.document.text (at_last.0 now ∙ is)
 
 -- a text that counts as unchanged is the saved one
@@ -94,7 +94,7 @@ saved_by : (copy : Copy) (old new : Draft) → old.saved ≡ copy → IsHonest o
 saved_by None old new none honest is same has now = absurd (false≢true has)
 saved_by (Some copy) old new some honest is same has now =
     let at_first = subst (λ (c : Copy). IsExact c old.area old.is_changed) (sym some) (saved_exact (Some copy) old.area old.is_changed same is) in
-    let at_last : IsMark (Some copy) new.area new.is_changed = subst (λ (c : Copy). IsExact c new.area new.is_changed) (honest.kept ∙ some) (honest.exact at_first) in
+    let at_last : IsChangeMark (Some copy) new.area new.is_changed = subst (λ (c : Copy). IsExact c new.area new.is_changed) (honest.kept ∙ some) (honest.exact at_first) in
     at_last.1 (ap (λ (t : List Symbol). lines t) now ∙ sym is)
 
 -- with a copy, the saved text counts as unchanged

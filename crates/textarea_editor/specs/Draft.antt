@@ -59,19 +59,19 @@ abbrev pub HasCopy : Draft → Type 0
 HasCopy draft = is_some draft.saved ≡ true
 
 -- whether the text counts as changed: by a copy of the saved one exactly if it differs, and without a copy always
-abbrev pub IsMark : Copy → State → Bool → Type 0
-IsMark None area changed = changed ≡ true
-IsMark (Some copy) area changed = (changed ≡ false) ↔ (lines area.document.text ≡ lines_of copy.items)
+abbrev pub IsChangeMark : Copy → State → Bool → Type 0
+IsChangeMark None area changed = changed ≡ true
+IsChangeMark (Some copy) area changed = (changed ≡ false) ↔ (lines area.document.text ≡ lines_of copy.items)
 
 -- whether it does, if it did so or not before calls of which some may have changed it, or none
 abbrev pub IsMarkAfter : Bool → Bool → Draft → Type 0
-IsMarkAfter changed true new = IsMark new.saved new.area new.is_changed
+IsMarkAfter changed true new = IsChangeMark new.saved new.area new.is_changed
 IsMarkAfter changed false new = new.is_changed ≡ changed
 
 -- by a copy of the saved text, it counts as changed exactly if it differs from that
 abbrev pub IsExact : Copy → State → Bool → Type 0
 IsExact None area changed = Unit {0}
-IsExact (Some copy) area changed = IsMark (Some copy) area changed
+IsExact (Some copy) area changed = IsChangeMark (Some copy) area changed
 
 -- the saved text is the same, and what is exact stays so; without a copy, if the new draft counts as
 -- unchanged, so does the old one, and their texts are the same

@@ -13,7 +13,7 @@ ghost use Rattle.textarea_screen.specs.Rect.{contains};
 ghost use Rattle.tui_textarea.specs.Drawing.{IsRendered, widget_of};
 ghost use Rattle.tui_textarea.specs.Measure.{reads_rows};
 ghost use Rattle.tui_textarea.specs.Rendered.{IsDrawn};
-ghost use Rattle.textarea_editor.specs.Draft.{FailsIn, IsMark, IsMarkAfter, IsMeasuredRows, IsSaved, IsSavedFrom, IsUndrawn, Makes, is_made, plain_calls};
+ghost use Rattle.textarea_editor.specs.Draft.{FailsIn, IsChangeMark, IsMarkAfter, IsMeasuredRows, IsSaved, IsSavedFrom, IsUndrawn, Makes, is_made, plain_calls};
 ghost use Rattle.textarea_text.specs.Text.{lines_of};
 
 pub mod moving;
@@ -158,7 +158,7 @@ impl Draft {
     // Returns whether the text differs from the saved one. Without a copy of that it is taken to.
     #[tactic(auto, using(crate::proofs::Saved::mark_compared))]
     fn differs(&self) -> bool
-        ensures { IsMark self.now.saved self.now.area result }
+        ensures { IsChangeMark self.now.saved self.now.area result }
     {
         match &self.saved {
             Some(copy) => !are_same(self.area.lines(), copy.as_slice()),
