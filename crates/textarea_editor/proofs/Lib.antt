@@ -6,3 +6,4 @@ mod Texts
 mod Times
 mod Clicks
 mod Saved
+mod Searches

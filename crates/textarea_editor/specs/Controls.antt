@@ -5,6 +5,7 @@ use Rattle.textarea_data.specs.declared.input.Key.{Key}
 use Rattle.textarea_data.specs.declared.input.Key.TheVariants.{MouseScrollDown, MouseScrollUp}
 use Rattle.textarea_editor.specs.EventCalls.{IsBoundCommand}
 use Rattle.textarea_editor.specs.HelpKeys.{help_key}
+use Rattle.textarea_editor.specs.Patterns.{toggled}
 use Rattle.textarea_editor.specs.PromptKeys.{prompt_key}
 use Rattle.textarea_editor.specs.Replies.{reply_of}
 use Rattle.textarea_editor.specs.TypedInput.{typed_input}
@@ -111,6 +112,7 @@ abbrev pub IsAfterPromptKey : PromptKey → Asked → Controls → Bool → Stat
 IsAfterPromptKey prompt.Leave asked controls changed field new = new ≡ left controls
 IsAfterPromptKey prompt.Accept asked controls changed field new = IsTaken asked controls field new
 IsAfterPromptKey prompt.Quit asked controls changed field new = new ≡ quit_asked controls changed
+IsAfterPromptKey (prompt.Toggle toggle) asked controls changed field new = new ≡ record controls { search = toggled controls.search toggle }
 IsAfterPromptKey other asked controls changed field new = new ≡ controls
 
 -- ---- keys that answer a question, and keys in the help

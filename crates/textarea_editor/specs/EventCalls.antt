@@ -1,7 +1,6 @@
 -- The calls on the text area that each event makes, as a table: by what the next key is for, the
 -- key, and the command that it is bound to.
 use Rattle.std.specs.Prelude.{◌≡◌, ◌⊎◌, ◌<◌, ◌≤◌, ℕ, ◌-◌, ◌==◌, ◌&&◌, ◌||◌, nat_lt, not, Bool, true, false, List, [], ◌∷◌, ◌++◌, Option, Some, None, is_some, if◌then◌else◌, slice_index_or, string_bytes, All, Contains, codes, pos, negsuc}
-use Rattle.std.specs.Borrow.{Bor}
 use Rattle.std.specs.Str.{chars}
 use Rattle.textarea_calls.specs.declared.call.Call.{Call}
 use Rattle.textarea_calls.specs.declared.call.Call.TheVariants as call
@@ -12,7 +11,7 @@ use Rattle.textarea_data.specs.declared.measure.TextAreaMeasure.{TextAreaMeasure
 use Rattle.textarea_data.specs.declared.input.Key.{Key}
 use Rattle.textarea_data.specs.declared.input.Key.TheVariants.{Char, End, Esc, F, Home, MouseScrollDown, MouseScrollUp}
 use Rattle.textarea_editor.specs.LineNumber.{IsLineNumber, row_of_line}
-use Rattle.textarea_editor.specs.Patterns.{first_line, pattern_of}
+use Rattle.textarea_editor.specs.Patterns.{borrowed, first_line, search_call, toggled}
 use Rattle.textarea_editor.specs.PromptKeys.{prompt_key}
 use Rattle.textarea_editor.specs.TypedInput.{typed_input}
 use Rattle.textarea_editor.specs.declared.controls.Controls.{Controls}
@@ -27,6 +26,7 @@ use Rattle.textarea_editor.specs.declared.keys.Binding.{Binding}
 use Rattle.textarea_editor.specs.declared.keys.KeyCommand.{KeyCommand}
 use Rattle.textarea_editor.specs.declared.keys.KeyCommand.TheVariants as command
 use Rattle.textarea_editor.specs.declared.keys.TheConstants.{BINDINGS}
+use Rattle.textarea_editor.specs.declared.search.SearchOptions.{SearchOptions}
 use Rattle.textarea_modal.specs.Table.{passed_on, step}
 use Rattle.textarea_modal.specs.declared.mode.Mode.{Mode}
 use Rattle.textarea_screen.specs.Style.{empty_style}
@@ -50,10 +50,6 @@ use Rattle.tui_textarea.specs.Hit.{IsHitTest}
 use Rattle.tui_textarea.specs.Input.{IsAfterAction, action_flag, asked_by}
 use Rattle.tui_textarea.specs.Measure.{IsMeasured, reads_rows}
 use Rattle.tui_textarea.specs.State.{State}
-
--- a borrowed text, at no address
-abbrev pub borrowed : List ℕ → Bor (List ℕ)
-borrowed text = record { ref_ptr = (0, 0); now = text }
 
 -- ---- commands
 
@@ -172,25 +168,31 @@ pub record IsKeyInText (controls : Controls) (area : State) (columns rows : ℕ)
 abbrev pub prompt_line : State → List ℕ
 prompt_line field = slice_index_or (lines field.document.text) 0 []
 
--- from where the prompt was opened to the first match
-abbrev pub look_calls : Place → List ℕ → List Call
-look_calls origin pattern = call.GoTo origin ∷ call.SetSearchPattern (borrowed pattern) ∷ call.SearchForward true ∷ []
+-- the matches are lit, and from where the prompt was opened the first one is found
+abbrev pub look_calls : Place → Call → List Call
+look_calls origin light = call.GoTo origin ∷ light ∷ call.SearchForward true ∷ []
 
--- the matches of the prompt's text are lit and the first one is found
-pub record IsLookingFor (origin : Place) (field : State) (calls : List Call) : Type 0 where
-  pub pattern : List ℕ
-  pub pattern_is : chars pattern ≡ pattern_of (prompt_line field)
-  pub calls_are : calls ≡ look_calls origin pattern
+-- the matches of the prompt's text are lit, by these options, and the first one is found
+pub record IsLookingFor (options : SearchOptions) (origin : Place) (field : State) (calls : List Call) : Type 0 where
+  pub text : List ℕ
+  pub text_is : chars text ≡ prompt_line field
+  pub calls_are : calls ≡ look_calls origin (search_call options text)
+
+-- the matches of the prompt's text are lit, and the next one is found, or the one before
+pub record IsSought (forward : Bool) (options : SearchOptions) (field : State) (calls : List Call) : Type 0 where
+  pub text : List ℕ
+  pub text_is : chars text ≡ prompt_line field
+  pub calls_are : calls ≡ search_call options text ∷ find_calls forward
 
 -- the prompt's text is now that of this field
-abbrev pub IsPromptChanged : Asked → Place → State → List Call → Type 0
-IsPromptChanged asks.Text origin field calls = IsLookingFor origin field calls
-IsPromptChanged asked origin field calls = calls ≡ []
+abbrev pub IsPromptChanged : Asked → Controls → State → List Call → Type 0
+IsPromptChanged asks.Text controls field calls = IsLookingFor controls.search controls.origin field calls
+IsPromptChanged asked controls field calls = calls ≡ []
 
 -- the prompt's text may have changed
-abbrev pub IsPromptEdited : Bool → Asked → Place → State → List Call → Type 0
-IsPromptEdited true asked origin field calls = IsPromptChanged asked origin field calls
-IsPromptEdited false asked origin field calls = calls ≡ []
+abbrev pub IsPromptEdited : Bool → Asked → Controls → State → List Call → Type 0
+IsPromptEdited true asked controls field calls = IsPromptChanged asked controls field calls
+IsPromptEdited false asked controls field calls = calls ≡ []
 
 -- to the start of a line, which drops the selection
 abbrev pub row_calls : Option ℕ → List Call
@@ -211,25 +213,26 @@ IsPromptTaken asks.Line field calls = IsLineAsked field calls
 IsPromptTaken asked field calls = calls ≡ []
 
 -- an input that changes the prompt's text
-pub record IsPromptInput (asked : Asked) (origin : Place) (field : State) (input : Input) (calls : List Call) : Type 0 where
+pub record IsPromptInput (asked : Asked) (controls : Controls) (field : State) (input : Input) (calls : List Call) : Type 0 where
   pub changed : State
   pub changed_is : IsAfterAction field (asked_by input) changed
-  pub edited : IsPromptEdited (action_flag field (asked_by input)) asked origin changed calls
+  pub edited : IsPromptEdited (action_flag field (asked_by input)) asked controls changed calls
 
 -- an input in the prompt, by what the key does
-abbrev pub IsKeyInPrompt : PromptKey → Asked → Place → State → Input → List Call → Type 0
-IsKeyInPrompt prompt.Leave asked origin field input calls = calls ≡ []
-IsKeyInPrompt prompt.Quit asked origin field input calls = calls ≡ []
-IsKeyInPrompt prompt.Next asked origin field input calls = calls ≡ find_calls true
-IsKeyInPrompt prompt.Previous asked origin field input calls = calls ≡ find_calls false
-IsKeyInPrompt prompt.Accept asked origin field input calls = IsPromptTaken asked field calls
-IsKeyInPrompt prompt.Edit asked origin field input calls = IsPromptInput asked origin field input calls
+abbrev pub IsKeyInPrompt : PromptKey → Asked → Controls → State → Input → List Call → Type 0
+IsKeyInPrompt prompt.Leave asked controls field input calls = calls ≡ []
+IsKeyInPrompt prompt.Quit asked controls field input calls = calls ≡ []
+IsKeyInPrompt prompt.Next asked controls field input calls = IsSought true controls.search field calls
+IsKeyInPrompt prompt.Previous asked controls field input calls = IsSought false controls.search field calls
+IsKeyInPrompt prompt.Accept asked controls field input calls = IsPromptTaken asked field calls
+IsKeyInPrompt prompt.Edit asked controls field input calls = IsPromptInput asked controls field input calls
+IsKeyInPrompt (prompt.Toggle toggle) asked controls field input calls = IsLookingFor (toggled controls.search toggle) controls.origin field calls
 
 -- ---- inputs, pastes and the mouse
 
 abbrev pub IsInput : Focus → Editor → State → Input → List Call → Type 0
 IsInput focus.Text editor area input calls = IsKeyInText editor.controls area editor.columns (editor.rows - 1) input calls
-IsInput (focus.Prompt asked) editor area input calls = IsKeyInPrompt (prompt_key asked input) asked editor.controls.origin editor.field input calls
+IsInput (focus.Prompt asked) editor area input calls = IsKeyInPrompt (prompt_key asked input) asked editor.controls editor.field input calls
 IsInput other editor area input calls = calls ≡ []
 
 -- a text is pasted into the text as one edit
@@ -237,14 +240,14 @@ abbrev pub paste_calls : List ℕ → List Call
 paste_calls text = call.InsertPasted (borrowed text) ∷ []
 
 -- the first line of a text is pasted into the prompt
-abbrev pub IsPasteInPrompt : Asked → Place → State → List ℕ → List Call → Type 0
-IsPasteInPrompt asked origin field text calls =
+abbrev pub IsPasteInPrompt : Asked → Controls → State → List ℕ → List Call → Type 0
+IsPasteInPrompt asked controls field text calls =
     let line = fragment_symbols (first_line (chars text)) in
-    IsPromptEdited (inserts_text field line) asked origin (str_inserted field line) calls
+    IsPromptEdited (inserts_text field line) asked controls (str_inserted field line) calls
 
 abbrev pub IsPaste : Focus → Editor → List ℕ → List Call → Type 0
 IsPaste focus.Text editor text calls = calls ≡ paste_calls text
-IsPaste (focus.Prompt asked) editor text calls = IsPasteInPrompt asked editor.controls.origin editor.field text calls
+IsPaste (focus.Prompt asked) editor text calls = IsPasteInPrompt asked editor.controls editor.field text calls
 IsPaste other editor text calls = calls ≡ []
 
 -- whether the mouse moves the cursor, and then whether it selects up to there

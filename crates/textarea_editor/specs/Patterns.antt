@@ -1,24 +1,52 @@
--- The search pattern of a typed text, and the first line of a pasted one.
-use Rattle.std.specs.Prelude.{ℕ, ◌==◌, ◌||◌, Bool, List, [], ◌∷◌, ◌++◌, codes, if◌then◌else◌}
-use Rattle.std.specs.Char.Unicode.Uppercase.{is_uppercase}
-use Rattle.std.specs.List.{flat_map, list_any}
+-- How the text of the prompt is found, and the first line of a pasted text.
+use Rattle.std.specs.Prelude.{ℕ, ◌==◌, ◌||◌, Bool, true, false, not, List, [], ◌∷◌, ◌++◌, codes, if◌then◌else◌}
+use Rattle.std.specs.Borrow.{Bor}
+use Rattle.textarea_calls.specs.declared.call.Call.{Call}
+use Rattle.textarea_calls.specs.declared.call.Call.TheVariants.{SetSearchPattern, SetSearchText}
+use Rattle.textarea_editor.specs.declared.search.SearchOptions.{SearchOptions}
+use Rattle.textarea_editor.specs.declared.search.SearchToggle.{SearchToggle}
+use Rattle.textarea_editor.specs.declared.search.SearchToggle.TheVariants as toggle
 
--- whether a character has a meaning in a pattern
-abbrev pub is_special : ℕ → Bool
-is_special c = list_any (λ special. special == c) (codes "\\.+*?()|[]{}^$#&-~")
+-- a borrowed text, at no address
+abbrev pub borrowed : List ℕ → Bor (List ℕ)
+borrowed text = record { ref_ptr = (0, 0); now = text }
 
--- the pattern of a character: with a backslash, 92, before it if it has a meaning
-abbrev pub escaped : ℕ → List ℕ
-escaped c = if is_special c then 92 ∷ c ∷ [] else c ∷ []
+-- ---- options
 
--- the mark that letters match in any case, unless there is a capital one
-abbrev pub case_mark : List ℕ → List ℕ
-case_mark cs = if list_any is_uppercase cs then [] else codes "(?i)"
+-- those of a new editor: a plain text, in either case, also within words
+abbrev pub plain_options : SearchOptions
+plain_options = record { keeps_case = false; whole_words = false; is_pattern = false }
 
--- the pattern whose matches are the text itself; the empty text has the empty pattern
-abbrev pub pattern_of : List ℕ → List ℕ
-pattern_of [] = []
-pattern_of (c ∷ cs) = case_mark (c ∷ cs) ++ flat_map escaped (c ∷ cs)
+-- the same options, but for one
+abbrev pub toggled : SearchOptions → SearchToggle → SearchOptions
+toggled options toggle.Case = record options { keeps_case = not options.keeps_case }
+toggled options toggle.Words = record options { whole_words = not options.whole_words }
+toggled options toggle.Pattern = record options { is_pattern = not options.is_pattern }
+
+-- ---- the call
+
+-- the mark that letters match in either case
+abbrev pub case_mark : Bool → List ℕ
+case_mark true = []
+case_mark false = codes "(?i)"
+
+-- a pattern whose matches begin and end at the boundaries of words, or the pattern itself
+abbrev pub worded : Bool → List ℕ → List ℕ
+worded true pattern = codes "\\b(?:" ++ pattern ++ codes ")\\b"
+worded false pattern = pattern
+
+-- the pattern of a text that is one; the empty text has the empty pattern
+abbrev pub pattern_of : SearchOptions → List ℕ → List ℕ
+pattern_of options [] = []
+pattern_of options (byte ∷ bytes) = case_mark options.keeps_case ++ worded options.whole_words (byte ∷ bytes)
+
+-- the matches of a text are lit, by its pattern or as a plain text
+abbrev pub search_call : SearchOptions → List ℕ → Call
+search_call options text =
+    if options.is_pattern then SetSearchPattern (borrowed (pattern_of options text))
+    else SetSearchText (borrowed text) (not options.keeps_case) options.whole_words
+
+-- ---- first lines
 
 -- whether a character ends a line
 abbrev pub ends_line : ℕ → Bool

@@ -1,12 +1,13 @@
 -- What the keys do in the prompt.
-use Rattle.std.specs.Prelude.{◌==◌, ◌&&◌, ℕ, not, Bool, false, if◌then◌else◌}
+use Rattle.std.specs.Prelude.{◌==◌, ◌&&◌, ◌||◌, ℕ, not, Bool, false, if◌then◌else◌}
 use Rattle.textarea_data.specs.declared.input.Input.{Input}
 use Rattle.textarea_data.specs.declared.input.Key.{Key}
 use Rattle.textarea_data.specs.declared.input.Key.TheVariants.{Char, Down, Enter, Esc, F, Up}
 use Rattle.textarea_editor.specs.declared.focus.Asked.{Asked}
 use Rattle.textarea_editor.specs.declared.focus.Asked.TheVariants as asks
 use Rattle.textarea_editor.specs.declared.focus.PromptKey.{PromptKey}
-use Rattle.textarea_editor.specs.declared.focus.PromptKey.TheVariants.{Accept, Edit, Leave, Next, Previous, Quit}
+use Rattle.textarea_editor.specs.declared.focus.PromptKey.TheVariants.{Accept, Edit, Leave, Next, Previous, Quit, Toggle}
+use Rattle.textarea_editor.specs.declared.search.SearchToggle.TheVariants as toggle
 
 -- Ctrl Q, `q` is 113, ends the program also from a prompt and from the help
 abbrev pub quit_key : Key → Bool → Bool → Bool
@@ -35,9 +36,21 @@ naming_key Esc = Leave
 naming_key Enter = Accept
 naming_key key = Edit
 
+-- Alt with a letter, upper case or not, changes an option: `c` is 99, `w` is 119, `r` is 114
+abbrev pub toggle_key : ℕ → PromptKey
+toggle_key c =
+    if c == 99 || c == 67 then Toggle toggle.Case
+    else (if c == 119 || c == 87 then Toggle toggle.Words
+    else (if c == 114 || c == 82 then Toggle toggle.Pattern else Edit))
+
+-- an input in the prompt for a text to find
+abbrev pub text_key : Key → Bool → Bool → Bool → PromptKey
+text_key (Char c) ctrl alt shift = if alt && not ctrl then toggle_key c else search_key (Char c) shift
+text_key key ctrl alt shift = search_key key shift
+
 -- another input than Ctrl Q
 abbrev pub asked_key : Asked → Input → PromptKey
-asked_key asks.Text input = search_key input.key input.shift
+asked_key asks.Text input = text_key input.key input.ctrl input.alt input.shift
 asked_key asked input = naming_key input.key
 
 abbrev pub prompt_key : Asked → Input → PromptKey

@@ -8,14 +8,21 @@ use Rattle.textarea_editor.specs.declared.focus.Asked.TheVariants as asks
 use Rattle.textarea_text.specs.Fragment.{fragment_symbols}
 use Rattle.tui_textarea.specs.Edits.{str_inserted}
 use Rattle.tui_textarea.specs.Removals.{text_cleared}
+use Rattle.tui_textarea.specs.Selection.{all_selected}
 use Rattle.tui_textarea.specs.State.{State}
 
--- the prompt's text is the name, up to a line end in it, with the cursor at its end; or it is empty
+-- the prompt's text is this one, up to a line end in it, with the cursor at its end; or it is empty
 abbrev pub name_filled : State → Option (String Global) → State
 name_filled field None = text_cleared field
 name_filled field (Some name) = str_inserted (text_cleared field) (fragment_symbols (first_line (chars (string_bytes name))))
 
--- a prompt for the name has that of the file, to be edited; another one is empty
-abbrev pub IsPromptFilled : Asked → Option (String Global) → State → State → Type 0
-IsPromptFilled asks.Name name field new = new ≡ name_filled field name
-IsPromptFilled other name field new = new ≡ text_cleared field
+-- the prompt's text is the one that was looked for last, all of it selected, so that typing replaces it
+abbrev pub text_recalled : State → Option (String Global) → State
+text_recalled field searched = all_selected (name_filled field searched)
+
+-- a prompt for the name has that of the file, to be edited; one for a text has the last one; one for
+-- a line is empty
+abbrev pub IsPromptFilled : Asked → Option (String Global) → Option (String Global) → State → State → Type 0
+IsPromptFilled asks.Name name searched field new = new ≡ name_filled field name
+IsPromptFilled asks.Text name searched field new = new ≡ text_recalled field searched
+IsPromptFilled asks.Line name searched field new = new ≡ text_cleared field

@@ -1,6 +1,7 @@
 //! What decides what the next event does.
 
 use crate::focus::Focus;
+use crate::search::SearchOptions;
 use textarea_modal::Modal;
 
 /// What decides, beside the texts, what the next event does in an editor.
@@ -16,6 +17,8 @@ pub struct Controls {
     pub wraps: bool,
     /// Whether lines are numbered.
     pub numbers: bool,
+    /// How the text of the prompt is found.
+    pub search: SearchOptions,
     /// Whether the program ends once the file is saved.
     pub ends_when_saved: bool,
 }

@@ -29,6 +29,7 @@ use crate::effect::Effect;
 use crate::file_text::{LineEnd, LineEnds};
 use crate::focus::Focus;
 use crate::message::Message;
+use crate::search::SearchOptions;
 pub use drawing::DrawnFrame;
 use std::alloc::{AllocError, Global};
 use std::time::Duration;
@@ -54,6 +55,8 @@ pub struct Editor {
     field: TextArea<'static>,
     /// The help.
     help: TextArea<'static>,
+    /// The text that was looked for last.
+    searched: Option<String>,
     name: Option<String>,
     /// The name from before a save under another one, until a save succeeds.
     former_name: Option<Option<String>>,
@@ -83,6 +86,7 @@ impl Editor {
             draft,
             field,
             help,
+            searched: None,
             name: None,
             former_name: None,
             line_end: LineEnds {
@@ -95,6 +99,7 @@ impl Editor {
                 origin: (0, 0),
                 wraps: true,
                 numbers: false,
+                search: SearchOptions::plain(),
                 ends_when_saved: false,
             },
             message: Message::Nothing,

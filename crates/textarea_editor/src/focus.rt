@@ -2,10 +2,11 @@
 
 ghost use Rattle.std.specs.Prelude.{◌≡◌};
 ghost use Rattle.textarea_editor.specs.HelpKeys.{help_key, plain_help_key};
-ghost use Rattle.textarea_editor.specs.PromptKeys.{asked_key, naming_key, prompt_key, quits, search_key};
+ghost use Rattle.textarea_editor.specs.PromptKeys.{asked_key, naming_key, prompt_key, quits, search_key, text_key, toggle_key};
 ghost use Rattle.textarea_editor.specs.Replies.{key_reply, reply_of};
 ghost use Rattle.textarea_editor.specs.TypedInput.{is_line_feed, typed_input};
 
+use crate::search::SearchToggle;
 use textarea_data::input::{Input, Key};
 use textarea_data::scroll::Scrolling;
 use textarea_run::inputs::copied;
@@ -73,6 +74,8 @@ pub enum PromptKey {
     Accept,
     /// It changes the prompt's text.
     Edit,
+    /// It changes how the prompt's text is found.
+    Toggle(SearchToggle),
     /// It ends the program, after a question if the text has changed.
     Quit,
 }
@@ -140,8 +143,29 @@ fn asked_key(asked: Asked, input: &Input) -> PromptKey
     ensures { result ≡ asked_key asked input.now }
 {
     match asked {
-        Asked::Text => search_key(input.key, input.shift),
+        Asked::Text => text_key(input),
         Asked::Line | Asked::Name => naming_key(input.key),
+    }
+}
+
+// What an input does in the prompt for a text to find: with Alt a letter may be an option.
+fn text_key(input: &Input) -> PromptKey
+    ensures { result ≡ text_key input.now.key input.now.ctrl input.now.alt input.now.shift }
+{
+    match input.key {
+        Key::Char(c) if input.alt && !input.ctrl => toggle_key(c),
+        _ => search_key(input.key, input.shift),
+    }
+}
+
+fn toggle_key(c: char) -> PromptKey
+    ensures { result ≡ toggle_key c }
+{
+    match c {
+        'c' | 'C' => PromptKey::Toggle(SearchToggle::Case),
+        'w' | 'W' => PromptKey::Toggle(SearchToggle::Words),
+        'r' | 'R' => PromptKey::Toggle(SearchToggle::Pattern),
+        _ => PromptKey::Edit,
     }
 }
 

@@ -32,6 +32,15 @@ const MODAL_KEYS: [(&str, &str); 6] = [
     ("v V n N q", "select, next match, match before, quit"),
 ];
 
+// The keys of the prompt for a text to find.
+const SEARCH_KEYS: [(&str, &str); 2] = [
+    ("Enter, Down, Up", "in a search: next match, match before"),
+    (
+        "Alt C, Alt W, Alt R",
+        "in a search: keep the case, whole words, a pattern",
+    ),
+];
+
 // A line of the help: what keys do, and their names.
 #[derive(Drop)]
 struct HelpLine {
@@ -50,17 +59,22 @@ pub fn help_lines(alloc: Global, is_modal: bool) -> Result<Vec<String>, AllocErr
             lines.push(row(alloc, names.as_str(), binding.command.about())?)?;
         }
     }
+    push_rows(alloc, &mut lines, &SEARCH_KEYS)?;
     lines.push(String::new(alloc))?;
     if is_modal {
-        push_modal_keys(alloc, &mut lines)?;
+        push_rows(alloc, &mut lines, &MODAL_KEYS)?;
     } else {
         push_text_keys(alloc, &mut lines)?;
     }
     Ok(lines)
 }
 
-fn push_modal_keys(alloc: Global, lines: &mut Vec<String>) -> Result<(), AllocError> {
-    for (names, about) in &MODAL_KEYS {
+fn push_rows(
+    alloc: Global,
+    lines: &mut Vec<String>,
+    rows: &[(&str, &str)],
+) -> Result<(), AllocError> {
+    for (names, about) in rows {
         lines.push(row(alloc, *names, *about)?)?;
     }
     Ok(())

@@ -22,6 +22,7 @@ pub mod line_number;
 pub mod message;
 pub mod pattern;
 pub mod screen;
+pub mod search;
 mod shortened;
 pub mod storage;
 pub mod terminal_colors;

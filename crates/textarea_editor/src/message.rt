@@ -79,6 +79,8 @@ pub enum Message {
     NotSaved(Trouble),
     /// The searched text has no match.
     NoMatch,
+    /// The prompt's text is to be a pattern, and is none.
+    BrokenPattern,
     /// The prompt's text is no line number.
     NoLine,
     /// Out of memory. What was asked for was not done, or not all of it.
@@ -99,6 +101,7 @@ impl Message {
             Message::NoJournal => ("no journal can be written", ""),
             Message::NotSaved(trouble) => ("not saved: ", trouble.text()),
             Message::NoMatch => ("no match", ""),
+            Message::BrokenPattern => ("broken pattern", ""),
             Message::NoLine => ("not a line number", ""),
             Message::Memory => ("out of memory", ""),
         }

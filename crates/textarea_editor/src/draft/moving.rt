@@ -2,10 +2,13 @@
 ghost use Rattle.std.specs.Prelude.{◌∷◌, [], Some, OnErr, OnOk};
 ghost use Rattle.textarea_calls.specs.declared.call.Call.TheVariants.{GoTo};
 ghost use Rattle.textarea_editor.specs.Draft.{FailsIn, FailsInSome, Makes, MakesSome};
-ghost use Rattle.textarea_editor.specs.EventCalls.{IsClick, is_selecting, look_calls, row_calls, selection_calls};
+ghost use Rattle.textarea_editor.specs.EventCalls.{IsClick, find_calls, is_selecting, look_calls, row_calls, selection_calls};
+ghost use Rattle.textarea_editor.specs.Patterns.{search_call};
 ghost use Rattle.tui_textarea.specs.Drawing.{widget_of};
 
 use crate::draft::Draft;
+use crate::pattern::pattern_of;
+use crate::search::SearchOptions;
 use std::alloc::AllocError;
 use textarea_calls::Call;
 use textarea_screen::screen::Position;
@@ -61,16 +64,79 @@ impl Draft {
         Ok(())
     }
 
-    /// Lights the matches of a pattern, and moves to the first one from a position; returns whether
-    /// there is one.
-    pub fn look_for(&mut self, origin: (usize, usize), pattern: &str) -> Result<bool, AllocError>
-        ensures ok { OnOk result (Makes self.old (look_calls origin pattern.now) self.new) }
-        ensures err { OnErr result (FailsIn self.old (look_calls origin pattern.now) self.new) }
+    /// Lights the matches of a text, by these options, and moves to the first one from a position;
+    /// returns whether there is one. A rejected pattern leaves the one before.
+    pub fn look_for(
+        &mut self,
+        origin: (usize, usize),
+        options: SearchOptions,
+        text: &str,
+    ) -> Result<bool, AllocError>
+        ensures ok { OnOk result
+            (Makes self.old (look_calls origin (search_call options text.now)) self.new) }
+        ensures err { OnErr result
+            (FailsIn self.old (look_calls origin (search_call options text.now)) self.new) }
     {
-        self.make(&[
-            Call::GoTo(origin),
-            Call::SetSearchPattern(pattern),
-            Call::SearchForward(true),
-        ])
+        self.move_to(origin)?;
+        self.light(options, text)?;
+        self.make(&[Call::SearchForward(true)])
+    }
+
+    /// Returns whether the pattern is that of a text, by these options, and was not rejected. If memory
+    /// runs out, it returns true.
+    pub fn has_pattern(&self, options: SearchOptions, text: &str) -> bool {
+        let Ok(pattern) = pattern_of(self.allocator(), options, text) else {
+            return true;
+        };
+        match self.area().search_pattern() {
+            Some(present) => present == pattern.as_str(),
+            None => pattern.is_empty(),
+        }
+    }
+
+    /// Lights the matches of a text, by these options, and moves to the next one or to the one
+    /// before; returns whether there is one. A rejected pattern leaves the one before.
+    pub fn seek(
+        &mut self,
+        is_forward: bool,
+        options: SearchOptions,
+        text: &str,
+    ) -> Result<bool, AllocError>
+        ensures ok { OnOk result (Makes self.old
+            (search_call options text.now ∷ find_calls is_forward) self.new) }
+        ensures err { OnErr result (FailsIn self.old
+            (search_call options text.now ∷ find_calls is_forward) self.new) }
+    {
+        self.light(options, text)?;
+        self.find(is_forward)
+    }
+
+    // Lights the matches of a text, by these options.
+    fn light(&mut self, options: SearchOptions, text: &str) -> Result<bool, AllocError>
+        ensures ok { OnOk result (Makes self.old (search_call options text.now ∷ []) self.new) }
+        ensures err { OnErr result (FailsIn self.old (search_call options text.now ∷ []) self.new) }
+    {
+        if options.is_pattern {
+            let pattern = pattern_of(self.allocator(), options, text)?;
+            return self.make(&[Call::SetSearchPattern(pattern.as_str())]);
+        }
+        self.make(&[Call::SetSearchText {
+            text,
+            ignore_case: !options.keeps_case,
+            whole_word: options.whole_words,
+        }])
+    }
+
+    /// Moves to the next match, or to the one before; returns whether there is one.
+    pub fn find(&mut self, is_forward: bool) -> Result<bool, AllocError>
+        ensures ok { OnOk result (Makes self.old (find_calls is_forward) self.new) }
+        ensures err { OnErr result (FailsIn self.old (find_calls is_forward) self.new) }
+    {
+        let call = if is_forward {
+            Call::SearchForward(false)
+        } else {
+            Call::SearchBack(false)
+        };
+        self.make(&[call])
     }
 }

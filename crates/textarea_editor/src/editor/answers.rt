@@ -80,9 +80,23 @@ impl Editor {
     {
         match asked {
             Asked::Name => self.restore_name(),
-            Asked::Text | Asked::Line => {}
+            Asked::Text => self.keep_searched(),
+            Asked::Line => {}
         }
         self.leave();
+    }
+
+    // Keeps the prompt's text as the one that was looked for last. If memory runs out, the one before
+    // stays.
+    fn keep_searched(&mut self)
+        ensures draft { self.new.draft ≡ self.old.draft }
+        ensures end { self.new.line_end ≡ self.old.line_end }
+        ensures controls { self.new.controls ≡ self.old.controls }
+        ensures name { self.new.name ≡ self.old.name }
+    {
+        if let Ok(text) = self.field.lines()[0].clone() {
+            self.searched = Some(text);
+        }
     }
 
     // Goes back to the text. A save no longer ends the program.

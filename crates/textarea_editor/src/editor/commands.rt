@@ -159,7 +159,7 @@ impl Editor {
     }
 
     // Moves to the next or the previous match, and shows a message if there is none.
-    pub(super) fn find(&mut self, is_forward: bool) -> Result<Effect, AllocError>
+    fn find(&mut self, is_forward: bool) -> Result<Effect, AllocError>
         ensures ok { OnOk result (Makes self.old.draft (find_calls is_forward) self.new.draft) }
         ensures err { OnErr result (FailsIn self.old.draft (find_calls is_forward) self.new.draft) }
         ensures carries { IfOk result
@@ -168,12 +168,7 @@ impl Editor {
         ensures end { self.new.line_end ≡ self.old.line_end }
         ensures controls { self.new.controls ≡ self.old.controls }
     {
-        let call = if is_forward {
-            Call::SearchForward(false)
-        } else {
-            Call::SearchBack(false)
-        };
-        if !self.draft.make(&[call])? {
+        if !self.draft.find(is_forward)? {
             self.message = Message::NoMatch;
         }
         Ok(Effect::Nothing)

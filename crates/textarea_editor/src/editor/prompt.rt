@@ -5,7 +5,7 @@ ghost use Rattle.textarea_editor.specs.Draft.{FailsIn, FailsInSome, Makes, Makes
 ghost use Rattle.textarea_editor.specs.Editor.{MayQuit};
 ghost use Rattle.textarea_editor.specs.Effects.{Carries};
 ghost use Rattle.textarea_editor.specs.EventEffects.{IsNameEffect, IsNothing, IsPromptEffect, IsTakenEffect};
-ghost use Rattle.textarea_editor.specs.EventCalls.{IsKeyInPrompt, IsLineAsked, IsLookingFor, IsPasteInPrompt, IsPromptChanged, IsPromptInput, IsPromptTaken, row_calls};
+ghost use Rattle.textarea_editor.specs.EventCalls.{IsKeyInPrompt, IsLineAsked, IsLookingFor, IsPasteInPrompt, IsPromptChanged, IsPromptInput, IsPromptTaken, IsSought, row_calls};
 ghost use Rattle.textarea_editor.specs.PromptKeys.{prompt_key};
 ghost use Rattle.textarea_editor.specs.PromptText.{IsPromptFilled, name_filled};
 ghost use Rattle.textarea_editor.specs.declared.focus.Focus.TheVariants as focus;
@@ -15,18 +15,21 @@ use crate::effect::Effect;
 use crate::focus::{Asked, Focus, PromptKey, prompt_key};
 use crate::line_number::{line_number, row_of_line};
 use crate::message::Message;
-use crate::pattern::{first_line, pattern_of};
+use crate::pattern::first_line;
+use crate::search::SearchOptions;
 use std::alloc::AllocError;
 use textarea_data::input::Input;
 use textarea_run::inputs::copied;
 use tui_textarea::TextArea;
 
 impl Editor {
-    // Opens the prompt. The name of the file is there to be edited; other texts are empty.
+    // Opens the prompt. The name of the file is there to be edited, and the text that was looked for
+    // last is selected; a line number is empty.
     pub(super) fn ask(&mut self, asked: Asked) -> Result<(), AllocError>
         ensures draft { self.new.draft ≡ self.old.draft }
         ensures field { OnOk result
-            (IsPromptFilled asked self.old.name self.old.field self.new.field) }
+            (IsPromptFilled asked self.old.name self.old.searched self.old.field
+            self.new.field) }
         ensures message { self.new.message ≡ self.old.message }
         ensures end { self.new.line_end ≡ self.old.line_end }
         ensures controls { OnOk result (self.new.controls ≡ prompt_opened self.old.controls
@@ -35,7 +38,11 @@ impl Editor {
     {
         match asked {
             Asked::Name => fill(&mut self.field, &self.name)?,
-            Asked::Text | Asked::Line => {
+            Asked::Text => {
+                fill(&mut self.field, &self.searched)?;
+                self.field.select_all();
+            }
+            Asked::Line => {
                 self.field.clear()?;
             }
         }
@@ -51,9 +58,9 @@ impl Editor {
         input: &Input,
     ) -> Result<Effect, AllocError>
         ensures ok { OnOk result (MakesSome (IsKeyInPrompt (prompt_key asked input.now) asked
-            self.old.controls.origin self.old.field input.now) self.old.draft self.new.draft) }
+            self.old.controls self.old.field input.now) self.old.draft self.new.draft) }
         ensures err { OnErr result (FailsInSome (IsKeyInPrompt (prompt_key asked input.now) asked
-            self.old.controls.origin self.old.field input.now) self.old.draft self.new.draft) }
+            self.old.controls self.old.field input.now) self.old.draft self.new.draft) }
         ensures carries { IfOk result
             (Carries (MayQuit self.old self.new.draft) self.new.draft.area self.new.line_end) }
         ensures effect { IfOk result (IsPromptEffect (prompt_key asked input.now) asked
@@ -68,10 +75,11 @@ impl Editor {
                 self.leave_prompt(asked);
                 Ok(Effect::Nothing)
             }
-            PromptKey::Next => self.find(true),
-            PromptKey::Previous => self.find(false),
+            PromptKey::Next => self.seek(true),
+            PromptKey::Previous => self.seek(false),
             PromptKey::Accept => self.accept(asked),
             PromptKey::Edit => self.edit_prompt(asked, input),
+            PromptKey::Toggle(toggle) => self.look_with(self.controls.search.toggled(toggle)),
             PromptKey::Quit => Ok(self.quit()),
         }
     }
@@ -79,10 +87,10 @@ impl Editor {
     // Passes an input to the prompt's text area.
     fn edit_prompt(&mut self, asked: Asked, input: &Input) -> Result<Effect, AllocError>
         ensures ok { OnOk result
-            (MakesSome (IsPromptInput asked self.old.controls.origin self.old.field input.now)
+            (MakesSome (IsPromptInput asked self.old.controls self.old.field input.now)
             self.old.draft self.new.draft) }
         ensures err { OnErr result
-            (FailsInSome (IsPromptInput asked self.old.controls.origin self.old.field input.now)
+            (FailsInSome (IsPromptInput asked self.old.controls self.old.field input.now)
             self.old.draft self.new.draft) }
         ensures carries { IfOk result
             (Carries (MayQuit self.old self.new.draft) self.new.draft.area self.new.line_end) }
@@ -101,10 +109,10 @@ impl Editor {
     // Pastes the first line of a text into the prompt.
     pub(super) fn paste_in_prompt(&mut self, asked: Asked, text: &str) -> Result<Effect, AllocError>
         ensures ok { OnOk result
-            (MakesSome (IsPasteInPrompt asked self.old.controls.origin self.old.field text.now)
+            (MakesSome (IsPasteInPrompt asked self.old.controls self.old.field text.now)
             self.old.draft self.new.draft) }
         ensures err { OnErr result
-            (FailsInSome (IsPasteInPrompt asked self.old.controls.origin self.old.field text.now)
+            (FailsInSome (IsPasteInPrompt asked self.old.controls self.old.field text.now)
             self.old.draft self.new.draft) }
         ensures carries { IfOk result
             (Carries (MayQuit self.old self.new.draft) self.new.draft.area self.new.line_end) }
@@ -123,10 +131,10 @@ impl Editor {
 
     // Looks for the prompt's text, if it is one to find.
     fn look(&mut self, asked: Asked) -> Result<Effect, AllocError>
-        ensures ok { OnOk result (MakesSome (IsPromptChanged asked self.old.controls.origin self.old.field)
+        ensures ok { OnOk result (MakesSome (IsPromptChanged asked self.old.controls self.old.field)
             self.old.draft self.new.draft) }
         ensures err { OnErr result
-            (FailsInSome (IsPromptChanged asked self.old.controls.origin self.old.field)
+            (FailsInSome (IsPromptChanged asked self.old.controls self.old.field)
             self.old.draft self.new.draft) }
         ensures carries { IfOk result
             (Carries (MayQuit self.old self.new.draft) self.new.draft.area self.new.line_end) }
@@ -135,17 +143,40 @@ impl Editor {
         ensures controls { self.new.controls ≡ self.old.controls }
     {
         match asked {
-            Asked::Text => self.look_for(),
+            Asked::Text => self.look_for(self.controls.search),
             Asked::Line | Asked::Name => Ok(Effect::Nothing),
         }
     }
 
+    // Changes how the prompt's text is found, and looks for it.
+    fn look_with(&mut self, options: SearchOptions) -> Result<Effect, AllocError>
+        ensures ok { OnOk result
+            (MakesSome (IsLookingFor options self.old.controls.origin self.old.field)
+            self.old.draft self.new.draft) }
+        ensures err { OnErr result
+            (FailsInSome (IsLookingFor options self.old.controls.origin self.old.field)
+            self.old.draft self.new.draft) }
+        ensures carries { IfOk result
+            (Carries (MayQuit self.old self.new.draft) self.new.draft.area self.new.line_end) }
+        ensures effect { IfOk result IsNothing }
+        ensures end { self.new.line_end ≡ self.old.line_end }
+        ensures controls { OnOk result
+            (self.new.controls ≡ record self.old.controls { search = options }) }
+        ensures kept { OnErr result (self.new.controls ≡ self.old.controls) }
+    {
+        let effect = self.look_for(options)?;
+        self.controls.search = options;
+        Ok(effect)
+    }
+
     // Lights the matches of the prompt's text, and moves to the first one from where the prompt was
     // opened.
-    fn look_for(&mut self) -> Result<Effect, AllocError>
-        ensures ok { OnOk result (MakesSome (IsLookingFor self.old.controls.origin self.old.field)
+    fn look_for(&mut self, options: SearchOptions) -> Result<Effect, AllocError>
+        ensures ok { OnOk result
+            (MakesSome (IsLookingFor options self.old.controls.origin self.old.field)
             self.old.draft self.new.draft) }
-        ensures err { OnErr result (FailsInSome (IsLookingFor self.old.controls.origin self.old.field)
+        ensures err { OnErr result
+            (FailsInSome (IsLookingFor options self.old.controls.origin self.old.field)
             self.old.draft self.new.draft) }
         ensures carries { IfOk result
             (Carries (MayQuit self.old self.new.draft) self.new.draft.area self.new.line_end) }
@@ -153,9 +184,36 @@ impl Editor {
         ensures end { self.new.line_end ≡ self.old.line_end }
         ensures controls { self.new.controls ≡ self.old.controls }
     {
-        let pattern = pattern_of(self.allocator(), self.field.lines()[0].as_str())?;
-        let found = self.draft.look_for(self.controls.origin, pattern.as_str())?;
-        if !found && !pattern.is_empty() {
+        let text = self.field.lines()[0].as_str();
+        let found = self.draft.look_for(self.controls.origin, options, text)?;
+        if options.is_pattern && !self.draft.has_pattern(options, text) {
+            self.message = Message::BrokenPattern;
+        } else if !found && !text.is_empty() {
+            self.message = Message::NoMatch;
+        }
+        Ok(Effect::Nothing)
+    }
+
+    // Lights the matches of the prompt's text, and moves to the next or the previous one.
+    fn seek(&mut self, is_forward: bool) -> Result<Effect, AllocError>
+        ensures ok { OnOk result
+            (MakesSome (IsSought is_forward self.old.controls.search self.old.field)
+            self.old.draft self.new.draft) }
+        ensures err { OnErr result
+            (FailsInSome (IsSought is_forward self.old.controls.search self.old.field)
+            self.old.draft self.new.draft) }
+        ensures carries { IfOk result
+            (Carries (MayQuit self.old self.new.draft) self.new.draft.area self.new.line_end) }
+        ensures effect { IfOk result IsNothing }
+        ensures end { self.new.line_end ≡ self.old.line_end }
+        ensures controls { self.new.controls ≡ self.old.controls }
+    {
+        let text = self.field.lines()[0].as_str();
+        let options = self.controls.search;
+        let found = self.draft.seek(is_forward, options, text)?;
+        if options.is_pattern && !self.draft.has_pattern(options, text) {
+            self.message = Message::BrokenPattern;
+        } else if !found {
             self.message = Message::NoMatch;
         }
         Ok(Effect::Nothing)
@@ -245,7 +303,7 @@ impl Editor {
     }
 }
 
-// Replaces the text of the prompt by a file's name, up to a line end in it, or by none.
+// Replaces the text of the prompt by another, up to a line end in it, or by none.
 fn fill(field: &mut TextArea<'static>, name: &Option<String>) -> Result<(), AllocError>
     ensures { OnOk result (field.new ≡ name_filled field.old name.now) }
 {

@@ -9,6 +9,9 @@ use crate::shortened::shortened;
 use std::alloc::{AllocError, Global};
 use textarea_modal::Mode;
 
+// The most lines of a text whose matches are counted while the prompt is open.
+const COUNTED_LINES: usize = 100_000;
+
 impl Editor {
     // The text at the left of the status row: a question, or the file's name and a message.
     pub(super) fn left_text(&self, alloc: Global, columns: usize) -> Result<String, AllocError>
@@ -84,14 +87,39 @@ impl Editor {
     pub(super) fn right_text(&self, alloc: Global, room: usize) -> Result<String, AllocError> {
         match self.controls.focus {
             Focus::Text => self.place_text(alloc, room),
-            Focus::Prompt(Asked::Text) => {
-                let (message, _) = self.message.components();
-                format!(in alloc; "{message}  Enter: next  Esc: back ")
-            }
+            Focus::Prompt(Asked::Text) => self.search_text(alloc),
             Focus::Prompt(_) | Focus::Question(_) | Focus::Help => {
                 let message = self.message_text(alloc)?;
                 format!(in alloc; "{message} ")
             }
+        }
+    }
+
+    // What the prompt for a text to find shows: its options, and which match the cursor is at, or a
+    // message.
+    fn search_text(&self, alloc: Global) -> Result<String, AllocError> {
+        let search = self.controls.search;
+        let case = if search.keeps_case { "case  " } else { "" };
+        let words = if search.whole_words { "words  " } else { "" };
+        let pattern = if search.is_pattern { "pattern  " } else { "" };
+        let found = self.match_text(alloc)?;
+        format!(in alloc; " {case}{words}{pattern}{found}  Enter: next ")
+    }
+
+    // Which match the cursor is at, of how many in a text of few lines; or a message.
+    fn match_text(&self, alloc: Global) -> Result<String, AllocError> {
+        let (message, _) = self.message.components();
+        let area = self.draft.area();
+        if message != "" || area.lines().len() > COUNTED_LINES {
+            return String::from_str(alloc, message);
+        }
+        match area.match_index()? {
+            Some(index) => {
+                let number = index.saturating_add(1);
+                let count = area.match_count()?;
+                format!(in alloc; "{number} of {count}")
+            }
+            None => String::from_str(alloc, message),
         }
     }
 

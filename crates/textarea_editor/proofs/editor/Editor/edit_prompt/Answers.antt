@@ -4,4 +4,4 @@ use Rattle.textarea_editor.specs.EventCalls.{IsPromptInput}
 
 pub returns-in_err-is_edited-clause-err : goal.returns-in_err-is_edited-clause-err
 returns-in_err-is_edited-clause-err c =
-    on_err c.from_residual.result (fails_early (IsPromptInput c.args.asked c.args.self.now.controls.origin c.args.self.now.field c.args.input.now) c.args.self.now.draft)
+    on_err c.from_residual.result (fails_early (IsPromptInput c.args.asked c.args.self.now.controls c.args.self.now.field c.args.input.now) c.args.self.now.draft)
