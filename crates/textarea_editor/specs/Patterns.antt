@@ -40,11 +40,17 @@ abbrev pub pattern_of : SearchOptions → List ℕ → List ℕ
 pattern_of options [] = []
 pattern_of options (byte ∷ bytes) = case_mark options.keeps_case ++ worded options.whole_words (byte ∷ bytes)
 
+-- the matches of a text that is a pattern are lit
+abbrev pub pattern_call : SearchOptions → List ℕ → Call
+pattern_call options text = SetSearchPattern (borrowed (pattern_of options text))
+
+-- those of a plain text
+abbrev pub text_call : SearchOptions → List ℕ → Call
+text_call options text = SetSearchText (borrowed text) (not options.keeps_case) options.whole_words
+
 -- the matches of a text are lit, by its pattern or as a plain text
 abbrev pub search_call : SearchOptions → List ℕ → Call
-search_call options text =
-    if options.is_pattern then SetSearchPattern (borrowed (pattern_of options text))
-    else SetSearchText (borrowed text) (not options.keeps_case) options.whole_words
+search_call options text = if options.is_pattern then pattern_call options text else text_call options text
 
 -- ---- first lines
 

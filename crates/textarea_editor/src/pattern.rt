@@ -1,7 +1,7 @@
 //! The pattern of a typed text, and the first line of a pasted one.
-ghost use Rattle.std.specs.Prelude.{◌≡◌, IfOk, string_bytes};
+ghost use Rattle.std.specs.Prelude.{◌≡◌, ◌++◌, IfOk, string_bytes};
 ghost use Rattle.std.specs.Str.{chars};
-ghost use Rattle.textarea_editor.specs.Patterns.{ends_line, first_line, pattern_of};
+ghost use Rattle.textarea_editor.specs.Patterns.{case_mark, ends_line, first_line, pattern_of, worded};
 ghost use Rattle.textarea_text.specs.Text.{characters_of};
 
 use crate::search::SearchOptions;
@@ -15,12 +15,30 @@ pub fn pattern_of(alloc: Global, options: SearchOptions, text: &str) -> Result<S
     if text.is_empty() {
         return Ok(String::new(alloc));
     }
-    match (options.keeps_case, options.whole_words) {
-        (true, true) => format!(in alloc; "\\b(?:{text})\\b"),
-        (true, false) => String::from_str(alloc, text),
-        (false, true) => format!(in alloc; "(?i)\\b(?:{text})\\b"),
-        (false, false) => format!(in alloc; "(?i){text}"),
+    let pattern = worded(alloc, options.whole_words, text)?;
+    case_marked(alloc, options.keeps_case, pattern)
+}
+
+// Returns the pattern, or one whose matches are whole words.
+fn worded(alloc: Global, whole_words: bool, pattern: &str) -> Result<String, AllocError>
+    ensures { IfOk result (λ words. string_bytes words ≡ worded whole_words pattern.now) }
+{
+    if whole_words {
+        format!(in alloc; "\\b(?:{pattern})\\b")
+    } else {
+        String::from_str(alloc, pattern)
     }
+}
+
+// Returns the pattern, or one whose letters match in either case.
+fn case_marked(alloc: Global, keeps_case: bool, pattern: String) -> Result<String, AllocError>
+    ensures { IfOk result
+        (λ marked. string_bytes marked ≡ case_mark keeps_case ++ string_bytes pattern) }
+{
+    if keeps_case {
+        return Ok(pattern);
+    }
+    format!(in alloc; "(?i){pattern}")
 }
 
 /// Returns the first line of a text, which ends at a line feed or a carriage return.

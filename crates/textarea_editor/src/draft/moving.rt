@@ -3,7 +3,7 @@ ghost use Rattle.std.specs.Prelude.{◌∷◌, [], Some, OnErr, OnOk};
 ghost use Rattle.textarea_calls.specs.declared.call.Call.TheVariants.{GoTo};
 ghost use Rattle.textarea_editor.specs.Draft.{FailsIn, FailsInSome, Makes, MakesSome};
 ghost use Rattle.textarea_editor.specs.EventCalls.{IsClick, find_calls, is_selecting, look_calls, row_calls, selection_calls};
-ghost use Rattle.textarea_editor.specs.Patterns.{search_call};
+ghost use Rattle.textarea_editor.specs.Patterns.{pattern_call, search_call};
 ghost use Rattle.tui_textarea.specs.Drawing.{widget_of};
 
 use crate::draft::Draft;
@@ -117,14 +117,24 @@ impl Draft {
         ensures err { OnErr result (FailsIn self.old (search_call options text.now ∷ []) self.new) }
     {
         if options.is_pattern {
-            let pattern = pattern_of(self.allocator(), options, text)?;
-            return self.make(&[Call::SetSearchPattern(pattern.as_str())]);
+            self.light_pattern(options, text)
+        } else {
+            self.make(&[Call::SetSearchText {
+                text,
+                ignore_case: !options.keeps_case,
+                whole_word: options.whole_words,
+            }])
         }
-        self.make(&[Call::SetSearchText {
-            text,
-            ignore_case: !options.keeps_case,
-            whole_word: options.whole_words,
-        }])
+    }
+
+    // Lights the matches of a text that is a pattern.
+    fn light_pattern(&mut self, options: SearchOptions, text: &str) -> Result<bool, AllocError>
+        ensures ok { OnOk result (Makes self.old (pattern_call options text.now ∷ []) self.new) }
+        ensures err { OnErr result
+            (FailsIn self.old (pattern_call options text.now ∷ []) self.new) }
+    {
+        let pattern = pattern_of(self.allocator(), options, text)?;
+        self.make(&[Call::SetSearchPattern(pattern.as_str())])
     }
 
     /// Moves to the next match, or to the one before; returns whether there is one.

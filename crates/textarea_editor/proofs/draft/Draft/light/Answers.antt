@@ -1,8 +1,30 @@
 use Rattle.std.proofs.Common.{[], ◌∷◌, subst}
 use Rattle.std.proofs.lemmas.Result.{on_err_weaker, on_ok_weaker}
 use Rattle.textarea_calls.specs.declared.call.Call.{Call}
-use Rattle.textarea_editor.proofs.Drafts.{fails_first, on_err}
 use Rattle.textarea_editor.proofs.Searches.{lit_pattern, lit_text}
 use Rattle.textarea_editor.proofs.draft.Draft.light.Goals as goal
 use Rattle.textarea_editor.specs.Draft.{FailsIn, Makes}
-use Rattle.textarea_editor.specs.Patterns.{search_call}
+
+pub returns-then-is_pattern-clause-ok : goal.returns-then-is_pattern-clause-ok
+returns-then-is_pattern-clause-ok c =
+    on_ok_weaker c.light_pattern.result
+    (λ made. subst (λ (call : Call). Makes c.args.self.now (call ∷ []) c.light_pattern.new.self) (lit_pattern c.args.options c.args.text.now c.if-is_pattern.true) made)
+    c.light_pattern.ensures.ok
+
+pub returns-then-is_pattern-clause-err : goal.returns-then-is_pattern-clause-err
+returns-then-is_pattern-clause-err c =
+    on_err_weaker c.light_pattern.result
+    (λ ran. subst (λ (call : Call). FailsIn c.args.self.now (call ∷ []) c.light_pattern.new.self) (lit_pattern c.args.options c.args.text.now c.if-is_pattern.true) ran)
+    c.light_pattern.ensures.err
+
+pub returns-else-is_pattern-clause-ok : goal.returns-else-is_pattern-clause-ok
+returns-else-is_pattern-clause-ok c =
+    on_ok_weaker c.make.result
+    (λ made. subst (λ (call : Call). Makes c.args.self.now (call ∷ []) c.make.new.self) (lit_text c.args.options c.args.text.now c.if-is_pattern.false) made)
+    c.make.ensures.ok
+
+pub returns-else-is_pattern-clause-err : goal.returns-else-is_pattern-clause-err
+returns-else-is_pattern-clause-err c =
+    on_err_weaker c.make.result
+    (λ ran. subst (λ (call : Call). FailsIn c.args.self.now (call ∷ []) c.make.new.self) (lit_text c.args.options c.args.text.now c.if-is_pattern.false) ran)
+    c.make.ensures.err
