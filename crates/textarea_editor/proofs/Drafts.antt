@@ -9,7 +9,7 @@ use Rattle.textarea_calls.specs.Edits.{edits}
 use Rattle.textarea_calls.specs.Topics.{draws}
 use Rattle.textarea_calls.specs.declared.call.Call.{Call}
 use Rattle.textarea_calls.specs.declared.call.Call.TheVariants as call
-use Rattle.textarea_editor.specs.Draft.{Copy, FailsIn, FailsInSome, IsExact, IsHonest, IsChangeMark, IsMarkAfter, Makes, RunsShort, plain_call, plain_calls}
+use Rattle.textarea_editor.specs.Draft.{Copy, FailsIn, FailsInSome, IsExact, IsHonest, IsChangeMark, IsMarkAfter, Makes, MakesSome, RunsShort, plain_call, plain_calls}
 use Rattle.textarea_editor.specs.declared.draft.Draft.{Draft}
 use Rattle.textarea_modal.proofs.Runs.{made_after, none_made, or_apart, ran_out_after}
 use Rattle.textarea_modal.specs.Runs.{AllMade, OneRunsOut, RunsOutAt}
@@ -25,6 +25,8 @@ result_plain old (call.Input input) returned is = is
 result_plain old (call.InsertPasted text) returned is = is
 result_plain old (call.SetSearchPattern text) returned is = is
 result_plain old (call.SetSearchText text ignore_case whole_word) returned is = is
+result_plain old (call.ReplaceMatch text) returned is = is
+result_plain old (call.ReplaceAll text) returned is = is
 result_plain old other returned is = is
 
 pub after_plain : (old : State) (this : Call) (returned : CallResult) (new : State) → IsAfterCall old this returned new → IsAfterCall old (plain_call this) returned new
@@ -32,6 +34,8 @@ after_plain old (call.Input input) returned new after = after
 after_plain old (call.InsertPasted text) returned new after = after
 after_plain old (call.SetSearchPattern text) returned new after = after
 after_plain old (call.SetSearchText text ignore_case whole_word) returned new after = after
+after_plain old (call.ReplaceMatch text) returned new after = after
+after_plain old (call.ReplaceAll text) returned new after = after
 after_plain old other returned new after = after
 
 pub ran_out_plain : (this : Call) (before new : State) → RanOutOfMemory before this new → RanOutOfMemory before (plain_call this) new
@@ -39,6 +43,8 @@ ran_out_plain (call.Input input) before new ran = record { may = ran.may; left =
 ran_out_plain (call.InsertPasted text) before new ran = record { may = ran.may; left = ran.left }
 ran_out_plain (call.SetSearchPattern text) before new ran = record { may = ran.may; left = ran.left }
 ran_out_plain (call.SetSearchText text ignore_case whole_word) before new ran = record { may = ran.may; left = ran.left }
+ran_out_plain (call.ReplaceMatch text) before new ran = record { may = ran.may; left = ran.left }
+ran_out_plain (call.ReplaceAll text) before new ran = record { may = ran.may; left = ran.left }
 ran_out_plain other before new ran = ran
 
 pub draws_plain : (this : Call) → draws this ≡ false → draws (plain_call this) ≡ false
@@ -120,11 +126,19 @@ short_before a b calls more short = record {
 pub fails_before : (a b : Draft) (calls more : List Call) → FailsIn a calls b → FailsIn a (calls ++ more) b
 fails_before a b calls more fails = record { short = short_before a.area b.area calls more fails.short; honest = fails.honest }
 
+-- memory ran out after all calls
+pub fails_after : (a b : Draft) (calls : List Call) → Makes a calls b → FailsIn a calls b
+fails_after a b calls made = subst (λ (l : List Call). FailsIn a l b) (append-nil calls) (fails_then a b b calls [] made (fails_first b []))
+
 -- ---- calls of a kind
 
 -- memory ran out before any call
 pub fails_early : (IsAsked : List Call → Type 0) (draft : Draft) → FailsInSome IsAsked draft draft
 fails_early IsAsked draft = inl (fails_first draft [])
+
+-- memory ran out after all calls
+pub fails_late : (IsAsked : List Call → Type 0) (old new : Draft) → MakesSome IsAsked old new → FailsInSome IsAsked old new
+fails_late IsAsked old new made = inr (record { calls = made.calls; asked = made.asked; fails = fails_after old new made.calls made.makes })
 
 -- ---- calls that are noted
 

@@ -68,6 +68,7 @@ input_at focus.Text editor draft area time input calls is = record {
 }
 input_at (focus.Prompt asked) editor draft area time input calls is = is
 input_at (focus.Question question) editor draft area time input calls is = is
+input_at focus.Replace editor draft area time input calls is = is
 input_at focus.Help editor draft area time input calls is = is
 
 event_at : (editor : Editor) (draft : Draft) (area : State) (time : ℕ) (this : Event) (calls : List Call) → IsEvent (with_draft editor draft) (at_time area time) this calls → IsEvent editor area this calls
@@ -78,6 +79,7 @@ event_at editor draft area time (event.Paste text) calls is = paste_at editor.co
     paste_at focus.Text is = is
     paste_at (focus.Prompt asked) is = is
     paste_at (focus.Question question) is = is
+    paste_at focus.Replace is = is
     paste_at focus.Help is = is
 event_at editor draft area time (event.Mouse mouse) calls is = is
 event_at editor draft area time other calls is = is

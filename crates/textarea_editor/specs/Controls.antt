@@ -1,5 +1,5 @@
 -- What decides what the next event does, after each event, as a table.
-use Rattle.std.specs.Prelude.{◌≡◌, ◌≢◌, not, Bool, true, false, [], Option, Some, None, is_some, if◌then◌else◌}
+use Rattle.std.specs.Prelude.{◌≡◌, ◌≢◌, ◌-◌, ◌==◌, ℕ, nat_lt, not, Bool, true, false, [], Option, Some, None, is_some, if◌then◌else◌}
 use Rattle.textarea_data.specs.declared.input.Input.{Input}
 use Rattle.textarea_data.specs.declared.input.Key.{Key}
 use Rattle.textarea_data.specs.declared.input.Key.TheVariants.{MouseScrollDown, MouseScrollUp}
@@ -8,6 +8,7 @@ use Rattle.textarea_editor.specs.HelpKeys.{help_key}
 use Rattle.textarea_editor.specs.Patterns.{toggled}
 use Rattle.textarea_editor.specs.PromptKeys.{prompt_key}
 use Rattle.textarea_editor.specs.Replies.{reply_of}
+use Rattle.textarea_editor.specs.ReplaceKeys.{replace_key}
 use Rattle.textarea_editor.specs.TypedInput.{typed_input}
 use Rattle.textarea_editor.specs.declared.controls.Controls.{Controls}
 use Rattle.textarea_editor.specs.declared.focus.Asked.{Asked}
@@ -24,6 +25,8 @@ use Rattle.textarea_editor.specs.declared.focus.KeyReply.{KeyReply}
 use Rattle.textarea_editor.specs.declared.focus.KeyReply.TheVariants as reply
 use Rattle.textarea_editor.specs.declared.keys.KeyCommand.{KeyCommand}
 use Rattle.textarea_editor.specs.declared.keys.KeyCommand.TheVariants as command
+use Rattle.textarea_editor.specs.declared.replace_keys.ReplaceKey.{ReplaceKey}
+use Rattle.textarea_editor.specs.declared.replace_keys.ReplaceKey.TheVariants as replace
 use Rattle.textarea_modal.specs.Table.{Step, step}
 use Rattle.textarea_modal.specs.declared.mode.Mode.{Mode}
 use Rattle.textarea_terminal.specs.declared.input.event.Event.{Event}
@@ -63,6 +66,7 @@ after_command controls named changed cursor command.Save = save_asked controls n
 after_command controls named changed cursor command.SaveAs = prompt_opened controls cursor asks.Name
 after_command controls named changed cursor command.Quit = quit_asked controls changed
 after_command controls named changed cursor command.Find = prompt_opened controls cursor asks.Text
+after_command controls named changed cursor command.Replace = prompt_opened controls cursor asks.Replaced
 after_command controls named changed cursor command.GoToLine = prompt_opened controls cursor asks.Line
 after_command controls named changed cursor command.Wrap = record controls { wraps = not controls.wraps }
 after_command controls named changed cursor command.LineNumbers = record controls { numbers = not controls.numbers }
@@ -102,18 +106,28 @@ pub record IsNameTaken (controls : Controls) (field : State) (new : Controls) : 
   pub none : field.document.text ≡ [] → new ≡ left controls
   pub some : field.document.text ≢ [] → new ≡ with_focus controls focus.Text
 
--- the prompt's text is taken
-abbrev pub IsTaken : Asked → Controls → State → Controls → Type 0
-IsTaken asks.Text controls field new = new ≡ controls
-IsTaken asks.Line controls field new = new ≡ with_focus controls focus.Text
-IsTaken asks.Name controls field new = IsNameTaken controls field new
+-- whether to replace a match is asked next, if the text has some
+abbrev pub replace_focus : ℕ → Focus
+replace_focus matches = if matches == 0 then focus.Text else focus.Replace
 
-abbrev pub IsAfterPromptKey : PromptKey → Asked → Controls → Bool → State → Controls → Type 0
-IsAfterPromptKey prompt.Leave asked controls changed field new = new ≡ left controls
-IsAfterPromptKey prompt.Accept asked controls changed field new = IsTaken asked controls field new
-IsAfterPromptKey prompt.Quit asked controls changed field new = new ≡ quit_asked controls changed
-IsAfterPromptKey (prompt.Toggle toggle) asked controls changed field new = new ≡ record controls { search = toggled controls.search toggle }
-IsAfterPromptKey other asked controls changed field new = new ≡ controls
+-- each of this number of matches is to be asked about
+abbrev pub replace_asked : Controls → ℕ → Controls
+replace_asked controls matches = record controls { focus = replace_focus matches; matches = matches }
+
+-- the prompt's text is taken; the text has this number of matches
+abbrev pub IsTaken : Asked → Controls → ℕ → State → Controls → Type 0
+IsTaken asks.Text controls matches field new = new ≡ controls
+IsTaken asks.Line controls matches field new = new ≡ with_focus controls focus.Text
+IsTaken asks.Name controls matches field new = IsNameTaken controls field new
+IsTaken asks.Replaced controls matches field new = new ≡ with_focus controls (focus.Prompt asks.Replacement)
+IsTaken asks.Replacement controls matches field new = new ≡ replace_asked controls matches
+
+abbrev pub IsAfterPromptKey : PromptKey → Asked → Controls → Bool → ℕ → State → Controls → Type 0
+IsAfterPromptKey prompt.Leave asked controls changed matches field new = new ≡ left controls
+IsAfterPromptKey prompt.Accept asked controls changed matches field new = IsTaken asked controls matches field new
+IsAfterPromptKey prompt.Quit asked controls changed matches field new = new ≡ quit_asked controls changed
+IsAfterPromptKey (prompt.Toggle toggle) asked controls changed matches field new = new ≡ record controls { search = toggled controls.search toggle }
+IsAfterPromptKey other asked controls changed matches field new = new ≡ controls
 
 -- ---- keys that answer a question, and keys in the help
 
@@ -132,6 +146,19 @@ after_reply Discard reply.Back controls named cursor = controls
 after_reply question reply.Back controls named cursor = left controls
 after_reply question reply.Other controls named cursor = controls
 
+-- the next match is asked about, or none if this was the last one
+abbrev pub past_match : Controls → Controls
+past_match controls = if nat_lt controls.matches 2 then with_focus controls focus.Text else record controls { matches = controls.matches - 1 }
+
+-- a reply to whether to replace a match
+abbrev pub after_replace_key : ReplaceKey → Controls → Bool → Controls
+after_replace_key replace.Yes controls changed = past_match controls
+after_replace_key replace.No controls changed = past_match controls
+after_replace_key replace.All controls changed = with_focus controls focus.Text
+after_replace_key replace.Leave controls changed = with_focus controls focus.Text
+after_replace_key replace.Quit controls changed = quit_asked controls changed
+after_replace_key replace.Other controls changed = controls
+
 abbrev pub after_help_key : HelpKey → Controls → Bool → Controls
 after_help_key help.Leave controls changed = with_focus controls focus.Text
 after_help_key help.Quit controls changed = quit_asked controls changed
@@ -140,13 +167,14 @@ after_help_key _ controls changed = controls
 -- ---- events
 
 -- an input, with the focus on this
-abbrev pub IsAfterInput : Focus → Controls → Bool → Bool → Place → State → Input → Controls → Type 0
-IsAfterInput focus.Text controls named changed cursor field input new = IsAfterKey controls named changed cursor input new
-IsAfterInput (focus.Prompt asked) controls named changed cursor field input new = IsAfterPromptKey (prompt_key asked input) asked controls changed field new
-IsAfterInput (focus.Question question) controls named changed cursor field input new = new ≡ after_reply question (reply_of input) controls named cursor
-IsAfterInput focus.Help controls named changed cursor field input new = new ≡ after_help_key (help_key input) controls changed
+abbrev pub IsAfterInput : Focus → Controls → Bool → Bool → Place → ℕ → State → Input → Controls → Type 0
+IsAfterInput focus.Text controls named changed cursor matches field input new = IsAfterKey controls named changed cursor input new
+IsAfterInput (focus.Prompt asked) controls named changed cursor matches field input new = IsAfterPromptKey (prompt_key asked input) asked controls changed matches field new
+IsAfterInput (focus.Question question) controls named changed cursor matches field input new = new ≡ after_reply question (reply_of input) controls named cursor
+IsAfterInput focus.Replace controls named changed cursor matches field input new = new ≡ after_replace_key (replace_key input) controls changed
+IsAfterInput focus.Help controls named changed cursor matches field input new = new ≡ after_help_key (help_key input) controls changed
 
--- an event; after it the text may have changed or not
-abbrev pub IsAfterEvent : Controls → Bool → Bool → Place → State → Event → Controls → Type 0
-IsAfterEvent controls named changed cursor field (event.Input input) new = IsAfterInput controls.focus controls named changed cursor field (typed_input input) new
-IsAfterEvent controls named changed cursor field other new = new ≡ controls
+-- an event; before it the text has a cursor and a number of matches, and after it it may have changed or not
+abbrev pub IsAfterEvent : Controls → Bool → Bool → Place → ℕ → State → Event → Controls → Type 0
+IsAfterEvent controls named changed cursor matches field (event.Input input) new = IsAfterInput controls.focus controls named changed cursor matches field (typed_input input) new
+IsAfterEvent controls named changed cursor matches field other new = new ≡ controls

@@ -3,7 +3,7 @@ use Rattle.std.specs.Prelude.{◌≡◌, ◌⊎◌, ◌≤◌, ◌↔◌, ℕ, B
 use Rattle.std.specs.declared.alloc.Global.{Global}
 use Rattle.textarea_calls.specs.Topics.{draws}
 use Rattle.textarea_calls.specs.declared.call.Call.{Call}
-use Rattle.textarea_calls.specs.declared.call.Call.TheVariants.{Input, InsertPasted, Render, SetLines, SetSearchPattern, SetSearchText}
+use Rattle.textarea_calls.specs.declared.call.Call.TheVariants.{Input, InsertPasted, Render, ReplaceAll, ReplaceMatch, SetLines, SetSearchPattern, SetSearchText}
 use Rattle.textarea_data.specs.declared.measure.TextAreaMeasure.{TextAreaMeasure}
 use Rattle.textarea_editor.specs.declared.draft.Draft.{Draft}
 use Rattle.textarea_modal.specs.Runs.{AllMade, RunsOutAt}
@@ -28,6 +28,8 @@ plain_call (Input input) = Input (record { ref_ptr = (0, 0); now = input.now })
 plain_call (InsertPasted text) = InsertPasted (record { ref_ptr = (0, 0); now = text.now })
 plain_call (SetSearchPattern text) = SetSearchPattern (record { ref_ptr = (0, 0); now = text.now })
 plain_call (SetSearchText text ignore_case whole_word) = SetSearchText (record { ref_ptr = (0, 0); now = text.now }) ignore_case whole_word
+plain_call (ReplaceMatch text) = ReplaceMatch (record { ref_ptr = (0, 0); now = text.now })
+plain_call (ReplaceAll text) = ReplaceAll (record { ref_ptr = (0, 0); now = text.now })
 plain_call call = call
 
 abbrev pub plain_calls : List Call → List Call

@@ -30,10 +30,10 @@ pub record IsWritten (state : State) (ends : LineEnds) (bytes : List ℕ) : Type
   pub of_text : lines_of strings ≡ lines state.document.text
   pub joined : bytes ≡ file_bytes ends strings
 
--- the bytes of a name, if there is one
-abbrev pub name_bytes : Option (String Global) → List ℕ
-name_bytes None = []
-name_bytes (Some name) = string_bytes name
+-- the bytes of a text, if there is one
+abbrev pub optional_bytes : Option (String Global) → List ℕ
+optional_bytes None = []
+optional_bytes (Some text) = string_bytes text
 
 -- the program saves the file of this name, and overwrites a changed one or not; without a name it does nothing yet
 abbrev pub IsSaveAsked : Bool → List ℕ → Bool → Effect → Type 0

@@ -1,7 +1,8 @@
 -- The calls on the text area that each event makes, as a table: by what the next key is for, the
 -- key, and the command that it is bound to.
-use Rattle.std.specs.Prelude.{◌≡◌, ◌⊎◌, ◌<◌, ◌≤◌, ℕ, ◌-◌, ◌==◌, ◌&&◌, ◌||◌, nat_lt, not, Bool, true, false, List, [], ◌∷◌, ◌++◌, Option, Some, None, is_some, if◌then◌else◌, slice_index_or, string_bytes, All, Contains, codes, pos, negsuc}
+use Rattle.std.specs.Prelude.{◌≡◌, ◌⊎◌, ◌<◌, ◌≤◌, ℕ, ◌-◌, ◌==◌, ◌&&◌, ◌||◌, nat_lt, not, Bool, true, false, List, [], ◌∷◌, ◌++◌, Option, Some, None, is_some, if◌then◌else◌, slice_index_or, String, string_bytes, All, Contains, codes, pos, negsuc}
 use Rattle.std.specs.Str.{chars}
+use Rattle.std.specs.declared.alloc.Global.{Global}
 use Rattle.textarea_calls.specs.declared.call.Call.{Call}
 use Rattle.textarea_calls.specs.declared.call.Call.TheVariants as call
 use Rattle.textarea_data.specs.declared.cursor.CursorMove.TheVariants as move
@@ -9,10 +10,12 @@ use Rattle.textarea_data.specs.declared.input.Input.{Input}
 use Rattle.textarea_data.specs.declared.scroll.Scrolling.TheVariants as scrolling
 use Rattle.textarea_data.specs.declared.measure.TextAreaMeasure.{TextAreaMeasure}
 use Rattle.textarea_data.specs.declared.input.Key.{Key}
-use Rattle.textarea_data.specs.declared.input.Key.TheVariants.{Char, End, Esc, F, Home, MouseScrollDown, MouseScrollUp}
+use Rattle.textarea_data.specs.declared.input.Key.TheVariants.{Char, End, Esc, F, Home, MouseScrollDown, MouseScrollUp, Tab}
+use Rattle.textarea_editor.specs.Effects.{optional_bytes}
 use Rattle.textarea_editor.specs.LineNumber.{IsLineNumber, row_of_line}
 use Rattle.textarea_editor.specs.Patterns.{borrowed, first_line, search_call, toggled}
 use Rattle.textarea_editor.specs.PromptKeys.{prompt_key}
+use Rattle.textarea_editor.specs.ReplaceKeys.{replace_key}
 use Rattle.textarea_editor.specs.TypedInput.{typed_input}
 use Rattle.textarea_editor.specs.declared.controls.Controls.{Controls}
 use Rattle.textarea_editor.specs.declared.editor.Editor.{Editor}
@@ -26,6 +29,8 @@ use Rattle.textarea_editor.specs.declared.keys.Binding.{Binding}
 use Rattle.textarea_editor.specs.declared.keys.KeyCommand.{KeyCommand}
 use Rattle.textarea_editor.specs.declared.keys.KeyCommand.TheVariants as command
 use Rattle.textarea_editor.specs.declared.keys.TheConstants.{BINDINGS}
+use Rattle.textarea_editor.specs.declared.replace_keys.ReplaceKey.{ReplaceKey}
+use Rattle.textarea_editor.specs.declared.replace_keys.ReplaceKey.TheVariants as replace
 use Rattle.textarea_editor.specs.declared.search.SearchOptions.{SearchOptions}
 use Rattle.textarea_modal.specs.Table.{passed_on, step}
 use Rattle.textarea_modal.specs.declared.mode.Mode.{Mode}
@@ -53,7 +58,7 @@ use Rattle.tui_textarea.specs.State.{State}
 
 -- ---- commands
 
--- whether the bound key is the pressed one; only characters, function keys, Esc, Home and End are
+-- whether the bound key is the pressed one; only characters, function keys, Esc, Home, End and Tab are
 -- bound
 abbrev pub is_bound : Key → Key → Bool
 is_bound (Char c) (Char d) = c == d
@@ -61,6 +66,7 @@ is_bound (F m) (F n) = m == n
 is_bound Esc Esc = true
 is_bound Home Home = true
 is_bound End End = true
+is_bound Tab Tab = true
 is_bound bound pressed = false
 
 abbrev pub is_same : Bool → Bool → Bool
@@ -99,6 +105,11 @@ find_calls false = call.SearchBack false ∷ []
 abbrev pub control_calls : List Call
 control_calls = call.SetSearchPattern (borrowed (codes "[[:cntrl:]&&[^\t]]")) ∷ call.SearchForward false ∷ []
 
+-- a tab is inserted, or the lines of a selection are indented
+abbrev pub indent_calls : Bool → List Call
+indent_calls true = call.IndentLines ∷ []
+indent_calls false = call.InsertTab ∷ []
+
 -- a command's calls; long lines are wrapped now or not, lines are numbered or not, a selection is
 -- open or not
 abbrev pub command_calls : Bool → Bool → Bool → KeyCommand → List Call
@@ -108,6 +119,7 @@ command_calls wraps numbers selecting command.Quit = []
 command_calls wraps numbers selecting command.Find = []
 command_calls wraps numbers selecting command.FindNext = find_calls true
 command_calls wraps numbers selecting command.FindPrevious = find_calls false
+command_calls wraps numbers selecting command.Replace = []
 command_calls wraps numbers selecting command.GoToLine = []
 command_calls wraps numbers selecting command.NextControl = control_calls
 command_calls wraps numbers selecting command.Undo = call.Undo ∷ []
@@ -115,6 +127,8 @@ command_calls wraps numbers selecting command.Redo = call.Redo ∷ []
 command_calls wraps numbers selecting command.Cut = if selecting then call.Cut ∷ [] else []
 command_calls wraps numbers selecting command.Copy = if selecting then call.Copy ∷ [] else []
 command_calls wraps numbers selecting command.Paste = call.Paste ∷ []
+command_calls wraps numbers selecting command.Indent = indent_calls selecting
+command_calls wraps numbers selecting command.Outdent = call.OutdentLines ∷ []
 command_calls wraps numbers selecting command.SelectAll = call.SelectAll ∷ []
 command_calls wraps numbers selecting command.TextStart = call.CancelSelection ∷ call.Move move.Top ∷ call.Move move.Head ∷ []
 command_calls wraps numbers selecting command.TextEnd = call.CancelSelection ∷ call.Move move.Bottom ∷ call.Move move.End ∷ []
@@ -187,6 +201,7 @@ pub record IsSought (forward : Bool) (options : SearchOptions) (field : State) (
 -- the prompt's text is now that of this field
 abbrev pub IsPromptChanged : Asked → Controls → State → List Call → Type 0
 IsPromptChanged asks.Text controls field calls = IsLookingFor controls.search controls.origin field calls
+IsPromptChanged asks.Replaced controls field calls = IsLookingFor controls.search controls.origin field calls
 IsPromptChanged asked controls field calls = calls ≡ []
 
 -- the prompt's text may have changed
@@ -207,10 +222,11 @@ pub record IsLineAsked (field : State) (calls : List Call) : Type 0 where
   pub number_is : IsLineNumber text number
   pub calls_are : calls ≡ row_calls (row_of_line number)
 
--- the prompt's text is taken
-abbrev pub IsPromptTaken : Asked → State → List Call → Type 0
-IsPromptTaken asks.Line field calls = IsLineAsked field calls
-IsPromptTaken asked field calls = calls ≡ []
+-- the prompt's text is taken; one to replace is looked for
+abbrev pub IsPromptTaken : Asked → Controls → State → List Call → Type 0
+IsPromptTaken asks.Line controls field calls = IsLineAsked field calls
+IsPromptTaken asks.Replaced controls field calls = IsLookingFor controls.search controls.origin field calls
+IsPromptTaken asked controls field calls = calls ≡ []
 
 -- an input that changes the prompt's text
 pub record IsPromptInput (asked : Asked) (controls : Controls) (field : State) (input : Input) (calls : List Call) : Type 0 where
@@ -224,15 +240,33 @@ IsKeyInPrompt prompt.Leave asked controls field input calls = calls ≡ []
 IsKeyInPrompt prompt.Quit asked controls field input calls = calls ≡ []
 IsKeyInPrompt prompt.Next asked controls field input calls = IsSought true controls.search field calls
 IsKeyInPrompt prompt.Previous asked controls field input calls = IsSought false controls.search field calls
-IsKeyInPrompt prompt.Accept asked controls field input calls = IsPromptTaken asked field calls
+IsKeyInPrompt prompt.Accept asked controls field input calls = IsPromptTaken asked controls field calls
 IsKeyInPrompt prompt.Edit asked controls field input calls = IsPromptInput asked controls field input calls
 IsKeyInPrompt (prompt.Toggle toggle) asked controls field input calls = IsLookingFor (toggled controls.search toggle) controls.origin field calls
+
+-- ---- the question whether to replace a match
+
+-- the text that replaces matches is that of the prompt
+abbrev pub IsReplacement : State → Option (String Global) → Type 0
+IsReplacement field text = chars (optional_bytes text) ≡ prompt_line field
+
+-- to the next match, if there are some after this one
+abbrev pub skip_calls : ℕ → List Call
+skip_calls matches = if nat_lt matches 2 then [] else find_calls true
+
+-- a reply; this number of matches is to be asked about, and this text replaces them
+abbrev pub replace_calls : ReplaceKey → ℕ → List ℕ → List Call
+replace_calls replace.Yes matches text = call.ReplaceMatch (borrowed text) ∷ []
+replace_calls replace.No matches text = skip_calls matches
+replace_calls replace.All matches text = call.ReplaceAll (borrowed text) ∷ []
+replace_calls other matches text = []
 
 -- ---- inputs, pastes and the mouse
 
 abbrev pub IsInput : Focus → Editor → State → Input → List Call → Type 0
 IsInput focus.Text editor area input calls = IsKeyInText editor.controls area editor.columns (editor.rows - 1) input calls
 IsInput (focus.Prompt asked) editor area input calls = IsKeyInPrompt (prompt_key asked input) asked editor.controls editor.field input calls
+IsInput focus.Replace editor area input calls = calls ≡ replace_calls (replace_key input) editor.controls.matches (optional_bytes editor.replacement)
 IsInput other editor area input calls = calls ≡ []
 
 -- a text is pasted into the text as one edit

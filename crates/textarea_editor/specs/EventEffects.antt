@@ -6,10 +6,11 @@ use Rattle.std.specs.declared.alloc.Global.{Global}
 use Rattle.textarea_data.specs.declared.input.Input.{Input}
 use Rattle.textarea_data.specs.declared.input.Key.{Key}
 use Rattle.textarea_data.specs.declared.input.Key.TheVariants.{MouseScrollDown, MouseScrollUp}
-use Rattle.textarea_editor.specs.Effects.{IsAnswered, IsSaveAsked, name_bytes}
+use Rattle.textarea_editor.specs.Effects.{IsAnswered, IsSaveAsked, optional_bytes}
 use Rattle.textarea_editor.specs.EventCalls.{IsBoundCommand, prompt_line}
 use Rattle.textarea_editor.specs.HelpKeys.{help_key}
 use Rattle.textarea_editor.specs.PromptKeys.{prompt_key}
+use Rattle.textarea_editor.specs.ReplaceKeys.{replace_key}
 use Rattle.textarea_editor.specs.Replies.{reply_of}
 use Rattle.textarea_editor.specs.TypedInput.{typed_input}
 use Rattle.textarea_editor.specs.declared.controls.Controls.{Controls}
@@ -25,6 +26,8 @@ use Rattle.textarea_editor.specs.declared.focus.PromptKey.{PromptKey}
 use Rattle.textarea_editor.specs.declared.focus.PromptKey.TheVariants as prompt
 use Rattle.textarea_editor.specs.declared.keys.KeyCommand.{KeyCommand}
 use Rattle.textarea_editor.specs.declared.keys.KeyCommand.TheVariants as command
+use Rattle.textarea_editor.specs.declared.replace_keys.ReplaceKey.{ReplaceKey}
+use Rattle.textarea_editor.specs.declared.replace_keys.ReplaceKey.TheVariants as replace
 use Rattle.textarea_modal.specs.Table.{Step, step}
 use Rattle.textarea_modal.specs.declared.mode.Mode.{Mode}
 use Rattle.textarea_terminal.specs.declared.input.event.Event.{Event}
@@ -54,7 +57,7 @@ pub record IsSelectionCopied (selecting : Bool) (effect : Effect) : Type 0 where
 
 -- a command; the text may have changed or not, and a selection was open or not
 abbrev pub IsCommandEffect : Option (String Global) → Bool → Bool → KeyCommand → Effect → Type 0
-IsCommandEffect name changed selecting command.Save effect = IsSaveAsked (is_some name) (name_bytes name) false effect
+IsCommandEffect name changed selecting command.Save effect = IsSaveAsked (is_some name) (optional_bytes name) false effect
 IsCommandEffect name changed selecting command.Quit effect = effect ≡ quit_effect changed
 IsCommandEffect name changed selecting command.Cut effect = IsSelectionCopied selecting effect
 IsCommandEffect name changed selecting command.Copy effect = IsSelectionCopied selecting effect
@@ -106,6 +109,11 @@ IsPromptEffect prompt.Accept asked changed field effect = IsTakenEffect asked fi
 IsPromptEffect prompt.Quit asked changed field effect = effect ≡ quit_effect changed
 IsPromptEffect other asked changed field effect = effect ≡ Nothing
 
+-- a reply to whether to replace a match
+abbrev pub replace_effect : ReplaceKey → Bool → Effect
+replace_effect replace.Quit changed = quit_effect changed
+replace_effect other changed = Nothing
+
 abbrev pub help_effect : HelpKey → Bool → Effect
 help_effect help.Quit changed = quit_effect changed
 help_effect _ changed = Nothing
@@ -116,7 +124,8 @@ help_effect _ changed = Nothing
 abbrev pub IsInputEffect : Focus → Controls → Option (String Global) → Bool → Bool → State → Input → Effect → Type 0
 IsInputEffect focus.Text controls name changed selecting field input effect = IsKeyEffect controls name changed selecting input effect
 IsInputEffect (focus.Prompt asked) controls name changed selecting field input effect = IsPromptEffect (prompt_key asked input) asked changed field effect
-IsInputEffect (focus.Question question) controls name changed selecting field input effect = IsAnswered question (reply_of input) (is_some name) (name_bytes name) effect
+IsInputEffect (focus.Question question) controls name changed selecting field input effect = IsAnswered question (reply_of input) (is_some name) (optional_bytes name) effect
+IsInputEffect focus.Replace controls name changed selecting field input effect = effect ≡ replace_effect (replace_key input) changed
 IsInputEffect focus.Help controls name changed selecting field input effect = effect ≡ help_effect (help_key input) changed
 
 -- an event; after it the text may have changed or not, and before it a selection was open or not

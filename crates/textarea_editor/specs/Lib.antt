@@ -14,6 +14,7 @@ pub mod Patterns
 pub mod Positions
 pub mod PromptKeys
 pub mod PromptText
+pub mod ReplaceKeys
 pub mod Replies
 pub mod SaveEnds
 pub mod Screen

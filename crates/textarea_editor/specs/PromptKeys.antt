@@ -30,7 +30,7 @@ search_key Up shift = Previous
 search_key (F number) shift = function_key number shift
 search_key key shift = Edit
 
--- a key in the prompt for a line number or a name
+-- a key in the prompt for a line number, a name, or what replaces a text
 abbrev pub naming_key : Key → PromptKey
 naming_key Esc = Leave
 naming_key Enter = Accept
@@ -48,9 +48,15 @@ abbrev pub text_key : Key → Bool → Bool → Bool → PromptKey
 text_key (Char c) ctrl alt shift = if alt && not ctrl then toggle_key c else search_key (Char c) shift
 text_key key ctrl alt shift = search_key key shift
 
+-- an input in the prompt for a text to replace: as in the one for a text to find, but that Enter takes the text
+abbrev pub replaced_key : Key → Bool → Bool → Bool → PromptKey
+replaced_key Enter ctrl alt shift = Accept
+replaced_key key ctrl alt shift = text_key key ctrl alt shift
+
 -- another input than Ctrl Q
 abbrev pub asked_key : Asked → Input → PromptKey
 asked_key asks.Text input = text_key input.key input.ctrl input.alt input.shift
+asked_key asks.Replaced input = replaced_key input.key input.ctrl input.alt input.shift
 asked_key asked input = naming_key input.key
 
 abbrev pub prompt_key : Asked → Input → PromptKey

@@ -1,5 +1,5 @@
 -- The text that the prompt has when it is opened.
-use Rattle.std.specs.Prelude.{◌≡◌, ℕ, List, Option, None, Some, String, string_bytes}
+use Rattle.std.specs.Prelude.{ℕ, List, Option, None, Some, String, string_bytes}
 use Rattle.std.specs.Str.{chars}
 use Rattle.std.specs.declared.alloc.Global.{Global}
 use Rattle.textarea_editor.specs.Patterns.{first_line}
@@ -16,13 +16,15 @@ abbrev pub name_filled : State → Option (String Global) → State
 name_filled field None = text_cleared field
 name_filled field (Some name) = str_inserted (text_cleared field) (fragment_symbols (first_line (chars (string_bytes name))))
 
--- the prompt's text is the one that was looked for last, all of it selected, so that typing replaces it
+-- the prompt's text is this one, all of it selected, so that typing replaces it
 abbrev pub text_recalled : State → Option (String Global) → State
-text_recalled field searched = all_selected (name_filled field searched)
+text_recalled field text = all_selected (name_filled field text)
 
--- a prompt for the name has that of the file, to be edited; one for a text has the last one; one for
--- a line is empty
-abbrev pub IsPromptFilled : Asked → Option (String Global) → Option (String Global) → State → State → Type 0
-IsPromptFilled asks.Name name searched field new = new ≡ name_filled field name
-IsPromptFilled asks.Text name searched field new = new ≡ text_recalled field searched
-IsPromptFilled asks.Line name searched field new = new ≡ text_cleared field
+-- a prompt for the name has that of the file, to be edited; one for a text has the last one that was
+-- looked for, or that replaced others; one for a line is empty
+abbrev pub filled : Asked → Option (String Global) → Option (String Global) → Option (String Global) → State → State
+filled asks.Name name searched replacement field = name_filled field name
+filled asks.Text name searched replacement field = text_recalled field searched
+filled asks.Replaced name searched replacement field = text_recalled field searched
+filled asks.Replacement name searched replacement field = text_recalled field replacement
+filled asks.Line name searched replacement field = text_cleared field

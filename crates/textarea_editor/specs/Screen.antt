@@ -22,8 +22,10 @@ pub record IsPainted (old new : State) (columns rows : ℕ) (buffer : Buffer) : 
   pub before : Buffer
   pub drawn : IsDrawn (widget_of new) above before buffer
 
--- the cursor is shown where the text area with the focus has drawn it: the text, or the prompt
+-- the cursor is shown where the text area with the focus has drawn it: the text, also at a match that
+-- may be replaced, or the prompt
 abbrev pub IsFrameCaret : Focus → State → State → Option Position → Type 0
 IsFrameCaret focus.Text area field caret = option_map cell_of_position caret ≡ area.drawing.caret
+IsFrameCaret focus.Replace area field caret = option_map cell_of_position caret ≡ area.drawing.caret
 IsFrameCaret (focus.Prompt asked) area field caret = option_map cell_of_position caret ≡ field.drawing.caret
 IsFrameCaret other area field caret = caret ≡ None

@@ -27,11 +27,11 @@ with_hidden_cursor area = with_look_set area (record area.drawing.look { cursor_
 abbrev pub IsShown : State → Type 0
 IsShown area = area ≡ with_hidden_cursor (new_state area.document.text)
 
--- one undo takes back a run of typing, or all edits of one call, and all undos at most 10,000 edits;
+-- one undo takes back a run of typing, or all edits of one call, and all undos at most 1,000,000 edits;
 -- Tab inserts a tab
 abbrev pub set_up : State → State
 set_up area = with_hidden_cursor (record area {
-  document = record area.document { log = empty_log 10_000 };
+  document = record area.document { log = empty_log 1_000_000 };
   settings = record area.settings { undo_coalescing = true; hard_tab_indent = true; undo_grouping = true };
   drawing = record area.drawing { look = record area.drawing.look { search_style = match_style; selection_style = selected_style } };
 })

@@ -36,12 +36,15 @@ overwrite_question other name = codes " The file changed on disk. Overwrite it? 
 -- the words at the left, but for those beside the text
 abbrev pub IsAskedBy : Focus → Message → Option (String Global) → List ℕ → Type 0
 IsAskedBy (focus.Prompt asks.Text) message name words = words ≡ codes " Find: "
+IsAskedBy (focus.Prompt asks.Replaced) message name words = words ≡ codes " Replace: "
+IsAskedBy (focus.Prompt asks.Replacement) message name words = words ≡ codes " Replace by: "
 IsAskedBy (focus.Prompt asks.Line) message name words = words ≡ codes " Go to line: "
 IsAskedBy (focus.Prompt asks.Name) message name words = words ≡ codes " Save as: "
 IsAskedBy (focus.Question SaveFirst) message name words = words ≡ codes " Save the changes? y: yes  n: no  Esc: back to the text"
 IsAskedBy (focus.Question Overwrite) message name words = words ≡ overwrite_question message name
 IsAskedBy (focus.Question Recover) message name words = words ≡ codes " Unsaved changes were found. y: recover them  n: discard them"
 IsAskedBy (focus.Question Discard) message name words = words ≡ codes " Its journal is of another version. y: discard it  n: keep it"
+IsAskedBy focus.Replace message name words = words ≡ codes " Replace this match? y: yes  n: no  a: all  Esc: back to the text"
 IsAskedBy focus.Help message name words = words ≡ codes " Keys  (arrows scroll, Esc: back to the text)"
 IsAskedBy focus.Text message name words = Unit {0}
 

@@ -19,6 +19,8 @@ pub struct Controls {
     pub numbers: bool,
     /// How the text of the prompt is found.
     pub search: SearchOptions,
+    /// The number of matches that are still to be asked about, with the one at the cursor.
+    pub matches: usize,
     /// Whether the program ends once the file is saved.
     pub ends_when_saved: bool,
 }

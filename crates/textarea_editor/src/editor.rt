@@ -18,6 +18,7 @@ mod mouse;
 mod parts;
 mod prompt;
 mod recovery;
+mod replacing;
 mod saving;
 mod status;
 
@@ -57,6 +58,10 @@ pub struct Editor {
     help: TextArea<'static>,
     /// The text that was looked for last.
     searched: Option<String>,
+    /// The text that replaced others last.
+    replacement: Option<String>,
+    /// The number of matches that were replaced since the text that replaces them was given.
+    replaced: usize,
     name: Option<String>,
     /// The name from before a save under another one, until a save succeeds.
     former_name: Option<Option<String>>,
@@ -87,6 +92,8 @@ impl Editor {
             field,
             help,
             searched: None,
+            replacement: None,
+            replaced: 0,
             name: None,
             former_name: None,
             line_end: LineEnds {
@@ -100,6 +107,7 @@ impl Editor {
                 wraps: true,
                 numbers: false,
                 search: SearchOptions::plain(),
+                matches: 0,
                 ends_when_saved: false,
             },
             message: Message::Nothing,

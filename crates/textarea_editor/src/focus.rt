@@ -2,7 +2,7 @@
 
 ghost use Rattle.std.specs.Prelude.{◌≡◌};
 ghost use Rattle.textarea_editor.specs.HelpKeys.{help_key, plain_help_key};
-ghost use Rattle.textarea_editor.specs.PromptKeys.{asked_key, naming_key, prompt_key, quits, search_key, text_key, toggle_key};
+ghost use Rattle.textarea_editor.specs.PromptKeys.{asked_key, naming_key, prompt_key, quits, replaced_key, search_key, text_key, toggle_key};
 ghost use Rattle.textarea_editor.specs.Replies.{key_reply, reply_of};
 ghost use Rattle.textarea_editor.specs.TypedInput.{is_line_feed, typed_input};
 
@@ -20,6 +20,10 @@ pub enum Asked {
     Line,
     /// The name of the file.
     Name,
+    /// A text to replace.
+    Replaced,
+    /// What replaces it.
+    Replacement,
 }
 
 /// A question whose reply is one key.
@@ -57,6 +61,8 @@ pub enum Focus {
     Prompt(Asked),
     /// The reply to a question, in the status row.
     Question(Question),
+    /// The reply to whether to replace the match at the cursor.
+    Replace,
     /// The help, which is shown instead of the text.
     Help,
 }
@@ -117,8 +123,8 @@ fn is_line_feed(input: &Input) -> bool
     }
 }
 
-// Returns whether an input is Ctrl Q, which ends the program also from a prompt and from the help.
-fn quits(input: &Input) -> bool
+// Returns whether an input is Ctrl Q, which ends the program also from prompts and from the help.
+pub(crate) fn quits(input: &Input) -> bool
     ensures { result ≡ quits input.now }
 {
     match input.key {
@@ -144,7 +150,18 @@ fn asked_key(asked: Asked, input: &Input) -> PromptKey
 {
     match asked {
         Asked::Text => text_key(input),
-        Asked::Line | Asked::Name => naming_key(input.key),
+        Asked::Replaced => replaced_key(input),
+        Asked::Line | Asked::Name | Asked::Replacement => naming_key(input.key),
+    }
+}
+
+// What an input does in the prompt for a text to replace.
+fn replaced_key(input: &Input) -> PromptKey
+    ensures { result ≡ replaced_key input.now.key input.now.ctrl input.now.alt input.now.shift }
+{
+    match input.key {
+        Key::Enter => PromptKey::Accept,
+        _ => text_key(input),
     }
 }
 
@@ -183,7 +200,7 @@ fn search_key(key: Key, shift: bool) -> PromptKey
     }
 }
 
-// What a key does in the prompt for a line number or a name.
+// What a key does in the prompt for a line number, a name, or what replaces a text.
 fn naming_key(key: Key) -> PromptKey
     ensures { result ≡ naming_key key }
 {

@@ -20,6 +20,8 @@ pub enum KeyCommand {
     FindNext,
     /// Moves to the match before.
     FindPrevious,
+    /// Opens the prompt for a text to replace.
+    Replace,
     /// Opens the prompt for a line number.
     GoToLine,
     /// Moves to the next control character, and shows how many there are.
@@ -34,6 +36,10 @@ pub enum KeyCommand {
     Copy,
     /// Inserts the copied text.
     Paste,
+    /// Inserts a tab, or indents each line of a selection.
+    Indent,
+    /// Removes an indent from the cursor's line, or from each line of a selection.
+    Outdent,
     /// Selects the whole text.
     SelectAll,
     /// Moves to the very start of the text.
@@ -89,13 +95,15 @@ macro_rules! binding {
 }
 
 /// The keys of the editor. Other keys are those of the text area, or of the modal editor.
-pub const BINDINGS: [Binding; 20] = [
+pub const BINDINGS: [Binding; 24] = [
     binding!(ctrl Key::Char('s'), KeyCommand::Save, true),
     binding!(ctrl Key::Char('o'), KeyCommand::SaveAs, true),
     binding!(ctrl Key::Char('q'), KeyCommand::Quit, true),
     binding!(ctrl Key::Char('f'), KeyCommand::Find, true),
     binding!(plain Key::F(3), KeyCommand::FindNext, true),
     binding!(shift Key::F(3), KeyCommand::FindPrevious, true),
+    binding!(ctrl Key::Char('\\'), KeyCommand::Replace, true),
+    binding!(alt Key::Char('r'), KeyCommand::Replace, true),
     binding!(ctrl Key::Char('g'), KeyCommand::GoToLine, true),
     binding!(plain Key::F(4), KeyCommand::NextControl, true),
     binding!(ctrl Key::Char('z'), KeyCommand::Undo, false),
@@ -103,6 +111,8 @@ pub const BINDINGS: [Binding; 20] = [
     binding!(ctrl Key::Char('x'), KeyCommand::Cut, false),
     binding!(ctrl Key::Char('c'), KeyCommand::Copy, false),
     binding!(ctrl Key::Char('v'), KeyCommand::Paste, false),
+    binding!(plain Key::Tab, KeyCommand::Indent, false),
+    binding!(shift Key::Tab, KeyCommand::Outdent, false),
     binding!(ctrl Key::Char('a'), KeyCommand::SelectAll, false),
     binding!(ctrl Key::Home, KeyCommand::TextStart, false),
     binding!(ctrl Key::End, KeyCommand::TextEnd, false),
@@ -122,6 +132,7 @@ impl KeyCommand {
             KeyCommand::Find => "find as you type",
             KeyCommand::FindNext => "next match",
             KeyCommand::FindPrevious => "match before",
+            KeyCommand::Replace => "find and replace",
             KeyCommand::GoToLine => "go to a line",
             KeyCommand::NextControl => "next control character",
             KeyCommand::Undo => "undo",
@@ -129,6 +140,8 @@ impl KeyCommand {
             KeyCommand::Cut => "cut",
             KeyCommand::Copy => "copy",
             KeyCommand::Paste => "paste",
+            KeyCommand::Indent => "insert a tab, or indent the selected lines",
+            KeyCommand::Outdent => "remove an indent from the line, or the selected lines",
             KeyCommand::SelectAll => "select all",
             KeyCommand::TextStart => "to the very start of the text",
             KeyCommand::TextEnd => "to the very end of the text",
@@ -163,7 +176,7 @@ fn binds(binding: &Binding, input: &Input, is_modal: bool) -> bool
         && (binding.with_modal || !is_modal)
 }
 
-// Returns whether a bound key, which is a character, a function key, Esc, Home or End, is the
+// Returns whether a bound key, which is a character, a function key, Esc, Home, End or Tab, is the
 // pressed one.
 fn is_bound(bound: Key, pressed: Key) -> bool
     ensures { result ≡ is_bound bound pressed }
@@ -171,7 +184,10 @@ fn is_bound(bound: Key, pressed: Key) -> bool
     match (bound, pressed) {
         (Key::Char(c), Key::Char(d)) => c == d,
         (Key::F(m), Key::F(n)) => m == n,
-        (Key::Esc, Key::Esc) | (Key::Home, Key::Home) | (Key::End, Key::End) => true,
+        (Key::Esc, Key::Esc)
+        | (Key::Home, Key::Home)
+        | (Key::End, Key::End)
+        | (Key::Tab, Key::Tab) => true,
         _ => false,
     }
 }

@@ -21,6 +21,7 @@ pub mod laws;
 pub mod line_number;
 pub mod message;
 pub mod pattern;
+pub mod replace_keys;
 pub mod screen;
 pub mod search;
 mod shortened;

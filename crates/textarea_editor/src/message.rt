@@ -81,6 +81,8 @@ pub enum Message {
     NoMatch,
     /// The prompt's text is to be a pattern, and is none.
     BrokenPattern,
+    /// This number of matches was replaced.
+    Replaced(usize),
     /// The prompt's text is no line number.
     NoLine,
     /// Out of memory. What was asked for was not done, or not all of it.
@@ -102,6 +104,7 @@ impl Message {
             Message::NotSaved(trouble) => ("not saved: ", trouble.text()),
             Message::NoMatch => ("no match", ""),
             Message::BrokenPattern => ("broken pattern", ""),
+            Message::Replaced(_) => ("replaced: ", ""),
             Message::NoLine => ("not a line number", ""),
             Message::Memory => ("out of memory", ""),
         }

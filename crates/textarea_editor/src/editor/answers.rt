@@ -2,7 +2,7 @@
 ghost use Rattle.std.specs.Prelude.{◌≡◌, IfOk, OnErr, OnOk, is_some};
 ghost use Rattle.textarea_editor.specs.Controls.{after_reply, left};
 ghost use Rattle.textarea_editor.specs.Editor.{MayQuit};
-ghost use Rattle.textarea_editor.specs.Effects.{Carries, IsAnswered, name_bytes};
+ghost use Rattle.textarea_editor.specs.Effects.{Carries, IsAnswered, optional_bytes};
 ghost use Rattle.textarea_editor.specs.Replies.{reply_of};
 ghost use Rattle.textarea_editor.specs.SaveEnds.{name_left};
 ghost use Rattle.textarea_editor.specs.declared.focus.Focus.TheVariants as focus;
@@ -26,7 +26,7 @@ impl Editor {
         ensures carries { IfOk result
             (Carries (MayQuit self.old self.new.draft) self.new.draft.area self.new.line_end) }
         ensures effect { IfOk result (IsAnswered question (reply_of input.now)
-            (is_some self.old.name) (name_bytes self.old.name)) }
+            (is_some self.old.name) (optional_bytes self.old.name)) }
         ensures end { self.new.line_end ≡ self.old.line_end }
         ensures controls { OnOk result (self.new.controls ≡ after_reply question
             (reply_of input.now) self.old.controls (is_some self.old.name)
@@ -80,15 +80,15 @@ impl Editor {
     {
         match asked {
             Asked::Name => self.restore_name(),
-            Asked::Text => self.keep_searched(),
-            Asked::Line => {}
+            Asked::Text | Asked::Replaced => self.keep_searched(),
+            Asked::Line | Asked::Replacement => {}
         }
         self.leave();
     }
 
     // Keeps the prompt's text as the one that was looked for last. If memory runs out, the one before
     // stays.
-    fn keep_searched(&mut self)
+    pub(super) fn keep_searched(&mut self)
         ensures draft { self.new.draft ≡ self.old.draft }
         ensures end { self.new.line_end ≡ self.old.line_end }
         ensures controls { self.new.controls ≡ self.old.controls }

@@ -8,7 +8,7 @@ ghost use Rattle.textarea_editor.specs.Draft.{FailsIn, Makes, is_made, plain_cal
 ghost use Rattle.textarea_editor.specs.Editor.{MayQuit};
 ghost use Rattle.textarea_editor.specs.Effects.{Carries};
 ghost use Rattle.textarea_editor.specs.EventEffects.{IsCommandEffect, IsCopied, IsNothing, IsSelectionCopied};
-ghost use Rattle.textarea_editor.specs.EventCalls.{command_calls, control_calls, find_calls, is_selecting, numbers_call, wrap_mode};
+ghost use Rattle.textarea_editor.specs.EventCalls.{command_calls, control_calls, find_calls, indent_calls, is_selecting, numbers_call, wrap_mode};
 
 use super::Editor;
 use crate::control_characters::count_message;
@@ -47,6 +47,7 @@ impl Editor {
             KeyCommand::SaveAs => self.open_prompt(Asked::Name),
             KeyCommand::Quit => Ok(self.quit()),
             KeyCommand::Find => self.open_prompt(Asked::Text),
+            KeyCommand::Replace => self.open_prompt(Asked::Replaced),
             KeyCommand::GoToLine => self.open_prompt(Asked::Line),
             KeyCommand::NextControl => self.find_control(),
             KeyCommand::FindNext => self.find(true),
@@ -56,6 +57,8 @@ impl Editor {
             KeyCommand::Paste => self.make(&[Call::Paste]),
             KeyCommand::Cut => self.cut(),
             KeyCommand::Copy => self.copy(),
+            KeyCommand::Indent => self.indent(),
+            KeyCommand::Outdent => self.make(&[Call::OutdentLines]),
             KeyCommand::SelectAll => self.make(&[Call::SelectAll]),
             KeyCommand::Cancel => self.make(&[Call::CancelSelection, Call::SetSearchPattern("")]),
             KeyCommand::TextStart => self.make(&[
@@ -144,6 +147,25 @@ impl Editor {
         }
         self.draft.make(&[Call::Cut])?;
         Ok(self.clipboard())
+    }
+
+    // Inserts a tab, or indents the lines of the selection, if one is open.
+    fn indent(&mut self) -> Result<Effect, AllocError>
+        ensures ok { OnOk result (Makes self.old.draft
+            (indent_calls (is_selecting self.old.draft.area)) self.new.draft) }
+        ensures err { OnErr result (FailsIn self.old.draft
+            (indent_calls (is_selecting self.old.draft.area)) self.new.draft) }
+        ensures carries { IfOk result
+            (Carries (MayQuit self.old self.new.draft) self.new.draft.area self.new.line_end) }
+        ensures effect { IfOk result IsNothing }
+        ensures end { self.new.line_end ≡ self.old.line_end }
+        ensures controls { self.new.controls ≡ self.old.controls }
+    {
+        if self.draft.area().is_selecting() {
+            self.make(&[Call::IndentLines])
+        } else {
+            self.make(&[Call::InsertTab])
+        }
     }
 
     // Gives the text that was yanked last to the program. If memory runs out, the terminal's

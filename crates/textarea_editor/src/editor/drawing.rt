@@ -75,7 +75,7 @@ impl Editor {
     {
         match self.controls.focus {
             Focus::Help => self.help.render(above, buffer),
-            Focus::Text | Focus::Prompt(_) | Focus::Question(_) => {
+            Focus::Text | Focus::Prompt(_) | Focus::Question(_) | Focus::Replace => {
                 self.draft.render(above, buffer)
             }
         }
@@ -86,7 +86,7 @@ impl Editor {
         ensures { IsFrameCaret self.now.controls.focus self.now.draft.area self.now.field result }
     {
         match self.controls.focus {
-            Focus::Text => self.draft.area().rendered_cursor_position(),
+            Focus::Text | Focus::Replace => self.draft.area().rendered_cursor_position(),
             Focus::Prompt(_) => self.field.rendered_cursor_position(),
             Focus::Question(_) | Focus::Help => None,
         }

@@ -9,6 +9,7 @@ ghost use Rattle.textarea_editor.specs.EventEffects.{IsEventEffect, IsInputEffec
 ghost use Rattle.textarea_editor.specs.EventCalls.{IsEvent, IsInput, IsPaste, is_selecting};
 ghost use Rattle.textarea_editor.specs.HelpKeys.{IsHelpAfter, help_key};
 ghost use Rattle.textarea_editor.specs.Steps.{IsTimed};
+ghost use Rattle.tui_textarea.specs.Search.{match_count};
 
 use super::Editor;
 use crate::effect::Effect;
@@ -32,8 +33,8 @@ impl Editor {
             self.new.draft.is_changed (is_selecting self.old.draft.area) self.old.field event.now) }
         ensures end { self.new.line_end ≡ self.old.line_end }
         ensures controls { OnOk result (IsAfterEvent self.old.controls (is_some self.old.name)
-            self.new.draft.is_changed self.old.draft.area.document.cursor self.old.field event.now
-            self.new.controls) }
+            self.new.draft.is_changed self.old.draft.area.document.cursor
+            (match_count self.old.draft.area) self.old.field event.now self.new.controls) }
         ensures kept { OnErr result (self.new.controls ≡ self.old.controls) }
     {
         self.draft.set_time(now);
@@ -52,8 +53,8 @@ impl Editor {
             self.new.draft.is_changed (is_selecting self.old.draft.area) self.old.field event.now) }
         ensures end { self.new.line_end ≡ self.old.line_end }
         ensures controls { OnOk result (IsAfterEvent self.old.controls (is_some self.old.name)
-            self.new.draft.is_changed self.old.draft.area.document.cursor self.old.field event.now
-            self.new.controls) }
+            self.new.draft.is_changed self.old.draft.area.document.cursor
+            (match_count self.old.draft.area) self.old.field event.now self.new.controls) }
         ensures kept { OnErr result (self.new.controls ≡ self.old.controls) }
     {
         match event {
@@ -96,7 +97,8 @@ impl Editor {
         ensures end { self.new.line_end ≡ self.old.line_end }
         ensures controls { OnOk result (IsAfterInput self.old.controls.focus self.old.controls
             (is_some self.old.name) self.new.draft.is_changed
-            self.old.draft.area.document.cursor self.old.field input.now self.new.controls) }
+            self.old.draft.area.document.cursor (match_count self.old.draft.area) self.old.field
+            input.now self.new.controls) }
         ensures kept { OnErr result (self.new.controls ≡ self.old.controls) }
     {
         // The question whether to overwrite goes on being asked of the same file.
@@ -107,6 +109,7 @@ impl Editor {
             Focus::Text => self.take_key(input),
             Focus::Prompt(asked) => self.take_prompt_key(asked, input),
             Focus::Question(question) => self.take_answer(question, input),
+            Focus::Replace => self.take_replace_key(input),
             Focus::Help => Ok(self.take_help_key(input)),
         }
     }
@@ -126,7 +129,7 @@ impl Editor {
         match self.controls.focus {
             Focus::Text => self.paste(text),
             Focus::Prompt(asked) => self.paste_in_prompt(asked, text),
-            Focus::Question(_) | Focus::Help => Ok(Effect::Nothing),
+            Focus::Question(_) | Focus::Replace | Focus::Help => Ok(Effect::Nothing),
         }
     }
 

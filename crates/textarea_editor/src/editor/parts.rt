@@ -18,7 +18,7 @@ use textarea_wrap::wrap::WrapMode;
 use tui_textarea::TextArea;
 
 // The number of edits that undo takes back.
-const UNDOS: usize = 10_000;
+const UNDOS: usize = 1_000_000;
 
 /// How lines are wrapped, if long ones are or not.
 pub fn wrap_mode(wraps: bool) -> WrapMode

@@ -7,8 +7,9 @@ ghost use Rattle.textarea_editor.specs.Effects.{Carries};
 ghost use Rattle.textarea_editor.specs.EventEffects.{IsNameEffect, IsNothing, IsPromptEffect, IsTakenEffect};
 ghost use Rattle.textarea_editor.specs.EventCalls.{IsKeyInPrompt, IsLineAsked, IsLookingFor, IsPasteInPrompt, IsPromptChanged, IsPromptInput, IsPromptTaken, IsSought, row_calls};
 ghost use Rattle.textarea_editor.specs.PromptKeys.{prompt_key};
-ghost use Rattle.textarea_editor.specs.PromptText.{IsPromptFilled, name_filled};
+ghost use Rattle.textarea_editor.specs.PromptText.{filled, name_filled, text_recalled};
 ghost use Rattle.textarea_editor.specs.declared.focus.Focus.TheVariants as focus;
+ghost use Rattle.tui_textarea.specs.Search.{match_count};
 
 use super::Editor;
 use crate::effect::Effect;
@@ -23,32 +24,42 @@ use textarea_run::inputs::copied;
 use tui_textarea::TextArea;
 
 impl Editor {
-    // Opens the prompt. The name of the file is there to be edited, and the text that was looked for
-    // last is selected; a line number is empty.
+    // Opens the prompt, with the text that is there to be edited or replaced.
     pub(super) fn ask(&mut self, asked: Asked) -> Result<(), AllocError>
         ensures draft { self.new.draft ≡ self.old.draft }
-        ensures field { OnOk result
-            (IsPromptFilled asked self.old.name self.old.searched self.old.field
-            self.new.field) }
+        ensures field { OnOk result (self.new.field ≡ filled asked self.old.name
+            self.old.searched self.old.replacement self.old.field) }
         ensures message { self.new.message ≡ self.old.message }
         ensures end { self.new.line_end ≡ self.old.line_end }
         ensures controls { OnOk result (self.new.controls ≡ prompt_opened self.old.controls
             self.old.draft.area.document.cursor asked) }
         ensures kept { OnErr result (self.new.controls ≡ self.old.controls) }
     {
-        match asked {
-            Asked::Name => fill(&mut self.field, &self.name)?,
-            Asked::Text => {
-                fill(&mut self.field, &self.searched)?;
-                self.field.select_all();
-            }
-            Asked::Line => {
-                self.field.clear()?;
-            }
-        }
+        self.fill_prompt(asked)?;
         self.controls.origin = self.draft.area().cursor();
         self.controls.focus = Focus::Prompt(asked);
         Ok(())
+    }
+
+    // Gives the prompt its first text. The name of the file is there to be edited, and a text that was
+    // looked for or that replaced others last is selected; a line number is empty.
+    pub(super) fn fill_prompt(&mut self, asked: Asked) -> Result<(), AllocError>
+        ensures draft { self.new.draft ≡ self.old.draft }
+        ensures field { OnOk result (self.new.field ≡ filled asked self.old.name
+            self.old.searched self.old.replacement self.old.field) }
+        ensures message { self.new.message ≡ self.old.message }
+        ensures end { self.new.line_end ≡ self.old.line_end }
+        ensures controls { self.new.controls ≡ self.old.controls }
+    {
+        match asked {
+            Asked::Name => fill(&mut self.field, &self.name),
+            Asked::Text | Asked::Replaced => recall(&mut self.field, &self.searched),
+            Asked::Replacement => recall(&mut self.field, &self.replacement),
+            Asked::Line => {
+                self.field.clear()?;
+                Ok(())
+            }
+        }
     }
 
     // Takes a key in the prompt.
@@ -67,7 +78,8 @@ impl Editor {
             self.new.draft.is_changed self.old.field) }
         ensures end { self.new.line_end ≡ self.old.line_end }
         ensures controls { OnOk result (IsAfterPromptKey (prompt_key asked input.now) asked
-            self.old.controls self.new.draft.is_changed self.old.field self.new.controls) }
+            self.old.controls self.new.draft.is_changed (match_count self.old.draft.area)
+            self.old.field self.new.controls) }
         ensures kept { OnErr result (self.new.controls ≡ self.old.controls) }
     {
         match prompt_key(asked, input) {
@@ -143,8 +155,8 @@ impl Editor {
         ensures controls { self.new.controls ≡ self.old.controls }
     {
         match asked {
-            Asked::Text => self.look_for(self.controls.search),
-            Asked::Line | Asked::Name => Ok(Effect::Nothing),
+            Asked::Text | Asked::Replaced => self.look_for(self.controls.search),
+            Asked::Line | Asked::Name | Asked::Replacement => Ok(Effect::Nothing),
         }
     }
 
@@ -171,7 +183,7 @@ impl Editor {
 
     // Lights the matches of the prompt's text, and moves to the first one from where the prompt was
     // opened.
-    fn look_for(&mut self, options: SearchOptions) -> Result<Effect, AllocError>
+    pub(super) fn look_for(&mut self, options: SearchOptions) -> Result<Effect, AllocError>
         ensures ok { OnOk result
             (MakesSome (IsLookingFor options self.old.controls.origin self.old.field)
             self.old.draft self.new.draft) }
@@ -222,15 +234,18 @@ impl Editor {
     // Takes the prompt's text.
     fn accept(&mut self, asked: Asked) -> Result<Effect, AllocError>
         ensures ok { OnOk result
-            (MakesSome (IsPromptTaken asked self.old.field) self.old.draft self.new.draft) }
+            (MakesSome (IsPromptTaken asked self.old.controls self.old.field) self.old.draft
+            self.new.draft) }
         ensures err { OnErr result
-            (FailsInSome (IsPromptTaken asked self.old.field) self.old.draft self.new.draft) }
+            (FailsInSome (IsPromptTaken asked self.old.controls self.old.field) self.old.draft
+            self.new.draft) }
         ensures carries { IfOk result
             (Carries (MayQuit self.old self.new.draft) self.new.draft.area self.new.line_end) }
         ensures effect { IfOk result (IsTakenEffect asked self.old.field) }
         ensures end { self.new.line_end ≡ self.old.line_end }
         ensures controls { OnOk result
-            (IsTaken asked self.old.controls self.old.field self.new.controls) }
+            (IsTaken asked self.old.controls (match_count self.old.draft.area) self.old.field
+            self.new.controls) }
         ensures kept { OnErr result (self.new.controls ≡ self.old.controls) }
     {
         match asked {
@@ -238,6 +253,8 @@ impl Editor {
             Asked::Text => Ok(Effect::Nothing),
             Asked::Line => self.go_to_line(),
             Asked::Name => self.take_name(),
+            Asked::Replaced => self.ask_replacement(),
+            Asked::Replacement => self.take_replacement(),
         }
     }
 
@@ -301,6 +318,15 @@ impl Editor {
         self.rename(name);
         self.save(false)
     }
+}
+
+// Replaces the text of the prompt by another, all of which is selected, or by none.
+fn recall(field: &mut TextArea<'static>, text: &Option<String>) -> Result<(), AllocError>
+    ensures { OnOk result (field.new ≡ text_recalled field.old text.now) }
+{
+    fill(field, text)?;
+    field.select_all();
+    Ok(())
 }
 
 // Replaces the text of the prompt by another, up to a line end in it, or by none.

@@ -3,7 +3,7 @@ ghost use Rattle.std.specs.Prelude.{◌≡◌, false, true, IfOk, Some, OnErr, O
 ghost use Rattle.textarea_editor.specs.Controls.{quit_asked, save_asked, with_focus};
 ghost use Rattle.textarea_editor.specs.Draft.{IsSavedFrom};
 ghost use Rattle.textarea_editor.specs.Editor.{MayQuit, controls_of, draft_of, end_of, message_of};
-ghost use Rattle.textarea_editor.specs.Effects.{Carries, IsSaveAsked, is_saved, name_bytes};
+ghost use Rattle.textarea_editor.specs.Effects.{Carries, IsSaveAsked, is_saved, optional_bytes};
 ghost use Rattle.textarea_editor.specs.EventEffects.{quit_effect};
 ghost use Rattle.textarea_editor.specs.SaveEnds.{IsAfterSave, effect_after, message_after, name_restored};
 
@@ -23,7 +23,7 @@ impl Editor {
             (Carries (MayQuit self.old self.new.draft) self.new.draft.area self.new.line_end) }
         ensures end { self.new.line_end ≡ self.old.line_end }
         ensures effect { IfOk result
-            (IsSaveAsked (is_some self.old.name) (name_bytes self.old.name) overwrites) }
+            (IsSaveAsked (is_some self.old.name) (optional_bytes self.old.name) overwrites) }
         ensures controls { OnOk result (self.new.controls ≡ save_asked self.old.controls
             (is_some self.old.name) self.old.draft.area.document.cursor) }
         ensures kept { OnErr result (self.new.controls ≡ self.old.controls) }
@@ -158,7 +158,7 @@ impl Editor {
 
 // A copy of a name, empty if there is none.
 fn copied_name(alloc: Global, name: &Option<String>) -> Result<String, AllocError>
-    ensures { IfOk result (λ copy. string_bytes copy ≡ name_bytes name.now) }
+    ensures { IfOk result (λ copy. string_bytes copy ≡ optional_bytes name.now) }
 {
     match name {
         Some(name) => name.clone(),

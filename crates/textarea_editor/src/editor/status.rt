@@ -21,6 +21,8 @@ impl Editor {
         match self.controls.focus {
             Focus::Prompt(Asked::Text) => String::from_str(alloc, " Find: "),
             Focus::Prompt(Asked::Line) => String::from_str(alloc, " Go to line: "),
+            Focus::Prompt(Asked::Replaced) => String::from_str(alloc, " Replace: "),
+            Focus::Prompt(Asked::Replacement) => String::from_str(alloc, " Replace by: "),
             Focus::Prompt(Asked::Name) => String::from_str(alloc, " Save as: "),
             Focus::Question(Question::SaveFirst) => {
                 String::from_str(
@@ -39,6 +41,12 @@ impl Editor {
                 String::from_str(
                     alloc,
                     " Its journal is of another version. y: discard it  n: keep it",
+                )
+            }
+            Focus::Replace => {
+                String::from_str(
+                    alloc,
+                    " Replace this match? y: yes  n: no  a: all  Esc: back to the text",
                 )
             }
             Focus::Help => String::from_str(alloc, " Keys  (arrows scroll, Esc: back to the text)"),
@@ -77,7 +85,9 @@ impl Editor {
     fn message_text(&self, alloc: Global) -> Result<String, AllocError> {
         let (message, reason) = self.message.components();
         match self.message {
-            Message::ControlCharacters(count) => format!(in alloc; "{message}{count}"),
+            Message::ControlCharacters(count) | Message::Replaced(count) => {
+                format!(in alloc; "{message}{count}")
+            }
             _ => format!(in alloc; "{message}{reason}"),
         }
     }
@@ -87,7 +97,12 @@ impl Editor {
     pub(super) fn right_text(&self, alloc: Global, room: usize) -> Result<String, AllocError> {
         match self.controls.focus {
             Focus::Text => self.place_text(alloc, room),
-            Focus::Prompt(Asked::Text) => self.search_text(alloc),
+            Focus::Prompt(Asked::Text) => self.search_text(alloc, "next"),
+            Focus::Prompt(Asked::Replaced) => self.search_text(alloc, "go on"),
+            Focus::Replace => {
+                let found = self.match_text(alloc)?;
+                format!(in alloc; " {found} ")
+            }
             Focus::Prompt(_) | Focus::Question(_) | Focus::Help => {
                 let message = self.message_text(alloc)?;
                 format!(in alloc; "{message} ")
@@ -95,15 +110,15 @@ impl Editor {
         }
     }
 
-    // What the prompt for a text to find shows: its options, and which match the cursor is at, or a
-    // message.
-    fn search_text(&self, alloc: Global) -> Result<String, AllocError> {
+    // What the prompt for a text to find or to replace shows: its options, which match the cursor is
+    // at, or a message, and what Enter does.
+    fn search_text(&self, alloc: Global, enter: &str) -> Result<String, AllocError> {
         let search = self.controls.search;
         let case = if search.keeps_case { "case  " } else { "" };
         let words = if search.whole_words { "words  " } else { "" };
         let pattern = if search.is_pattern { "pattern  " } else { "" };
         let found = self.match_text(alloc)?;
-        format!(in alloc; " {case}{words}{pattern}{found}  Enter: next ")
+        format!(in alloc; " {case}{words}{pattern}{found}  Enter: {enter} ")
     }
 
     // Which match the cursor is at, of how many in a text of few lines; or a message.

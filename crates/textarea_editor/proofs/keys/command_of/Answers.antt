@@ -11,5 +11,5 @@ loop-binding-preserved c =
 
 pub returns : goal.returns
 returns c =
-    let all : c.loop-binding.binding-index ≡ 20 = omega arith in
+    let all : c.loop-binding.binding-index ≡ 24 = omega arith in
     subst (λ (n : ℕ). All (λ binding. binds binding c.args.input.now c.args.is_modal ≡ false) (take n BINDINGS)) all c.loop-binding.invariant
