@@ -6,13 +6,18 @@ ghost use Rattle.textarea_editor.specs.Positions.{IsPosition, place_of_numbers};
 
 use crate::line_number::{line_number, row_of_line};
 
-/// What the arguments `[--modal] [--no-final-newline] [+LINE[,COLUMN]] [--] [FILE]` ask for.
+/// What the arguments `[--modal] [--no-final-newline] [--restore] [--unnamed] [+LINE[,COLUMN]] [--]
+/// [FILE]` ask for.
 #[derive(Clone, Copy, Debug, PartialEq, Eq)]
 pub struct Arguments<'a> {
     /// Whether the keys are those of the modal editor.
     pub is_modal: bool,
     /// Whether the last line of a new file gets a line end when it is saved.
     pub closes_last: bool,
+    /// Whether a journal of the file is recovered without a question.
+    pub restores: bool,
+    /// Whether the file is only read, and its text has no name.
+    pub is_unnamed: bool,
     /// The row and column of the cursor, counted from 0, if they are given.
     pub position: Option<(usize, usize)>,
     /// The name of the file, if there is one.
@@ -26,6 +31,10 @@ enum Word {
     Modal,
     // A new file's last line gets no line end.
     NoFinalNewline,
+    // A journal is recovered without a question.
+    Restore,
+    // The text has no name.
+    Unnamed,
     // A position in the text.
     Position((usize, usize)),
     // The next word is a name.
@@ -46,6 +55,8 @@ impl<'a> Arguments<'a> {
             Arguments {
                 is_modal: false,
                 closes_last: true,
+                restores: false,
+                is_unnamed: false,
                 position: None,
                 name: None,
             },
@@ -75,6 +86,24 @@ fn read_on<'a>(read: Arguments<'a>, words: &'a [String]) -> Option<Arguments<'a>
             read_on(
                 Arguments {
                     closes_last: false,
+                    ..read
+                },
+                rest,
+            )
+        }
+        Word::Restore => {
+            read_on(
+                Arguments {
+                    restores: true,
+                    ..read
+                },
+                rest,
+            )
+        }
+        Word::Unnamed => {
+            read_on(
+                Arguments {
+                    is_unnamed: true,
                     ..read
                 },
                 rest,
@@ -129,6 +158,12 @@ fn option_of(word: &str) -> Word
     }
     if word == "--no-final-newline" {
         return Word::NoFinalNewline;
+    }
+    if word == "--restore" {
+        return Word::Restore;
+    }
+    if word == "--unnamed" {
+        return Word::Unnamed;
     }
     if word == "--" {
         return Word::End;

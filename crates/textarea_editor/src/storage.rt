@@ -9,7 +9,9 @@ use std::alloc::AllocError;
 use std::fs::File;
 use std::io::ErrorKind;
 use std::time::Duration;
+use textarea_data::input::Input;
 use textarea_disk::{EventTimes, Journal, Recovery, recovered};
+use textarea_terminal::input::Event;
 
 /// The file of a text, and its journal.
 #[derive(Default, Drop)]
@@ -101,6 +103,16 @@ impl Storage {
             }
             _ => editor.ask_about_journal(false),
         }
+    }
+
+    /// Has the editor go on with the text of a journal, if it asks whether to, as if the reply were
+    /// yes.
+    pub fn restore(&mut self, editor: &mut Editor) -> Result<(), AllocError> {
+        if self.offered.is_none() {
+            return Ok(());
+        }
+        let _ = editor.step(Duration::ZERO, &Event::Input(Input::from('y')));
+        self.recover(editor)
     }
 
     // Locks the file of this name, if there is one, and returns false if another editor has it.
