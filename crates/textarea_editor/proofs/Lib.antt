@@ -7,3 +7,4 @@ mod Times
 mod Clicks
 mod Saved
 mod Searches
+mod Replacing
