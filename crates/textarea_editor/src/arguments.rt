@@ -187,7 +187,11 @@ fn position_of(word: &str) -> Option<(usize, usize)>
 {
     match word.split_once(",") {
         None => place(line_number(word), Some(1)),
-        Some((line, column)) => place(line_number(line), line_number(column)),
+        Some((line, column)) => {
+            let in_text = line_number(line);
+            let in_line = line_number(column);
+            place(in_text, in_line)
+        }
     }
 }
 
