@@ -259,7 +259,7 @@ abbrev pub replace_calls : ReplaceKey → ℕ → List ℕ → List Call
 replace_calls replace.Yes matches text = call.ReplaceMatch (borrowed text) ∷ []
 replace_calls replace.No matches text = skip_calls matches
 replace_calls replace.All matches text = call.ReplaceAll (borrowed text) ∷ []
-replace_calls other matches text = []
+replace_calls _ matches text = []
 
 -- ---- inputs, pastes and the mouse
 

@@ -112,7 +112,7 @@ IsPromptEffect other asked changed field effect = effect ≡ Nothing
 -- a reply to whether to replace a match
 abbrev pub replace_effect : ReplaceKey → Bool → Effect
 replace_effect replace.Quit changed = quit_effect changed
-replace_effect other changed = Nothing
+replace_effect _ changed = Nothing
 
 abbrev pub help_effect : HelpKey → Bool → Effect
 help_effect help.Quit changed = quit_effect changed

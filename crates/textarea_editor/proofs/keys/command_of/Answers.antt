@@ -1,9 +1,13 @@
-use Rattle.std.proofs.Common.{◌≡◌, ◌∙◌, ℕ, arith, false, subst, sym, take}
-use Rattle.std.proofs.lemmas.List.Elements.{All-more}
+use Rattle.std.proofs.Common.{◌≡◌, ◌∙◌, ℕ, arith, false, refl, subst, sym, take}
+use Rattle.std.proofs.lemmas.List.Elements.{All-more, Contains-get_or}
 use Rattle.std.specs.List.{All}
 use Rattle.textarea_editor.specs.EventCalls.{binds}
 use Rattle.textarea_editor.specs.declared.keys.TheConstants.{BINDINGS}
 use Rattle.textarea_editor.proofs.keys.command_of.Goals as goal
+
+pub returns-then-binds : goal.returns-then-binds
+returns-then-binds c =
+    (_, Contains-get_or BINDINGS c.loop-binding.binding-index _ c.loop-binding-test.true, sym c.binds.ensures ∙ c.if-binds.true, refl)
 
 pub loop-binding-preserved : goal.loop-binding-preserved
 loop-binding-preserved c =
