@@ -476,22 +476,6 @@ uint32_t ta_is_empty(ta_handle_t *handle);
  * Statuses: ok, out of memory, empty handle. */
 uint32_t ta_duplicate_line(ta_handle_t *handle);
 
-/** Inserts a tab at the start of the cursor's line, or of each line of the selection, as one group
- * of edits, and returns whether it inserted one. Empty lines are left, and at tab length 0 all
- * lines. Cursor and selection move with the text, but a selection that begins at column 0 still
- * does.
- *
- * Statuses: ok (true), false, out of memory, empty handle. */
-uint32_t ta_indent_lines(ta_handle_t *handle);
-
-/** Removes a tab character, or spaces, at most as many as the tab length, from the start of the
- * cursor's line, or of each line of the selection, as one group of edits, and returns whether
- * there were any. It removes no character of an atomic range. Cursor and selection move with the
- * text.
- *
- * Statuses: ok (true), false, out of memory, empty handle. */
-uint32_t ta_outdent_lines(ta_handle_t *handle);
-
 /** Inserts the character with this number at the cursor, or at the end of the atomic range that
  * strictly contains it, as typed; a line feed and a carriage return break the line.
  *
@@ -532,7 +516,7 @@ uint32_t ta_insert_tab(ta_handle_t *handle);
  * empty handle. */
 uint32_t ta_paste(ta_handle_t *handle);
 
-/* Replacements of text, each one group of edits. */
+/* Replacements of text, and of what lines begin with, each one group of edits. */
 
 /** Returns the text between two positions, in either order, with a line feed for each line break.
  * Positions beyond the text count as the nearest ones in it. `out` gets the first of its bytes, as
@@ -567,6 +551,22 @@ uint32_t ta_replace_match(ta_handle_t *handle, const uint8_t *text, size_t text_
  * Statuses: ok, out of memory (nothing changed, and a pattern is set), invalid argument (the text is
  * not UTF-8), empty handle. */
 uint32_t ta_replace_all(ta_handle_t *handle, const uint8_t *text, size_t text_len, size_t *count);
+
+/** Inserts a tab at the start of the cursor's line, or of each line of the selection, as one group
+ * of edits, and returns whether it inserted one. Empty lines are left, and at tab length 0 all
+ * lines. Cursor and selection move with the text, but a selection that begins at column 0 still
+ * does.
+ *
+ * Statuses: ok (true), false, out of memory, empty handle. */
+uint32_t ta_indent_lines(ta_handle_t *handle);
+
+/** Removes a tab character, or spaces, at most as many as the tab length, from the start of the
+ * cursor's line, or of each line of the selection, as one group of edits, and returns whether
+ * there were any. It removes no character of an atomic range. Cursor and selection move with the
+ * text.
+ *
+ * Statuses: ok (true), false, out of memory, empty handle. */
+uint32_t ta_outdent_lines(ta_handle_t *handle);
 
 /* Removals. If text is selected, each of them but `ta_clear` removes only that. */
 

@@ -279,8 +279,6 @@ unsafe extern "C" {
     pub fn ta_text(handle: *mut Handle, out: *mut u8, out_len: usize, needed: *mut usize) -> u32;
     pub fn ta_is_empty(handle: *mut Handle) -> u32;
     pub fn ta_duplicate_line(handle: *mut Handle) -> u32;
-    pub fn ta_indent_lines(handle: *mut Handle) -> u32;
-    pub fn ta_outdent_lines(handle: *mut Handle) -> u32;
     pub fn ta_insert_char(handle: *mut Handle, character: u32) -> u32;
     pub fn ta_insert_newline(handle: *mut Handle) -> u32;
     pub fn ta_insert_str(handle: *mut Handle, text: *const u8, text_len: usize) -> u32;
@@ -291,6 +289,8 @@ unsafe extern "C" {
     pub fn ta_replace_range(handle: *mut Handle, from_row: usize, from_column: usize, to_row: usize, to_column: usize, text: *const u8, text_len: usize) -> u32;
     pub fn ta_replace_match(handle: *mut Handle, text: *const u8, text_len: usize) -> u32;
     pub fn ta_replace_all(handle: *mut Handle, text: *const u8, text_len: usize, count: *mut usize) -> u32;
+    pub fn ta_indent_lines(handle: *mut Handle) -> u32;
+    pub fn ta_outdent_lines(handle: *mut Handle) -> u32;
     pub fn ta_delete_char(handle: *mut Handle) -> u32;
     pub fn ta_delete_next_char(handle: *mut Handle) -> u32;
     pub fn ta_delete_newline(handle: *mut Handle) -> u32;

@@ -12,7 +12,7 @@ use Rattle.tui_textarea.specs.Ranges.{ranges_accepted}
 use Rattle.tui_textarea.specs.State.{State}
 use Rattle.textarea_c.specs.declared.editor.Editor.{Editor}
 use Rattle.tui_textarea.specs.Selection.{IsInsertOutOfMemory}
-use Rattle.textarea_c.specs.Calls.{Calls, Inserts, SetsValidRanges, Tells, Tries, TriesToInsert, with_area}
+use Rattle.textarea_c.specs.Calls.{Calls, Inserts, Replaces, SetsValidRanges, Tells, Tries, TriesToInsert, with_area}
 use Rattle.textarea_c_data.specs.Ranges.{IsRangeOut}
 use Rattle.textarea_c_data.specs.declared.range.CRange.{CRange}
 use Rattle.textarea_util.proofs.Options.{none_of_test}
@@ -31,6 +31,16 @@ tried (Err e) status found area new a removed ok err nothing said refused = (
   (λ _. (refused, ap (with_area a) err)),
   ((λ none. absurd (omega arith)), (λ one. absurd (omega arith)), (λ none more. let never : false ≡ true = nothing none in cc)),
 )
+
+-- one that may need memory to know it
+pub replaced : {E : Type 0} (answer : Result Bool E) (status : ℕ) (found : Bool) (area new : State) (a : Editor)
+    → IfOk answer (λ removed. removed ≡ found) → OnOk answer (new ≡ area) → OnErr answer (new ≡ a.area)
+    → IfOk answer (λ flag. status ≡ (if flag then 0 else 1)) → OnErr answer (status ≡ 2)
+    → Replaces found area status a (with_area a new)
+replaced (Ok true) status found area new a removed ok err said refused = ((λ _. ap (with_area a) ok), (λ more. absurd (omega arith)), (λ _. sym removed), (λ one. absurd (omega arith)))
+replaced (Ok false) status found area new a removed ok err said refused = ((λ _. ap (with_area a) ok), (λ more. absurd (omega arith)), (λ none. absurd (omega arith)), (λ _. sym removed))
+replaced (Err e) status found area new a removed ok err said refused =
+    ((λ less. absurd (omega arith)), (λ _. (refused, ap (with_area a) err)), (λ none. absurd (omega arith)), (λ one. absurd (omega arith)))
 
 -- an insertion
 pub inserted : {T E : Type 0} (answer : Result T E) (status : ℕ) (area new : State) (a : Editor)

@@ -1,11 +1,11 @@
 -- Runs of events.
-use Rattle.std.proofs.Common.{◌≡◌, ◌≢◌, ◌⊎◌, false, List, [], ◌∷◌, ◌++◌, inl, inr, refl, subst, sym}
+use Rattle.std.proofs.Common.{◌≡◌, ◌≢◌, ◌⊎◌, false, true, List, [], ◌∷◌, ◌++◌, inl, inr, refl, subst, sym}
 use Rattle.std.specs.declared.time.Duration.{Duration}
 use Rattle.textarea_calls.specs.declared.call.Call.{Call}
 use Rattle.textarea_calls.specs.declared.call.Call.TheVariants.{SetNow}
 use Rattle.textarea_editor.proofs.Drafts.{honest_same, honest_then, makes_none, makes_then}
-use Rattle.textarea_editor.proofs.Saved.{saved_is_unchanged, unchanged_is_saved}
-use Rattle.textarea_editor.specs.Draft.{FailsIn, FailsInAsked, HasCopy, IsHonest, IsSaved, Makes, MakesSome}
+use Rattle.textarea_editor.proofs.Saved.{saved_is_unchanged, unchanged_is_saved, unsaved_is_changed}
+use Rattle.textarea_editor.specs.Draft.{FailsIn, FailsInAsked, HasCopy, IsHonest, IsSaved, IsUnsaved, Makes, MakesSome}
 use Rattle.textarea_editor.specs.declared.draft.Draft.{Draft}
 use Rattle.textarea_editor.specs.Editor.{AsksToSave, MayQuit}
 use Rattle.textarea_editor.specs.Steps.{AreSteps, FailsAt, IsStep, IsTimed, MakesCallsOf, Moment, NoneFails, Succeeds}
@@ -37,6 +37,10 @@ unchanged_since saved now moments steps at_first is =
 pub saved_since : (saved now : Editor) (moments : List Moment) → AreSteps saved moments now → IsSaved saved.draft → HasCopy saved.draft → now.draft.area.document.text ≡ saved.draft.area.document.text → now.draft.is_changed ≡ false
 saved_since saved now moments steps at_first has is =
     saved_is_unchanged saved.draft now.draft (run_honest saved now moments steps) at_first has is
+
+pub changed_since : (recovered now : Editor) (moments : List Moment) → AreSteps recovered moments now → IsUnsaved recovered.draft → now.draft.is_changed ≡ true
+changed_since recovered now moments steps at_first =
+    unsaved_is_changed recovered.draft now.draft (run_honest recovered now moments steps) at_first
 
 may_quit : (saved old new : Editor) → IsHonest saved.draft new.draft → IsSaved saved.draft → MayQuit old new.draft → (AsksToSave old ⊎ (new.draft.area.document.text ≡ saved.draft.area.document.text))
 may_quit saved old new honest at_first (inl is) = inr (unchanged_is_saved saved.draft new.draft honest at_first is)

@@ -7,7 +7,7 @@ use Rattle.std.proofs.lemmas.Bool.{false≢true}
 use Rattle.std.proofs.lemmas.Slice.Eq.{bytes_eq-Decides}
 use Rattle.std.proofs.lemmas.Str.{IsUtf8-string_bytes, encodes-chars}
 use Rattle.std.specs.declared.alloc.Global.{Global}
-use Rattle.textarea_editor.specs.Draft.{Copy, HasCopy, IsCopyOf, IsExact, IsHonest, IsChangeMark, IsSaved}
+use Rattle.textarea_editor.specs.Draft.{Copy, HasCopy, IsCopyOf, IsExact, IsHonest, IsChangeMark, IsSaved, IsUnsaved}
 use Rattle.textarea_editor.specs.declared.draft.Draft.{Draft}
 use Rattle.textarea_text.proofs.TextPlaces.{joined-lines}
 use Rattle.textarea_text.specs.Text.{Symbol, characters_of, joined, lines, lines_of}
@@ -100,3 +100,13 @@ saved_by (Some copy) old new some honest is same has now =
 -- with a copy, the saved text counts as unchanged
 pub saved_is_unchanged : (old new : Draft) → IsHonest old new → IsSaved old → HasCopy old → new.area.document.text ≡ old.area.document.text → new.is_changed ≡ false
 saved_is_unchanged old new honest saved has now = saved_by old.saved old new refl honest saved.copy saved.unchanged has now
+
+-- without a copy a changed text stays changed
+still_changed : (before after : Bool) → before ≡ true → (after ≡ false → before ≡ false) → after ≡ true
+still_changed before true was is = refl
+still_changed before false was is = absurd (false≢true (sym (is refl) ∙ was))
+
+-- a text that is not saved counts as changed
+pub unsaved_is_changed : (old new : Draft) → IsHonest old new → IsUnsaved old → new.is_changed ≡ true
+unsaved_is_changed old new honest unsaved =
+    still_changed old.is_changed new.is_changed unsaved.changed (λ now. (honest.alone unsaved.none now).0)

@@ -51,6 +51,11 @@ pub record IsSaved (draft : Draft) : Type 0 where
   pub unchanged : draft.is_changed ≡ false
   pub copy : IsCopyOf draft.area draft.saved
 
+-- the text counts as changed until it is saved, since no copy of a saved one is kept
+pub record IsUnsaved (draft : Draft) : Type 0 where
+  pub changed : draft.is_changed ≡ true
+  pub none : draft.saved ≡ None
+
 -- the text was saved, which ends a run of typing
 pub record IsSavedFrom (old new : Draft) : Type 0 where
   pub area : new.area ≡ typing_ended old.area

@@ -4,7 +4,7 @@ ghost use Rattle.std.specs.Prelude.{◌≡◌, ◌≢◌, ◌^◌, ◌≤◌, �
 ghost use Rattle.textarea_calls.specs.declared.call.Call.TheVariants.{GoTo};
 ghost use Rattle.textarea_editor.specs.ControlCharacters.{IsCountShown};
 ghost use Rattle.textarea_editor.specs.Draft.{IsSaved, Makes};
-ghost use Rattle.textarea_editor.specs.Editor.{draft_of, end_of, message_of, new_ends, numbers_of, wraps_of};
+ghost use Rattle.textarea_editor.specs.Editor.{controls_of, draft_of, end_of, message_of, new_ends, numbers_of, wraps_of};
 ghost use Rattle.textarea_editor.specs.Effects.{IsWritten};
 ghost use Rattle.textarea_editor.specs.SetUp.{IsOpened, opened};
 ghost use Rattle.textarea_editor.specs.Steps.{IsStep};
@@ -192,6 +192,8 @@ impl Editor {
     pub fn show_message(&mut self, message: Message)
         ensures draft { draft_of self.new ≡ draft_of self.old }
         ensures end { end_of self.new ≡ end_of self.old }
+        ensures controls { controls_of self.new ≡ controls_of self.old }
+        ensures message { message_of self.new ≡ message }
     {
         self.message = message;
     }

@@ -1,8 +1,8 @@
 //! Laws of runs of events. A run is a list of events, each with its time, its effect, and the
 //! editor after it.
-ghost use Rattle.std.specs.Prelude.{◌≡◌, ◌⊎◌, false, List};
+ghost use Rattle.std.specs.Prelude.{◌≡◌, ◌⊎◌, false, true, List};
 ghost use Rattle.std.specs.declared.time.Duration.{Duration};
-ghost use Rattle.textarea_editor.specs.Draft.{HasCopy, IsSaved};
+ghost use Rattle.textarea_editor.specs.Draft.{HasCopy, IsSaved, IsUnsaved};
 ghost use Rattle.textarea_editor.specs.Editor.{AsksToSave, draft_of};
 ghost use Rattle.textarea_editor.specs.Steps.{AreSteps, IsStep, MakesCallsOf, Moment, NoneFails};
 ghost use Rattle.textarea_editor.specs.declared.editor.Editor.{Editor};
@@ -30,6 +30,13 @@ pub fn saved_text_counts_as_unchanged()
         → IsSaved (draft_of saved) → HasCopy (draft_of saved)
         → (draft_of now).area.document.text ≡ (draft_of saved).area.document.text
         → (draft_of now).is_changed ≡ false }
+{}
+
+/// After any run since an unsaved text was recovered: it still counts as changed, since it is not
+/// known which text was saved. A save ends that.
+pub fn unsaved_text_counts_as_changed()
+    ensures { (recovered now : Editor) (moments : List Moment) → AreSteps recovered moments now
+        → IsUnsaved (draft_of recovered) → (draft_of now).is_changed ≡ true }
 {}
 
 /// After any run since the text was opened or saved: an event ends the program only after the

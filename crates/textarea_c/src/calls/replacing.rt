@@ -1,8 +1,10 @@
-//! Replacements of text, each one group of edits.
-ghost use Rattle.std.specs.Prelude.{◌≡◌, ◌≢◌, IfSome, None, is_some, length};
+//! Replacements of text, and of what lines begin with, each one group of edits.
+ghost use Rattle.std.specs.Prelude.{◌≡◌, ◌≢◌, IfSome, None, false, is_some, length, true};
 ghost use Rattle.std.specs.Str.{chars};
+ghost use Rattle.textarea_document.specs.Indenting.{lines_indented, lines_outdented, shifts_lines};
 ghost use Rattle.textarea_document.specs.Replacing.{replaces, stretch_symbols};
 ghost use Rattle.textarea_text.specs.Fragment.{fragment_symbols, fragment_text};
+ghost use Rattle.tui_textarea.specs.Prelude.{with_document};
 ghost use Rattle.tui_textarea.specs.Replacing.{match_at_cursor, match_replaced, matches_replaced, replaceable, with_range_replaced};
 ghost use Rattle.textarea_c.specs.Calls.{Calls, ChangesArea, Copies, Given, Replaces};
 ghost use Rattle.textarea_c_data.specs.Lines.{AreCharactersOut};
@@ -132,6 +134,36 @@ pub extern "C" fn ta_replace_all(
         Some(text) => replace_matches(&mut editor, text, count),
         None => INVALID_ARGUMENT,
     })
+}
+
+/// Inserts a tab at the start of the cursor's line, or of each line of the selection, as one group
+/// of edits, and returns whether it inserted one. Empty lines are left, and at tab length 0 all
+/// lines. Cursor and selection move with the text, but a selection that begins at column 0 still
+/// does.
+///
+/// Statuses: ok (true), false, out of memory, empty handle.
+#[unsafe(no_mangle)]
+pub extern "C" fn ta_indent_lines(handle: &mut Handle, alloc: Global) -> u32
+    ensures { Calls handle.old.stored.content result handle.new.stored.content
+        (λ a b. Replaces (shifts_lines a.area.document false) (with_document a.area
+        (lines_indented a.area.document a.area.settings.hard_tab_indent a.area.time)) result a b) }
+{
+    on!(handle, alloc, editor => flag(editor.area.indent_lines()))
+}
+
+/// Removes a tab character, or spaces, at most as many as the tab length, from the start of the
+/// cursor's line, or of each line of the selection, as one group of edits, and returns whether
+/// there were any. It removes no character of an atomic range. Cursor and selection move with the
+/// text.
+///
+/// Statuses: ok (true), false, out of memory, empty handle.
+#[unsafe(no_mangle)]
+pub extern "C" fn ta_outdent_lines(handle: &mut Handle, alloc: Global) -> u32
+    ensures { Calls handle.old.stored.content result handle.new.stored.content
+        (λ a b. Replaces (shifts_lines a.area.document true) (with_document a.area
+        (lines_outdented a.area.document a.area.time)) result a b) }
+{
+    on!(handle, alloc, editor => flag(editor.area.outdent_lines()))
 }
 
 // Replaces each match, writes their number, and returns the status.

@@ -1,7 +1,9 @@
 // What is done about a journal that is found.
-ghost use Rattle.std.specs.Prelude.{◌≡◌, false, true, IfOk, OnErr, OnOk, string_bytes};
+ghost use Rattle.std.specs.Prelude.{◌≡◌, ◌↔◌, ◌≤◌, ◌^◌, false, true, IfOk, IsTrue, OnErr, OnOk, length, string_bytes};
+ghost use Rattle.textarea_editor.specs.ControlCharacters.{IsCountShown};
 ghost use Rattle.textarea_editor.specs.Controls.{with_focus};
-ghost use Rattle.textarea_editor.specs.Editor.{controls_of, draft_of, end_of, message_of, wraps_of};
+ghost use Rattle.textarea_editor.specs.Draft.{IsUnsaved};
+ghost use Rattle.textarea_editor.specs.Editor.{controls_of, draft_of, end_of, message_of, numbers_of, wraps_of};
 ghost use Rattle.textarea_editor.specs.Effects.{IsWritten};
 ghost use Rattle.textarea_editor.specs.JournalQuestions.{journal_question};
 ghost use Rattle.textarea_editor.specs.SetUp.{IsOpened};
@@ -22,19 +24,25 @@ impl Editor {
         ensures end { end_of self.new ≡ end_of self.old }
         ensures controls { controls_of self.new
             ≡ with_focus (controls_of self.old) (Focus.Question (journal_question is_of_file)) }
+        ensures message { message_of self.new ≡ message_of self.old }
     {
         self.controls.focus = Focus::Question(journal_question(is_of_file));
     }
 
     /// Replaces the text by one with unsaved changes. It is as after
-    /// [`open`](Editor::open), but the text counts as changed.
+    /// [`open`](Editor::open), but the text counts as changed until it is saved.
     ///
     /// If memory runs out, the editor is as before.
     pub fn recover(&mut self, text: String) -> Result<(), AllocError>
         ensures written { OnOk result
             (IsWritten (draft_of self.new).area (end_of self.new) (string_bytes text)) }
         ensures opened { OnOk result (IsOpened (draft_of self.new).area (wraps_of self.new)) }
-        ensures changed { OnOk result ((draft_of self.new).is_changed ≡ true) }
+        ensures wraps { OnOk result
+            (IsTrue (wraps_of self.new) ↔ (length (string_bytes text) ≤ 2 ^ 20)) }
+        ensures unnumbered { OnOk result (numbers_of self.new ≡ false) }
+        ensures unsaved { OnOk result (IsUnsaved (draft_of self.new)) }
+        ensures counted { OnOk result
+            (IsCountShown (draft_of self.new).area Message.Nothing (message_of self.new)) }
         ensures err { OnErr result (self.new ≡ self.old) }
     {
         self.take_text(text)?;
@@ -46,6 +54,8 @@ impl Editor {
     pub fn add_message(&mut self, message: Message) -> bool
         ensures draft { draft_of self.new ≡ draft_of self.old }
         ensures end { end_of self.new ≡ end_of self.old }
+        ensures controls { controls_of self.new ≡ controls_of self.old }
+        ensures free { IsTrue result ↔ (message_of self.old ≡ Message.Nothing) }
         ensures shown { result ≡ true → message_of self.new ≡ message }
         ensures other { result ≡ false → self.new ≡ self.old }
     {

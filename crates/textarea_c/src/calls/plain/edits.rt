@@ -1,12 +1,12 @@
 // Written by tools/calls from crates/textarea_calls/calls.txt.
 //! Insertions that only pass their arguments.
-ghost use Rattle.textarea_c.specs.Calls.{Calls, MakesAttempt, MakesChange};
+ghost use Rattle.textarea_c.specs.Calls.{Calls, MakesChange};
 ghost use Rattle.textarea_calls.specs.declared.call.Call.TheVariants as call;
 
 use crate::calls::on;
 use crate::handle::Handle;
 use std::alloc::Global;
-use textarea_c_data::status::{done, flag};
+use textarea_c_data::status::done;
 
 /// Inserts the cursor's line once more below it, or the lines of the selection below the last of
 /// them, as one edit. The selection's lines are those of which it holds a character or the break.
@@ -19,32 +19,4 @@ pub extern "C" fn ta_duplicate_line(handle: &mut Handle, alloc: Global) -> u32
         (λ a b. MakesChange call.DuplicateLine result a b) }
 {
     on!(handle, alloc, editor => done(editor.area.duplicate_line()))
-}
-
-/// Inserts a tab at the start of the cursor's line, or of each line of the selection, as one group
-/// of edits, and returns whether it inserted one. Empty lines are left, and at tab length 0 all
-/// lines. Cursor and selection move with the text, but a selection that begins at column 0 still
-/// does.
-///
-/// Statuses: ok (true), false, out of memory, empty handle.
-#[unsafe(no_mangle)]
-pub extern "C" fn ta_indent_lines(handle: &mut Handle, alloc: Global) -> u32
-    ensures { Calls handle.old.stored.content result handle.new.stored.content
-        (λ a b. MakesAttempt call.IndentLines result a b) }
-{
-    on!(handle, alloc, editor => flag(editor.area.indent_lines()))
-}
-
-/// Removes a tab character, or spaces, at most as many as the tab length, from the start of the
-/// cursor's line, or of each line of the selection, as one group of edits, and returns whether
-/// there were any. It removes no character of an atomic range. Cursor and selection move with the
-/// text.
-///
-/// Statuses: ok (true), false, out of memory, empty handle.
-#[unsafe(no_mangle)]
-pub extern "C" fn ta_outdent_lines(handle: &mut Handle, alloc: Global) -> u32
-    ensures { Calls handle.old.stored.content result handle.new.stored.content
-        (λ a b. MakesAttempt call.OutdentLines result a b) }
-{
-    on!(handle, alloc, editor => flag(editor.area.outdent_lines()))
 }
