@@ -12,7 +12,7 @@ returns-in_err-move_to-clause-err c =
 
 pub returns-in_err-light-clause-err : goal.returns-in_err-light-clause-err
 returns-in_err-light-clause-err c =
-    on_err c.from_residual.result
+    on_err c.from_residual-in_err-light.result
     (fails_then c.args.self.now c.move_to.new.self c.light.new.self (GoTo c.args.origin ∷ []) (search_call c.args.options c.args.text.now ∷ SearchForward true ∷ []) c.in_ok-move_to.ensures.ok
     (fails_before c.move_to.new.self c.light.new.self (search_call c.args.options c.args.text.now ∷ []) (SearchForward true ∷ []) c.in_err-light.ensures.err))
 
