@@ -247,8 +247,8 @@ IsKeyInPrompt (prompt.Toggle toggle) asked controls field input calls = IsLookin
 -- ---- the question whether to replace a match
 
 -- the text that replaces matches is that of the prompt
-abbrev pub IsReplacement : State → Option (String Global) → Type 0
-IsReplacement field text = chars (optional_bytes text) ≡ prompt_line field
+abbrev pub IsReplacingText : State → Option (String Global) → Type 0
+IsReplacingText field text = chars (optional_bytes text) ≡ prompt_line field
 
 -- to the next match, if there are some after this one
 abbrev pub skip_calls : ℕ → List Call

@@ -6,7 +6,7 @@ ghost use Rattle.textarea_editor.specs.Draft.{FailsIn, FailsInSome, Makes, Makes
 ghost use Rattle.textarea_editor.specs.Editor.{MayQuit};
 ghost use Rattle.textarea_editor.specs.Effects.{Carries, optional_bytes};
 ghost use Rattle.textarea_editor.specs.EventEffects.{IsNothing, replace_effect};
-ghost use Rattle.textarea_editor.specs.EventCalls.{IsLookingFor, IsReplacement, replace_calls, skip_calls};
+ghost use Rattle.textarea_editor.specs.EventCalls.{IsLookingFor, IsReplacingText, replace_calls, skip_calls};
 ghost use Rattle.textarea_editor.specs.Patterns.{borrowed};
 ghost use Rattle.textarea_editor.specs.ReplaceKeys.{replace_key};
 ghost use Rattle.textarea_editor.specs.declared.focus.Asked.TheVariants as asks;
@@ -53,7 +53,7 @@ impl Editor {
         ensures end { self.new.line_end ≡ self.old.line_end }
         ensures controls { OnOk result (self.new.controls
             ≡ replace_asked self.old.controls (match_count self.old.draft.area)) }
-        ensures replacement { OnOk result (IsReplacement self.old.field self.new.replacement) }
+        ensures replacement { OnOk result (IsReplacingText self.old.field self.new.replacement) }
         ensures kept { OnErr result (self.new.controls ≡ self.old.controls) }
     {
         let count = self.draft.area().match_count()?;
@@ -70,7 +70,7 @@ impl Editor {
         ensures draft { self.new.draft ≡ self.old.draft }
         ensures end { self.new.line_end ≡ self.old.line_end }
         ensures controls { self.new.controls ≡ self.old.controls }
-        ensures replacement { OnOk result (IsReplacement self.old.field self.new.replacement) }
+        ensures replacement { OnOk result (IsReplacingText self.old.field self.new.replacement) }
     {
         let text = self.field.lines()[0].clone()?;
         self.replacement = Some(text);
