@@ -1,6 +1,7 @@
 pub mod Acts
 pub mod Calls
 pub mod Changes
+pub mod CopiedOut
 pub mod Drawn
 pub mod Fresh
 pub mod Held

@@ -1,9 +1,9 @@
 //! The bytes that a terminal sends, as events.
-ghost use Rattle.std.specs.Prelude.{◌≡◌, ◌≢◌, IfSome, length};
+ghost use Rattle.std.specs.Prelude.{◌≡◌, ◌≢◌, IfSome};
 ghost use Rattle.textarea_terminal.specs.InputState.{asked, fed, on_console, paused, resizing};
+ghost use Rattle.textarea_c.specs.CopiedOut.{IsCopiedOut};
 ghost use Rattle.textarea_c.specs.Calls.{Calls, OnlyReads};
 ghost use Rattle.textarea_c.specs.Terminals.{Decodes, IsTold, TakesEvent};
-ghost use Rattle.textarea_c_data.specs.Copied.{copied_over};
 
 use crate::calls::on;
 use crate::handle::TerminalHandle;
@@ -81,8 +81,7 @@ pub extern "C" fn ta_decoder_pasted(
     ensures unchanged { Calls terminal.old.stored.content result terminal.new.stored.content
         (λ a b. OnlyReads result a b) }
     ensures text { IfSome terminal.old.stored.content
-        (λ a. (out.new ≡ copied_over out.old a.incoming.pasted)
-        × (needed.new ≡ length a.incoming.pasted)) }
+        (λ a. IsCopiedOut out.old out.new needed.new a.incoming.pasted) }
     ensures unwritten { result ≢ 0 → (out.new ≡ out.old) × (needed.new ≡ needed.old) }
 {
     on!(terminal, alloc, behind => {

@@ -4,6 +4,7 @@ ghost use Rattle.std.specs.List.{concat};
 ghost use Rattle.textarea_text.specs.Fragment.{fragment_text};
 ghost use Rattle.textarea_text.specs.Text.{lines, lines_of};
 ghost use Rattle.textarea_util.specs.Limit.{size_limit};
+ghost use Rattle.textarea_c.specs.CopiedOut.{IsCopiedOut};
 ghost use Rattle.textarea_c.specs.Calls.{Asks, Calls, ChangesIf, Copies, OnlyReads};
 ghost use Rattle.textarea_c.specs.Lines.{with_copied_lines};
 ghost use Rattle.textarea_c_data.specs.Copied.{ends_of, copied_over};
@@ -118,8 +119,8 @@ pub extern "C" fn ta_lines(
     ensures count { IfSome handle.old.stored.content
         (λ a. count.new ≡ length (lines a.area.document.text)) }
     ensures bytes { IfSome handle.old.stored.content
-        (λ a. (out.new ≡ copied_over out.old (concat (encoded_lines (lines a.area.document.text))))
-        × (needed.new ≡ length (concat (encoded_lines (lines a.area.document.text))))) }
+        (λ a. IsCopiedOut out.old out.new needed.new
+        (concat (encoded_lines (lines a.area.document.text)))) }
     ensures ends { IfSome handle.old.stored.content
         (λ a. ends.new ≡ copied_over ends.old (ends_of 0 (encoded_lines (lines a.area.document.text)))) }
     ensures some { result ≡ 0 → 0 < count.new }

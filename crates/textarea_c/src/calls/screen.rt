@@ -12,9 +12,9 @@ ghost use Rattle.tui_textarea.specs.Drawing.{IsRendered, widget_of};
 ghost use Rattle.tui_textarea.specs.Hit.{IsHitTest};
 ghost use Rattle.tui_textarea.specs.Rendered.{IsDrawn};
 ghost use Rattle.textarea_c_data.specs.Areas.{IsArea};
+ghost use Rattle.textarea_c.specs.CopiedOut.{IsCopiedOut};
 ghost use Rattle.textarea_c.specs.Calls.{Asks, Calls, Given, ChangesScreen, OnlyReads, Restyles};
 ghost use Rattle.textarea_c_data.specs.Cells.{plain_cell, plain_cells};
-ghost use Rattle.textarea_c_data.specs.Copied.{copied_over};
 ghost use Rattle.textarea_c.specs.Drawn.{IsStyledIn};
 ghost use Rattle.textarea_c.specs.Rendered.{IsRenderedIn};
 ghost use Rattle.textarea_c_data.specs.Styles.{style_of_numbers};
@@ -195,7 +195,7 @@ pub extern "C" fn ta_screen_symbol(
         (λ a b. Asks result a b) }
     ensures text { IfSome handle.old.stored.content
         (λ a. MatchOption (cell_at a.screen x y) (result ≡ 1) (λ cell. (result ≡ 0)
-        × (out.new ≡ copied_over out.old cell.symbol) × (needed.new ≡ length cell.symbol))) }
+        × IsCopiedOut out.old out.new needed.new cell.symbol)) }
     ensures unwritten { result ≢ 0 → (out.new ≡ out.old) × (needed.new ≡ needed.old) }
 {
     on!(handle, alloc, editor => match editor.screen.cell(x, y) {
@@ -221,8 +221,7 @@ pub extern "C" fn ta_screen_cells(
     ensures unchanged { Calls handle.old.stored.content result handle.new.stored.content
         (λ a b. OnlyReads result a b) }
     ensures cells { IfSome handle.old.stored.content
-        (λ a. (out.new ≡ copied_over out.old (plain_cells a.screen))
-        × (needed.new ≡ length (plain_cells a.screen))) }
+        (λ a. IsCopiedOut out.old out.new needed.new (plain_cells a.screen)) }
     ensures unwritten { result ≢ 0 → (out.new ≡ out.old) × (needed.new ≡ needed.old) }
 {
     on!(handle, alloc, editor => {

@@ -1,10 +1,10 @@
 //! The search pattern, and the searches for it.
-ghost use Rattle.std.specs.Prelude.{◌≡◌, ◌≢◌, ◌<◌, IfSome, MatchOption, None, Some, is_some, length, string_bytes};
+ghost use Rattle.std.specs.Prelude.{◌≡◌, ◌≢◌, ◌<◌, IfSome, MatchOption, None, Some, is_some, string_bytes};
 ghost use Rattle.textarea_text.specs.Place.{IsPlace};
 ghost use Rattle.tui_textarea.specs.Search.{match_count, match_index, next_match, previous_match, after_search};
+ghost use Rattle.textarea_c.specs.CopiedOut.{IsCopiedOut};
 ghost use Rattle.textarea_c.specs.Calls.{Asks, Calls, Copies, FindsText, Given, Patterns, OnlyReads, Searches};
 ghost use Rattle.textarea_c.specs.Rejections.{IsRejection};
-ghost use Rattle.textarea_c_data.specs.Copied.{copied_over};
 ghost use Rattle.textarea_c_data.specs.Texts.{text_in};
 
 use crate::calls::on;
@@ -181,8 +181,7 @@ pub extern "C" fn ta_pattern_error(
     ensures unchanged { Calls handle.old.stored.content result handle.new.stored.content
         (λ a b. OnlyReads result a b) }
     ensures text { IfSome handle.old.stored.content
-        (λ a. (out.new ≡ copied_over out.old (string_bytes a.pattern_error))
-        × (needed.new ≡ length (string_bytes a.pattern_error))) }
+        (λ a. IsCopiedOut out.old out.new needed.new (string_bytes a.pattern_error)) }
     ensures unwritten { result ≢ 0 → (out.new ≡ out.old) × (needed.new ≡ needed.old) }
 {
     on!(handle, alloc, editor => {
@@ -206,7 +205,7 @@ pub extern "C" fn ta_search_pattern(
         (λ a b. Asks result a b) }
     ensures text { IfSome handle.old.stored.content
         (λ a. MatchOption a.area.pattern (result ≡ 1) (λ text. (result ≡ 0)
-        × (out.new ≡ copied_over out.old text) × (needed.new ≡ length text))) }
+        × IsCopiedOut out.old out.new needed.new text)) }
     ensures unwritten { result ≢ 0 → (out.new ≡ out.old) × (needed.new ≡ needed.old) }
 {
     on!(handle, alloc, editor => match editor.area.search_pattern() {

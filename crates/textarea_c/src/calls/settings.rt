@@ -1,8 +1,8 @@
 //! Options of tabs, line numbers and heights.
-ghost use Rattle.std.specs.Prelude.{◌≡◌, ◌≢◌, IfSome, length};
+ghost use Rattle.std.specs.Prelude.{◌≡◌, ◌≢◌, IfSome};
 ghost use Rattle.tui_textarea.specs.LayoutCalls.{indent_of};
+ghost use Rattle.textarea_c.specs.CopiedOut.{IsCopiedOut};
 ghost use Rattle.textarea_c.specs.Calls.{Calls, OnlyReads};
-ghost use Rattle.textarea_c_data.specs.Copied.{copied_over};
 
 use crate::calls::on;
 use crate::handle::Handle;
@@ -24,8 +24,7 @@ pub extern "C" fn ta_indent(
     ensures unchanged { Calls handle.old.stored.content result handle.new.stored.content
         (λ a b. OnlyReads result a b) }
     ensures text { IfSome handle.old.stored.content
-        (λ a. (out.new ≡ copied_over out.old (indent_of a.area))
-        × (needed.new ≡ length (indent_of a.area))) }
+        (λ a. IsCopiedOut out.old out.new needed.new (indent_of a.area)) }
     ensures unwritten { result ≢ 0 → (out.new ≡ out.old) × (needed.new ≡ needed.old) }
 {
     on!(handle, alloc, editor => {

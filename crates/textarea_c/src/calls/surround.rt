@@ -5,6 +5,7 @@ ghost use Rattle.textarea_screen.specs.Text.{text_view};
 ghost use Rattle.textarea_view.specs.SurroundState.{first_bytes, style_with_lines};
 ghost use Rattle.textarea_view.specs.Outcomes.{with_placeholder_style, with_placeholder_text};
 ghost use Rattle.tui_textarea.specs.Measure.{with_surround};
+ghost use Rattle.textarea_c.specs.CopiedOut.{IsCopiedOut};
 ghost use Rattle.textarea_c.specs.Calls.{Asks, Calls, ChangesBy, ChangesIf, OnlyReads, Sets, SetsBy, with_block, with_placeholder_view};
 ghost use Rattle.textarea_c_data.specs.Copied.{copied_over};
 ghost use Rattle.textarea_c_data.specs.Spans.{AreSpansOut, block_read, block_for_c, line_for_c, spans_of, text_read, title_spans};
@@ -244,8 +245,8 @@ pub extern "C" fn ta_placeholder_text(
     ensures unchanged { Calls handle.old.stored.content result handle.new.stored.content
         (λ a b. OnlyReads result a b) }
     ensures text { IfSome handle.old.stored.content
-        (λ a. (out.new ≡ copied_over out.old (first_bytes a.area.surround.placeholder.lines))
-        × (needed.new ≡ length (first_bytes a.area.surround.placeholder.lines))) }
+        (λ a. IsCopiedOut out.old out.new needed.new
+        (first_bytes a.area.surround.placeholder.lines)) }
     ensures unwritten { result ≢ 0 → (out.new ≡ out.old) × (needed.new ≡ needed.old) }
 {
     on!(handle, alloc, editor => {
